@@ -1,0 +1,11 @@
+use Rattle.std.proofs.Common.{◌≡◌, ◌≤◌}
+use Rattle.arrayvec.specs.ArrayVec.{array_vec_len}
+use Rattle.othello_rules.specs.Masks.{in_mask}
+use Rattle.othello_rules.proofs.SquareLaws.{first_squares}
+use Rattle.othello_rules.proofs.masks.squares_in.Given as goal
+
+abbrev pub invariant-loop-number : goal.invariant-loop-number
+invariant-loop-number l = record {
+  items : l.squares.items ≡ first_squares (in_mask l.mask) l.number;
+  len : array_vec_len l.squares ≤ l.number;
+}

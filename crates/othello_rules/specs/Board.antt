@@ -1,0 +1,70 @@
+-- Squares by their numbers, the eight directions, and the squares met on the way to the edge
+-- (World Othello Federation rules: columns A to H from left to right, rows 1 to 8 from top to bottom).
+use Rattle.std.specs.Prelude.{◌≡◌, ◌⊎◌, ℕ, ◌+◌, ◌-◌, ◌*◌, ◌/◌, ◌%◌, min, List, [], ◌∷◌, map}
+use Rattle.std.specs.List.{range_with_len}
+use Rattle.othello_rules.specs.declared.directions.Step.{Step}
+use Rattle.othello_rules.specs.declared.directions.Step.TheVariants.{Back, Stay, Ahead}
+use Rattle.othello_rules.specs.declared.directions.Direction.{Direction}
+
+-- the square in column c and row r, both from 0, has the number c + 8 * r
+abbrev pub square_at : ℕ → ℕ → ℕ
+square_at c r = c + 8 * r
+
+abbrev pub column : ℕ → ℕ
+column q = q % 8
+
+abbrev pub row : ℕ → ℕ
+row q = q / 8
+
+-- all squares in the order of their numbers
+unfoldable pub squares : List ℕ
+squares = range_with_len 0 64
+
+-- a direction: a step back in the row goes north, one ahead in the column east
+abbrev pub towards : Step → Step → Direction
+towards c r = record { column = c; row = r }
+
+-- north, north-east, east, and so on round the board
+unfoldable pub directions : List Direction
+directions =
+    towards Stay Back
+    ∷ towards Ahead Back
+    ∷ towards Ahead Stay
+    ∷ towards Ahead Ahead
+    ∷ towards Stay Ahead
+    ∷ towards Back Ahead
+    ∷ towards Back Stay
+    ∷ towards Back Back
+    ∷ []
+
+-- how many steps can be made from a column, or a row, before the edge
+abbrev pub room_along : Step → ℕ → ℕ
+room_along Back at = at
+room_along Stay at = 7
+room_along Ahead at = 7 - at
+
+-- the column, or the row, k steps on
+abbrev pub moved : Step → ℕ → ℕ → ℕ
+moved Back at k = at - k
+moved Stay at k = at
+moved Ahead at k = at + k
+
+-- how many steps can be made from q before the edge
+abbrev pub room : Direction → ℕ → ℕ
+room d q = min (room_along d.column (column q)) (room_along d.row (row q))
+
+-- the square k steps from q
+abbrev pub stepped : Direction → ℕ → ℕ → ℕ
+stepped d q k = square_at (moved d.column (column q) k) (moved d.row (row q) k)
+
+-- the squares met by stepping from q up to the edge, nearest first, without q
+unfoldable pub ray : Direction → ℕ → List ℕ
+ray d q = map (stepped d q) (range_with_len 1 (room d q))
+
+-- the letter of the column, from A, and the digit of the row, from 1
+unfoldable pub name_of : ℕ → List ℕ
+name_of q = (65 + column q) ∷ (49 + row q) ∷ []
+
+-- the name of q, its letter in either case
+abbrev pub IsNameOf : List ℕ → ℕ → Type 0
+IsNameOf name q = (name ≡ name_of q) ⊎ (name ≡ (97 + column q) ∷ (49 + row q) ∷ [])

@@ -1,0 +1,13 @@
+-- All discs exchanged, and the side to move with them.
+use Rattle.std.specs.Prelude.{map}
+use Rattle.othello_rules.specs.declared.discs.Cell.{Cell}
+use Rattle.othello_rules.specs.declared.discs.Cell.TheVariants.{Empty, Black, White}
+use Rattle.othello_rules.specs.Rules.{Position, other}
+
+abbrev pub swap_cell : Cell → Cell
+swap_cell Empty = Empty
+swap_cell Black = White
+swap_cell White = Black
+
+abbrev pub swapped : Position → Position
+swapped P = record { cells = map swap_cell P.cells; mover = other P.mover }

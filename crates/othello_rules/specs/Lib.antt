@@ -1,0 +1,9 @@
+pub mod Board
+pub mod Rules
+pub mod Scores
+pub mod Masks
+pub mod Solution
+pub mod Value
+pub mod Colours
+pub mod Renamed
+pub mod Worked

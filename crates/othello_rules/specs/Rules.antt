@@ -1,0 +1,105 @@
+-- Positions, what a move turns, the moves, play and pass, and when the game is over
+-- (World Othello Federation rules).
+use Rattle.std.specs.Prelude.{◌≡◌, ℕ, Bool, true, false, cond, List, [], ◌∷◌, map, Option, Some, None, slice_get, nat_eq}
+use Rattle.std.specs.List.{filter, flat_map, list_any, count_by, enumerate_from}
+use Rattle.othello_rules.specs.declared.directions.Direction.{Direction}
+use Rattle.othello_rules.specs.declared.discs.Side.{Side}
+use Rattle.othello_rules.specs.declared.discs.Side.TheVariants as side
+use Rattle.othello_rules.specs.declared.discs.Cell.{Cell}
+use Rattle.othello_rules.specs.declared.discs.Cell.TheVariants as cell
+use Rattle.othello_rules.specs.Board.{squares, directions, ray}
+
+-- 64 cells in the order of the squares' numbers, and the side to move, the mover
+pub record Position : Type 0 where
+  pub cells : List Cell
+  pub mover : Side
+
+abbrev pub other : Side → Side
+other side.Black = side.White
+other side.White = side.Black
+
+-- the cell that holds a side's disc
+abbrev pub disc : Side → Cell
+disc side.Black = cell.Black
+disc side.White = cell.White
+
+abbrev pub own : Position → Cell
+own P = disc P.mover
+
+abbrev pub opposing : Position → Cell
+opposing P = disc (other P.mover)
+
+abbrev pub same_cell : Cell → Cell → Bool
+same_cell cell.Empty cell.Empty = true
+same_cell cell.Black cell.Black = true
+same_cell cell.White cell.White = true
+same_cell cell.Empty cell.Black = false
+same_cell cell.Empty cell.White = false
+same_cell cell.Black cell.Empty = false
+same_cell cell.Black cell.White = false
+same_cell cell.White cell.Empty = false
+same_cell cell.White cell.Black = false
+
+abbrev pub is_some_cell : Cell → Option Cell → Bool
+is_some_cell c None = false
+is_some_cell c (Some d) = same_cell c d
+
+-- square q is on the board and has this in its cell
+abbrev pub has : Position → Cell → ℕ → Bool
+has P c q = is_some_cell c (slice_get P.cells q)
+
+-- of the squares met, the longest run of opposing discs at the front
+unfoldable pub run : (ℕ → Bool) → List ℕ → List ℕ
+run opp [] = []
+run opp (s ∷ ss) = cond (opp s) (s ∷ run opp ss) []
+
+-- the square behind that run exists and holds an own disc
+unfoldable pub closes : (ℕ → Bool) → (ℕ → Bool) → List ℕ → Bool
+closes own opp [] = false
+closes own opp (s ∷ ss) = cond (opp s) (closes own opp ss) (own s)
+
+-- the run, if an own disc closes it
+abbrev pub turned_on : (ℕ → Bool) → (ℕ → Bool) → List ℕ → List ℕ
+turned_on own opp met = cond (closes own opp met) (run opp met) []
+
+-- what a disc put on q would turn in one direction
+unfoldable pub turned : Position → ℕ → Direction → List ℕ
+turned P q d = turned_on (has P (own P)) (has P (opposing P)) (ray d q)
+
+-- what it would turn in all directions, one after the other: nothing if q is occupied
+unfoldable pub flips : Position → ℕ → List ℕ
+flips P q = cond (has P cell.Empty q) (flat_map (turned P q) directions) []
+
+abbrev pub is_nonempty : List ℕ → Bool
+is_nonempty [] = false
+is_nonempty (_ ∷ _) = true
+
+abbrev pub is_move : Position → ℕ → Bool
+is_move P q = is_nonempty (flips P q)
+
+-- the empty squares on which a disc would turn something
+unfoldable pub moves : Position → List ℕ
+moves P = filter (is_move P) squares
+
+-- the other side to move
+abbrev pub pass : Position → Position
+pass P = record P { mover = other P.mover }
+
+-- a cell with its square's number, made c if the square is among qs
+abbrev pub painted_cell : Cell → List ℕ → ℕ × Cell → Cell
+painted_cell c qs (s, old) = cond (list_any (nat_eq s) qs) c old
+
+-- the cells with those on the squares qs made c
+unfoldable pub painted : Cell → List ℕ → List Cell → List Cell
+painted c qs cells = map (painted_cell c qs) (enumerate_from 0 cells)
+
+-- q and all that the move turns become the mover's, and the other side is to move
+unfoldable pub play : Position → ℕ → Position
+play P q = record { cells = painted (own P) (q ∷ flips P q) P.cells; mover = other P.mover }
+
+-- neither side has a move
+abbrev pub IsOver : Position → Type 0
+IsOver P = (moves P ≡ []) × (moves (pass P) ≡ [])
+
+abbrev pub count_of : Position → Cell → ℕ
+count_of P c = count_by (same_cell c) P.cells

@@ -1,0 +1,62 @@
+-- The value of a position by full minimax, and its answer, under each scoring.
+use Rattle.std.specs.Prelude.{ℕ, zero, suc, Bool, true, false, List, [], ◌∷◌, map, ℤ, pos, neg_ℤ}
+use Rattle.std.specs.List.{filter, fold}
+use Rattle.std.specs.Int.{int_max}
+use Rattle.std.specs.Ordering.{int_eq}
+use Rattle.othello_rules.specs.declared.discs.Cell.TheVariants.{Empty}
+use Rattle.othello_rules.specs.declared.scorings.Scoring.{Scoring}
+use Rattle.othello_rules.specs.declared.answers.Best.{Best}
+use Rattle.othello_rules.specs.declared.answers.Best.TheVariants.{Moves, Pass, Over}
+use Rattle.othello_rules.specs.Rules.{Position, moves, pass, play, count_of, is_nonempty}
+use Rattle.othello_rules.specs.Masks.{mask_of}
+use Rattle.othello_rules.specs.Scores.{final}
+use Rattle.othello_rules.specs.Solution.{Solution}
+
+-- the greatest of some numbers (of none: 0, which is never asked for)
+unfoldable pub greatest : List ℤ → ℤ
+greatest [] = pos 0
+greatest (x ∷ xs) = fold int_max x xs
+
+unfoldable pub can_move : Position → Bool
+can_move P = is_nonempty (moves P)
+
+-- what a move is worth to the mover, where v values the position after it
+abbrev pub worth : (Position → ℤ) → Position → ℕ → ℤ
+worth v P q = neg_ℤ (v (play P q))
+
+-- what the best move is worth
+unfoldable pub best_of : (Position → ℤ) → Position → ℤ
+best_of v P = greatest (map (worth v P) (moves P))
+
+abbrev pub empties : Position → ℕ
+empties P = count_of P Empty
+
+-- the value of a position with n empty squares. A move fills one; after a pass a move must come.
+unfoldable pub value_at : Scoring → ℕ → Position → ℤ
+value_at g zero P = final g P
+value_at g (suc n) P =
+    elim (can_move P) [
+      | true ↦ best_of (value_at g n) P
+      | false ↦ elim (can_move (pass P)) [ true ↦ neg_ℤ (best_of (value_at g n) (pass P)) | false ↦ final g P ]
+    ]
+
+unfoldable pub value : Scoring → Position → ℤ
+value g P = value_at g (empties P) P
+
+-- a move that is worth the value
+abbrev pub is_best : Scoring → Position → ℕ → Bool
+is_best g P q = int_eq (worth (value g) P q) (value g P)
+
+unfoldable pub best_moves : Scoring → Position → List ℕ
+best_moves g P = filter (is_best g P) (moves P)
+
+unfoldable pub best : Scoring → Position → Best
+best g P =
+    elim (can_move P) [
+      | true ↦ Moves (mask_of (best_moves g P))
+      | false ↦ elim (can_move (pass P)) [ true ↦ Pass | false ↦ Over ]
+    ]
+
+-- the value, and all moves that attain it; or a pass; or that the game is over
+unfoldable pub answer : Scoring → Position → Solution
+answer g P = record { score = value g P; best = best g P }

@@ -1,0 +1,163 @@
+-- Worked examples: flips, moves and answers of small positions, which the check computes from the definitions.
+-- Each position is told by its rows, row 1 first: X a black disc, O a white one, - an empty square.
+use Rattle.std.specs.Prelude.{◌≡◌, List, [], ◌∷◌, ◌++◌, pos, negsuc, replicate, refl}
+use Rattle.othello_rules.specs.declared.discs.Side.{Side}
+use Rattle.othello_rules.specs.declared.discs.Side.TheVariants as side
+use Rattle.othello_rules.specs.declared.discs.Cell.{Cell}
+use Rattle.othello_rules.specs.declared.discs.Cell.TheVariants.{Empty, Black, White}
+use Rattle.othello_rules.specs.declared.scorings.Scoring.TheVariants.{Winner, Discs, Sign}
+use Rattle.othello_rules.specs.declared.answers.Best.TheVariants.{Moves, Pass, Over}
+use Rattle.othello_rules.specs.Board.{squares, directions, ray}
+use Rattle.othello_rules.specs.Rules.{Position, run, closes, turned, flips, moves, painted, play}
+use Rattle.othello_rules.specs.Scores.{final}
+use Rattle.othello_rules.specs.Masks.{mask_of}
+use Rattle.othello_rules.specs.Value.{greatest, can_move, best_of, value_at, value, best_moves, best, answer}
+
+-- 64 black discs
+black_board : List Cell
+black_board = replicate 64 Black
+
+-- three rows X, two rows empty, three rows O: nobody can move, and nobody has more
+level_halves : List Cell
+level_halves = replicate 24 Black ++ replicate 16 Empty ++ replicate 24 White
+
+-- four rows X, two rows empty, two rows O: nobody can move, and Black has more
+unequal_halves : List Cell
+unequal_halves = replicate 32 Black ++ replicate 16 Empty ++ replicate 16 White
+
+-- -OOOOOOX, and seven rows X
+last_corner : List Cell
+last_corner = Empty ∷ replicate 6 White ++ replicate 57 Black
+
+-- --OOOOOX, and seven rows X: A1 stays empty
+corner_left_over : List Cell
+corner_left_over = replicate 2 Empty ++ replicate 5 White ++ replicate 57 Black
+
+-- -OOXXOO-, and seven rows X: two moves are best
+equal_corners : List Cell
+equal_corners = Empty ∷ replicate 2 White ++ replicate 2 Black ++ replicate 2 White ++ Empty ∷ replicate 56 Black
+
+-- -OXXXXX-, XXXXXXXO, two rows X, XXXOXXXX, three rows X: after Black's move on A1 White takes H1
+unequal_corners : List Cell
+unequal_corners = Empty ∷ White ∷ replicate 5 Black ++ Empty ∷ replicate 7 Black ++ White ∷ replicate 19 Black ++ White ∷ replicate 28 Black
+
+abbrev to_move : Side → List Cell → Position
+to_move s cells = record { cells = cells; mover = s }
+
+-- H1 for White: south-west G2, F3, E4, then west G1 to C1
+flips-unequal_corners : flips (to_move side.White unequal_corners) 7 ≡ 14 ∷ 21 ∷ 28 ∷ 6 ∷ 5 ∷ 4 ∷ 3 ∷ 2 ∷ []
+unfolding unequal_corners flips turned run closes ray directions
+flips-unequal_corners = refl
+
+moves-equal_corners : moves (to_move side.Black equal_corners) ≡ 0 ∷ 7 ∷ []
+unfolding equal_corners moves flips turned run closes ray directions squares
+moves-equal_corners = refl
+
+-- the answers under the three scorings. The squares of a mask: 1 is A1, 2 is B1, 128 is H1, 129 both corners.
+answer-black_board-white-winner : answer Winner (to_move side.White black_board) ≡ record { score = negsuc 63; best = Over }
+unfolding black_board moves flips turned run closes ray directions squares play painted final greatest can_move best_of value_at value best_moves mask_of best answer
+answer-black_board-white-winner = refl
+
+answer-black_board-white-discs : answer Discs (to_move side.White black_board) ≡ record { score = negsuc 63; best = Over }
+unfolding black_board moves flips turned run closes ray directions squares play painted final greatest can_move best_of value_at value best_moves mask_of best answer
+answer-black_board-white-discs = refl
+
+answer-black_board-white-sign : answer Sign (to_move side.White black_board) ≡ record { score = negsuc 0; best = Over }
+unfolding black_board moves flips turned run closes ray directions squares play painted final greatest can_move best_of value_at value best_moves mask_of best answer
+answer-black_board-white-sign = refl
+
+answer-level_halves-black-winner : answer Winner (to_move side.Black level_halves) ≡ record { score = pos 0; best = Over }
+unfolding level_halves moves flips turned run closes ray directions squares play painted final greatest can_move best_of value_at value best_moves mask_of best answer
+answer-level_halves-black-winner = refl
+
+answer-level_halves-black-discs : answer Discs (to_move side.Black level_halves) ≡ record { score = pos 0; best = Over }
+unfolding level_halves moves flips turned run closes ray directions squares play painted final greatest can_move best_of value_at value best_moves mask_of best answer
+answer-level_halves-black-discs = refl
+
+answer-level_halves-black-sign : answer Sign (to_move side.Black level_halves) ≡ record { score = pos 0; best = Over }
+unfolding level_halves moves flips turned run closes ray directions squares play painted final greatest can_move best_of value_at value best_moves mask_of best answer
+answer-level_halves-black-sign = refl
+
+answer-unequal_halves-black-winner : answer Winner (to_move side.Black unequal_halves) ≡ record { score = pos 32; best = Over }
+unfolding unequal_halves moves flips turned run closes ray directions squares play painted final greatest can_move best_of value_at value best_moves mask_of best answer
+answer-unequal_halves-black-winner = refl
+
+answer-unequal_halves-black-discs : answer Discs (to_move side.Black unequal_halves) ≡ record { score = pos 16; best = Over }
+unfolding unequal_halves moves flips turned run closes ray directions squares play painted final greatest can_move best_of value_at value best_moves mask_of best answer
+answer-unequal_halves-black-discs = refl
+
+answer-unequal_halves-black-sign : answer Sign (to_move side.Black unequal_halves) ≡ record { score = pos 1; best = Over }
+unfolding unequal_halves moves flips turned run closes ray directions squares play painted final greatest can_move best_of value_at value best_moves mask_of best answer
+answer-unequal_halves-black-sign = refl
+
+answer-last_corner-black-winner : answer Winner (to_move side.Black last_corner) ≡ record { score = pos 64; best = Moves 1 }
+unfolding last_corner moves flips turned run closes ray directions squares play painted final greatest can_move best_of value_at value best_moves mask_of best answer
+answer-last_corner-black-winner = refl
+
+answer-last_corner-black-discs : answer Discs (to_move side.Black last_corner) ≡ record { score = pos 64; best = Moves 1 }
+unfolding last_corner moves flips turned run closes ray directions squares play painted final greatest can_move best_of value_at value best_moves mask_of best answer
+answer-last_corner-black-discs = refl
+
+answer-last_corner-black-sign : answer Sign (to_move side.Black last_corner) ≡ record { score = pos 1; best = Moves 1 }
+unfolding last_corner moves flips turned run closes ray directions squares play painted final greatest can_move best_of value_at value best_moves mask_of best answer
+answer-last_corner-black-sign = refl
+
+answer-last_corner-white-winner : answer Winner (to_move side.White last_corner) ≡ record { score = negsuc 63; best = Pass }
+unfolding last_corner moves flips turned run closes ray directions squares play painted final greatest can_move best_of value_at value best_moves mask_of best answer
+answer-last_corner-white-winner = refl
+
+answer-last_corner-white-discs : answer Discs (to_move side.White last_corner) ≡ record { score = negsuc 63; best = Pass }
+unfolding last_corner moves flips turned run closes ray directions squares play painted final greatest can_move best_of value_at value best_moves mask_of best answer
+answer-last_corner-white-discs = refl
+
+answer-last_corner-white-sign : answer Sign (to_move side.White last_corner) ≡ record { score = negsuc 0; best = Pass }
+unfolding last_corner moves flips turned run closes ray directions squares play painted final greatest can_move best_of value_at value best_moves mask_of best answer
+answer-last_corner-white-sign = refl
+
+answer-corner_left_over-black-winner : answer Winner (to_move side.Black corner_left_over) ≡ record { score = pos 64; best = Moves 2 }
+unfolding corner_left_over moves flips turned run closes ray directions squares play painted final greatest can_move best_of value_at value best_moves mask_of best answer
+answer-corner_left_over-black-winner = refl
+
+answer-corner_left_over-black-discs : answer Discs (to_move side.Black corner_left_over) ≡ record { score = pos 63; best = Moves 2 }
+unfolding corner_left_over moves flips turned run closes ray directions squares play painted final greatest can_move best_of value_at value best_moves mask_of best answer
+answer-corner_left_over-black-discs = refl
+
+answer-corner_left_over-black-sign : answer Sign (to_move side.Black corner_left_over) ≡ record { score = pos 1; best = Moves 2 }
+unfolding corner_left_over moves flips turned run closes ray directions squares play painted final greatest can_move best_of value_at value best_moves mask_of best answer
+answer-corner_left_over-black-sign = refl
+
+answer-equal_corners-black-winner : answer Winner (to_move side.Black equal_corners) ≡ record { score = pos 64; best = Moves 129 }
+unfolding equal_corners moves flips turned run closes ray directions squares play painted final greatest can_move best_of value_at value best_moves mask_of best answer
+answer-equal_corners-black-winner = refl
+
+answer-equal_corners-black-discs : answer Discs (to_move side.Black equal_corners) ≡ record { score = pos 64; best = Moves 129 }
+unfolding equal_corners moves flips turned run closes ray directions squares play painted final greatest can_move best_of value_at value best_moves mask_of best answer
+answer-equal_corners-black-discs = refl
+
+answer-equal_corners-black-sign : answer Sign (to_move side.Black equal_corners) ≡ record { score = pos 1; best = Moves 129 }
+unfolding equal_corners moves flips turned run closes ray directions squares play painted final greatest can_move best_of value_at value best_moves mask_of best answer
+answer-equal_corners-black-sign = refl
+
+answer-unequal_corners-black-winner : answer Winner (to_move side.Black unequal_corners) ≡ record { score = pos 62; best = Moves 128 }
+unfolding unequal_corners moves flips turned run closes ray directions squares play painted final greatest can_move best_of value_at value best_moves mask_of best answer
+answer-unequal_corners-black-winner = refl
+
+answer-unequal_corners-black-discs : answer Discs (to_move side.Black unequal_corners) ≡ record { score = pos 62; best = Moves 128 }
+unfolding unequal_corners moves flips turned run closes ray directions squares play painted final greatest can_move best_of value_at value best_moves mask_of best answer
+answer-unequal_corners-black-discs = refl
+
+answer-unequal_corners-black-sign : answer Sign (to_move side.Black unequal_corners) ≡ record { score = pos 1; best = Moves 129 }
+unfolding unequal_corners moves flips turned run closes ray directions squares play painted final greatest can_move best_of value_at value best_moves mask_of best answer
+answer-unequal_corners-black-sign = refl
+
+answer-unequal_corners-white-winner : answer Winner (to_move side.White unequal_corners) ≡ record { score = negsuc 39; best = Moves 128 }
+unfolding unequal_corners moves flips turned run closes ray directions squares play painted final greatest can_move best_of value_at value best_moves mask_of best answer
+answer-unequal_corners-white-winner = refl
+
+answer-unequal_corners-white-discs : answer Discs (to_move side.White unequal_corners) ≡ record { score = negsuc 38; best = Moves 128 }
+unfolding unequal_corners moves flips turned run closes ray directions squares play painted final greatest can_move best_of value_at value best_moves mask_of best answer
+answer-unequal_corners-white-discs = refl
+
+answer-unequal_corners-white-sign : answer Sign (to_move side.White unequal_corners) ≡ record { score = negsuc 0; best = Moves 128 }
+unfolding unequal_corners moves flips turned run closes ray directions squares play painted final greatest can_move best_of value_at value best_moves mask_of best answer
+answer-unequal_corners-white-sign = refl

@@ -1,0 +1,83 @@
+//! Directions, by their steps in the column and in the row.
+
+ghost use Rattle.std.specs.Prelude.{◌≡◌, ◌<◌, ◌≤◌};
+ghost use Rattle.othello_rules.specs.Board.{room_along, moved};
+
+// One step along the columns or along the rows.
+#[derive(Clone, Copy)]
+pub(crate) enum Step {
+    Back,
+    Stay,
+    Ahead,
+}
+
+impl Step {
+    // How many steps can be made from `at` before the edge.
+    pub(crate) fn room(self, at: u8) -> u8
+        requires { at < 8 }
+        ensures value { result ≡ room_along self at }
+        ensures below { result < 8 }
+    {
+        match self {
+            Step::Back => at,
+            Step::Stay => 7,
+            Step::Ahead => 7 - at,
+        }
+    }
+
+    pub(crate) fn moved(self, at: u8, by: u8) -> u8
+        requires on_board { at < 8 }
+        requires room { by ≤ room_along self at }
+        ensures value { result ≡ moved self at by }
+        ensures below { result < 8 }
+    {
+        match self {
+            Step::Back => at - by,
+            Step::Stay => at,
+            Step::Ahead => at + by,
+        }
+    }
+}
+
+// One of the eight directions, by its step in the column and in the row.
+#[derive(Clone, Copy)]
+pub(crate) struct Direction {
+    pub(crate) column: Step,
+    pub(crate) row: Step,
+}
+
+// North, north-east, and so on round the board.
+pub(crate) const DIRECTIONS: [Direction; 8] = [
+    Direction {
+        column: Step::Stay,
+        row: Step::Back,
+    },
+    Direction {
+        column: Step::Ahead,
+        row: Step::Back,
+    },
+    Direction {
+        column: Step::Ahead,
+        row: Step::Stay,
+    },
+    Direction {
+        column: Step::Ahead,
+        row: Step::Ahead,
+    },
+    Direction {
+        column: Step::Stay,
+        row: Step::Ahead,
+    },
+    Direction {
+        column: Step::Back,
+        row: Step::Ahead,
+    },
+    Direction {
+        column: Step::Back,
+        row: Step::Stay,
+    },
+    Direction {
+        column: Step::Back,
+        row: Step::Back,
+    },
+];

@@ -1,0 +1,28 @@
+//! Masks: sets of squares as numbers, with A1 as bit 0 and H8 as bit 63.
+
+ghost use Rattle.std.specs.Prelude.{◌≡◌, ◌<◌};
+ghost use Rattle.othello_rules.specs.Masks.{in_mask, squares_of};
+
+use crate::squares::Square;
+use arrayvec::ArrayVec;
+
+// Whether a square is in a mask.
+fn has_square(mask: u64, square: u8) -> bool
+    requires { square < 64 }
+    ensures { result ≡ in_mask mask square }
+{
+    mask >> square & 1 == 1
+}
+
+/// The squares of a mask, in the order of their numbers.
+pub fn squares_in(mask: u64) -> ArrayVec<Square, 64>
+    ensures { result.items ≡ squares_of mask }
+{
+    let mut squares = ArrayVec::new();
+    for number in 0..64 {
+        if has_square(mask, number) {
+            squares.push(Square::at(number));
+        }
+    }
+    squares
+}
