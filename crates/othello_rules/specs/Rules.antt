@@ -1,6 +1,6 @@
 -- Positions, what a move turns, the moves, play and pass, and when the game is over
 -- (World Othello Federation rules).
-use Rattle.std.specs.Prelude.{◌≡◌, ℕ, Bool, true, false, cond, List, [], ◌∷◌, map, Option, Some, None, slice_get, nat_eq}
+use Rattle.std.specs.Prelude.{◌≡◌, ℕ, Bool, true, false, if◌then◌else◌, List, [], ◌∷◌, map, Option, Some, None, slice_get, nat_eq}
 use Rattle.std.specs.List.{filter, flat_map, list_any, count_by, enumerate_from}
 use Rattle.othello_rules.specs.declared.directions.Direction.{Direction}
 use Rattle.othello_rules.specs.declared.discs.Side.{Side}
@@ -51,16 +51,16 @@ has P c q = is_some_cell c (slice_get P.cells q)
 -- of the squares met, the longest run of opposing discs at the front
 unfoldable pub run : (ℕ → Bool) → List ℕ → List ℕ
 run opp [] = []
-run opp (s ∷ ss) = cond (opp s) (s ∷ run opp ss) []
+run opp (s ∷ ss) = if opp s then s ∷ run opp ss else []
 
 -- the square behind that run exists and holds an own disc
 unfoldable pub closes : (ℕ → Bool) → (ℕ → Bool) → List ℕ → Bool
 closes own opp [] = false
-closes own opp (s ∷ ss) = cond (opp s) (closes own opp ss) (own s)
+closes own opp (s ∷ ss) = if opp s then closes own opp ss else own s
 
 -- the run, if an own disc closes it
 abbrev pub turned_on : (ℕ → Bool) → (ℕ → Bool) → List ℕ → List ℕ
-turned_on own opp met = cond (closes own opp met) (run opp met) []
+turned_on own opp met = if closes own opp met then run opp met else []
 
 -- what a disc put on q would turn in one direction
 unfoldable pub turned : Position → ℕ → Direction → List ℕ
@@ -68,7 +68,7 @@ turned P q d = turned_on (has P (own P)) (has P (opposing P)) (ray d q)
 
 -- what it would turn in all directions, one after the other: nothing if q is occupied
 unfoldable pub flips : Position → ℕ → List ℕ
-flips P q = cond (has P cell.Empty q) (flat_map (turned P q) directions) []
+flips P q = if has P cell.Empty q then flat_map (turned P q) directions else []
 
 abbrev pub is_nonempty : List ℕ → Bool
 is_nonempty [] = false
@@ -87,7 +87,7 @@ pass P = record P { mover = other P.mover }
 
 -- a cell with its square's number, made c if the square is among qs
 abbrev pub painted_cell : Cell → List ℕ → ℕ × Cell → Cell
-painted_cell c qs (s, old) = cond (list_any (nat_eq s) qs) c old
+painted_cell c qs (s, old) = if list_any (nat_eq s) qs then c else old
 
 -- the cells with those on the squares qs made c
 unfoldable pub painted : Cell → List ℕ → List Cell → List Cell

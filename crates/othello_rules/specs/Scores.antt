@@ -1,5 +1,5 @@
 -- The score of a position by its discs, as the mover sees it, under each scoring.
-use Rattle.std.specs.Prelude.{ℕ, nat_lt, cond, ℤ, pos, ◌+ℤ◌, ◌-ℤ◌}
+use Rattle.std.specs.Prelude.{ℕ, nat_lt, if◌then◌else◌, ℤ, pos, ◌+ℤ◌, ◌-ℤ◌}
 use Rattle.std.specs.Int.{int_signum}
 use Rattle.othello_rules.specs.declared.scorings.Scoring.{Scoring}
 use Rattle.othello_rules.specs.declared.scorings.Scoring.TheVariants.{Winner, Discs, Sign}
@@ -11,7 +11,8 @@ use Rattle.othello_rules.specs.Rules.{Position, own, opposing, count_of}
 -- and of the published FFO results); Discs, the plain difference; Sign, +1, 0 or -1 for a win, a draw or a loss
 abbrev pub score_of : Scoring → ℕ → ℕ → ℕ → ℤ
 score_of Winner m o e =
-    cond (nat_lt o m) (pos m -ℤ pos o +ℤ pos e) (cond (nat_lt m o) (pos m -ℤ pos o -ℤ pos e) (pos 0))
+    if nat_lt o m then pos m -ℤ pos o +ℤ pos e
+    else (if nat_lt m o then pos m -ℤ pos o -ℤ pos e else pos 0)
 score_of Discs m o e = pos m -ℤ pos o
 score_of Sign m o e = int_signum (pos m -ℤ pos o)
 
