@@ -26,9 +26,9 @@ impl Model for Square {
 }
 
 impl Default for Square {
-    fn default() -> Square
-        ensures { result ≡ 0 }
-    {
+    ghost is_default = { λ square. square ≡ 0 };
+
+    fn default() -> Square {
         Square::at(0)
     }
 }
