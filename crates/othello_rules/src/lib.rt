@@ -17,6 +17,6 @@ pub use answers::{Answer, Best};
 pub use discs::{Cell, Side};
 pub use faults::RuleFault;
 pub use grids::Grid;
-pub use masks::squares_in;
+pub use masks::{has_square, squares_in};
 pub use scorings::Scoring;
 pub use squares::Square;

@@ -1,17 +1,17 @@
 //! Masks: sets of squares as numbers, with A1 as bit 0 and H8 as bit 63.
 
-ghost use Rattle.std.specs.Prelude.{◌≡◌, ◌<◌};
+ghost use Rattle.std.specs.Prelude.{◌≡◌};
 ghost use Rattle.othello_rules.specs.Masks.{in_mask, squares_of};
 
 use crate::squares::Square;
 use arrayvec::ArrayVec;
 
-// Whether a square is in a mask.
-fn has_square(mask: u64, square: u8) -> bool
-    requires { square < 64 }
+/// Whether a square is in a mask.
+#[inline]
+pub fn has_square(mask: u64, square: Square) -> bool
     ensures { result ≡ in_mask mask square }
 {
-    mask >> square & 1 == 1
+    mask >> square.number() & 1 == 1
 }
 
 /// The squares of a mask, in the order of their numbers.
@@ -20,8 +20,9 @@ pub fn squares_in(mask: u64) -> ArrayVec<Square, 64>
 {
     let mut squares = ArrayVec::new();
     for number in 0..64 {
-        if has_square(mask, number) {
-            squares.push(Square::at(number));
+        let square = Square::at(number);
+        if has_square(mask, square) {
+            squares.push(square);
         }
     }
     squares

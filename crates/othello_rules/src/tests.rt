@@ -1,6 +1,6 @@
 //! The plain program on small positions whose answers are known, and each public call once.
 
-use crate::{Best, Cell, Grid, RuleFault, Scoring, Side, Square, squares_in};
+use crate::{Best, Cell, Grid, RuleFault, Scoring, Side, Square, has_square, squares_in};
 
 // A row of black discs, of white discs, and of empty squares.
 const X: &[u8; 8] = b"XXXXXXXX";
@@ -165,10 +165,13 @@ fn names_of_squares(rt: HostRuntime) {
 
 #[test]
 fn squares_of_a_mask(rt: HostRuntime) {
-    let corners = squares_in(0x8100_0000_0000_0081);
+    let mask = 0x8100_0000_0000_0081;
+    let corners = squares_in(mask);
     let names: [&[u8; 2]; 4] = [b"A1", b"H1", b"A8", b"H8"];
     assert_eq!(rt; corners.len(), names.len());
     for (square, name) in corners.iter().zip(names) {
         assert_eq!(rt; square.name(), *name);
+        assert!(rt; has_square(mask, *square));
     }
+    assert!(rt; !has_square(mask, Square::at(1)));
 }
