@@ -1,0 +1,120 @@
+//! A table of ranges that many threads share.
+
+ghost use Rattle.std.specs.Prelude.{◌≡◌, ◌<◌, ◌≤◌, ◌↔◌, IfSome, IfOk, IsOk, IsNone};
+ghost use Rattle.bound_table.specs.declared.faults.TableFault.TheVariants as fault;
+ghost use Rattle.bound_table.specs.Ranges.{IsTrueOf};
+ghost use Rattle.bound_table.specs.Tables.{Table};
+
+use crate::entries::{Entry, Slot, read, unused, write};
+use crate::faults::TableFault;
+use crate::ranges::Range;
+use crate::tables::Bounds;
+use othello_bits::Pos;
+use othello_rules::Scoring;
+use std::alloc::Global;
+use std::marker::Model;
+
+/// A table with a fixed number of entries, which threads share by reference: no call waits, and none but `new` takes
+/// memory. An entry holds a canonical position and a range that is true of it. A store replaces what its entry holds,
+/// and is skipped where another thread uses the entry; a probe then shows None.
+#[derive(Drop)]
+pub struct BoundTable {
+    scoring: Scoring,
+    slots: Vec<Slot>,
+}
+
+impl Model for BoundTable {
+    ghost use Rattle.std.specs.Prelude.{length};
+    ghost use Rattle.bound_table.specs.Tables.{Table, IsTable};
+
+    ghost Value = { Table };
+
+    ghost view = { λ t. record { scoring = t.scoring; entries = length t.slots.items } };
+
+    ghost invariant = { λ t. IsTable t.scoring t.slots.items };
+}
+
+// A number that depends on all bits of both masks: products with odd numbers, folded twice.
+#[inline]
+fn mixed(position: Pos) -> u64 {
+    let products = position.own().wrapping_mul(0x9e37_79b9_7f4a_7c15)
+        ^ position.opp().wrapping_mul(0xc2b2_ae3d_27d4_eb4f);
+    (products ^ (products >> 29)).wrapping_mul(0xbf58_476d_1ce4_e5b9)
+}
+
+// The entry that a position chooses: the upper half of its mixed number, taken as a fraction of 2^32, of the entries.
+#[inline]
+fn chosen(position: Pos, entries: usize) -> usize
+    requires some { 0 < entries }
+    requires few { entries ≤ BoundTable.MOST_ENTRIES }
+    ensures { result < entries }
+{
+    let fraction = mixed(position) >> 32;
+    ((fraction * entries as u64) >> 32) as usize
+}
+
+impl BoundTable {
+    /// The greatest number of entries.
+    pub const MOST_ENTRIES: usize = 4_194_304;
+
+    /// A table under the scoring with so many entries, none of them stored to. With 0 entries it keeps nothing.
+    /// `TooMany` above `MOST_ENTRIES`, before any memory is asked for; `Memory` where it was refused.
+    pub fn new(alloc: Global, entries: usize, scoring: Scoring) -> Result<BoundTable, TableFault>
+        ensures too_many { (result ≡ Err fault.TooMany) ↔ (Self.MOST_ENTRIES < entries) }
+        ensures made { IfOk result (λ table. table ≡ record { scoring = scoring; entries = entries }) }
+        ensures without_memory { entries ≡ 0 → IsOk result }
+    {
+        if entries > Self::MOST_ENTRIES {
+            return Err(TableFault::TooMany);
+        }
+        let Ok(mut slots) = Vec::with_capacity(alloc, entries) else {
+            return Err(TableFault::Memory);
+        };
+        for _ in 0..entries {
+            slots.push_reserved(unused(scoring));
+        }
+        Ok(BoundTable { scoring, slots })
+    }
+
+    // The slot that a canonical position chooses; None in a table without entries.
+    #[inline]
+    fn slot(&self, canonical: Pos) -> Option<&Slot>
+        ensures scored { IfSome result (λ slot. slot.now ≡ self.now.scoring) }
+        ensures empty { self.now.entries ≡ 0 → IsNone result }
+    {
+        if self.slots.is_empty() {
+            return None;
+        }
+        Some(&self.slots[chosen(canonical, self.slots.len())])
+    }
+}
+
+impl Bounds for BoundTable {
+    ghost scoring = { λ table. table.scoring };
+
+    fn scoring(&self) -> Scoring {
+        self.scoring
+    }
+
+    fn probe(&self, position: &Pos) -> Option<Range>
+        ensures shown { IfSome result (IsTrueOf self.now.scoring position.now) }
+        ensures empty { self.now.entries ≡ 0 → IsNone result }
+    {
+        let canonical = position.least_image();
+        let entry = read(self.slot(canonical)?)?;
+        entry.range_of(canonical)
+    }
+
+    fn store(&self, position: &Pos, range: Range) {
+        let canonical = position.least_image();
+        if let Some(slot) = self.slot(canonical) {
+            write(
+                slot,
+                Entry {
+                    position: canonical,
+                    range,
+                },
+            );
+        }
+    }
+}

@@ -1,0 +1,101 @@
+//! An entry of a shared table: a slot with a word that threads change by single steps. Nobody waits for a slot.
+
+ghost use Rattle.std.specs.Prelude.{◌≡◌, ◌<◌, ◌+◌, ◌^◌, IfSome, IsTrue};
+ghost use Rattle.std.specs.Option.{SomeIff};
+ghost use Rattle.counted_slot.specs.Counting.{IsTurn};
+ghost use Rattle.bound_table.specs.Tables.{IsKnown};
+
+use crate::ranges::Range;
+use counted_slot::{Counted, FREE, Fits, MOST_READERS, ONE_READER, PRESENT, TAKEN};
+use othello_bits::Pos;
+use othello_rules::Scoring;
+
+/// A canonical position and a range that is true of it: 24 bytes.
+#[derive(Clone, Copy)]
+pub(crate) struct Entry {
+    pub(crate) position: Pos,
+    pub(crate) range: Range,
+}
+
+impl Fits for Entry {
+    type Tag = Scoring;
+
+    ghost fits = { λ scoring entry. IsKnown scoring entry.position entry.range };
+}
+
+impl Entry {
+    /// The range, where the entry is of this position.
+    #[inline]
+    pub(crate) fn range_of(self, position: Pos) -> Option<Range>
+        ensures { SomeIff result (self.position ≡ position) self.range }
+    {
+        if self.position == position {
+            Some(self.range)
+        } else {
+            None
+        }
+    }
+}
+
+/// A place for one entry, which clauses see as the scoring of its range. Its word is `FREE` until the first store,
+/// then `PRESENT` with the number of those who read the entry, or `TAKEN` while a thread writes it.
+pub(crate) type Slot = Counted<Entry>;
+
+/// A slot that was never stored to. Its range, of all scores, is true of every position.
+#[inline]
+pub(crate) fn unused(scoring: Scoring) -> Slot
+    ensures { result ≡ scoring }
+{
+    let entry = Entry {
+        position: Pos::new(0, 0).unwrap().least_image(),
+        range: Range::of_all_scores(),
+    };
+    Counted::new(entry, &scoring)
+}
+
+// Whether one more may read under this word.
+#[inline]
+fn admits_reader(word: u64) -> bool
+    ensures turn { IsTrue result → IsTurn word (word + ONE_READER) }
+    ensures room { IsTrue result → word + ONE_READER < 2 ^ 64 }
+{
+    word % ONE_READER == PRESENT && word / ONE_READER < MOST_READERS
+}
+
+/// The entry of the slot, by one read turn, a look and one leave; None where it was never stored to or a thread
+/// writes it, and where the turn is lost to another thread.
+#[inline]
+pub(crate) fn read(slot: &Slot) -> Option<Entry>
+    ensures { IfSome result (λ entry. IsKnown slot.now entry.position entry.range) }
+{
+    let word = slot.load();
+    if !admits_reader(word) {
+        return None;
+    }
+    let (found, claim) = slot.turn(word, word + ONE_READER);
+    if found != word {
+        claim.done();
+        return None;
+    }
+    let entry = *claim.get();
+    claim.leave();
+    Some(entry)
+}
+
+/// Puts an entry into the slot, by one write turn and one put; nothing where a thread reads or writes the slot, and
+/// where the turn is lost to another thread.
+#[inline]
+pub(crate) fn write(slot: &Slot, entry: Entry)
+    requires { IsKnown slot.now entry.position entry.range }
+{
+    let word = slot.load();
+    if word != FREE && word != PRESENT {
+        return;
+    }
+    let (found, claim) = slot.turn(word, TAKEN);
+    if found == word {
+        claim.put(entry, PRESENT);
+    } else {
+        claim.done();
+    }
+}

@@ -1,0 +1,14 @@
+//! Why a table is not made.
+
+use thiserror::Error;
+
+/// Why a table is not made.
+#[derive(Clone, Copy, PartialEq, Eq, Debug, Error)]
+pub enum TableFault {
+    /// More entries were asked for than a table may have.
+    #[error("more than 4194304 table entries")]
+    TooMany,
+    /// There was no memory for the entries.
+    #[error("out of memory")]
+    Memory,
+}

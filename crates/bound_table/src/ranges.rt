@@ -1,0 +1,67 @@
+//! Ranges of scores.
+
+ghost use Rattle.std.specs.Prelude.{◌≡◌, ◌↔◌, negsuc, pos, IsSome, IfSome};
+ghost use Rattle.othello_rules.specs.Solution.{IsScore};
+ghost use Rattle.bound_table.specs.Ranges.{interval, IsInterval};
+
+use std::marker::Model;
+
+/// The scores from `low` to `high`, both ends included, in discs: `-64 <= low <= high <= 64`.
+#[derive(Clone, Copy, PartialEq, Eq, Debug)]
+pub struct Range {
+    low: i8,
+    high: i8,
+}
+
+impl Model for Range {
+    ghost use Rattle.bound_table.specs.Ranges.{Interval, interval, IsInterval};
+
+    ghost Value = { Interval };
+
+    ghost view = { λ r. interval r.low r.high };
+
+    ghost invariant = { λ r. IsInterval (interval r.low r.high) };
+
+    ghost inverse = { λ i. record { low = i.low; high = i.high } };
+}
+
+impl Range {
+    /// None unless `-64 <= low <= high <= 64`.
+    #[inline]
+    pub fn new(low: i8, high: i8) -> Option<Range>
+        ensures ordered { IsSome result ↔ IsInterval (interval low high) }
+        ensures value { IfSome result (λ r. r ≡ interval low high) }
+    {
+        if -64 <= low && low <= high && high <= 64 {
+            Some(Range { low, high })
+        } else {
+            None
+        }
+    }
+
+    /// The range of all scores.
+    #[inline]
+    pub(crate) fn of_all_scores() -> Range
+        ensures { result ≡ interval (negsuc 63) (pos 64) }
+    {
+        Range { low: -64, high: 64 }
+    }
+
+    /// The least score of the range.
+    #[inline]
+    pub fn low(self) -> i8
+        ensures value { result ≡ self.low }
+        ensures ordered { IsInterval self }
+    {
+        self.low
+    }
+
+    /// The greatest score of the range.
+    #[inline]
+    pub fn high(self) -> i8
+        ensures value { result ≡ self.high }
+        ensures ordered { IsInterval self }
+    {
+        self.high
+    }
+}

@@ -1,0 +1,6 @@
+pub mod BestMoves
+pub mod BestOf
+pub mod Moves
+pub mod Takes
+pub mod Told
+pub mod Windows

@@ -1,0 +1,61 @@
+-- What the moves of a position tell of its value.
+use Rattle.std.proofs.Common.{◌≡◌, ◌≢◌, ℕ, ◌+◌, ◌-◌, ◌*◌, ◌<◌, ℤ, neg_ℤ, ◌≤ℤ◌, List, map, take, length, get_or, true, not, ◌&&◌, nat_eq, All, Contains, sym, ap, ◌∙◌, subst, arith}
+use Rattle.std.proofs.lemmas.Int.{ints}
+use Rattle.std.proofs.lemmas.List.{length-map}
+use Rattle.std.proofs.lemmas.List.Elements.{All-map, All-contains, All-more, All-weaker}
+use Rattle.othello_rules.specs.declared.scorings.Scoring.{Scoring}
+use Rattle.othello_bits.specs.Discs.{Discs, moves_of, play_of, pass_of, empties_of, value_of, IsMove, HasNoMove}
+use Rattle.othello_bits.proofs.GameLaws.{value_above, value_reached, value-pass, empties-move, empties-pass}
+use Rattle.endgame_search.specs.declared.children.Child.{Child}
+use Rattle.endgame_search.specs.Children.{IsChildOf, AreChildrenOf}
+
+-- what the move to a child is worth, and how many squares are empty there
+pub child_worth : (g : Scoring) (p : Discs) (c : Child) → IsChildOf p c → neg_ℤ (value_of g c.position) ≤ℤ value_of g p
+child_worth g p c h = subst (λ d. neg_ℤ (value_of g d) ≤ℤ value_of g p) (sym h.position) (value_above g p c.square h.legal)
+
+pub child_empties : (p : Discs) (c : Child) → IsChildOf p c → empties_of c.position + 1 ≡ empties_of p
+child_empties p c h = ap (λ d. empties_of d + 1) h.position ∙ empties-move p c.square h.legal
+
+-- the only move is worth the value
+pub only_worth : (g : Scoring) (p : Discs) (c : Child) → IsChildOf p c → moves_of p ≢ 0 → ((q : ℕ) → IsMove p q → q ≡ c.square) → value_of g p ≡ neg_ℤ (value_of g c.position)
+only_worth g p c h some only =
+    let r = value_reached g p some in
+    let e : play_of p r.0 ≡ c.position = ap (play_of p) (only r.0 r.1) ∙ sym h.position in
+    sym r.2 ∙ ap (λ d. neg_ℤ (value_of g d)) e
+
+-- a pass where the opponent has a move
+pub passed_worth : (g : Scoring) (p c : Discs) (replies : ℕ) → HasNoMove p → c ≡ pass_of p → replies ≡ moves_of c → replies ≢ 0 → value_of g p ≡ neg_ℤ (value_of g c)
+passed_worth g p c replies none e r some =
+    value-pass g p none (λ z. some (r ∙ ap moves_of e ∙ z)) ∙ ap (λ d. neg_ℤ (value_of g d)) (sym e)
+
+pub passed_empties : (p c : Discs) → c ≡ pass_of p → empties_of c ≡ empties_of p
+passed_empties p c e = ap empties_of e ∙ empties-pass p
+
+-- the element that a loop is at
+pub at_index : {X : Type 0} (P : X → Type 0) (items : List X) (i : ℕ) (x : X) → i < length items → x ≡ get_or items i x → All P items → P x
+at_index P items i x h is all = subst P (sym is) (all i x h)
+
+-- one more child searched
+pub searched_more : (g : Scoring) (items : List Child) (i : ℕ) (x : Child) (best more : ℤ)
+    → i < length items → x ≡ get_or items i x → best ≤ℤ more → neg_ℤ (value_of g x.position) ≤ℤ more
+    → All (λ (c : Child). neg_ℤ (value_of g c.position) ≤ℤ best) (take i items)
+    → All (λ (c : Child). neg_ℤ (value_of g c.position) ≤ℤ more) (take (i + 1) items)
+searched_more g items i x best more h is grow one all =
+    All-more (λ (c : Child). neg_ℤ (value_of g c.position) ≤ℤ more) items i x h
+      (All-weaker (λ (c : Child). neg_ℤ (value_of g c.position) ≤ℤ best) (λ (c : Child). neg_ℤ (value_of g c.position) ≤ℤ more)
+        (λ c k. let j : neg_ℤ (value_of g c.position) ≤ℤ best = k in omega (arith, ints)) (take i items) all)
+      (subst (λ (c : Child). neg_ℤ (value_of g c.position) ≤ℤ more) is one)
+
+-- where every child was searched, the best is no less than the value
+pub best_of_all : (g : Scoring) (p : Discs) (items : List Child) (best : ℤ) → moves_of p ≢ 0 → AreChildrenOf p items
+    → All (λ (c : Child). neg_ℤ (value_of g c.position) ≤ℤ best) items
+    → (value_of g p ≤ℤ best) × (0 < length items)
+best_of_all g p items best some children all =
+    let r = value_reached g p some in
+    let l = children.every r.0 r.1 in
+    let by_square : All (λ (c : Child). neg_ℤ (value_of g (play_of p c.square)) ≤ℤ best) items =
+      λ i x h. subst (λ d. neg_ℤ (value_of g d) ≤ℤ best) (children.each i x h).position (all i x h) in
+    let k : neg_ℤ (value_of g (play_of p r.0)) ≤ℤ best =
+      All-contains (λ q. neg_ℤ (value_of g (play_of p q)) ≤ℤ best) (map (λ (c : Child). c.square) items) r.0
+        (All-map (λ q. neg_ℤ (value_of g (play_of p q)) ≤ℤ best) (λ (c : Child). c.square) items by_square) l in
+    (subst (λ z. z ≤ℤ best) r.2 k, omega (arith, l.1, length-map items (λ (c : Child). c.square)))

@@ -1,0 +1,40 @@
+use Rattle.std.proofs.Common.{◌≡◌, ℕ, ◌<◌, ◌*◌, ◌+◌, negsuc, neg_ℤ, ◌≤ℤ◌, take, All, Contains}
+use Rattle.othello_bits.specs.Discs.{empties_of, play_of, value_of, IsMove}
+use Rattle.endgame_search.specs.declared.children.Child.{Child}
+use Rattle.endgame_search.specs.Children.{AreChildrenOf}
+use Rattle.endgame_search.proofs.Windows.{KeepsBest}
+use Rattle.endgame_search.proofs.searches.+search.Given as goal
+
+abbrev pub decreases-search : goal.decreases-search
+decreases-search g l = 8 * empties_of l.position + 7
+
+abbrev pub decreases-search_pass : goal.decreases-search_pass
+decreases-search_pass g l = 8 * empties_of l.position + 6
+
+abbrev pub decreases-search_moves : goal.decreases-search_moves
+decreases-search_moves g l = 8 * empties_of l.position + 5
+
+abbrev pub decreases-search_only : goal.decreases-search_only
+decreases-search_only g l = 8 * empties_of l.position + 4
+
+abbrev pub decreases-search_few : goal.decreases-search_few
+decreases-search_few g l = 8 * empties_of l.position + 3
+
+abbrev pub decreases-search_some : goal.decreases-search_some
+decreases-search_some g l = 8 * empties_of l.position + 3
+
+abbrev pub decreases-search_many : goal.decreases-search_many
+decreases-search_many g l = 8 * empties_of l.position + 3
+
+abbrev pub decreases-search_children : goal.decreases-search_children
+decreases-search_children g l = 8 * empties_of l.position + 2
+
+abbrev pub decreases-search_after : goal.decreases-search_after
+decreases-search_after g l = 8 * empties_of l.after + 8
+
+abbrev pub invariant-search_children-loop-child : goal.invariant-search_children-loop-child
+invariant-search_children-loop-child g l = record {
+  searched : All (λ (c : Child). neg_ℤ (value_of (g.T.Bounds.scoring l.table) c.position) ≤ℤ l.best) (take l.child-index l.children);
+  best : KeepsBest l.low l.high (value_of (g.T.Bounds.scoring l.table) l.position) l.best;
+  started : 0 < l.child-index → negsuc 63 ≤ℤ l.best
+}

@@ -1,0 +1,32 @@
+use Rattle.std.proofs.Common.{◌≡◌, ◌≤ℤ◌, sym, subst, ◌∙◌, arith}
+use Rattle.std.proofs.lemmas.Int.{ints}
+use Rattle.std.proofs.lemmas.Bool.{false≢true}
+use Rattle.othello_bits.specs.Discs.{value_of}
+use Rattle.othello_bits.proofs.GameLaws.{value_score}
+use Rattle.endgame_search.proofs.Windows.{shown}
+use Rattle.endgame_search.proofs.BestMoves.{value_told, le_in, le_out}
+use Rattle.endgame_search.proofs.solutions.is_value.Goals as goal
+
+pub returns-then-score-ltminus64 : goal.returns-then-score-ltminus64
+returns-then-score-ltminus64 g c =
+    let v = value_score (g.T.Bounds.scoring c.args.table.now) c.args.position in
+    let l = v.low in
+    (λ f. absurd (false≢true f), λ e. absurd (omega (arith, ints, l, e)))
+
+pub returns-then-score-gt64 : goal.returns-then-score-gt64
+returns-then-score-gt64 g c =
+    let v = value_score (g.T.Bounds.scoring c.args.table.now) c.args.position in
+    let h = v.high in
+    (λ f. absurd (false≢true f), λ e. absurd (omega (arith, ints, h, e)))
+
+pub returns : goal.returns
+returns g c =
+    let e = c.value_in.ensures in
+    let f = c.value_in-2.ensures in
+    let q : shown c.value_in-2.result ≡ c.value_in-2.result = omega (arith, ints) in
+    let s : shown c.args.score ≡ c.args.score = omega (arith, ints) in
+    let r : shown c.value_in.result ≡ c.value_in.result = omega (arith, ints) in
+    let first : shown c.args.score ≤ℤ c.value_in.result = omega (arith, ints) in
+    let t = value_told _ (shown c.args.score) (value_of (g.T.Bounds.scoring c.args.table.now) c.args.position) c.value_in.result c.value_in-2.result e.above first (omega (arith, ints)) f.below f.above in
+    (λ h. sym s ∙ t.0 (subst (λ z. z ≤ℤ shown c.args.score) q (le_in _ _ h)),
+     λ x. le_out _ _ (subst (λ z. z ≤ℤ shown c.args.score) (sym q) (t.1 (s ∙ x))))

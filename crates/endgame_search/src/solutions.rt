@@ -1,0 +1,171 @@
+//! Positions with their answers.
+
+ghost use Rattle.std.specs.Prelude.{◌≡◌, ◌↔◌, ◌≤ℤ◌, neg_ℤ, IsTrue};
+ghost use Rattle.othello_rules.specs.declared.scorings.Scoring.TheVariants.{Sign};
+ghost use Rattle.othello_rules.specs.Solution.{IsScore};
+ghost use Rattle.std.proofs.Common.{sym};
+ghost use Rattle.endgame_search.specs.Problems.{Problem};
+ghost use Rattle.othello_bits.specs.Discs.{moves_of, play_of, value_of, answer_of, best_of, is_best, mask_where, IsMove};
+
+use crate::searches::value_in;
+use crate::tasks::Task;
+use bound_table::Bounds;
+use othello_bits::Pos;
+use othello_bits::masks::without;
+use othello_rules::{Answer, Best, Scoring, Square, squares_in};
+use std::marker::Model;
+
+/// A position with its answer under a scoring. `solve` and `confirm` alone make one. Contracts see the problem that
+/// it solves: by this type its answer is the one of the definitions.
+#[derive(Clone, Copy, PartialEq, Eq, Debug)]
+pub struct Solved {
+    position: Pos,
+    scoring: Scoring,
+    answer: Answer,
+}
+
+impl Model for Solved {
+    ghost Value = { Problem };
+
+    ghost view = { λ solved. record { position = solved.position; scoring = solved.scoring } };
+
+    ghost invariant = { λ solved. solved.answer ≡ answer_of solved.scoring solved.position };
+
+    ghost inverse = { λ problem. record { position = problem.position; scoring = problem.scoring; answer = answer_of problem.scoring problem.position } };
+
+    ghost inverse_ok = { λ solved exact. λ k. record { position = solved.position; scoring = solved.scoring; answer = sym exact k } };
+}
+
+impl Solved {
+    /// The position.
+    pub fn pos(self) -> Pos
+        ensures { result ≡ self.position }
+    {
+        self.position
+    }
+
+    /// The scoring under which the answer is the position's.
+    pub fn scoring(self) -> Scoring
+        ensures { result ≡ self.scoring }
+    {
+        self.scoring
+    }
+
+    /// The value of the position, and all moves that attain it.
+    pub fn answer(self) -> Answer
+        ensures { result ≡ answer_of self.scoring self.position }
+    {
+        self.answer
+    }
+
+    /// +1, 0 or -1, as the mover wins, draws or loses, whatever the scoring.
+    pub fn outcome(self) -> i8
+        ensures { result ≡ value_of Sign self.position }
+    {
+        self.answer().score.signum()
+    }
+}
+
+/// What a source that is not trusted says of a position: its score in discs, and what attains it.
+#[derive(Clone, Copy, PartialEq, Eq, Debug)]
+pub struct Claim {
+    pub score: i8,
+    pub best: Best,
+}
+
+/// The task's position with its value and all moves that attain it.
+pub fn solve<T: Bounds>(table: &T, task: Task) -> Solved
+    requires { task.scoring ≡ T.scoring table.now }
+    ensures { result ≡ task }
+{
+    let score = value_in(table, task.pos(), -65, 65);
+    solved_at(table, task, score)
+}
+
+/// What `solve` gives, sooner where the claim is right: two null windows test the score, and one tests each move.
+/// Where a test fails the position is solved afresh.
+pub fn confirm<T: Bounds>(table: &T, task: Task, claim: Claim) -> Solved
+    requires { task.scoring ≡ T.scoring table.now }
+    ensures { result ≡ task }
+{
+    if is_value(table, task.pos(), claim.score) {
+        let solved = solved_at(table, task, claim.score);
+        if solved.answer().best == claim.best {
+            return solved;
+        }
+    }
+    solve(table, task)
+}
+
+// Whether a number is the value of the position, by two null windows.
+fn is_value<T: Bounds>(table: &T, position: Pos, score: i8) -> bool
+    ensures { IsTrue result ↔ (score ≡ value_of (T.scoring table.now) position) }
+{
+    if score < -64 {
+        return false;
+    }
+    if score > 64 {
+        return false;
+    }
+    if value_in(table, position, score - 1, score) < score {
+        return false;
+    }
+    value_in(table, position, score, score + 1) <= score
+}
+
+// The task's position with its answer, where its value is known.
+fn solved_at<T: Bounds>(table: &T, task: Task, score: i8) -> Solved
+    requires scoring { task.scoring ≡ T.scoring table.now }
+    requires value { score ≡ value_of task.scoring task.position }
+    ensures { result ≡ task }
+{
+    let best = best_from(table, task.pos(), score);
+    Solved {
+        position: task.pos(),
+        scoring: task.scoring(),
+        answer: Answer { score, best },
+    }
+}
+
+// What attains the value, where it is known.
+fn best_from<T: Bounds>(table: &T, position: Pos, score: i8) -> Best
+    requires { score ≡ value_of (T.scoring table.now) position }
+    ensures { result ≡ best_of (T.scoring table.now) position }
+{
+    let moves = position.moves();
+    if moves != 0 {
+        return Best::Moves(best_moves(table, position, moves, score));
+    }
+    if position.is_over() {
+        Best::Over
+    } else {
+        Best::Pass
+    }
+}
+
+// The moves that attain the value, where it is known.
+fn best_moves<T: Bounds>(table: &T, position: Pos, moves: u64, score: i8) -> u64
+    requires moves { moves ≡ moves_of position }
+    requires value { score ≡ value_of (T.scoring table.now) position }
+    ensures { result ≡ mask_where (is_best (T.scoring table.now) position) }
+{
+    let mut best = moves;
+    let squares = squares_in(moves);
+    for square in squares.iter() {
+        if gives(table, position, *square, score) {
+            continue;
+        }
+        best = without(best, *square);
+    }
+    best
+}
+
+// Whether a move is worth at least the score, by a null window.
+fn gives<T: Bounds>(table: &T, position: Pos, square: Square, score: i8) -> bool
+    requires legal { IsMove position square }
+    requires in_range { IsScore score }
+    ensures { IsTrue result ↔ (score ≤ℤ neg_ℤ (value_of (T.scoring table.now) (play_of position square))) }
+{
+    let after = position.after(square, position.flips(square));
+    value_in(table, after, -score, 1 - score) <= -score
+}

@@ -1,0 +1,63 @@
+//! Positions to be solved.
+
+ghost use Rattle.std.specs.Prelude.{◌≡◌, ◌≤◌, ◌↔◌, min, IsOk, IfOk, IfErr};
+ghost use Rattle.othello_bits.specs.Discs.{empties_of};
+ghost use Rattle.endgame_search.specs.Problems.{Problem};
+
+use othello_bits::Pos;
+use othello_rules::Scoring;
+use std::marker::Model;
+use thiserror::Error;
+
+/// A position to be solved under a scoring. It has at most 60 empty squares.
+#[derive(Clone, Copy, PartialEq, Eq, Debug)]
+pub struct Task {
+    position: Pos,
+    scoring: Scoring,
+}
+
+impl Model for Task {
+    ghost Value = { Problem };
+
+    ghost view = { λ task. record { position = task.position; scoring = task.scoring } };
+
+    ghost invariant = { λ task. empties_of task.position ≤ 60 };
+
+    ghost inverse = { λ problem. record { position = problem.position; scoring = problem.scoring } };
+}
+
+/// Why a position is no task: it has this many empty squares.
+#[derive(Clone, Copy, PartialEq, Eq, Debug, Error)]
+#[error("{0} empty squares are too many")]
+pub struct TooMany(pub u8);
+
+impl Task {
+    /// Refuses a position with more empty squares than the limit. A limit above 60 counts as 60.
+    pub fn new(position: Pos, limit: u8, scoring: Scoring) -> Result<Task, TooMany>
+        ensures when { IsOk result ↔ (empties_of position ≤ min limit 60) }
+        ensures task { IfOk result (λ task. task ≡ record { position = position; scoring = scoring }) }
+        ensures refused { IfErr result (λ many. many.0 ≡ empties_of position) }
+    {
+        let empties = position.empties();
+        if empties <= limit.min(60) {
+            Ok(Task { position, scoring })
+        } else {
+            Err(TooMany(empties))
+        }
+    }
+
+    /// The position.
+    pub fn pos(self) -> Pos
+        ensures value { result ≡ self.position }
+        ensures few_empties { empties_of result ≤ 60 }
+    {
+        self.position
+    }
+
+    /// The scoring under which the position is to be solved.
+    pub fn scoring(self) -> Scoring
+        ensures { result ≡ self.scoring }
+    {
+        self.scoring
+    }
+}

@@ -1,0 +1,21 @@
+//! `ffosolve`: solves the positions on standard input, and writes their report to standard output.
+#![tactic(auto)]
+
+use std::env;
+use std::env::Env;
+use std::io;
+use std::process::ExitCode;
+use suite_solver::program_of;
+
+// The words of the command line, the program's name first.
+fn words_of(rt: &(impl Env + AllocGlobal)) -> io::Result<Vec<String>> {
+    let words = env::args(rt)?.collect(rt.alloc())?;
+    Ok(words)
+}
+
+fn main(rt: HostRuntime) -> ExitCode {
+    let (mut input, mut output, mut errors) = (rt.stdin(), rt.stdout(), rt.stderr());
+    let words = words_of(&rt);
+    let status = program_of(&rt, rt.alloc(), words, &mut input, &mut output, &mut errors);
+    ExitCode::from(status)
+}

@@ -1,0 +1,17 @@
+pub mod LineLemmas
+pub mod RoomLemmas
+pub mod PartLemmas
+pub mod Fronts
+pub mod TrimLemmas
+pub mod ScoreLemmas
+pub mod MoveLemmas
+pub mod FieldLemmas
+pub mod ListedLemmas
+pub mod OnlyMeaning
+pub mod SomeMeaning
+pub mod PlaceLemmas
+pub mod WriterLemmas
+pub mod WriteSteps
+pub mod WrittenBytes
+pub mod WrittenFields
+pub mod WrittenLines

@@ -1,0 +1,158 @@
+-- The fields of a line: what stands behind the side, up to the first `%`, is cut at each `;`; a piece that is a move, a
+-- colon and a score lists that move, and any other piece lists nothing.
+use Rattle.std.specs.Prelude.{◌≡◌, ◌⊎◌, ℕ, ℤ, pos, neg_ℤ, ◌+◌, ◌-◌, ◌*◌, ◌<◌, ◌≤◌, ◌==◌, ◌&&◌, ◌||◌, Bool, nat_le, List, [], ◌∷◌, ◌++◌, length, take, drop, Option, Some, None, if◌then◌else◌}
+use Rattle.std.specs.List.{AllPass, slice_split, before_first, position_or_len, suffix_len, filter_map}
+use Rattle.std.specs.Option.{option_map}
+use Rattle.othello_rules.specs.Board.{IsNameOf}
+use Rattle.obf_text.specs.Bytes.{is_blank, is_content}
+use Rattle.obf_text.specs.declared.entries.ListedMove.{ListedMove}
+use Rattle.obf_text.specs.declared.entries.ListedMove.TheVariants.{At, Pass, Over}
+
+-- a listed move, with its score as the side to move sees it
+abbrev pub Field : Type 0
+Field = ListedMove × ℤ
+
+-- the pieces behind the side
+abbrev pub pieces_of : List ℕ → List (List ℕ)
+pieces_of rest = slice_split (λ b. b == 59) (before_first (λ b. b == 37) rest)
+
+-- ---- the grammar
+
+-- `PS`, each letter in either case
+pub record IsPass (text : List ℕ) : Type 0 where
+  pub first : ℕ
+  pub second : ℕ
+  pub whole : text ≡ first ∷ second ∷ []
+  pub p : (first ≡ 80) ⊎ (first ≡ 112)
+  pub s : (second ≡ 83) ⊎ (second ≡ 115)
+
+-- a square's name, `PS` for a pass, `--` where the game is over
+abbrev pub IsMoveText : List ℕ → ListedMove → Type 0
+IsMoveText text (At square) = (square < 64) × IsNameOf text square
+IsMoveText text Pass = IsPass text
+IsMoveText text Over = text ≡ 45 ∷ 45 ∷ []
+
+abbrev pub IsDigit : ℕ → ℕ → Type 0
+IsDigit byte digit = (byte ≡ 48 + digit) × (digit ≤ 9)
+
+pub record IsTwoDigits (first second n : ℕ) : Type 0 where
+  pub tens : ℕ
+  pub ones : ℕ
+  pub first_digit : IsDigit first tens
+  pub second_digit : IsDigit second ones
+  pub value : n ≡ 10 * tens + ones
+
+-- one or two digits
+abbrev pub IsNumber : List ℕ → ℕ → Type 0
+IsNumber (only ∷ []) n = IsDigit only n
+IsNumber (first ∷ second ∷ []) n = IsTwoDigits first second n
+IsNumber _ n = ⊥
+
+-- a sign may stand first; a minus turns the sign of the score
+abbrev pub IsSigned : List ℕ → ℕ → ℤ → Type 0
+IsSigned sign size score =
+    ((sign ≡ 45 ∷ []) × (score ≡ neg_ℤ (pos size))) ⊎ (((sign ≡ 43 ∷ []) ⊎ (sign ≡ [])) × (score ≡ pos size))
+
+-- a score, at most 64 in size
+pub record IsScoreText (text : List ℕ) (score : ℤ) : Type 0 where
+  pub sign : List ℕ
+  pub digits : List ℕ
+  pub size : ℕ
+  pub whole : text ≡ sign ++ digits
+  pub number : IsNumber digits size
+  pub within : size ≤ 64
+  pub signed : IsSigned sign size score
+
+-- a move, a colon and a score, with blanks round them and none inside
+pub record IsField (piece : List ℕ) (field : Field) : Type 0 where
+  pub before : List ℕ
+  pub move : List ℕ
+  pub score : List ℕ
+  pub after : List ℕ
+  pub whole : piece ≡ before ++ ((move ++ 58 ∷ score) ++ after)
+  pub before_blank : AllPass is_blank before
+  pub after_blank : AllPass is_blank after
+  pub is_move : IsMoveText move field.0
+  pub is_score : IsScoreText score field.1
+
+abbrev pub IsNoField : List ℕ → Type 0
+IsNoField piece = (field : Field) → IsField piece field → ⊥
+
+-- some pieces list some fields, in their order: each piece is one of the fields or none
+abbrev pub Lists : List (List ℕ) → List Field → Type 0
+Lists [] [] = Unit {0}
+Lists [] (field ∷ fields) = ⊥
+Lists (piece ∷ pieces) [] = IsNoField piece × Lists pieces []
+Lists (piece ∷ pieces) (field ∷ fields) = (IsField piece field × Lists pieces fields) ⊎ (IsNoField piece × Lists pieces (field ∷ fields))
+
+-- ---- the same, computed
+
+-- a byte as a number from 0 to last, where the digits, or letters, begin at first
+abbrev pub offset_of : ℕ → ℕ → ℕ → Option ℕ
+offset_of first last b = if nat_le first b && nat_le b (first + last) then Some (b - first) else None
+
+abbrev pub digit_of : ℕ → Option ℕ
+digit_of b = offset_of 48 9 b
+
+-- A to H, or a to h
+abbrev pub column_of : ℕ → Option ℕ
+column_of b = if nat_le b 72 then offset_of 65 7 b else offset_of 97 7 b
+
+abbrev pub row_of : ℕ → Option ℕ
+row_of b = offset_of 49 7 b
+
+abbrev pub square_in : Option ℕ → Option ℕ → Option ListedMove
+square_in (Some column) (Some row) = Some (At (column + 8 * row))
+square_in _ _ = None
+
+abbrev pub is_pass : ℕ → ℕ → Bool
+is_pass a b = ((a == 80) || (a == 112)) && ((b == 83) || (b == 115))
+
+abbrev pub move_of : ℕ → ℕ → Option ListedMove
+move_of a b = if is_pass a b then Some Pass else (if (a == 45) && (b == 45) then Some Over else square_in (column_of a) (row_of b))
+
+abbrev pub at_most_64 : ℕ → Option ℕ
+at_most_64 n = if nat_le n 64 then Some n else None
+
+abbrev pub two_digits : Option ℕ → Option ℕ → Option ℕ
+two_digits (Some tens) (Some ones) = at_most_64 (10 * tens + ones)
+two_digits _ _ = None
+
+abbrev pub size_of : List ℕ → Option ℕ
+size_of (a ∷ []) = digit_of a
+size_of (a ∷ b ∷ []) = two_digits (digit_of a) (digit_of b)
+size_of _ = None
+
+abbrev pub score_of : List ℕ → Option ℤ
+score_of [] = None
+score_of (sign ∷ digits) =
+    if sign == 43 then option_map pos (size_of digits)
+    else (if sign == 45 then option_map (λ n. neg_ℤ (pos n)) (size_of digits) else option_map pos (size_of (sign ∷ digits)))
+
+abbrev pub both : Option ListedMove → Option ℤ → Option Field
+both (Some move) (Some score) = Some (move, score)
+both _ _ = None
+
+abbrev pub field_of_text : List ℕ → Option Field
+field_of_text (a ∷ b ∷ colon ∷ score) = if colon == 58 then both (move_of a b) (score_of score) else None
+field_of_text _ = None
+
+abbrev pub without_first_blanks : List ℕ → List ℕ
+without_first_blanks piece = drop (position_or_len is_content piece) piece
+
+abbrev pub without_last_blanks : List ℕ → List ℕ
+without_last_blanks piece = take (length piece - suffix_len is_blank piece) piece
+
+abbrev pub trimmed : List ℕ → List ℕ
+trimmed piece = without_last_blanks (without_first_blanks piece)
+
+abbrev pub field_of : List ℕ → Option Field
+field_of piece = field_of_text (trimmed piece)
+
+abbrev pub fields_of : List ℕ → List Field
+fields_of rest = filter_map field_of (pieces_of rest)
+
+-- the pieces of what is left, where something is left
+abbrev pub pieces_left : Option (List ℕ) → List (List ℕ)
+pieces_left None = []
+pieces_left (Some text) = slice_split (λ b. b == 59) text

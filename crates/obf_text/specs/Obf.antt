@@ -1,0 +1,159 @@
+-- What a line of OBF text is.
+use Rattle.std.specs.Prelude.{◌≡◌, ◌≢◌, ℕ, ◌+◌, ◌<◌, ◌==◌, false, nat_lt, List, [], ◌∷◌, ◌++◌, length, map, take, drop, Option, Some, None, Result, Ok, Err, if◌then◌else◌}
+use Rattle.std.specs.List.{position_or_len, AllPass}
+use Rattle.othello_rules.specs.declared.discs.Cell.{Cell}
+use Rattle.othello_rules.specs.declared.discs.Side.{Side}
+use Rattle.othello_rules.specs.Rules.{Position}
+use Rattle.obf_text.specs.Bytes.{is_blank, is_cell, is_content, is_no_cell, cell_of, side_of}
+use Rattle.obf_text.specs.Fields.{Field, Lists, pieces_of, fields_of}
+use Rattle.obf_text.specs.declared.entries.Item.{Item}
+use Rattle.obf_text.specs.declared.entries.Item.TheVariants as item
+use Rattle.obf_text.specs.declared.entries.Line.{Line}
+use Rattle.obf_text.specs.declared.faults.LineFault.{LineFault}
+use Rattle.obf_text.specs.declared.faults.LineFault.TheVariants.{Short, BadCell, BadSide, Memory}
+
+-- a position with its listed fields
+pub record Entry : Type 0 where
+  pub position : Position
+  pub listed : List Field
+
+-- what a line says
+pub data Meaning : Type 0 where
+  Skipped : Meaning
+  Holds : Entry → Meaning
+  Faulty : LineFault → Meaning
+
+-- ---- the grammar
+
+abbrev pub IsEndOrComment : List ℕ → Type 0
+IsEndOrComment [] = Unit {0}
+IsEndOrComment (b ∷ more) = b ≡ 37
+
+-- blanks, and then the end or a comment
+pub record Skips (line : List ℕ) : Type 0 where
+  pub blanks : List ℕ
+  pub rest : List ℕ
+  pub whole : line ≡ blanks ++ rest
+  pub blank : AllPass is_blank blanks
+  pub ends : IsEndOrComment rest
+
+-- the end comes after fewer cells than 64, but after some
+pub record EndsShort (line : List ℕ) (found : ℕ) : Type 0 where
+  pub blanks : List ℕ
+  pub cells : List ℕ
+  pub whole : line ≡ blanks ++ cells
+  pub blank : AllPass is_blank blanks
+  pub spelled : AllPass is_cell cells
+  pub some : 0 < length cells
+  pub few : length cells < 64
+  pub count : found ≡ length cells
+
+-- a byte that is no cell stands in a cell's place
+pub record HasBadCell (line : List ℕ) (column : ℕ) : Type 0 where
+  pub blanks : List ℕ
+  pub cells : List ℕ
+  pub byte : ℕ
+  pub more : List ℕ
+  pub whole : line ≡ blanks ++ (cells ++ byte ∷ more)
+  pub blank : AllPass is_blank blanks
+  pub spelled : AllPass is_cell cells
+  pub few : length cells < 64
+  pub bad : is_cell byte ≡ false
+  -- in the first cell's place a blank would be one more blank, and a `%` a comment
+  pub starts : length cells ≡ 0 → (is_blank byte ≡ false) × (byte ≢ 37)
+  pub place : column ≡ length blanks + (length cells + 1)
+
+abbrev pub IsNoSide : List ℕ → Type 0
+IsNoSide [] = Unit {0}
+IsNoSide (b ∷ more) = (is_blank b ≡ false) × (side_of b ≡ None)
+
+-- the end, or a byte that is no disc, stands in the side's place
+pub record HasBadSide (line : List ℕ) (column : ℕ) : Type 0 where
+  pub blanks : List ℕ
+  pub cells : List ℕ
+  pub gap : List ℕ
+  pub rest : List ℕ
+  pub whole : line ≡ blanks ++ (cells ++ (gap ++ rest))
+  pub blank : AllPass is_blank blanks
+  pub spelled : AllPass is_cell cells
+  pub all : length cells ≡ 64
+  pub gap_blank : AllPass is_blank gap
+  pub bad : IsNoSide rest
+  pub place : column ≡ length blanks + (64 + (length gap + 1))
+
+-- blanks, the cells, blanks, the side, and the fields
+pub record Spells (line : List ℕ) (entry : Entry) : Type 0 where
+  pub blanks : List ℕ
+  pub cells : List ℕ
+  pub gap : List ℕ
+  pub byte : ℕ
+  pub rest : List ℕ
+  pub whole : line ≡ blanks ++ (cells ++ (gap ++ byte ∷ rest))
+  pub blank : AllPass is_blank blanks
+  pub spelled : AllPass is_cell cells
+  pub all : length cells ≡ 64
+  pub gap_blank : AllPass is_blank gap
+  pub board : entry.position.cells ≡ map cell_of cells
+  pub mover : side_of byte ≡ Some entry.position.mover
+  pub fields : Lists (pieces_of rest) entry.listed
+
+-- the relation between a line and what it says
+abbrev pub Says : List ℕ → Meaning → Type 0
+Says line Skipped = Skips line
+Says line (Holds entry) = Spells line entry
+Says line (Faulty (Short found)) = EndsShort line found
+Says line (Faulty (BadCell column)) = HasBadCell line column
+Says line (Faulty (BadSide column)) = HasBadSide line column
+Says line (Faulty Memory) = ⊥
+
+-- ---- the same, computed
+
+abbrev pub side_item_at : ℕ → List Cell → Option Side → List ℕ → Meaning
+side_item_at place cells None more = Faulty (BadSide (place + 1))
+side_item_at place cells (Some mover) more = Holds (record { position = record { cells = cells; mover = mover }; listed = fields_of more })
+
+-- from the side's place on, which is after `place` bytes
+abbrev pub side_item : ℕ → List Cell → List ℕ → Meaning
+side_item place cells [] = Faulty (BadSide (place + 1))
+side_item place cells (b ∷ more) = side_item_at place cells (side_of b) more
+
+-- behind the cells
+abbrev pub gap_item : ℕ → List Cell → List ℕ → Meaning
+gap_item place cells rest =
+    side_item (place + position_or_len is_content rest) cells (drop (position_or_len is_content rest) rest)
+
+-- from the first cell on, with `count` cells in front
+abbrev pub board_item : ℕ → ℕ → List ℕ → Meaning
+board_item start count rest =
+    if nat_lt count 64 then (if count == length rest then Faulty (Short count) else Faulty (BadCell (start + (count + 1))))
+    else gap_item (start + 64) (map cell_of (take 64 rest)) (drop 64 rest)
+
+abbrev pub content_item : ℕ → List ℕ → Meaning
+content_item start [] = Skipped
+content_item start (b ∷ rest) = if b == 37 then Skipped else board_item start (position_or_len is_no_cell (b ∷ rest)) (b ∷ rest)
+
+abbrev pub item_of : List ℕ → Meaning
+item_of line = content_item (position_or_len is_content line) (drop (position_or_len is_content line) line)
+
+-- ---- what a call gives
+
+abbrev pub entry_of : Line → Entry
+entry_of line = record { position = line.grid; listed = line.listed }
+
+abbrev pub HasListed : Meaning → Type 0
+HasListed (Holds entry) = 0 < length entry.listed
+HasListed _ = ⊥
+
+-- the meaning is this one; want of memory comes only where fields are listed
+abbrev pub Gives : Result Item LineFault → Meaning → Type 0
+Gives (Ok item.Skip) meaning = meaning ≡ Skipped
+Gives (Ok (item.Entry line)) meaning = meaning ≡ Holds (entry_of line)
+Gives (Err Memory) meaning = HasListed meaning
+Gives (Err fault) meaning = meaning ≡ Faulty fault
+
+-- the number that a fault tells
+abbrev pub place_of : LineFault → ℕ
+place_of (Short found) = found
+place_of (BadCell column) = column
+place_of (BadSide column) = column
+place_of Memory = 0

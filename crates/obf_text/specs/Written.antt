@@ -1,0 +1,78 @@
+-- The written form of a position with its answer: the squares, the side to move, and each best move with the score.
+use Rattle.std.specs.Prelude.{ℕ, ℤ, pos, negsuc, ◌+◌, ◌/◌, ◌%◌, List, [], ◌∷◌, ◌++◌, map, codes}
+use Rattle.std.specs.List.{flat_map}
+use Rattle.othello_rules.specs.declared.answers.Best.{Best}
+use Rattle.othello_rules.specs.declared.answers.Best.TheVariants as best
+use Rattle.othello_rules.specs.declared.discs.Cell.{Cell}
+use Rattle.othello_rules.specs.declared.discs.Cell.TheVariants as cell
+use Rattle.othello_rules.specs.declared.discs.Side.{Side}
+use Rattle.othello_rules.specs.declared.discs.Side.TheVariants as side
+use Rattle.othello_rules.specs.Board.{name_of}
+use Rattle.othello_rules.specs.Masks.{squares_of}
+use Rattle.othello_rules.specs.Rules.{Position}
+use Rattle.othello_rules.specs.Solution.{Solution}
+use Rattle.obf_text.specs.Fields.{Field}
+use Rattle.obf_text.specs.Obf.{Entry}
+use Rattle.obf_text.specs.declared.entries.ListedMove.{ListedMove}
+use Rattle.obf_text.specs.declared.entries.ListedMove.TheVariants.{At, Pass, Over}
+
+-- - X O
+abbrev pub cell_byte : Cell → ℕ
+cell_byte cell.Empty = 45
+cell_byte cell.Black = 88
+cell_byte cell.White = 79
+
+-- X O
+abbrev pub side_byte : Side → ℕ
+side_byte side.Black = 88
+side_byte side.White = 79
+
+-- the squares, a space, the side to move and a semicolon
+unfoldable pub board_text : Position → List ℕ
+board_text P = map cell_byte P.cells ++ (32 ∷ side_byte P.mover ∷ 59 ∷ [])
+
+unfoldable pub move_text : ListedMove → List ℕ
+move_text (At square) = name_of square
+move_text Pass = codes "PS"
+move_text Over = codes "--"
+
+abbrev pub two_digits : ℕ → List ℕ
+two_digits n = (48 + n / 10) ∷ (48 + n % 10) ∷ []
+
+-- a sign and two digits
+unfoldable pub score_text : ℤ → List ℕ
+score_text (pos n) = 43 ∷ two_digits n
+score_text (negsuc n) = 45 ∷ two_digits (n + 1)
+
+unfoldable pub score_part : ℤ → List ℕ
+score_part score = codes ":" ++ (score_text score ++ codes ";")
+
+-- a space, the move, a colon, the score and a semicolon
+unfoldable pub field_text : Field → List ℕ
+field_text field = codes " " ++ (move_text field.0 ++ score_part field.1)
+
+unfoldable pub fields_text : List Field → List ℕ
+fields_text fields = flat_map field_text fields
+
+-- each best move in square order, or the pass, or that the game is over, with the score
+abbrev pub best_fields : ℤ → Best → List Field
+best_fields score (best.Moves mask) = map (λ square. (At square, score)) (squares_of mask)
+best_fields score best.Pass = (Pass, score) ∷ []
+best_fields score best.Over = (Over, score) ∷ []
+
+abbrev pub listed_of : Solution → List Field
+listed_of A = best_fields A.score A.best
+
+unfoldable pub best_text : ℤ → Best → List ℕ
+best_text score best = fields_text (best_fields score best)
+
+-- the line of a position with its answer, without its LF
+unfoldable pub line_text : Position → Solution → List ℕ
+line_text P A = board_text P ++ best_text A.score A.best
+
+abbrev pub written : Position → Solution → List ℕ
+written P A = line_text P A ++ 10 ∷ []
+
+-- what is read back: the position, with each best move listed with the score
+abbrev pub entry_written : Position → Solution → Entry
+entry_written P A = record { position = P; listed = listed_of A }

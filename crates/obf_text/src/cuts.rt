@@ -1,0 +1,89 @@
+//! A text cut into lines.
+
+ghost use Rattle.std.specs.Prelude.{◌≡◌, ◌==◌, ◌∷◌, ◌<◌, ◌≤◌, ◌+◌, length};
+ghost use Rattle.std.specs.Iterator.{YieldsFirstRef, item_count};
+ghost use Rattle.std.specs.List.{position, position_or_len};
+ghost use Rattle.std.specs.Str.Lines.{strip_carriage_return};
+ghost use Rattle.obf_text.specs.LineText.{lines_of, room_of};
+
+use std::marker::Model;
+
+/// The lines of a text, without their ends. Contracts see the lines that are left.
+#[derive(Clone, Debug, Drop)]
+pub struct Lines<'a> {
+    text: &'a [u8],
+}
+
+impl<'a> Model for Lines<'a> {
+    ghost use Rattle.std.specs.Prelude.{ℕ, List};
+    ghost use Rattle.obf_text.specs.LineText.{lines_of};
+
+    ghost Value = { List (List ℕ) };
+
+    ghost view = { λ l. lines_of l.text.now };
+}
+
+/// Cuts a text into its lines. A line ends with LF; one CR before it, or at the text's end, is dropped.
+pub fn split_lines(text: &[u8]) -> Lines<'_>
+    ensures lines { result ≡ lines_of text.now }
+    // The lines are no longer than the text.
+    ensures room { room_of (lines_of text.now) ≤ length text.now + 1 }
+{
+    Lines { text }
+}
+
+// A line without one carriage return at its end.
+fn without_return(line: &[u8]) -> &[u8]
+    ensures { result.now ≡ strip_carriage_return line.now }
+{
+    match line {
+        [front @ .., b'\r'] => front,
+        _ => line,
+    }
+}
+
+// Where the first line ends: at its line feed, or at the text's end.
+#[tactic(auto, using(crate::proofs::LineLemmas::place_steps))]
+fn line_end(text: &[u8]) -> usize
+    ensures { result ≡ position_or_len (λ b. b == 10) text.now }
+{
+    first_line_feed(text).unwrap_or(text.len())
+}
+
+// Where the first line feed stands.
+fn first_line_feed(text: &[u8]) -> Option<usize>
+    ensures { result ≡ position (λ b. b == 10) text.now }
+{
+    text.iter().position(|b| *b == b'\n')
+}
+
+// The first line of a text that is not empty, and the text after it.
+#[tactic(auto, using(crate::proofs::LineLemmas::line_steps))]
+fn first_line(text: &[u8]) -> (&[u8], &[u8])
+    requires { 0 < length text.now }
+    ensures { lines_of text.now ≡ result.0.now ∷ lines_of result.1.now }
+{
+    let end = line_end(text);
+    if end < text.len() {
+        (without_return(&text[..end]), &text[end + 1..])
+    } else {
+        (without_return(text), &text[text.len()..])
+    }
+}
+
+impl<'a> Iterator for Lines<'a> {
+    type Item = &'a [u8];
+
+    ghost next_gives = { YieldsFirstRef (λ lines. lines) };
+
+    ghost remaining = { item_count (λ lines. lines) };
+
+    fn next(&mut self) -> Option<&'a [u8]> {
+        if self.text.is_empty() {
+            return None;
+        }
+        let (line, rest) = first_line(self.text);
+        self.text = rest;
+        Some(line)
+    }
+}

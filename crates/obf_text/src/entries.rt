@@ -1,0 +1,72 @@
+//! What a line holds.
+
+ghost use Rattle.std.specs.Prelude.{◌≡◌};
+
+use othello_rules::{Grid, Square};
+use std::marker::Model;
+
+/// A move that a line lists.
+#[derive(Clone, Copy, PartialEq, Eq, Debug)]
+pub enum ListedMove {
+    /// A disc on this square.
+    At(Square),
+    /// The side to move passes; written `PS`.
+    Pass,
+    /// The game is over; written `--`.
+    Over,
+}
+
+/// The listed moves of a line in their order, each with its score as the side to move sees it.
+#[derive(Debug, Drop)]
+pub struct Listed {
+    fields: Vec<(ListedMove, i8)>,
+}
+
+impl Model for Listed {
+    ghost use Rattle.std.specs.Prelude.{List};
+    ghost use Rattle.obf_text.specs.Fields.{Field};
+
+    ghost Value = { List Field };
+
+    ghost view = { λ l. l.fields.items };
+}
+
+impl From<Vec<(ListedMove, i8)>> for Listed {
+    ghost from_gives = { λ fields listed. listed ≡ fields.items };
+
+    fn from(fields: Vec<(ListedMove, i8)>) -> Listed {
+        Listed { fields }
+    }
+}
+
+impl Listed {
+    /// The listed moves, in their order.
+    pub fn as_slice(&self) -> &[(ListedMove, i8)]
+        ensures { result.now ≡ self.now }
+    {
+        &self.fields
+    }
+
+    /// The listed moves in the memory that holds them.
+    pub fn into_vec(self) -> Vec<(ListedMove, i8)>
+        ensures { result.items ≡ self }
+    {
+        self.fields
+    }
+}
+
+/// A position, with the moves that are listed for it.
+#[derive(Debug, Drop)]
+pub struct Line {
+    pub grid: Grid,
+    pub listed: Listed,
+}
+
+/// What a line without a fault says.
+#[derive(Debug, Drop)]
+pub enum Item {
+    /// Nothing: the line is blank or a comment.
+    Skip,
+    /// A position.
+    Entry(Line),
+}

@@ -1,0 +1,190 @@
+//! The fields of a line: what stands behind the side, up to the first `%`.
+
+ghost use Rattle.std.specs.Prelude.{◌≡◌, ◌==◌, ◌<◌, ◌≤◌, ◌↔◌, IfOk, OnErr, IfSome, length, Option};
+ghost use Rattle.std.specs.Prelude.{◌∷◌, Some, option_map};
+ghost use Rattle.std.specs.Iterator.{YieldsFirstRef, item_count};
+ghost use Rattle.std.specs.List.{before_first, position_or_len, position};
+ghost use Rattle.obf_text.specs.Fields.{column_of, digit_of, field_of, field_of_text};
+ghost use Rattle.obf_text.specs.Fields.{fields_of, move_of, row_of, score_of, size_of};
+ghost use Rattle.obf_text.specs.Fields.{trimmed, without_first_blanks, without_last_blanks};
+ghost use Rattle.obf_text.specs.Fields.{pieces_left, square_in};
+
+use crate::bytes::{blank_count, is_blank};
+use crate::entries::ListedMove;
+use othello_rules::Square;
+use std::alloc::{AllocError, Global};
+
+fn digit_of(byte: u8) -> Option<u8>
+    ensures value { result ≡ digit_of byte }
+    ensures small { IfSome result (λ d. d ≤ 9) }
+{
+    match byte {
+        b'0'..=b'9' => Some(byte - b'0'),
+        _ => None,
+    }
+}
+
+// The square of a name, its letter in either case.
+fn square_of(first: u8, second: u8) -> Option<ListedMove>
+    ensures { result ≡ square_in (column_of first) (row_of second) }
+{
+    let square = Square::from_name(&[first, second])?;
+    Some(ListedMove::At(square))
+}
+
+// A pass, the end of the game, or a square.
+fn move_of(first: u8, second: u8) -> Option<ListedMove>
+    ensures { result ≡ move_of first second }
+{
+    match (first, second) {
+        (b'P' | b'p', b'S' | b's') => Some(ListedMove::Pass),
+        (b'-', b'-') => Some(ListedMove::Over),
+        _ => square_of(first, second),
+    }
+}
+
+// One or two digits, at most 64.
+fn size_of(digits: &[u8]) -> Option<u8>
+    ensures value { result ≡ size_of digits.now }
+    ensures small { IfSome result (λ n. n ≤ 64) }
+{
+    match digits {
+        [only] => digit_of(*only),
+        [first, second] => {
+            let tens = digit_of(*first)?;
+            let ones = digit_of(*second)?;
+            let size = 10 * tens + ones;
+            if size <= 64 { Some(size) } else { None }
+        }
+        _ => None,
+    }
+}
+
+// A size behind a sign, if there is one.
+fn score_of(text: &[u8]) -> Option<i8>
+    ensures { result ≡ score_of text.now }
+{
+    match text {
+        [b'+', digits @ ..] => {
+            let size = size_of(digits)?;
+            Some(size as i8)
+        }
+        [b'-', digits @ ..] => {
+            let size = size_of(digits)?;
+            Some(-(size as i8))
+        }
+        digits => {
+            let size = size_of(digits)?;
+            Some(size as i8)
+        }
+    }
+}
+
+// A move, a colon and a score.
+fn field_of_text(text: &[u8]) -> Option<(ListedMove, i8)>
+    ensures { result ≡ field_of_text text.now }
+{
+    match text {
+        [first, second, b':', score @ ..] => {
+            let listed = move_of(*first, *second)?;
+            let score = score_of(score)?;
+            Some((listed, score))
+        }
+        _ => None,
+    }
+}
+
+fn without_first_blanks(piece: &[u8]) -> &[u8]
+    ensures { result.now ≡ without_first_blanks piece.now }
+{
+    let start = blank_count(piece);
+    &piece[start..]
+}
+
+fn without_last_blanks(piece: &[u8]) -> &[u8]
+    ensures { result.now ≡ without_last_blanks piece.now }
+{
+    let mut end = piece.len();
+    while end > 0 && is_blank(piece[end - 1]) {
+        end -= 1;
+    }
+    &piece[..end]
+}
+
+// The field of a piece, without the blanks round it.
+fn field_of(piece: &[u8]) -> Option<(ListedMove, i8)>
+    ensures { result ≡ field_of piece.now }
+{
+    field_of_text(without_last_blanks(without_first_blanks(piece)))
+}
+
+// Where the first `%` stands.
+fn first_percent(rest: &[u8]) -> Option<usize>
+    ensures { result ≡ position (λ b. b == 37) rest.now }
+{
+    rest.iter().position(|b| *b == b'%')
+}
+
+// What stands before the first `%`.
+fn before_comment(rest: &[u8]) -> &[u8]
+    ensures { result.now ≡ before_first (λ b. b == 37) rest.now }
+{
+    match first_percent(rest) {
+        Some(end) => &rest[..end],
+        None => rest,
+    }
+}
+
+// The pieces between semicolons that are left.
+#[derive(Clone, Copy, Debug)]
+struct Pieces<'a> {
+    left: Option<&'a [u8]>,
+}
+
+fn first_semicolon(text: &[u8]) -> Option<usize>
+    ensures { result ≡ position (λ b. b == 59) text.now }
+{
+    text.iter().position(|b| *b == b';')
+}
+
+// The first piece, and what is left after its semicolon, if it has one.
+fn first_piece(text: &[u8]) -> (&[u8], Option<&[u8]>)
+    ensures { pieces_left (Some text.now) ≡ result.0.now ∷ pieces_left (option_map (λ t. t.now) result.1) }
+{
+    match first_semicolon(text) {
+        Some(end) => (&text[..end], Some(&text[end + 1..])),
+        None => (text, None),
+    }
+}
+
+impl<'a> Iterator for Pieces<'a> {
+    type Item = &'a [u8];
+
+    ghost next_gives = { YieldsFirstRef (λ s. pieces_left (option_map (λ t. t.now) s.left)) };
+
+    ghost remaining = { item_count (λ s. pieces_left (option_map (λ t. t.now) s.left)) };
+
+    fn next(&mut self) -> Option<&'a [u8]> {
+        let text = self.left?;
+        let (piece, left) = first_piece(text);
+        self.left = left;
+        Some(piece)
+    }
+}
+
+// The listed fields, in their order. Memory is taken only for them.
+pub(crate) fn read_fields(alloc: Global, rest: &[u8]) -> Result<Vec<(ListedMove, i8)>, AllocError>
+    ensures ok { IfOk result (λ listed. listed.items ≡ fields_of rest.now) }
+    ensures err { OnErr result (0 < length (fields_of rest.now)) }
+{
+    let pieces = Pieces {
+        left: Some(before_comment(rest)),
+    };
+    let mut listed = Vec::new(alloc);
+    for piece in pieces {
+        if let Some(field) = field_of(piece) {
+            listed.push(field)?;
+        }
+    }
+    Ok(listed)
+}

@@ -1,0 +1,21 @@
+//! Lines of OBF text, a form in which the FFO endgame test is distributed: 64 squares, the side to move, and fields that
+//! list moves with their scores. The letters, the spellings of a pass and of a finished game, and the fields are this
+//! project's own profile.
+#![tactic(auto)]
+
+mod bytes;
+mod cuts;
+mod entries;
+mod faults;
+mod fields;
+pub mod laws;
+mod reads;
+#[cfg(test)]
+mod tests;
+mod writes;
+
+pub use cuts::{Lines, split_lines};
+pub use entries::{Item, Line, Listed, ListedMove};
+pub use faults::LineFault;
+pub use reads::read_line;
+pub use writes::{score_bytes, write_line};

@@ -1,0 +1,90 @@
+//! Reads a line.
+
+ghost use Rattle.std.specs.Prelude.{◌≡◌, ◌+◌, ◌<◌, ◌≤◌, ◌^◌, IfErr, length, map};
+ghost use Rattle.std.specs.List.{position_or_len};
+ghost use Rattle.obf_text.specs.Bytes.{cell_of, is_no_cell};
+ghost use Rattle.obf_text.specs.Obf.{Gives, Meaning, Says, board_item, gap_item, item_of, place_of};
+
+use crate::bytes::{blank_count, cell_count, cell_of, side_of};
+use crate::entries::{Item, Line, Listed};
+use crate::faults::LineFault;
+use crate::fields::read_fields;
+use othello_rules::{Cell, Grid};
+use std::alloc::Global;
+
+// The cells that 64 bytes stand for.
+fn board_of(bytes: &[u8]) -> [Cell; 64]
+    requires { length bytes.now ≡ 64 }
+    ensures { result ≡ map cell_of bytes.now }
+{
+    let mut cells = [Cell::Empty; 64];
+    for i in 0..64 {
+        cells[i] = cell_of(bytes[i]);
+    }
+    cells
+}
+
+// What stands behind the cells, which end after `place` bytes.
+fn read_side(alloc: Global, place: usize, cells: [Cell; 64], rest: &[u8]) -> Result<Item, LineFault>
+    requires { place + length rest.now < 2 ^ 63 }
+    ensures { Gives result (gap_item place cells rest.now) }
+{
+    let gap = blank_count(rest);
+    let column = place + gap + 1;
+    let Some((byte, fields)) = rest[gap..].split_first() else {
+        return Err(LineFault::BadSide(column));
+    };
+    let Some(side) = side_of(*byte) else {
+        return Err(LineFault::BadSide(column));
+    };
+    let listed = read_fields(alloc, fields)?;
+    Ok(Item::Entry(Line {
+        grid: Grid::new(cells, side),
+        listed: Listed::from(listed),
+    }))
+}
+
+// From the first cell on, which stands behind `start` blanks.
+fn read_board(alloc: Global, start: usize, rest: &[u8]) -> Result<Item, LineFault>
+    requires { start + length rest.now < 2 ^ 63 }
+    ensures { Gives result (board_item start (position_or_len is_no_cell rest.now) rest.now) }
+{
+    let count = cell_count(rest);
+    if count < 64 {
+        if count == rest.len() {
+            return Err(LineFault::Short(count));
+        }
+        return Err(LineFault::BadCell(start + (count + 1)));
+    }
+    let (board, rest) = rest.split_at(64);
+    read_side(alloc, start + 64, board_of(board), rest)
+}
+
+fn read_item(alloc: Global, line: &[u8]) -> Result<Item, LineFault>
+    ensures { Gives result (item_of line.now) }
+{
+    let start = blank_count(line);
+    let rest = &line[start..];
+    match rest {
+        [] | [b'%', ..] => Ok(Item::Skip),
+        _ => read_board(alloc, start, rest),
+    }
+}
+
+/// Reads a line without its end.
+///
+/// A line is blanks, 64 squares in the order A1, B1, .. H8 (`X x * B b` are Black, `O o W w` White, `-` and `.` empty),
+/// blanks, a disc's letter for the side to move, and what is cut at each `;` up to a `%`: a piece as `H1:+62`, `ps:-4` or
+/// `--:0` lists a move with its score, and any other piece is skipped. A line that is blank, or whose first byte after
+/// blanks is `%`, is skipped.
+///
+/// The first fault from the left is answered. Memory is taken only for listed moves.
+pub fn read_line(alloc: Global, line: &[u8]) -> Result<Item, LineFault>
+    // What the line says is given.
+    ensures says { (meaning : Meaning) → Says line.now meaning → Gives result meaning }
+    ensures exact { Gives result (item_of line.now) }
+    // A fault's number is no larger than the line, but for a side that is missing behind it.
+    ensures place { IfErr result (λ fault. place_of fault ≤ length line.now + 1) }
+{
+    read_item(alloc, line)
+}

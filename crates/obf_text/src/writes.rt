@@ -1,0 +1,137 @@
+//! Writes the line of a position with its answer.
+
+ghost use Rattle.std.specs.Prelude.{◌≡◌, ◌<◌, nat_abs, length, map, OnOk};
+ghost use Rattle.std.specs.Io.KnownBytes.{Appends};
+ghost use Rattle.othello_rules.specs.declared.answers.Best.TheVariants.{Moves};
+ghost use Rattle.obf_text.specs.Written.{best_text, board_text, cell_byte, field_text};
+ghost use Rattle.obf_text.specs.Written.{move_text, score_part, score_text, side_byte, written};
+
+use crate::entries::ListedMove;
+use othello_rules::{Answer, Best, Cell, Grid, Side, Square, squares_in};
+use std::io;
+use std::io::Write;
+
+fn cell_byte(cell: Cell) -> u8
+    ensures { result ≡ cell_byte cell }
+{
+    match cell {
+        Cell::Empty => b'-',
+        Cell::Black => b'X',
+        Cell::White => b'O',
+    }
+}
+
+fn side_byte(side: Side) -> u8
+    ensures { result ≡ side_byte side }
+{
+    match side {
+        Side::Black => b'X',
+        Side::White => b'O',
+    }
+}
+
+// The squares of a position, in the order of their numbers.
+fn board_bytes(grid: &Grid) -> [u8; 64]
+    requires { length grid.now.cells ≡ 64 }
+    ensures { result ≡ map cell_byte grid.now.cells }
+{
+    let mut bytes = [b'-'; 64];
+    for number in 0..64 {
+        bytes[number as usize] = cell_byte(grid.cell(Square::at(number)));
+    }
+    bytes
+}
+
+#[tactic(auto, unfolding(crate::specs::Written::move_text))]
+fn move_bytes(listed: ListedMove) -> [u8; 2]
+    ensures { result ≡ move_text listed }
+{
+    match listed {
+        ListedMove::At(square) => square.name(),
+        ListedMove::Pass => *b"PS",
+        ListedMove::Over => *b"--",
+    }
+}
+
+/// A score as text: its sign, `+` from 0 up, and two digits.
+#[tactic(auto, unfolding(crate::specs::Written::score_text))]
+pub fn score_bytes(score: i8) -> [u8; 3]
+    requires { nat_abs score < 100 }
+    ensures { result ≡ score_text score }
+{
+    let size = score.unsigned_abs();
+    let sign = if score < 0 { b'-' } else { b'+' };
+    [sign, b'0' + size / 10, b'0' + size % 10]
+}
+
+// The squares, a space, the side to move and a semicolon.
+#[tactic(auto, unfolding(crate::specs::Written::board_text))]
+fn write_board<W: Write>(writer: &mut W, grid: &Grid) -> io::Result<()>
+    ensures { OnOk result (Appends (W.contents writer.old) (W.contents writer.new) (board_text grid.now)) }
+{
+    let mover = side_byte(grid.side());
+    writer.write_all(&board_bytes(grid))?;
+    writer.write_all(&[b' ', mover, b';'])
+}
+
+// A colon, the score and a semicolon.
+#[tactic(auto, unfolding(crate::specs::Written::score_part))]
+fn write_score<W: Write>(writer: &mut W, score: i8) -> io::Result<()>
+    requires { nat_abs score < 100 }
+    ensures { OnOk result (Appends (W.contents writer.old) (W.contents writer.new) (score_part score)) }
+{
+    writer.write_all(b":")?;
+    writer.write_all(&score_bytes(score))?;
+    writer.write_all(b";")
+}
+
+// A space, the move and its score.
+#[tactic(auto, unfolding(crate::specs::Written::field_text))]
+fn write_field<W: Write>(writer: &mut W, listed: ListedMove, score: i8) -> io::Result<()>
+    requires { nat_abs score < 100 }
+    ensures { OnOk result (Appends (W.contents writer.old) (W.contents writer.new) (field_text (listed, score))) }
+{
+    writer.write_all(b" ")?;
+    writer.write_all(&move_bytes(listed))?;
+    write_score(writer, score)
+}
+
+// A field for each square of a mask.
+fn write_moves<W: Write>(writer: &mut W, score: i8, mask: u64) -> io::Result<()>
+    requires { nat_abs score < 100 }
+    ensures { OnOk result (Appends (W.contents writer.old) (W.contents writer.new) (best_text score (Moves mask))) }
+{
+    for square in squares_in(mask).iter() {
+        write_field(writer, ListedMove::At(*square), score)?;
+    }
+    Ok(())
+}
+
+// A field for each best move, for the pass, or for the end of the game.
+#[tactic(auto, unfolding(crate::specs::Written::best_text, crate::specs::Written::fields_text))]
+fn write_best<W: Write>(writer: &mut W, score: i8, best: Best) -> io::Result<()>
+    requires { nat_abs score < 100 }
+    ensures { OnOk result (Appends (W.contents writer.old) (W.contents writer.new) (best_text score best)) }
+{
+    match best {
+        Best::Moves(mask) => write_moves(writer, score, mask),
+        Best::Pass => write_field(writer, ListedMove::Pass, score),
+        Best::Over => write_field(writer, ListedMove::Over, score),
+    }
+}
+
+/// Writes the line of a position with its answer.
+///
+/// The line is 64 bytes of `X`, `O` and `-` in the order A1, B1, .. H8, a space, `X` or `O` for the side to move, `;`, then
+/// for each best move in the order of the squares a space, its name, `:`, a sign, two digits and `;`, and LF. A pass is
+/// written as the one move `PS`, a game that is over as the one move `--`.
+///
+/// Takes no memory. After a fault nothing is said of how much went out.
+#[tactic(auto, unfolding(crate::specs::Written::line_text))]
+pub fn write_line<W: Write>(writer: &mut W, grid: &Grid, answer: &Answer) -> io::Result<()>
+    ensures { OnOk result (Appends (W.contents writer.old) (W.contents writer.new) (written grid.now answer.now)) }
+{
+    write_board(writer, grid)?;
+    write_best(writer, answer.score, answer.best)?;
+    writer.write_all(b"\n")
+}

@@ -1,0 +1,6 @@
+pub mod Discs
+pub mod Exchanges
+pub mod Images
+pub mod Shifts
+pub mod Symmetries
+pub mod Worked

@@ -1,0 +1,99 @@
+//! Runs of discs in one direction, from all squares at once, by shifts of masks.
+
+ghost use Rattle.std.specs.Prelude.{◌≡◌, ℕ, ◌<◌, ◌&&◌, not, bit_and};
+ghost use Rattle.othello_rules.specs.Rules.{turned_on, is_nonempty};
+ghost use Rattle.othello_rules.specs.Masks.{in_mask};
+ghost use Rattle.othello_bits.specs.Shifts.{back, can, chain, inside, line, opposite};
+ghost use Rattle.othello_bits.specs.Discs.{mem};
+
+/// One of the eight directions.
+#[derive(Clone, Copy, PartialEq, Eq)]
+pub enum Heading {
+    North,
+    NorthEast,
+    East,
+    SouthEast,
+    South,
+    SouthWest,
+    West,
+    NorthWest,
+}
+
+impl Heading {
+    // The mask moved by one step; what goes over the edge of a row comes out in the row beside it.
+    #[inline(always)]
+    fn shifted(self, mask: u64) -> u64
+        ensures { (i : ℕ) → in_mask result i ≡ (can self i && in_mask mask (back self i)) }
+    {
+        match self {
+            Heading::North => mask >> 8,
+            Heading::NorthEast => mask >> 7,
+            Heading::East => mask << 1,
+            Heading::SouthEast => mask << 9,
+            Heading::South => mask << 8,
+            Heading::SouthWest => mask << 7,
+            Heading::West => mask >> 1,
+            Heading::NorthWest => mask >> 9,
+        }
+    }
+
+    // Without the discs in columns A and H, from which no run goes on over the edge.
+    #[inline(always)]
+    fn inner(self, discs: u64) -> u64
+        ensures { (i : ℕ) → in_mask result i ≡ (in_mask discs i && inside self i) }
+    {
+        match self {
+            Heading::North | Heading::South => discs,
+            _ => discs & 0x7e7e_7e7e_7e7e_7e7e,
+        }
+    }
+
+    // The runs of at most six squares of `within` that begin beside `from`, in three doubling steps.
+    #[inline(always)]
+    fn fill(self, from: u64, within: u64) -> u64
+        ensures { (i : ℕ) → in_mask result i ≡ chain 6 (can self) (back self) (in_mask from) (in_mask within) i }
+    {
+        let one = within & self.shifted(from);
+        let two = one | within & self.shifted(one);
+        let pairs = within & self.shifted(within);
+        let four = two | pairs & self.shifted(self.shifted(two));
+        four | pairs & self.shifted(self.shifted(four))
+    }
+
+    #[inline(always)]
+    fn opposite(self) -> Heading
+        ensures { result ≡ opposite self }
+    {
+        match self {
+            Heading::North => Heading::South,
+            Heading::NorthEast => Heading::SouthWest,
+            Heading::East => Heading::West,
+            Heading::SouthEast => Heading::NorthWest,
+            Heading::South => Heading::North,
+            Heading::SouthWest => Heading::NorthEast,
+            Heading::West => Heading::East,
+            Heading::NorthWest => Heading::SouthEast,
+        }
+    }
+
+    // The squares from which a disc would turn others in this direction, occupied squares not left out.
+    #[inline(always)]
+    pub fn reached(self, own: u64, opp: u64) -> u64
+        requires { bit_and own opp ≡ 0 }
+        ensures { (q : ℕ) → q < 64 → in_mask result q ≡ is_nonempty (turned_on (in_mask own) (in_mask opp) (line self q)) }
+    {
+        let back = self.opposite();
+        back.shifted(back.fill(own, back.inner(opp)))
+    }
+
+    // The discs that a disc on the square turns in this direction.
+    #[inline(always)]
+    pub fn turned(self, own: u64, opp: u64, square: u8) -> u64
+        requires apart { bit_and own opp ≡ 0 }
+        requires on_board { square < 64 }
+        ensures { (i : ℕ) → in_mask result i ≡ mem i (turned_on (in_mask own) (in_mask opp) (line self square)) }
+    {
+        let run = self.fill(1u64 << square, self.inner(opp));
+        if own & self.shifted(run) != 0 { run } else { 0 }
+    }
+}

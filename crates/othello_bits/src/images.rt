@@ -1,0 +1,63 @@
+//! The least of a position's eight images.
+
+ghost use Rattle.std.specs.Prelude.{◌≡◌, ◌≤◌, ◌<◌, cond};
+ghost use Rattle.othello_bits.specs.Symmetries.{place};
+ghost use Rattle.othello_bits.specs.Images.{image_by, key, is_less};
+ghost use Rattle.othello_bits.specs.declared.symmetries.Sym.{Sym};
+
+use crate::symmetries::Sym;
+
+// The masks of an image, and the symmetry that leads to it.
+#[derive(Clone, Copy)]
+pub(crate) struct Image {
+    pub(crate) own: u64,
+    pub(crate) opp: u64,
+    pub(crate) sym: Sym,
+}
+
+impl Image {
+    #[inline(always)]
+    fn new(own: u64, opp: u64, sym: Sym) -> Image
+        ensures { result ≡ image_by own opp sym }
+    {
+        Image {
+            own: sym.mask(own),
+            opp: sym.mask(opp),
+            sym,
+        }
+    }
+
+    // The other image where it is less as a pair (own, opp), else this one.
+    #[inline(always)]
+    fn least(self, other: Image) -> Image
+        ensures { result ≡ cond (is_less other self) other self }
+    {
+        if other.own < self.own || (other.own == self.own && other.opp < self.opp) {
+            other
+        } else {
+            self
+        }
+    }
+
+    // The lesser of two images, the first where they are equal.
+    #[inline(always)]
+    fn lesser(own: u64, opp: u64, first: Sym, second: Sym) -> Image
+        ensures { result ≡ cond (is_less (image_by own opp second) (image_by own opp first)) (image_by own opp second) (image_by own opp first) }
+    {
+        Image::new(own, opp, first).least(Image::new(own, opp, second))
+    }
+
+    // The least image, by the first symmetry that gives it: a knock-out in the order of the symmetries.
+    #[inline(always)]
+    pub(crate) fn canonical(own: u64, opp: u64) -> Image
+        ensures leads { result ≡ image_by own opp result.sym }
+        ensures least { (s : Sym) → key result ≤ key (image_by own opp s) }
+        ensures first { (s : Sym) → place s < place result.sym → key result < key (image_by own opp s) }
+    {
+        let straight = Image::lesser(own, opp, Sym::Identity, Sym::FlipColumns);
+        let turned = Image::lesser(own, opp, Sym::FlipRows, Sym::HalfTurn);
+        let right = Image::lesser(own, opp, Sym::Transpose, Sym::TurnRight);
+        let left = Image::lesser(own, opp, Sym::TurnLeft, Sym::AntiTranspose);
+        straight.least(turned).least(right.least(left))
+    }
+}

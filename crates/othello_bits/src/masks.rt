@@ -1,0 +1,24 @@
+//! A mask's squares, one after another.
+
+ghost use Rattle.std.specs.Prelude.{◌≡◌, ℕ, ◌<◌, ◌&&◌, ◌==◌, not, true, false};
+ghost use Rattle.othello_rules.specs.Masks.{in_mask};
+
+use othello_rules::Square;
+
+/// The lowest square of a mask that has one.
+#[inline]
+pub fn lowest(mask: u64) -> Square
+    requires { 0 < mask }
+    ensures member { in_mask mask result ≡ true }
+    ensures first { (i : ℕ) → i < result → in_mask mask i ≡ false }
+{
+    Square::at(mask.trailing_zeros() as u8)
+}
+
+/// The mask without a square.
+#[inline]
+pub fn without(mask: u64, square: Square) -> u64
+    ensures { (i : ℕ) → in_mask result i ≡ (in_mask mask i && not (square == i)) }
+{
+    mask & !(1u64 << square.number())
+}

@@ -1,0 +1,6 @@
+pub mod NameLemmas
+pub mod RowLemmas
+pub mod RunLemmas
+pub mod InputLemmas
+pub mod ProgramLemmas
+pub mod EntryLemmas

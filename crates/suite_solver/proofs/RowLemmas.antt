@@ -1,0 +1,51 @@
+-- The steps of the rows.
+use Rattle.std.proofs.Common.{◌≡◌, ℕ, ◌+◌, ◌≤◌, List, [], ◌∷◌, ◌++◌, length, refl, sym, ◌∙◌, arith}
+use Rattle.std.specs.Prelude.{Some, None}
+use Rattle.std.proofs.lemmas.List.{append_assoc, append-nil}
+use Rattle.othello_rules.specs.declared.scorings.Scoring.{Scoring}
+use Rattle.obf_text.specs.LineText.{lines_of, room_of}
+use Rattle.obf_text.specs.Obf.{item_of}
+use Rattle.suite_solver.specs.declared.rows.RowResult.{RowResult}
+use Rattle.suite_solver.specs.declared.rows.ReportRow.{ReportRow}
+use Rattle.suite_solver.specs.Rows.{numbered, result_of, rows, rows_from}
+
+pub rows_start : (g : Scoring) (limit : ℕ) (text : List ℕ) → rows g limit text ≡ rows_from g limit 1 (lines_of text)
+unfolding rows
+rows_start g limit text = refl
+
+rows_end : (g : Scoring) (limit n : ℕ) → rows_from g limit n [] ≡ []
+unfolding rows_from
+rows_end g limit n = refl
+
+rows_yes : (g : Scoring) (limit n : ℕ) (line : List ℕ) (lines : List (List ℕ)) (r : RowResult) → result_of g limit (item_of line) ≡ Some r
+    → rows_from g limit n (line ∷ lines) ≡ numbered n r ∷ rows_from g limit (n + 1) lines
+unfolding rows_from
+rows_yes g limit n line lines r e = rw e refl
+
+rows_no : (g : Scoring) (limit n : ℕ) (line : List ℕ) (lines : List (List ℕ)) → result_of g limit (item_of line) ≡ None
+    → rows_from g limit n (line ∷ lines) ≡ rows_from g limit (n + 1) lines
+unfolding rows_from
+rows_no g limit n line lines e = rw e refl
+
+-- a line with a result adds its row
+pub whole_yes : (g : Scoring) (limit n : ℕ) (line : List ℕ) (left lines : List (List ℕ)) (r : RowResult) (made all : List ReportRow)
+    → left ≡ line ∷ lines → result_of g limit (item_of line) ≡ Some r → made ++ rows_from g limit n left ≡ all
+    → (made ++ numbered n r ∷ []) ++ rows_from g limit (n + 1) lines ≡ all
+whole_yes g limit n line left lines r made all cut e h =
+    let k = rw (cut, rows_yes g limit n line lines r e) at h in
+    rw append_assoc k
+
+-- a line that is skipped adds none
+pub whole_no : (g : Scoring) (limit n : ℕ) (line : List ℕ) (left lines : List (List ℕ)) (made all : List ReportRow)
+    → left ≡ line ∷ lines → result_of g limit (item_of line) ≡ None → made ++ rows_from g limit n left ≡ all
+    → made ++ rows_from g limit (n + 1) lines ≡ all
+whole_no g limit n line left lines made all cut e h = rw (cut, rows_no g limit n line lines e) at h
+
+pub whole_end : (g : Scoring) (limit n : ℕ) (left : List (List ℕ)) (made all : List ReportRow)
+    → left ≡ [] → made ++ rows_from g limit n left ≡ all → made ≡ all
+whole_end g limit n left made all cut h = sym (append-nil made) ∙ (rw (cut, rows_end g limit n) at h)
+
+-- the room of a line is no longer left
+pub room_more : (n most : ℕ) (line : List ℕ) (left lines : List (List ℕ)) → left ≡ line ∷ lines → n + room_of left ≤ most
+    → (n + (length line + 1) ≤ most) × (n + 1 + room_of lines ≤ most)
+room_more n most line left lines cut h = let k = rw cut at h in (omega arith, omega arith)

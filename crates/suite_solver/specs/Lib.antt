@@ -1,0 +1,7 @@
+pub mod Limits
+pub mod Checks
+pub mod Text
+pub mod Rows
+pub mod Reports
+pub mod Runs
+pub mod Programs

@@ -1,0 +1,78 @@
+//! How the scores that a line lists compare with the answer.
+
+ghost use Rattle.std.specs.Prelude.{◌≡◌, ◌↔◌, [], map, IsNone, IfSome};
+ghost use Rattle.std.specs.Int.{int_max};
+ghost use Rattle.std.specs.List.{fold};
+ghost use Rattle.suite_solver.specs.Checks.{check, greatest_listed, is_best_in, are_best_in};
+
+use obf_text::ListedMove;
+use othello_rules::{Answer, Best, has_square};
+
+/// What a line's listed scores say of the answer.
+#[derive(Clone, Copy, PartialEq, Eq, Debug)]
+pub enum Check {
+    /// The greatest listed score is the answer's, and each move listed with it is best.
+    Agree,
+    Differ,
+    /// The line lists no score.
+    Unlisted,
+}
+
+// Whether a listed move is best.
+fn is_best_in(best: Best, listed: ListedMove) -> bool
+    ensures { result ≡ is_best_in best listed }
+{
+    match (best, listed) {
+        (Best::Moves(mask), ListedMove::At(square)) => has_square(mask, square),
+        (Best::Pass, ListedMove::Pass) | (Best::Over, ListedMove::Over) => true,
+        _ => false,
+    }
+}
+
+// Whether each move that is listed with this score is best.
+fn are_best_in(best: Best, score: i8, listed: &[(ListedMove, i8)]) -> bool
+    ensures { result ≡ are_best_in best score listed.now }
+{
+    listed
+        .iter()
+        .filter(|(_, listed_score)| *listed_score == score)
+        .all(|(listed_move, _)| is_best_in(best, *listed_move))
+}
+
+// The greatest of the scores of a field and others.
+fn greatest_of(first: &(ListedMove, i8), others: &[(ListedMove, i8)]) -> i8
+    ensures { result ≡ fold int_max first.now.1 (map (λ f. f.1) others.now) }
+{
+    let (_, mut greatest) = *first;
+    for (_, score) in others {
+        greatest = greatest.max(*score);
+    }
+    greatest
+}
+
+// The greatest listed score, where there is one.
+#[tactic(auto, unfolding(othello_rules::specs::Value::greatest))]
+fn greatest_score(listed: &[(ListedMove, i8)]) -> Option<i8>
+    ensures none { IsNone result ↔ (listed.now ≡ []) }
+    ensures greatest { IfSome result (λ score. score ≡ greatest_listed listed.now) }
+{
+    let (first, others) = listed.split_first()?;
+    Some(greatest_of(first, others))
+}
+
+/// Compares the listed scores of a line with its answer.
+#[tactic(auto, unfolding(crate::specs::Checks::check, crate::specs::Checks::agrees))]
+pub fn check_of(listed: &[(ListedMove, i8)], answer: &Answer) -> Check
+    ensures { result ≡ check listed.now answer.now }
+{
+    match greatest_score(listed) {
+        None => Check::Unlisted,
+        Some(greatest) => {
+            if greatest == answer.score && are_best_in(answer.best, greatest, listed) {
+                Check::Agree
+            } else {
+                Check::Differ
+            }
+        }
+    }
+}

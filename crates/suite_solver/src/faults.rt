@@ -1,0 +1,39 @@
+//! Why a run gives no reports.
+
+ghost use Rattle.std.specs.Prelude.{◌≡◌};
+ghost use Rattle.suite_solver.specs.declared.faults.RunFault.TheVariants.{Memory};
+
+use std::alloc::{AllocError, AllocFailed};
+use thiserror::Error;
+
+/// Why a run gives no reports. Senders count from 0.
+#[derive(Clone, Copy, PartialEq, Eq, Debug, Error)]
+pub enum RunFault {
+    #[error("out of memory")]
+    Memory,
+    /// An answer came back that belongs to another position.
+    #[error("answers mixed")]
+    Mixed,
+    /// There are more than 64 files.
+    #[error("more than 64 files")]
+    TooManyFiles,
+    /// The first file of more than 1,048,576 bytes, by its sender.
+    #[error("the file of sender {0} is larger than 1048576 bytes")]
+    FileTooLarge(u32),
+}
+
+impl From<AllocError> for RunFault {
+    ghost from_gives = { λ _ fault. fault ≡ Memory };
+
+    fn from(_error: AllocError) -> RunFault {
+        RunFault::Memory
+    }
+}
+
+impl<T: Drop> From<AllocFailed<T>> for RunFault {
+    ghost from_gives = { λ _ fault. fault ≡ Memory };
+
+    fn from(_error: AllocFailed<T>) -> RunFault {
+        RunFault::Memory
+    }
+}

@@ -1,0 +1,111 @@
+//! What ends the program early.
+
+ghost use Rattle.std.specs.Prelude.{◌≡◌, ◌⊎◌, OnOk};
+ghost use Rattle.std.specs.Io.KnownBytes.{Appends};
+ghost use Rattle.suite_solver.specs.Programs.{run_fault_text, status_of, stop_reason, stop_text};
+ghost use Rattle.suite_solver.specs.declared.faults.RunFault.TheVariants.{Memory};
+ghost use Rattle.suite_solver.specs.declared.stops.Stop.TheVariants.{Run};
+
+use crate::faults::RunFault;
+use std::alloc::AllocFailed;
+use std::io;
+use std::io::Write;
+
+/// What ends the program early. Names are those of files as given, or of a standard stream.
+#[derive(Drop)]
+pub(crate) enum Stop<'a> {
+    Run(RunFault),
+    /// A word of the command line is no text.
+    BadWords,
+    CannotRead(&'a str),
+    CannotWrite(&'a str),
+}
+
+impl From<RunFault> for Stop<'_> {
+    ghost from_gives = { λ fault stop. stop ≡ Run fault };
+
+    fn from(fault: RunFault) -> Self {
+        Stop::Run(fault)
+    }
+}
+
+impl<T: Drop> From<AllocFailed<T>> for Stop<'_> {
+    ghost from_gives = { λ _ stop. stop ≡ Run Memory };
+
+    fn from(_error: AllocFailed<T>) -> Self {
+        Stop::Run(RunFault::Memory)
+    }
+}
+
+#[tactic(auto, unfolding(crate::specs::Programs::run_fault_text))]
+fn write_run_fault<E: Write>(errors: &mut E, fault: RunFault) -> io::Result<()>
+    ensures { OnOk result
+        (Appends (E.contents errors.old) (E.contents errors.new) (run_fault_text fault)) }
+{
+    match fault {
+        RunFault::Memory => errors.write_all(b"out of memory"),
+        RunFault::Mixed => errors.write_all(b"answers mixed"),
+        RunFault::TooManyFiles => errors.write_all(b"more than 64 files"),
+        RunFault::FileTooLarge(sender) => {
+            let number = u64::from(sender) + 1;
+            write!(errors, "file {number} is larger than 1048576 bytes")
+        }
+    }
+}
+
+#[tactic(auto, unfolding(crate::specs::Programs::stop_reason))]
+fn write_reason<E: Write>(errors: &mut E, stop: &Stop<'_>) -> io::Result<()>
+    ensures { OnOk result
+        (Appends (E.contents errors.old) (E.contents errors.new) (stop_reason stop.now)) }
+{
+    match stop {
+        Stop::Run(fault) => write_run_fault(errors, *fault),
+        Stop::BadWords => errors.write_all(b"cannot read the command line"),
+        Stop::CannotRead(name) => write!(errors, "cannot read {name}"),
+        Stop::CannotWrite(name) => write!(errors, "cannot write {name}"),
+    }
+}
+
+// Why standard input, or a file of this name, can't be read: it has failed, or there was no memory for its bytes.
+pub(crate) fn unread<'a>(fault: &io::Error, name: &'a str) -> Stop<'a>
+    ensures { (status_of result ≡ 1) ⊎ (status_of result ≡ 3) }
+{
+    match fault.kind() {
+        io::ErrorKind::OutOfMemory => Stop::Run(RunFault::Memory),
+        _ => Stop::CannotRead(name),
+    }
+}
+
+// Why the command line can't be read: a word is no text, or there was no memory for it.
+pub(crate) fn unread_words(fault: &io::Error) -> Stop<'static>
+    ensures { (status_of result ≡ 1) ⊎ (status_of result ≡ 2) }
+{
+    match fault.kind() {
+        io::ErrorKind::OutOfMemory => Stop::Run(RunFault::Memory),
+        _ => Stop::BadWords,
+    }
+}
+
+impl Stop<'_> {
+    // Writes the line of standard error.
+    #[tactic(auto, unfolding(crate::specs::Programs::stop_text))]
+    pub(crate) fn tell<E: Write>(&self, errors: &mut E) -> io::Result<()>
+        ensures { OnOk result
+            (Appends (E.contents errors.old) (E.contents errors.new) (stop_text self.now)) }
+    {
+        errors.write_all(b"ffosolve: ")?;
+        write_reason(errors, self)?;
+        errors.write_all(b"\n")
+    }
+
+    // The exit status.
+    pub(crate) fn status(&self) -> u8
+        ensures { result ≡ status_of self.now }
+    {
+        match self {
+            Stop::Run(_) => 1,
+            Stop::BadWords => 2,
+            Stop::CannotRead(_) | Stop::CannotWrite(_) => 3,
+        }
+    }
+}
