@@ -1,9 +1,8 @@
 //! A table of ranges that many threads share.
 
-ghost use Rattle.std.specs.Prelude.{◌≡◌, ◌<◌, ◌≤◌, ◌↔◌, IfSome, IfOk, IsOk, IsNone};
+ghost use Rattle.std.specs.Prelude.{◌≡◌, ◌<◌, ◌≤◌, ◌↔◌, IfSome, IfOk, IsOk, IsNone, IsTrue};
 ghost use Rattle.bound_table.specs.declared.faults.TableFault.TheVariants as fault;
 ghost use Rattle.bound_table.specs.Ranges.{IsTrueOf};
-ghost use Rattle.bound_table.specs.Tables.{Table};
 
 use crate::entries::{Entry, Slot, read, unused, write};
 use crate::faults::TableFault;
@@ -76,45 +75,51 @@ impl BoundTable {
         Ok(BoundTable { scoring, slots })
     }
 
-    // The slot that a canonical position chooses; None in a table without entries.
+    // Whether the table has no entries, and so keeps nothing.
     #[inline]
-    fn slot(&self, canonical: Pos) -> Option<&Slot>
-        ensures scored { IfSome result (λ slot. slot.now ≡ self.now.scoring) }
-        ensures empty { self.now.entries ≡ 0 → IsNone result }
+    fn is_empty(&self) -> bool
+        ensures { IsTrue result ↔ (self.now.entries ≡ 0) }
     {
-        if self.slots.is_empty() {
-            return None;
-        }
-        Some(&self.slots[chosen(canonical, self.slots.len())])
+        self.slots.is_empty()
+    }
+
+    // The slot that a canonical position chooses.
+    #[inline]
+    fn slot(&self, canonical: Pos) -> &Slot
+        requires { 0 < self.now.entries }
+        ensures { result.now ≡ self.now.scoring }
+    {
+        &self.slots[chosen(canonical, self.slots.len())]
     }
 }
 
 impl Bounds for BoundTable {
     ghost scoring = { λ table. table.scoring };
 
+    #[inline]
     fn scoring(&self) -> Scoring {
         self.scoring
     }
 
+    #[inline]
     fn probe(&self, position: &Pos) -> Option<Range>
         ensures shown { IfSome result (IsTrueOf self.now.scoring position.now) }
         ensures empty { self.now.entries ≡ 0 → IsNone result }
     {
+        if self.is_empty() {
+            return None;
+        }
         let canonical = position.least_image();
-        let entry = read(self.slot(canonical)?)?;
+        let entry = read(self.slot(canonical))?;
         entry.range_of(canonical)
     }
 
+    #[inline]
     fn store(&self, position: &Pos, range: Range) {
-        let canonical = position.least_image();
-        if let Some(slot) = self.slot(canonical) {
-            write(
-                slot,
-                Entry {
-                    position: canonical,
-                    range,
-                },
-            );
+        if self.is_empty() {
+            return;
         }
+        let entry = Entry::of(position, range);
+        write(self.slot(entry.position), entry);
     }
 }

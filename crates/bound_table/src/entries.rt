@@ -1,8 +1,13 @@
-//! An entry of a shared table: a slot with a word that threads change by single steps. Nobody waits for a slot.
+//! An entry of a shared table, in a slot that many threads may read or one may write.
+//!
+//! Each call looks at the slot's word and makes one turn: to read, which ends by a leave, or to write, which ends by a
+//! put. Where another thread was first, the turn gains nothing and its claim is given back; nothing is tried again, and
+//! nobody waits.
 
 ghost use Rattle.std.specs.Prelude.{◌≡◌, ◌<◌, ◌+◌, ◌^◌, IfSome, IsTrue};
 ghost use Rattle.std.specs.Option.{SomeIff};
 ghost use Rattle.counted_slot.specs.Counting.{IsTurn};
+ghost use Rattle.othello_bits.specs.Symmetries.{canonical_of};
 ghost use Rattle.bound_table.specs.Tables.{IsKnown};
 
 use crate::ranges::Range;
@@ -17,6 +22,8 @@ pub(crate) struct Entry {
     pub(crate) range: Range,
 }
 
+const _: () = prove!(size_of::<Entry>() == 24);
+
 impl Fits for Entry {
     type Tag = Scoring;
 
@@ -24,6 +31,18 @@ impl Fits for Entry {
 }
 
 impl Entry {
+    /// The canonical position of this one, and the range.
+    #[inline]
+    pub(crate) fn of(position: &Pos, range: Range) -> Entry
+        ensures position { result.position ≡ canonical_of position.now }
+        ensures range { result.range ≡ range }
+    {
+        Entry {
+            position: position.least_image(),
+            range,
+        }
+    }
+
     /// The range, where the entry is of this position.
     #[inline]
     pub(crate) fn range_of(self, position: Pos) -> Option<Range>
@@ -38,7 +57,7 @@ impl Entry {
 }
 
 /// A place for one entry, which clauses see as the scoring of its range. Its word is `FREE` until the first store,
-/// then `PRESENT` with the number of those who read the entry, or `TAKEN` while a thread writes it.
+/// then `PRESENT` with the number of its readers, or `TAKEN` while a thread writes it.
 pub(crate) type Slot = Counted<Entry>;
 
 /// A slot that was never stored to. Its range, of all scores, is true of every position.
@@ -46,10 +65,8 @@ pub(crate) type Slot = Counted<Entry>;
 pub(crate) fn unused(scoring: Scoring) -> Slot
     ensures { result ≡ scoring }
 {
-    let entry = Entry {
-        position: Pos::new(0, 0).unwrap().least_image(),
-        range: Range::of_all_scores(),
-    };
+    let no_discs = Pos::new(0, 0).unwrap();
+    let entry = Entry::of(&no_discs, Range::of_all_scores());
     Counted::new(entry, &scoring)
 }
 
@@ -62,8 +79,7 @@ fn admits_reader(word: u64) -> bool
     word % ONE_READER == PRESENT && word / ONE_READER < MOST_READERS
 }
 
-/// The entry of the slot, by one read turn, a look and one leave; None where it was never stored to or a thread
-/// writes it, and where the turn is lost to another thread.
+/// The entry of the slot; None where it was never stored to, where a thread writes it, and where the turn is lost.
 #[inline]
 pub(crate) fn read(slot: &Slot) -> Option<Entry>
     ensures { IfSome result (λ entry. IsKnown slot.now entry.position entry.range) }
@@ -82,8 +98,7 @@ pub(crate) fn read(slot: &Slot) -> Option<Entry>
     Some(entry)
 }
 
-/// Puts an entry into the slot, by one write turn and one put; nothing where a thread reads or writes the slot, and
-/// where the turn is lost to another thread.
+/// Puts an entry into the slot; does nothing where a thread reads or writes it, and where the turn is lost.
 #[inline]
 pub(crate) fn write(slot: &Slot, entry: Entry)
     requires { IsKnown slot.now entry.position entry.range }

@@ -8,6 +8,8 @@ mod entries;
 pub mod faults;
 pub mod ranges;
 pub mod tables;
+#[cfg(test)]
+mod tests;
 
 pub use bound_tables::BoundTable;
 pub use faults::TableFault;

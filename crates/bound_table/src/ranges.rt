@@ -1,7 +1,6 @@
 //! Ranges of scores.
 
 ghost use Rattle.std.specs.Prelude.{◌≡◌, ◌↔◌, negsuc, pos, IsSome, IfSome};
-ghost use Rattle.othello_rules.specs.Solution.{IsScore};
 ghost use Rattle.bound_table.specs.Ranges.{interval, IsInterval};
 
 use std::marker::Model;

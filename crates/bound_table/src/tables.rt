@@ -55,6 +55,7 @@ impl NoTable {
 impl Bounds for NoTable {
     ghost scoring = { λ scoring. scoring };
 
+    #[inline]
     fn scoring(&self) -> Scoring {
         self.scoring
     }

@@ -27,17 +27,19 @@ le_out a b h = elim (cases_Bool (le_z a b)) [ inl t ↦ t | inr f ↦ absurd (om
 -- a null window under a move tells whether the move is worth at least the score
 pub gives_told : (low high s v r : ℤ) → low ≡ neg_ℤ s → high ≡ pos 1 -ℤ s → (r ≤ℤ low → v ≤ℤ r) → (high ≤ℤ r → r ≤ℤ v)
     → (r ≤ℤ low → s ≤ℤ neg_ℤ v) × (s ≤ℤ neg_ℤ v → r ≤ℤ low)
-gives_told low high s v r l h below above =
-    (λ x. let k = below x in omega (arith, ints),
-     λ x. by_lt_z low r (λ y. let k = above (omega (arith, ints)) in omega (arith, ints)) (λ y. y))
+gives_told low high s v r l h below above = (
+  λ x. let k = below x in omega (arith, ints),
+  λ x. by_lt_z low r (λ y. let k = above (omega (arith, ints)) in omega (arith, ints)) (λ y. y),
+)
 
 -- two null windows tell whether a score is the value
 pub value_told : (high s v r q : ℤ) → (s ≤ℤ r → r ≤ℤ v) → s ≤ℤ r → high ≡ s +ℤ pos 1 → (q ≤ℤ s → v ≤ℤ q) → (high ≤ℤ q → q ≤ℤ v)
     → (q ≤ℤ s → s ≡ v) × (s ≡ v → q ≤ℤ s)
 value_told high s v r q first here h below above =
-    let f = first here in
-    (λ x. let k = below x in omega (arith, ints),
-     λ x. by_lt_z s q (λ y. let k = above (omega (arith, ints)) in absurd (omega (arith, ints))) (λ y. y))
+    let f = first here in (
+      λ x. let k = below x in omega (arith, ints),
+      λ x. by_lt_z s q (λ y. let k = above (omega (arith, ints)) in absurd (omega (arith, ints))) (λ y. y),
+    )
 
 -- the whole window gives the value
 pub whole_window : (g : Scoring) (p : Discs) (r : ℤ) → (negsuc 64 <ℤ r → r <ℤ pos 65 → r ≡ value_of g p) → (r ≤ℤ negsuc 64 → value_of g p ≤ℤ r) → (pos 65 ≤ℤ r → r ≤ℤ value_of g p) → r ≡ value_of g p
@@ -46,8 +48,8 @@ whole_window g p r inside below above =
     let v0 = v.low in
     let v1 = v.high in
     by_lt_z (negsuc 64) r
-      (λ x. by_lt_z r (pos 65) (λ y. inside x y) (λ y. let k = above y in absurd (omega (arith, ints))))
-      (λ x. let k = below x in absurd (omega (arith, ints)))
+    (λ x. by_lt_z r (pos 65) (λ y. inside x y) (λ y. let k = above y in absurd (omega (arith, ints))))
+    (λ x. let k = below x in absurd (omega (arith, ints)))
 
 -- a move is best exactly if it is worth at least the value
 module _ (g : Scoring) (p : Discs) (q : ℕ) (s : ℤ) (move : IsMove p q) (value : s ≡ value_of g p) where
@@ -60,8 +62,8 @@ module _ (g : Scoring) (p : Discs) (q : ℕ) (s : ℤ) (move : IsMove p q) (valu
   pub worse : (s ≤ℤ neg_ℤ (value_of g (play_of p q)) → ⊥) → is_best g p q ≡ false
   worse n =
       false_from_ne_true (is_best g p q) (λ b.
-        let x : neg_ℤ (value_of g (play_of p q)) ≡ value_of g p = (Decides-int_eq (neg_ℤ (value_of g (play_of p q))) (value_of g p)).0 (and_parts (in_mask (moves_of p) q) _ b).1 in
-        n (omega (arith, ints)))
+      let x : neg_ℤ (value_of g (play_of p q)) ≡ value_of g p = (Decides-int_eq (neg_ℤ (value_of g (play_of p q))) (value_of g p)).0 (and_parts (in_mask (moves_of p) q) _ b).1 in
+      n (omega (arith, ints)))
 
 -- a mask that has every best move, moves alone, and of the squares tested best moves alone
 pub record HoldsBest (g : Scoring) (p : Discs) (tested : List ℕ) (best : ℕ) : Type 0 where
@@ -76,7 +78,7 @@ holds_moves g p m e small =
       small = small;
       every = λ q b. subst (λ n. in_mask n q ≡ true) (sym e) (and_parts (in_mask (moves_of p) q) _ b).0;
       moves = λ q b. subst (λ n. in_mask n q ≡ true) e b;
-      alone = λ k d h. absurd (omega (arith, h))
+      alone = λ k d h. absurd (omega (arith, h));
     }
 
 module _ (g : Scoring) (p : Discs) (items : List ℕ) (i x best : ℕ) (here : i < length items) (is : x ≡ get_or items i x) (held : HoldsBest g p (take i items) best) where
@@ -86,7 +88,7 @@ module _ (g : Scoring) (p : Discs) (items : List ℕ) (i x best : ℕ) (here : i
         small = held.small;
         every = held.every;
         moves = held.moves;
-        alone = All-more (λ q. in_mask best q ≡ true → is_best g p q ≡ true) items i x here held.alone (λ _. subst (λ q. is_best g p q ≡ true) is b)
+        alone = All-more (λ q. in_mask best q ≡ true → is_best g p q ≡ true) items i x here held.alone (λ _. subst (λ q. is_best g p q ≡ true) is b);
       }
 
   pub worse_taken : (new : ℕ) → new < 2 ^ 64 → is_best g p x ≡ false → ((j : ℕ) → in_mask new j ≡ (in_mask best j && not (nat_eq x j))) → HoldsBest g p (take (i + 1) items) new
@@ -96,8 +98,8 @@ module _ (g : Scoring) (p : Discs) (items : List ℕ) (i x best : ℕ) (here : i
         every = λ q b. other (in_mask best) (in_mask new) x taken q (λ e. both_ways (is_best g p x) n (subst (λ r. is_best g p r ≡ true) e b)) ∙ held.every q b;
         moves = λ q b. held.moves q (left_taken q b);
         alone = All-more (λ q. in_mask new q ≡ true → is_best g p q ≡ true) items i x here
-          (All-weaker (λ q. in_mask best q ≡ true → is_best g p q ≡ true) (λ q. in_mask new q ≡ true → is_best g p q ≡ true) (λ q k b. k (left_taken q b)) (take i items) held.alone)
-          (λ b. absurd (both_ways (in_mask new x) (gone (in_mask best) (in_mask new) x taken) (subst (λ q. in_mask new q ≡ true) (sym is) b)))
+            (All-weaker (λ q. in_mask best q ≡ true → is_best g p q ≡ true) (λ q. in_mask new q ≡ true → is_best g p q ≡ true) (λ q k b. k (left_taken q b)) (take i items) held.alone)
+            (λ b. absurd (both_ways (in_mask new x) (gone (in_mask best) (in_mask new) x taken) (subst (λ q. in_mask new q ≡ true) (sym is) b)));
       }
     where
       left_taken : (q : ℕ) → in_mask new q ≡ true → in_mask best q ≡ true
@@ -111,15 +113,15 @@ square_listed m q h b = Contains-filter (in_mask m) squares q (Contains-squares 
 pub all_held : (g : Scoring) (p : Discs) (items : List ℕ) (best : ℕ) → items ≡ squares_of (moves_of p) → HoldsBest g p items best → best ≡ mask_where (is_best g p)
 all_held g p items best e held =
     is_where best (is_best g p) held.small (λ q h.
-      elim (cases_Bool (is_best g p q)) [
-        | inl b ↦ held.every q b ∙ sym b
-        | inr n ↦ false_from_ne_true (in_mask best q) (λ b. both_ways (is_best g p q) n (found q (held.moves q b) b)) ∙ sym n
-      ])
+    elim (cases_Bool (is_best g p q)) [
+      | inl b ↦ held.every q b ∙ sym b
+      | inr n ↦ false_from_ne_true (in_mask best q) (λ b. both_ways (is_best g p q) n (found q (held.moves q b) b)) ∙ sym n
+    ])
   where
     found : (q : ℕ) → IsMove p q → in_mask best q ≡ true → is_best g p q ≡ true
     found q m =
         All-contains (λ r. in_mask best r ≡ true → is_best g p r ≡ true) items q held.alone
-          (subst (λ l. Contains l q) (sym e) (square_listed (moves_of p) q (IsMove-on_board p q m) m))
+        (subst (λ l. Contains l q) (sym e) (square_listed (moves_of p) q (IsMove-on_board p q m) m))
 
 -- the square of a mask that a loop over its squares is at
 pub listed_square : (m : ℕ) (items : List ℕ) (i x : ℕ) → items ≡ squares_of m → i < length items → x ≡ get_or items i x → in_mask m x ≡ true

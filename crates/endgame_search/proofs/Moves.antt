@@ -5,7 +5,7 @@ use Rattle.std.proofs.lemmas.List.{length-map}
 use Rattle.std.proofs.lemmas.List.Elements.{All-map, All-contains, All-more, All-weaker}
 use Rattle.othello_rules.specs.declared.scorings.Scoring.{Scoring}
 use Rattle.othello_bits.specs.Discs.{Discs, moves_of, play_of, pass_of, empties_of, value_of, IsMove, HasNoMove}
-use Rattle.othello_bits.proofs.GameLaws.{value_above, value_reached, value-pass, empties-move, empties-pass}
+use Rattle.othello_bits.proofs.GameLaws.{value_above, value_reached, value-pass, empties_positive, empties-play, empties-pass}
 use Rattle.endgame_search.specs.declared.children.Child.{Child}
 use Rattle.endgame_search.specs.Children.{IsChildOf, AreChildrenOf}
 
@@ -14,7 +14,9 @@ pub child_worth : (g : Scoring) (p : Discs) (c : Child) → IsChildOf p c → ne
 child_worth g p c h = subst (λ d. neg_ℤ (value_of g d) ≤ℤ value_of g p) (sym h.position) (value_above g p c.square h.legal)
 
 pub child_empties : (p : Discs) (c : Child) → IsChildOf p c → empties_of c.position + 1 ≡ empties_of p
-child_empties p c h = ap (λ d. empties_of d + 1) h.position ∙ empties-move p c.square h.legal
+child_empties p c h =
+    let e : empties_of c.position ≡ empties_of (play_of p c.square) = ap empties_of h.position in
+    omega (arith, e, empties_positive p c.square h.legal, empties-play p c.square h.legal)
 
 -- the only move is worth the value
 pub only_worth : (g : Scoring) (p : Discs) (c : Child) → IsChildOf p c → moves_of p ≢ 0 → ((q : ℕ) → IsMove p q → q ≡ c.square) → value_of g p ≡ neg_ℤ (value_of g c.position)
@@ -42,9 +44,9 @@ pub searched_more : (g : Scoring) (items : List Child) (i : ℕ) (x : Child) (be
     → All (λ (c : Child). neg_ℤ (value_of g c.position) ≤ℤ more) (take (i + 1) items)
 searched_more g items i x best more h is grow one all =
     All-more (λ (c : Child). neg_ℤ (value_of g c.position) ≤ℤ more) items i x h
-      (All-weaker (λ (c : Child). neg_ℤ (value_of g c.position) ≤ℤ best) (λ (c : Child). neg_ℤ (value_of g c.position) ≤ℤ more)
-        (λ c k. let j : neg_ℤ (value_of g c.position) ≤ℤ best = k in omega (arith, ints)) (take i items) all)
-      (subst (λ (c : Child). neg_ℤ (value_of g c.position) ≤ℤ more) is one)
+    (All-weaker (λ (c : Child). neg_ℤ (value_of g c.position) ≤ℤ best) (λ (c : Child). neg_ℤ (value_of g c.position) ≤ℤ more)
+    (λ c k. let j : neg_ℤ (value_of g c.position) ≤ℤ best = k in omega (arith, ints)) (take i items) all)
+    (subst (λ (c : Child). neg_ℤ (value_of g c.position) ≤ℤ more) is one)
 
 -- where every child was searched, the best is no less than the value
 pub best_of_all : (g : Scoring) (p : Discs) (items : List Child) (best : ℤ) → moves_of p ≢ 0 → AreChildrenOf p items
@@ -54,8 +56,8 @@ best_of_all g p items best some children all =
     let r = value_reached g p some in
     let l = children.every r.0 r.1 in
     let by_square : All (λ (c : Child). neg_ℤ (value_of g (play_of p c.square)) ≤ℤ best) items =
-      λ i x h. subst (λ d. neg_ℤ (value_of g d) ≤ℤ best) (children.each i x h).position (all i x h) in
+    λ i x h. subst (λ d. neg_ℤ (value_of g d) ≤ℤ best) (children.each i x h).position (all i x h) in
     let k : neg_ℤ (value_of g (play_of p r.0)) ≤ℤ best =
-      All-contains (λ q. neg_ℤ (value_of g (play_of p q)) ≤ℤ best) (map (λ (c : Child). c.square) items) r.0
-        (All-map (λ q. neg_ℤ (value_of g (play_of p q)) ≤ℤ best) (λ (c : Child). c.square) items by_square) l in
+    All-contains (λ q. neg_ℤ (value_of g (play_of p q)) ≤ℤ best) (map (λ (c : Child). c.square) items) r.0
+    (All-map (λ q. neg_ℤ (value_of g (play_of p q)) ≤ℤ best) (λ (c : Child). c.square) items by_square) l in
     (subst (λ z. z ≤ℤ best) r.2 k, omega (arith, l.1, length-map items (λ (c : Child). c.square)))

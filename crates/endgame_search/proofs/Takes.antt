@@ -80,8 +80,9 @@ pub listed_more : (items grown : List Child) (x : Child) → grown ≡ items ++ 
 listed_more items grown x e q h =
     let s : squares_of grown ≡ squares_of items ++ x.square ∷ [] = ap squares_of e ∙ map-append (λ (c : Child). c.square) items (x ∷ []) in
     subst (λ l. Contains l q) (sym s) (elim h [
-        inl c ↦ Contains-append_left (squares_of items) (x.square ∷ []) q c
-      | inr i ↦ subst (λ y. Contains (squares_of items ++ x.square ∷ []) y) (sym i) (Contains-push (squares_of items) x.square) ])
+      | inl c ↦ Contains-append_left (squares_of items) (x.square ∷ []) q c
+      | inr i ↦ subst (λ y. Contains (squares_of items ++ x.square ∷ []) y) (sym i) (Contains-push (squares_of items) x.square)
+    ])
 
 -- where taking one square leaves nothing, there is no other
 pub only_square : (old new r q : ℕ) → new ≡ 0 → ((i : ℕ) → in_mask new i ≡ (in_mask old i && not (nat_eq r i))) → in_mask old q ≡ true → q ≡ r
@@ -102,9 +103,9 @@ module _ (v : ArrayVec Child) (shown sorted : List Child) (is : shown ≡ v.item
   pub sorted_listed : (q : ℕ) → Contains (squares_of v.items) q → Contains (squares_of (refill (array_vec_len v) v.items sorted)) q
   sorted_listed q h =
       subst (λ l. Contains (squares_of l) q) (sym refilled)
-        (Contains-permutation (squares_of shown) (squares_of sorted) q
-          (IsPermutation-map (λ (c : Child). c.square) shown sorted permuted)
-          (subst (λ l. Contains (squares_of l) q) (sym is) h))
+      (Contains-permutation (squares_of shown) (squares_of sorted) q
+      (IsPermutation-map (λ (c : Child). c.square) shown sorted permuted)
+      (subst (λ l. Contains (squares_of l) q) (sym is) h))
 
 -- an empty list
 pub no_items : (v : ArrayVec Child) → v.items ≡ [] → array_vec_len v ≡ 0

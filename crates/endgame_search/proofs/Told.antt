@@ -14,7 +14,7 @@ pub told_true : (low high v s : ℤ) (i : Interval) → Places low high v s → 
     → low <ℤ high → (i.low ≤ℤ v) × (v ≤ℤ i.high)
 told_true low high v s i p score at_most at_least exact window =
     by_lt_z low s
-      (λ x. by_lt_z s high
-        (λ y. within v s s i (exact x y) (p.above x) (p.below y))
-        (λ y. within v s (pos 64) i (at_least x y) (p.above x) score.high))
-      (λ x. within v (negsuc 63) s i (at_most x) score.low (p.below (omega (arith, ints))))
+    (λ x. by_lt_z s high
+    (λ y. within v s s i (exact x y) (p.above x) (p.below y))
+    (λ y. within v s (pos 64) i (at_least x y) (p.above x) score.high))
+    (λ x. within v (negsuc 63) s i (at_most x) score.low (p.below (omega (arith, ints))))

@@ -28,7 +28,7 @@ exact low high v r h e =
       below = λ _. omega (arith, ints);
       above = λ _. omega (arith, ints);
       least = omega (arith, ints, h.low, e);
-      most = omega (arith, ints, h.high, e)
+      most = omega (arith, ints, h.high, e);
     }
 
 module _ (low high w r : ℤ) (window : IsWindow low high) where
@@ -56,7 +56,7 @@ module _ (low high w r : ℤ) (window : IsWindow low high) where
         below = λ x. let k : r ≤ℤ w = p.above (omega (arith, ints)) in omega (arith, ints);
         above = λ x. let k : w ≤ℤ r = p.below (omega (arith, ints)) in omega (arith, ints);
         least = omega (arith, ints);
-        most = omega (arith, ints)
+        most = omega (arith, ints);
       }
 
 -- a null window at the lower end, with the other side's score r in it
@@ -134,7 +134,7 @@ module _ (low high l w r : ℤ) (window : IsWindow low high) (p : Places l (show
           below = λ x. let j : s ≤ℤ w = q.above (omega (arith, ints)) in omega (arith, ints);
           above = λ x. by_lt_z s (pos 1 +ℤ r) (λ y. let j : w ≤ℤ s = q.below (omega (arith, ints)) in omega (arith, ints)) (λ y. omega (arith, ints));
           least = omega (arith, ints);
-          most = omega (arith, ints)
+          most = omega (arith, ints);
         }
 
 -- the facts of a loop that keeps the best score so far
@@ -215,10 +215,10 @@ module _ (low high best f v u s : ℤ) (window : IsWindow low high) (kept : Keep
         let d = floor_same in
         let e = floor_is in
         by_lt_z f s
-          (λ y.
-            let k : s ≤ℤ u = p.above (omega (arith, ints)) in
-            by_lt_z best s (λ z. omega (arith, ints, clamps)) (λ z. let n : best ≤ℤ v = kept.attained (omega (arith, ints, clamps)) in omega (arith, ints, clamps)))
-          (λ y. let n : best ≤ℤ v = kept.attained (omega (arith, ints, clamps)) in omega (arith, ints, clamps))
+        (λ y.
+        let k : s ≤ℤ u = p.above (omega (arith, ints)) in
+        by_lt_z best s (λ z. omega (arith, ints, clamps)) (λ z. let n : best ≤ℤ v = kept.attained (omega (arith, ints, clamps)) in omega (arith, ints, clamps)))
+        (λ y. let n : best ≤ℤ v = kept.attained (omega (arith, ints, clamps)) in omega (arith, ints, clamps))
 
     pub keeps_more : KeepsBest (shown low) (shown high) v (shown m)
     keeps_more =
@@ -234,7 +234,7 @@ module _ (low high best f v u s : ℤ) (window : IsWindow low high) (kept : Keep
           attained = λ y. subst (λ z. z ≤ℤ v) (sym e) (attained' (subst (λ z. low <ℤ z) e (omega (arith, ints))));
           below = omega (arith, ints, clamps);
           least = omega (arith, ints, clamps);
-          most = omega (arith, ints, clamps)
+          most = omega (arith, ints, clamps);
         }
 
     pub started_more : negsuc 63 ≤ℤ shown m
@@ -262,4 +262,4 @@ turned_shown low high v w r o e p =
     let a : low ≡ shown low = omega (arith, ints) in
     let b : high ≡ shown high = omega (arith, ints) in
     subst (λ z. Places (shown low) (shown high) z (shown (pos 0 -ℤ shown r))) (sym e)
-      (recast low high (shown low) (shown high) (neg_ℤ w) _ _ a b refl (turned_whole low high w r o p))
+    (recast low high (shown low) (shown high) (neg_ℤ w) _ _ a b refl (turned_whole low high w r o p))

@@ -6,6 +6,8 @@ mod ranges;
 mod searches;
 mod solutions;
 mod tasks;
+#[cfg(test)]
+mod tests;
 
 pub use searches::value_in;
 pub use solutions::{Claim, Solved, confirm, solve};

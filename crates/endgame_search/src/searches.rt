@@ -2,7 +2,7 @@
 
 ghost use Rattle.std.specs.Prelude.{◌≡◌, ◌≢◌, ℕ, ◌≤◌, ◌≤ℤ◌, ◌<ℤ◌, pos, negsuc, neg_ℤ, count_ones};
 ghost use Rattle.othello_bits.specs.Discs.{moves_of, pass_of, value_of, IsMove, HasNoMove};
-ghost use Rattle.othello_rules.specs.Masks.{in_mask};
+ghost use Rattle.othello_rules.specs.Solution.{IsScore};
 ghost use Rattle.endgame_search.specs.Windows.{IsWindow, Places};
 ghost use Rattle.endgame_search.specs.Children.{AreChildrenOf};
 
@@ -24,6 +24,7 @@ pub fn value_in<T: Bounds>(table: &T, position: Pos, low: i8, high: i8) -> i8
     ensures inside { low <ℤ result → result <ℤ high → result ≡ value_of (T.scoring table.now) position }
     ensures below { result ≤ℤ low → value_of (T.scoring table.now) position ≤ℤ result }
     ensures above { high ≤ℤ result → result ≤ℤ value_of (T.scoring table.now) position }
+    ensures in_range { IsScore result }
 {
     search(table, position, position.moves(), low, high)
 }
@@ -155,13 +156,7 @@ fn search_many<T: Bounds>(table: &T, position: Pos, moves: u64, low: i8, high: i
 
 // The same where the children are at hand.
 #[cycle(search)]
-fn search_children<T: Bounds>(
-    table: &T,
-    position: Pos,
-    children: &[Child],
-    low: i8,
-    high: i8,
-) -> i8
+fn search_children<T: Bounds>(table: &T, position: Pos, children: &[Child], low: i8, high: i8) -> i8
     requires children { AreChildrenOf position children.now }
     requires some { moves_of position ≢ 0 }
     requires window { IsWindow low high }
@@ -170,7 +165,14 @@ fn search_children<T: Bounds>(
     let mut best: i8 = -65;
     for child in children {
         let floor = best.max(low);
-        let score = search_after(table, child.position, child.replies, floor, high, best == -65);
+        let score = search_after(
+            table,
+            child.position,
+            child.replies,
+            floor,
+            high,
+            best == -65,
+        );
         if score >= high {
             return stored(table, position, low, high, score);
         }

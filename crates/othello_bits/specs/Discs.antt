@@ -17,7 +17,7 @@ use Rattle.othello_rules.specs.Scores.{final}
 use Rattle.othello_rules.specs.declared.scorings.Scoring.{Scoring}
 use Rattle.othello_rules.specs.Masks.{mask_of, in_mask}
 
--- the mover's discs and the other side's
+-- the mover's discs and the other side's, as masks
 pub record Discs : Type 0 where
   pub own : ℕ
   pub opp : ℕ
@@ -48,7 +48,8 @@ mask_where test = mask_of (filter test squares)
 unfoldable pub discs_of : Position → Discs
 discs_of P = discs (mask_where (rules.has P (rules.own P))) (mask_where (rules.has P (rules.opposing P)))
 
--- the masks of the moves and of what a move turns, and the masks after a move and after a pass
+-- From here on Black is the mover; with White to move all of it is the same.
+-- The masks of the moves and of what a move turns, and the masks after a move and after a pass:
 unfoldable pub moves_of : Discs → ℕ
 moves_of p = mask_of (rules.moves (position_of Black p))
 
@@ -71,7 +72,7 @@ HasNoMove p = moves_of p ≡ 0
 abbrev pub IsOver : Discs → Type 0
 IsOver p = HasNoMove p × HasNoMove (pass_of p)
 
--- how many squares are empty, the score as the discs stand, the value and the answer
+-- how many squares are empty, the score as the discs stand, and the value and the answer under each scoring
 unfoldable pub empties_of : Discs → ℕ
 empties_of p = worth.empties (position_of Black p)
 
@@ -84,7 +85,7 @@ value_of g p = worth.value g (position_of Black p)
 unfoldable pub answer_of : Scoring → Discs → Solution
 answer_of g p = worth.answer g (position_of Black p)
 
--- q is a move that attains the value, and how the position is best gone on with
+-- q is a move that attains the value; and what attains it: all such moves, or a pass, or that the game is over
 abbrev pub is_best : Scoring → Discs → ℕ → Bool
 is_best g p q = in_mask (moves_of p) q && int_eq (neg_ℤ (value_of g (play_of p q))) (value_of g p)
 

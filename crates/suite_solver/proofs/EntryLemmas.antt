@@ -23,7 +23,7 @@ solved_entry g limit entry p A whole e few a =
     let count : empties_of p ≡ empties entry.position = empties_are entry.position p whole e in
     let exact : A ≡ answer g entry.position = a ∙ ap (answer_of g) e ∙ answer-discs_of g entry.position whole in
     let within : nat_lt limit (empties entry.position) ≡ false =
-        false_from_ne_true (nat_lt limit (empties entry.position)) (λ t. let more : limit < empties entry.position = ltb-true limit (empties entry.position) t in omega (arith, count)) in
+    false_from_ne_true (nat_lt limit (empties entry.position)) (λ t. let more : limit < empties entry.position = ltb-true limit (empties entry.position) t in omega (arith, count)) in
     rw (within, exact) refl
 
 -- with too many it is refused
@@ -31,8 +31,8 @@ pub refused_entry : (g : Scoring) (limit : ℕ) (entry : Entry) (p : Discs) (fou
 refused_entry g limit entry p found whole e many f =
     let count : found ≡ empties entry.position = f ∙ empties_are entry.position p whole e in
     let beyond : nat_lt limit (empties entry.position) ≡ true =
-        elim (cases_lt limit (empties_of p)) [
-          | inl l ↦ let above : limit < empties entry.position = omega (arith, count, f) in lt-ltb limit (empties entry.position) above
-          | inr h ↦ absurd (many h)
-        ] in
+    elim (cases_lt limit (empties_of p)) [
+      | inl l ↦ let above : limit < empties entry.position = omega (arith, count, f) in lt-ltb limit (empties entry.position) above
+      | inr h ↦ absurd (many h)
+    ] in
     rw (beyond, count) refl

@@ -1,5 +1,5 @@
 -- How the scores that a line lists compare with the answer.
-use Rattle.std.specs.Prelude.{ℕ, ℤ, ◌&&◌, Bool, true, false, List, [], ◌∷◌, map, filter, if◌then◌else◌}
+use Rattle.std.specs.Prelude.{ℤ, ◌&&◌, Bool, true, false, List, [], ◌∷◌, map, filter, if◌then◌else◌}
 use Rattle.std.specs.List.{list_all}
 use Rattle.std.specs.Ordering.{int_eq}
 use Rattle.othello_rules.specs.Masks.{in_mask}
@@ -21,7 +21,8 @@ greatest_listed fields = greatest (map (λ f. f.1) fields)
 abbrev pub fields_with : ℤ → List Field → List Field
 fields_with score fields = filter (λ f. int_eq f.1 score) fields
 
--- a square is best if it is one of the best moves, a pass where the answer is a pass, and the end where the game is over
+-- a square is best if it is one of the best moves, a pass where the answer is a pass, and the end of the game
+-- where it is over
 abbrev pub is_best_in : Best → ListedMove → Bool
 is_best_in (best.Moves mask) (listed.At q) = in_mask mask q
 is_best_in best.Pass listed.Pass = true
@@ -34,7 +35,8 @@ are_best_in best score fields = list_all (λ f. is_best_in best f.0) (fields_wit
 
 -- the greatest listed score is the answer's, and each move that is listed with it is best
 unfoldable pub agrees : List Field → Solution → Bool
-agrees fields answer = int_eq (greatest_listed fields) answer.score && are_best_in answer.best answer.score fields
+agrees fields answer =
+    int_eq (greatest_listed fields) answer.score && are_best_in answer.best answer.score fields
 
 unfoldable pub check : List Field → Solution → Check
 check [] answer = Unlisted

@@ -13,16 +13,18 @@ use Rattle.suite_solver.specs.declared.stops.Stop.TheVariants.{Run, BadWords, Ca
 unfoldable pub printed : List ℕ → List ℕ
 printed text = report defaults.scoring defaults.max_empties (0, text)
 
--- Of what standard input gave, where it tells, and what standard output held before and after: no more was given than a
--- file may have, and the report of all that was given was written.
+-- What standard input gives, where that is known, is no more than a file may have, and its report was written to
+-- standard output, which held `old` before and holds `new` now.
 abbrev pub Prints : Option (List ℕ) → Option (List ℕ) → Option (List ℕ) → Type 0
-Prints given old new = IfSome given (λ text. (length text ≤ 1048576) × Appends old new (printed text))
+Prints given old new =
+    IfSome given (λ text. (length text ≤ 1048576) × Appends old new (printed text))
 
 unfoldable pub run_fault_text : RunFault → List ℕ
 run_fault_text Memory = codes "out of memory"
 run_fault_text Mixed = codes "answers mixed"
 run_fault_text TooManyFiles = codes "more than 64 files"
-run_fault_text (FileTooLarge sender) = codes "file " ++ (decimal (sender + 1) ++ codes " is larger than 1048576 bytes")
+run_fault_text (FileTooLarge sender) =
+    codes "file " ++ (decimal (sender + 1) ++ codes " is larger than 1048576 bytes")
 
 -- one line for standard error
 unfoldable pub stop_reason : Stop → List ℕ

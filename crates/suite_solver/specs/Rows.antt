@@ -1,5 +1,5 @@
 -- The rows that a text defines.
-use Rattle.std.specs.Prelude.{ℕ, ◌+◌, nat_lt, List, option_map, Option, Some, None, if◌then◌else◌}
+use Rattle.std.specs.Prelude.{ℕ, nat_lt, List, option_map, Option, Some, None, if◌then◌else◌}
 use Rattle.std.specs.List.{enumerate_from, filter_map}
 use Rattle.othello_rules.specs.Value.{answer, empties}
 use Rattle.othello_rules.specs.declared.scorings.Scoring.{Scoring}
@@ -8,7 +8,6 @@ use Rattle.obf_text.specs.Obf.{Entry, Faulty, Holds, Meaning, Skipped, item_of}
 use Rattle.obf_text.specs.declared.faults.LineFault.{LineFault}
 use Rattle.obf_text.specs.declared.faults.LineFault.TheVariants as fault
 use Rattle.suite_solver.specs.Checks.{check}
-use Rattle.suite_solver.specs.declared.rows.Refusal.{Refusal}
 use Rattle.suite_solver.specs.declared.rows.Refusal.TheVariants as refusal
 use Rattle.suite_solver.specs.declared.rows.RowResult.{RowResult}
 use Rattle.suite_solver.specs.declared.rows.RowResult.TheVariants.{Solved, Refused}
@@ -17,7 +16,8 @@ use Rattle.suite_solver.specs.declared.rows.ReportRow.{ReportRow}
 -- a position is solved, and its answer checked, unless it has more empty squares than the limit
 abbrev pub entry_result : Scoring → ℕ → Entry → RowResult
 entry_result g limit entry =
-    if nat_lt limit (empties entry.position) then Refused (refusal.Empties (empties entry.position) limit)
+    if nat_lt limit (empties entry.position)
+    then Refused (refusal.Empties (empties entry.position) limit)
     else Solved (answer g entry.position) (check entry.listed (answer g entry.position))
 
 -- a line's fault; want of memory is said of no line

@@ -20,13 +20,17 @@ is_large text = nat_lt 1048576 (length text)
 abbrev pub first_large : List (List ℕ) → Option ℕ
 first_large texts = position is_large texts
 
--- what is refused before anything is read: more than 64 files, and then the first file that is too large
+-- what is refused before anything is read:
+-- more than 64 files, and else the first file that is too large
 unfoldable pub refusal_of : List (List ℕ) → Option RunFault
-refusal_of texts = if nat_lt 64 (length texts) then Some TooManyFiles else option_map FileTooLarge (first_large texts)
+refusal_of texts =
+    if nat_lt 64 (length texts) then Some TooManyFiles else option_map FileTooLarge (first_large texts)
 
--- A run gives the reports of its files, or what is refused. Else it can want memory, or get mixed answers.
+-- A run gives the reports of its files, or tells what is refused. Else it can want memory, or its answers
+-- can be mixed.
 abbrev pub Answers : Result Outcome RunFault → Configuration → List (List ℕ) → Type 0
-Answers (Ok outcome) c texts = (refusal_of texts ≡ None) × (outcome.reports ≡ reports c.scoring c.max_empties texts)
+Answers (Ok outcome) c texts =
+    (refusal_of texts ≡ None) × (outcome.reports ≡ reports c.scoring c.max_empties texts)
 Answers (Err Memory) c texts = refusal_of texts ≡ None
 Answers (Err Mixed) c texts = refusal_of texts ≡ None
 Answers (Err fault) c texts = refusal_of texts ≡ Some fault

@@ -4,6 +4,6 @@ use Rattle.bound_table.proofs.entries.unused.Goals as goal
 
 pub new-requires-2 : goal.new-requires-2
 new-requires-2 c =
-    let score = value_score c.args.scoring c.unwrap.result in
-    rw (c.least_image.ensures.value, c.of_all_scores.ensures)
-    (known_of_canonical c.args.scoring c.unwrap.result _ (score.low, score.high))
+    let score = value_score c.args.scoring c.unwrap-no_discs.result in
+    rw (c.of-entry.ensures.position, c.of-entry.ensures.range, c.of_all_scores.ensures)
+    (known_of_canonical c.args.scoring c.unwrap-no_discs.result _ (score.low, score.high))

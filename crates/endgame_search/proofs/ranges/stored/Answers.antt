@@ -18,4 +18,4 @@ store-requires g c =
     let b : c.args.high ≡ shown c.args.high = omega (arith, ints, w.0, w.1, w.2) in
     let d : c.args.score ≡ shown c.args.score = omega (arith, ints) in
     told_true (shown c.args.low) (shown c.args.high) (value_of r c.args.position) (shown c.args.score) c.told.result
-      (recast c.args.low c.args.high _ _ _ c.args.score _ a b d p) (value_score r c.args.position) t.at_most t.at_least t.exact (omega (arith, ints, a, b, w.1))
+    (recast c.args.low c.args.high _ _ _ c.args.score _ a b d p) (value_score r c.args.position) t.at_most t.at_least t.exact (omega (arith, ints, a, b, w.1))

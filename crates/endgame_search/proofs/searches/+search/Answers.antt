@@ -21,7 +21,7 @@ search-returns g t c =
     let r = g.T.Bounds.scoring c.args.table.now in
     let s = value_score r c.args.position in
     let e : c.final_score.result ≡ value_of r c.args.position =
-      c.final_score.ensures.value ∙ ap (λ h. final_of h c.args.position) c.scoring.ensures ∙ sym (value-over r c.args.position (none, over)) in
+    c.final_score.ensures.value ∙ ap (λ h. final_of h c.args.position) c.scoring.ensures ∙ sym (value-over r c.args.position (none, over)) in
     let l = s.low in
     let m = s.high in
     let f : shown c.final_score.result ≡ c.final_score.result = omega (arith, ints, e, l, m) in
@@ -41,9 +41,16 @@ search_after-returns-then-score-high g t c =
 pub search_after-search-requires-2 : goal.search_after-search-requires-2
 search_after-search-requires-2 g t c κs within =
     let d : 8 * empties_of c.args.after + 8 ≡ t = c.decreases in
-    let w : 8 * empties_of c.args.after + 7 < t = omega (arith, d) in
-    (w, (within, (c.requires.replies,
-      second_window c.args.low c.args.high _ _ _ c.requires.window c.search-score.ensures (omega (arith, ints)) c.if-score-low.false c.if-score-high.false)))
+    let w : 8 * empties_of c.args.after + 7 < t = omega (arith, d) in (
+      w,
+      (
+        within,
+        (
+          c.requires.replies,
+          second_window c.args.low c.args.high _ _ _ c.requires.window c.search-score.ensures (omega (arith, ints)) c.if-score-low.false c.if-score-high.false,
+        ),
+      ),
+    )
 
 pub search_after-returns : goal.search_after-returns
 search_after-returns g t c =
@@ -70,7 +77,7 @@ search_children-stored-requires g t c =
     record {
       window = shown_window c.args.low c.args.high c.requires.window;
       places =
-        cut_step c.args.low c.args.high _ _ _ _ _ c.requires.window kept.best c.max-floor.ensures.value c.search_after-score.ensures above c.if-score-high.true
+          cut_step c.args.low c.args.high _ _ _ _ _ c.requires.window kept.best c.max-floor.ensures.value c.search_after-score.ensures above c.if-score-high.true;
     }
 
 pub search_children-returns-then-score-high : goal.search_children-returns-then-score-high
@@ -79,8 +86,8 @@ search_children-returns-then-score-high g t c =
     let child = at_index (IsChildOf c.args.position) c.args.children.now c.loop-child.child-index c.child-item.result c.loop-child-test.true c.child-item.is c.requires.children.each in
     let above = child_worth (g.T.Bounds.scoring c.args.table.now) c.args.position c.child-item.result child in
     given_back c.args.low c.args.high _ _ _ c.requires.window
-      (cut_step c.args.low c.args.high _ _ _ _ _ c.requires.window kept.best c.max-floor.ensures.value c.search_after-score.ensures above c.if-score-high.true)
-      c.stored.ensures
+    (cut_step c.args.low c.args.high _ _ _ _ _ c.requires.window kept.best c.max-floor.ensures.value c.search_after-score.ensures above c.if-score-high.true)
+    c.stored.ensures
 
 pub search_children-loop-child-preserved : goal.search_children-loop-child-preserved
 search_children-loop-child-preserved g t c =
@@ -91,11 +98,11 @@ search_children-loop-child-preserved g t c =
     let above = child_worth r c.args.position c.child-item.result child in
     record {
       searched = searched_more r items c.loop-child.child-index c.child-item.result _ _ c.loop-child-test.true c.child-item.is
-        (grows c.args.low c.args.high _ _ _ _ _ c.requires.window kept.best c.max-floor.ensures.value c.search_after-score.ensures above _ c.max-best.ensures.value c.if-score-high.false)
-        (covers c.args.low c.args.high _ _ _ _ _ c.requires.window kept.best c.max-floor.ensures.value c.search_after-score.ensures above _ c.max-best.ensures.value c.if-score-high.false)
-        kept.searched;
+          (grows c.args.low c.args.high _ _ _ _ _ c.requires.window kept.best c.max-floor.ensures.value c.search_after-score.ensures above _ c.max-best.ensures.value c.if-score-high.false)
+          (covers c.args.low c.args.high _ _ _ _ _ c.requires.window kept.best c.max-floor.ensures.value c.search_after-score.ensures above _ c.max-best.ensures.value c.if-score-high.false)
+          kept.searched;
       best = keeps_more c.args.low c.args.high _ _ _ _ _ c.requires.window kept.best c.max-floor.ensures.value c.search_after-score.ensures above _ c.max-best.ensures.value c.if-score-high.false;
-      started = λ _. started_more c.args.low c.args.high _ _ _ _ _ c.requires.window kept.best c.max-floor.ensures.value c.search_after-score.ensures above _ c.max-best.ensures.value c.if-score-high.false
+      started = λ _. started_more c.args.low c.args.high _ _ _ _ _ c.requires.window kept.best c.max-floor.ensures.value c.search_after-score.ensures above _ c.max-best.ensures.value c.if-score-high.false;
     }
 
 pub search_children-stored-requires-2 : goal.search_children-stored-requires-2
@@ -109,7 +116,7 @@ search_children-stored-requires-2 g t c =
     record {
       window = shown_window c.args.low c.args.high c.requires.window;
       places =
-        record { below = λ _. b.0; above = kept.best.attained; least = kept.started (omega (arith, b.1, c.loop-child-test.false)); most = kept.best.most }
+          record { below = λ _. b.0; above = kept.best.attained; least = kept.started (omega (arith, b.1, c.loop-child-test.false)); most = kept.best.most };
     }
 
 pub search_children-returns : goal.search_children-returns
@@ -121,8 +128,8 @@ search_children-returns g t c =
     let all = All-same (λ (x : Child). neg_ℤ (value_of r x.position) ≤ℤ to_z w8 c.loop-child.best-bits) items _ (sym e) kept.searched in
     let b = best_of_all r c.args.position items _ c.requires.some c.requires.children all in
     given_back c.args.low c.args.high _ _ _ c.requires.window
-      (record { below = λ _. b.0; above = kept.best.attained; least = kept.started (omega (arith, b.1, c.loop-child-test.false)); most = kept.best.most })
-      c.stored-2.ensures
+    (record { below = λ _. b.0; above = kept.best.attained; least = kept.started (omega (arith, b.1, c.loop-child-test.false)); most = kept.best.most })
+    c.stored-2.ensures
 
 pub search_moves-search_only-requires : goal.search_moves-search_only-requires
 search_moves-search_only-requires g t c κs within =
@@ -145,22 +152,22 @@ search_only-stored-requires g t c =
     record {
       window = shown_window c.args.low c.args.high c.requires.window;
       places =
-        turned_shown c.args.low c.args.high _ _ _ c.requires.window
+          turned_shown c.args.low c.args.high _ _ _ c.requires.window
           (only_worth (g.T.Bounds.scoring c.args.table.now) c.args.position c.after-child.result c.after-child.ensures.child
-            (λ z. both_ways (in_mask (moves_of c.args.position) c.args.square) (none_from_zero (moves_of c.args.position) z c.args.square) c.requires.legal)
-            (λ q m. c.requires.only q m ∙ sym c.after-child.ensures.move_made))
-          c.search-score.ensures
+          (λ z. both_ways (in_mask (moves_of c.args.position) c.args.square) (none_from_zero (moves_of c.args.position) z c.args.square) c.requires.legal)
+          (λ q m. c.requires.only q m ∙ sym c.after-child.ensures.move_made))
+          c.search-score.ensures;
     }
 
 pub search_only-returns : goal.search_only-returns
 search_only-returns g t c =
     given_back c.args.low c.args.high _ _ _ c.requires.window
-      (turned_shown c.args.low c.args.high _ _ _ c.requires.window
-        (only_worth (g.T.Bounds.scoring c.args.table.now) c.args.position c.after-child.result c.after-child.ensures.child
-          (λ z. both_ways (in_mask (moves_of c.args.position) c.args.square) (none_from_zero (moves_of c.args.position) z c.args.square) c.requires.legal)
-          (λ q m. c.requires.only q m ∙ sym c.after-child.ensures.move_made))
-        c.search-score.ensures)
-      c.stored.ensures
+    (turned_shown c.args.low c.args.high _ _ _ c.requires.window
+    (only_worth (g.T.Bounds.scoring c.args.table.now) c.args.position c.after-child.result c.after-child.ensures.child
+    (λ z. both_ways (in_mask (moves_of c.args.position) c.args.square) (none_from_zero (moves_of c.args.position) z c.args.square) c.requires.legal)
+    (λ q m. c.requires.only q m ∙ sym c.after-child.ensures.move_made))
+    c.search-score.ensures)
+    c.stored.ensures
 
 pub search_pass-search_moves-score-requires : goal.search_pass-search_moves-score-requires
 search_pass-search_moves-score-requires g t c κs within =
@@ -173,15 +180,15 @@ search_pass-stored-requires g t c =
     record {
       window = shown_window c.args.low c.args.high c.requires.window;
       places =
-        turned_shown c.args.low c.args.high _ _ _ c.requires.window
+          turned_shown c.args.low c.args.high _ _ _ c.requires.window
           (passed_worth (g.T.Bounds.scoring c.args.table.now) c.args.position c.args.passed c.args.replies c.requires.none c.requires.passed c.requires.replies c.requires.some)
-          c.search_moves-score.ensures
+          c.search_moves-score.ensures;
     }
 
 pub search_pass-returns : goal.search_pass-returns
 search_pass-returns g t c =
     given_back c.args.low c.args.high _ _ _ c.requires.window
-      (turned_shown c.args.low c.args.high _ _ _ c.requires.window
-        (passed_worth (g.T.Bounds.scoring c.args.table.now) c.args.position c.args.passed c.args.replies c.requires.none c.requires.passed c.requires.replies c.requires.some)
-        c.search_moves-score.ensures)
-      c.stored.ensures
+    (turned_shown c.args.low c.args.high _ _ _ c.requires.window
+    (passed_worth (g.T.Bounds.scoring c.args.table.now) c.args.position c.args.passed c.args.replies c.requires.none c.requires.passed c.requires.replies c.requires.some)
+    c.search_moves-score.ensures)
+    c.stored.ensures

@@ -36,5 +36,5 @@ abbrev pub invariant-search_children-loop-child : goal.invariant-search_children
 invariant-search_children-loop-child g l = record {
   searched : All (λ (c : Child). neg_ℤ (value_of (g.T.Bounds.scoring l.table) c.position) ≤ℤ l.best) (take l.child-index l.children);
   best : KeepsBest l.low l.high (value_of (g.T.Bounds.scoring l.table) l.position) l.best;
-  started : 0 < l.child-index → negsuc 63 ≤ℤ l.best
+  started : 0 < l.child-index → negsuc 63 ≤ℤ l.best;
 }

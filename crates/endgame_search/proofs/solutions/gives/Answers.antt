@@ -13,6 +13,7 @@ returns g c =
     let h = c.requires.in_range.high in
     let r : shown c.value_in.result ≡ c.value_in.result = omega (arith, ints) in
     let t = gives_told _ _ c.args.score (value_of (g.T.Bounds.scoring c.args.table.now) c.after-after.result) c.value_in.result (omega (arith, ints)) (omega (arith, ints)) e.below e.above in
-    subst (λ d. (le_z (shown c.value_in.result) (shown (pos 0 -ℤ shown c.args.score)) ≡ true) ↔ (c.args.score ≤ℤ neg_ℤ (value_of (g.T.Bounds.scoring c.args.table.now) d))) c.after-after.ensures.value
-      (λ x. t.0 (subst (λ z. z ≤ℤ shown (pos 0 -ℤ shown c.args.score)) r (le_in _ _ x)),
-       λ x. le_out _ _ (subst (λ z. z ≤ℤ shown (pos 0 -ℤ shown c.args.score)) (sym r) (t.1 x)))
+    subst (λ d. (le_z (shown c.value_in.result) (shown (pos 0 -ℤ shown c.args.score)) ≡ true) ↔ (c.args.score ≤ℤ neg_ℤ (value_of (g.T.Bounds.scoring c.args.table.now) d))) c.after-after.ensures.value (
+      λ x. t.0 (subst (λ z. z ≤ℤ shown (pos 0 -ℤ shown c.args.score)) r (le_in _ _ x)),
+      λ x. le_out _ _ (subst (λ z. z ≤ℤ shown (pos 0 -ℤ shown c.args.score)) (sym r) (t.1 x)),
+    )

@@ -27,6 +27,7 @@ returns g c =
     let s : shown c.args.score ≡ c.args.score = omega (arith, ints) in
     let r : shown c.value_in.result ≡ c.value_in.result = omega (arith, ints) in
     let first : shown c.args.score ≤ℤ c.value_in.result = omega (arith, ints) in
-    let t = value_told _ (shown c.args.score) (value_of (g.T.Bounds.scoring c.args.table.now) c.args.position) c.value_in.result c.value_in-2.result e.above first (omega (arith, ints)) f.below f.above in
-    (λ h. sym s ∙ t.0 (subst (λ z. z ≤ℤ shown c.args.score) q (le_in _ _ h)),
-     λ x. le_out _ _ (subst (λ z. z ≤ℤ shown c.args.score) (sym q) (t.1 (s ∙ x))))
+    let t = value_told _ (shown c.args.score) (value_of (g.T.Bounds.scoring c.args.table.now) c.args.position) c.value_in.result c.value_in-2.result e.above first (omega (arith, ints)) f.below f.above in (
+      λ h. sym s ∙ t.0 (subst (λ z. z ≤ℤ shown c.args.score) q (le_in _ _ h)),
+      λ x. le_out _ _ (subst (λ z. z ≤ℤ shown c.args.score) (sym q) (t.1 (s ∙ x))),
+    )

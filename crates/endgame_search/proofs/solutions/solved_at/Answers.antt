@@ -17,12 +17,13 @@ invariant_of-result g c =
     let v = value_score c.args.task.scoring c.args.task.position in
     let l = v.low in
     let h = v.high in
-    let e = c.requires.value in
-    (record { low = omega (arith, ints, l, h, e); high = omega (arith, ints, l, h, e) },
-     subst IsBest (sym c.best_from-best.ensures) (best_of-IsBest _ _))
+    let e = c.requires.value in (
+      record { low = omega (arith, ints, l, h, e); high = omega (arith, ints, l, h, e) },
+      subst IsBest (sym c.best_from-best.ensures) (best_of-IsBest _ _),
+    )
 
 pub invariant_of-result-2 : goal.invariant_of-result-2
 invariant_of-result-2 g c =
     let s : shown c.args.score ≡ c.args.score = omega (arith, ints) in
     answer_told c.args.task.scoring c.scoring.result c.args.task.position c.pos-2.result _ _ (sym c.scoring.ensures) (sym c.pos-2.ensures.value) (s ∙ c.requires.value)
-      (c.best_from-best.ensures ∙ (λ k. best_of (sym c.requires.scoring k) (c.pos.ensures.value k)))
+    (c.best_from-best.ensures ∙ (λ k. best_of (sym c.requires.scoring k) (c.pos.ensures.value k)))

@@ -1,8 +1,7 @@
-use Rattle.std.proofs.Common.{◌≡◌, ◌-◌, ◌∙◌, length, take, drop, sym, ap}
+use Rattle.std.proofs.Common.{◌-◌, ◌∙◌, length, take, drop, ap}
 use Rattle.std.specs.List.{flat_map}
-use Rattle.std.specs.Io.KnownBytes.{Appends}
 use Rattle.othello_rules.specs.Board.{name_of}
-use Rattle.suite_solver.specs.Text.{comma_name, names_text}
+use Rattle.suite_solver.specs.Text.{comma_name}
 use Rattle.suite_solver.proofs.NameLemmas.{names_first, names_none}
 use Rattle.obf_text.proofs.WriterLemmas.{appends_none, completes_more, completes_start}
 use Rattle.suite_solver.proofs.report.write_names.Goals as goal

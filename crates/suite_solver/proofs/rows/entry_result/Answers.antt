@@ -19,7 +19,7 @@ returns-in-Ok c =
     let task = c.in-Ok.ensures.task in
     let small : empties_of c.of_grid.result ≤ c.args.limit = let within = c.in-Ok.ensures.when.0 refl in omega arith in
     let exact : c.answer-answer.result ≡ answer_of c.args.table.now.scoring c.of_grid.result =
-        c.answer-answer.ensures ∙ ap (λ t. answer_of t.scoring t.position) (c.solve.ensures ∙ task) ∙ ap (λ g. answer_of g c.of_grid.result) c.scoring.ensures in
+    c.answer-answer.ensures ∙ ap (λ t. answer_of t.scoring t.position) (c.solve.ensures ∙ task) ∙ ap (λ g. answer_of g c.of_grid.result) c.scoring.ensures in
     ap (λ k. Solved c.answer-answer.result k) (c.check_of-check.ensures ∙ ap (λ fields. check fields c.answer-answer.result) c.as_slice.ensures)
     ∙ solved_entry c.args.table.now.scoring c.args.limit (entry_of c.args.entry.now) c.of_grid.result c.answer-answer.result whole c.of_grid.ensures.value small exact
 

@@ -6,4 +6,4 @@ returns-clause-shown c =
     let entry = c.in_ok-entry.entry in
     shown_of_canonical c.range_of.result c.args.self.now.scoring c.args.position.now entry.position entry.range
     (rw c.least_image-canonical.ensures.value at c.range_of.ensures)
-    (rw c.in_ok-slot.ensures.scored at c.in_ok-entry.ensures)
+    (rw c.slot.ensures at c.in_ok-entry.ensures)

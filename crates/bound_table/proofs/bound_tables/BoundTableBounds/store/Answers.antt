@@ -3,5 +3,5 @@ use Rattle.bound_table.proofs.bound_tables.BoundTableBounds.store.Goals as goal
 
 pub write-requires : goal.write-requires
 write-requires c =
-    rw (c.in-Some.ensures.scored, c.least_image-canonical.ensures.value)
+    rw (c.slot.ensures, c.of-entry.ensures.position, c.of-entry.ensures.range)
     (known_of_canonical c.args.self.now.scoring c.args.position.now c.args.range c.requires)

@@ -15,7 +15,7 @@ returns c =
     let solved = c.args.self in
     let score = c.signum.inside.score in
     let e : score ≡ value_of solved.scoring solved.position =
-      ap (λ (r : Solution). r.score) (c.signum.view_is ∙ c.answer.ensures ∙ answer-is solved.scoring solved.position) in
+    ap (λ (r : Solution). r.score) (c.signum.view_is ∙ c.answer.ensures ∙ answer-is solved.scoring solved.position) in
     let v = value_score solved.scoring solved.position in
     let l = v.low in
     let h = v.high in

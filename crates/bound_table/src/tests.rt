@@ -1,0 +1,148 @@
+//! What no clause says: that a store is shown, to every image and in every thread, and which calls succeed.
+
+ghost use Rattle.std.specs.Prelude.{◌≡◌, IfOk};
+ghost use Rattle.othello_rules.specs.declared.scorings.Scoring.TheVariants.{Winner};
+ghost use Rattle.bound_table.specs.Ranges.{IsTrueOf};
+
+use crate::{BoundTable, Bounds, NoTable, Range, TableFault};
+use othello_bits::{Pos, Sym};
+use othello_rules::{Scoring, Side};
+use std::alloc::Global;
+use std::process::Abort;
+use std::test::Fail;
+use std::thread;
+use std::thread::Threads;
+
+// A position and the range of its value alone.
+#[derive(Clone, Copy)]
+struct Exact {
+    position: Pos,
+    range: Range,
+    ghost is_true: { IsTrueOf Winner position range },
+}
+
+impl Exact {
+    // The position where these discs are the opponent's and A1 and H1 are empty, with its value by full minimax.
+    fn of(rt: &impl Abort, opp: u64) -> Exact {
+        let position = Pos::new(!(opp | 0x81), opp).expect(rt, "no square is taken twice");
+        let value = position.to_grid(Side::Black).plain_value(Scoring::Winner);
+        let range = Range::new(value, value).unwrap();
+        Exact { position, range }
+    }
+
+    // -OXXXXX- XXXXXXXO XXXXXXXX XXXXXXXX XXXOXXXX and three rows of X: 62
+    fn of_unequal_corners(rt: &impl Abort) -> Exact {
+        Exact::of(rt, 0x0000_0008_0000_8002)
+    }
+
+    // -OOXXOO- and seven rows of X: 64
+    fn of_equal_corners(rt: &impl Abort) -> Exact {
+        Exact::of(rt, 0x66)
+    }
+}
+
+// A table, for which memory may be refused once.
+fn table_of(alloc: Global, entries: usize) -> Result<BoundTable, TableFault>
+    ensures { IfOk result (λ table. table.scoring ≡ Winner) }
+{
+    match BoundTable::new(alloc, entries, Scoring::Winner) {
+        Err(TableFault::Memory) => BoundTable::new(alloc, entries, Scoring::Winner),
+        made => made,
+    }
+}
+
+#[test]
+fn a_store_is_shown_to_every_image(rt: HostRuntime) -> Result<(), Fail> {
+    let table = table_of(rt.alloc(), 1)?;
+    let unequal = Exact::of_unequal_corners(&rt);
+    let equal = Exact::of_equal_corners(&rt);
+    if let Some(shown) = table.probe(&unequal.position) {
+        assert_eq!(rt; (shown.low(), shown.high()), (-64, 64));
+    }
+    table.store(&unequal.position, unequal.range);
+    for sym in Sym::all() {
+        let shown = table.probe(&unequal.position.image(sym));
+        assert_eq!(rt; shown, Range::new(62, 62), "{sym:?}");
+    }
+    table.store(&equal.position, equal.range);
+    assert_eq!(rt; table.probe(&equal.position), Range::new(64, 64));
+    assert_eq!(rt; table.probe(&unequal.position), None);
+    Ok(())
+}
+
+// Offers a range to the table, and whether it is of the scoring and shows nothing then.
+fn keeps_nothing<T: Bounds>(table: &T, exact: &Exact) -> bool
+    requires { T.scoring table.now ≡ Winner }
+{
+    table.store(&exact.position, exact.range);
+    table.scoring() == Scoring::Winner && table.probe(&exact.position).is_none()
+}
+
+#[test]
+fn tables_of_each_size(rt: HostRuntime) -> Result<(), Fail> {
+    let exact = Exact::of_equal_corners(&rt);
+    assert!(rt; keeps_nothing(&NoTable::new(Scoring::Winner), &exact));
+    assert!(rt; keeps_nothing(&table_of(rt.alloc(), 0)?, &exact));
+    assert!(rt; !keeps_nothing(&table_of(rt.alloc(), 16)?, &exact));
+    assert_eq!(rt;
+        table_of(rt.alloc(), 4_194_305).err(),
+        Some(TableFault::TooMany)
+    );
+    Ok(())
+}
+
+// Stores both ranges by turns.
+fn store_by_turns(table: &BoundTable, one: &Exact, other: &Exact)
+    requires { table.now.scoring ≡ Winner }
+{
+    for _ in 0..10_000 {
+        table.store(&one.position, one.range);
+        table.store(&other.position, other.range);
+    }
+}
+
+// Whether the value is in what the table shows of the position.
+fn is_shown_truly(table: &BoundTable, exact: &Exact) -> bool {
+    let value = exact.range.low();
+    match table.probe(&exact.position) {
+        Some(shown) => shown.low() <= value && value <= shown.high(),
+        None => true,
+    }
+}
+
+fn are_shown_truly(table: &BoundTable, one: &Exact, other: &Exact) -> bool {
+    (0..10_000).all(|_| is_shown_truly(table, one) && is_shown_truly(table, other))
+}
+
+// Stores in one thread while two others probe.
+fn run_three<R: Threads + Sync>(
+    rt: &R,
+    table: &BoundTable,
+    one: &Exact,
+    other: &Exact,
+) -> (bool, bool)
+    requires { table.now.scoring ≡ Winner }
+{
+    let (_, shown) = thread::join(
+        rt,
+        || store_by_turns(table, one, other),
+        || {
+            thread::join(
+                rt,
+                || are_shown_truly(table, one, other),
+                || are_shown_truly(table, one, other),
+            )
+        },
+    );
+    shown
+}
+
+#[test]
+fn what_threads_are_shown_is_true(rt: HostRuntime) -> Result<(), Fail> {
+    let table = table_of(rt.alloc(), 1)?;
+    let unequal = Exact::of_unequal_corners(&rt);
+    let equal = Exact::of_equal_corners(&rt);
+    assert_eq!(rt; (unequal.range.low(), equal.range.low()), (62, 64));
+    assert_eq!(rt; run_three(&rt, &table, &unequal, &equal), (true, true));
+    Ok(())
+}
