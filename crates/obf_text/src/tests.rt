@@ -119,21 +119,21 @@ fn reads_fields(rt: HostRuntime) {
 
 // Counts its calls, and fails at the one that finds none left.
 #[derive(Drop)]
-struct Paper {
+struct CountedWriter {
     bytes: ArrayVec<u8, 160>,
     calls_left: usize,
 }
 
-impl Paper {
-    fn new(calls_left: usize) -> Paper {
-        Paper {
+impl CountedWriter {
+    fn new(calls_left: usize) -> CountedWriter {
+        CountedWriter {
             bytes: ArrayVec::new(),
             calls_left,
         }
     }
 }
 
-impl Write for Paper {
+impl Write for CountedWriter {
     fn write(&mut self, buf: &[u8]) -> io::Result<usize> {
         if self.calls_left == 0 {
             return Err(io::Error::from(io::ErrorKind::BrokenPipe));
@@ -295,7 +295,7 @@ fn writes_lines(rt: HostRuntime) {
         let whole = joined(board, b' ', 0, rest);
         let mut written = false;
         for calls in 0..30 {
-            let mut failing = Paper::new(calls);
+            let mut failing = CountedWriter::new(calls);
             match write_line(&mut failing, &grid, &answer) {
                 Ok(()) => {
                     written = true;
@@ -303,7 +303,7 @@ fn writes_lines(rt: HostRuntime) {
                 }
                 Err(error) => {
                     assert!(rt; !written && error.kind() == io::ErrorKind::BrokenPipe);
-                    let mut again = Paper::new(30);
+                    let mut again = CountedWriter::new(30);
                     assert!(rt; write_line(&mut again, &grid, &answer).is_ok());
                     assert!(rt; again.bytes == whole, "at {rest:?}");
                 }
@@ -322,7 +322,7 @@ fn tells_faults(rt: HostRuntime) {
         (LineFault::Memory, b"out of memory"),
     ];
     for (fault, text) in table {
-        let mut told = Paper::new(30);
+        let mut told = CountedWriter::new(30);
         assert!(rt; write!(told, "{fault}").is_ok());
         assert!(rt; told.bytes == joined(text, b' ', 0, b""), "at {fault:?}");
     }
