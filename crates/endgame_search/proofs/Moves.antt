@@ -1,5 +1,5 @@
 -- What the moves of a position tell of its value.
-use Rattle.std.proofs.Common.{◌≡◌, ◌≢◌, ℕ, ◌+◌, ◌-◌, ◌*◌, ◌<◌, ℤ, neg_ℤ, ◌≤ℤ◌, List, map, take, length, get_or, true, not, ◌&&◌, nat_eq, All, Contains, sym, ap, ◌∙◌, subst, arith}
+use Rattle.std.proofs.Common.{◌≡◌, ◌≢◌, ℕ, ◌+◌, ◌<◌, ℤ, neg_ℤ, ◌≤ℤ◌, List, map, take, length, get_or, All, sym, ap, ◌∙◌, subst, arith}
 use Rattle.std.proofs.lemmas.Int.{ints}
 use Rattle.std.proofs.lemmas.List.{length-map}
 use Rattle.std.proofs.lemmas.List.Elements.{All-map, All-contains, All-more, All-weaker}

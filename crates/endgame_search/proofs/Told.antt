@@ -1,10 +1,9 @@
 -- What a score from a search of a window tells of the value.
-use Rattle.std.proofs.Common.{◌≡◌, ℤ, pos, negsuc, ◌≤ℤ◌, ◌<ℤ◌, sym, ap, subst, arith}
+use Rattle.std.proofs.Common.{◌≡◌, ℤ, pos, negsuc, ◌≤ℤ◌, ◌<ℤ◌, sym, subst, arith}
 use Rattle.std.proofs.lemmas.Int.{ints, by_lt_z}
 use Rattle.othello_rules.specs.Solution.{IsScore}
 use Rattle.bound_table.specs.Ranges.{Interval, interval}
 use Rattle.endgame_search.specs.Windows.{Places}
-use Rattle.endgame_search.proofs.Windows.{shown}
 
 within : (v a b : ℤ) (i : Interval) → i ≡ interval a b → a ≤ℤ v → v ≤ℤ b → (i.low ≤ℤ v) × (v ≤ℤ i.high)
 within v a b i e l m = subst (λ (j : Interval). (j.low ≤ℤ v) × (v ≤ℤ j.high)) (sym e) (l, m)

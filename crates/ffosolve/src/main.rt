@@ -1,10 +1,9 @@
 //! `ffosolve`: solves the positions on standard input, and writes their report to standard output.
 #![tactic(auto)]
 
-use std::env;
 use std::env::Env;
-use std::io;
 use std::process::ExitCode;
+use std::{env, io};
 use suite_solver::program_of;
 
 // The words of the command line, the program's name first.

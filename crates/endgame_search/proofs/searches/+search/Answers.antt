@@ -1,4 +1,4 @@
-use Rattle.std.proofs.Common.{arith, pos, ℕ, ◌≡◌, ◌<◌, ◌+◌, ◌*◌, neg_ℤ, ◌≤ℤ◌, to_z, of_z, w8, true, not, ◌&&◌, nat_eq, sym, ap, ◌∙◌, subst, take, take_all, All}
+use Rattle.std.proofs.Common.{arith, pos, ℕ, ◌≡◌, ◌<◌, ◌+◌, ◌*◌, neg_ℤ, ◌≤ℤ◌, to_z, w8, true, sym, ap, ◌∙◌, subst, take, take_all}
 use Rattle.std.proofs.lemmas.Int.{ints}
 use Rattle.std.proofs.lemmas.Bool.{both_ways}
 use Rattle.std.proofs.lemmas.List.Elements.{All-same}

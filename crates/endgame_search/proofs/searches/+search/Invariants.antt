@@ -1,7 +1,6 @@
-use Rattle.std.proofs.Common.{◌≡◌, ℕ, ◌<◌, ◌*◌, ◌+◌, negsuc, neg_ℤ, ◌≤ℤ◌, take, All, Contains}
-use Rattle.othello_bits.specs.Discs.{empties_of, play_of, value_of, IsMove}
+use Rattle.std.proofs.Common.{◌<◌, ◌*◌, ◌+◌, negsuc, neg_ℤ, ◌≤ℤ◌, take, All}
+use Rattle.othello_bits.specs.Discs.{empties_of, value_of}
 use Rattle.endgame_search.specs.declared.children.Child.{Child}
-use Rattle.endgame_search.specs.Children.{AreChildrenOf}
 use Rattle.endgame_search.proofs.Windows.{KeepsBest}
 use Rattle.endgame_search.proofs.searches.+search.Given as goal
 

@@ -1,9 +1,7 @@
-use Rattle.std.proofs.Common.{◌≡◌, ◌≤ℤ◌, neg_ℤ, true, false, sym, ap, ◌∙◌, subst, arith, take, take_all}
+use Rattle.std.proofs.Common.{◌≡◌, true, ap, ◌∙◌, subst, arith, take, take_all}
 use Rattle.std.proofs.lemmas.Int.{ints}
 use Rattle.std.proofs.lemmas.Bool.{both_ways}
 use Rattle.othello_rules.specs.Masks.{squares_of, in_mask}
-use Rattle.othello_rules.proofs.ListLaws.{passes_in_filter}
-use Rattle.othello_bits.specs.Discs.{value_of, play_of, is_best, moves_of, IsMove}
 use Rattle.othello_bits.proofs.GameLaws.{value_score}
 use Rattle.endgame_search.proofs.Windows.{shown}
 use Rattle.endgame_search.proofs.BestMoves.{HoldsBest, holds_moves, best_kept, worse_taken, worth_best, worse, all_held, listed_square}
