@@ -1,4 +1,4 @@
--- Ranges of scores, and when one is true of a position.
+-- Ranges of scores (the bounds that a window search leaves), and when one is true of a position.
 use Rattle.std.specs.Prelude.{ℤ, negsuc, pos, ◌≤ℤ◌}
 use Rattle.othello_rules.specs.declared.scorings.Scoring.{Scoring}
 use Rattle.othello_bits.specs.Discs.{Discs, value_of}

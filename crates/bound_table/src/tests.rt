@@ -1,13 +1,12 @@
 //! What no clause says: that a store is shown, to every image and in every thread, and which calls succeed.
 
-ghost use Rattle.std.specs.Prelude.{◌≡◌, IfOk};
+ghost use Rattle.std.specs.Prelude.{◌≡◌};
 ghost use Rattle.othello_rules.specs.declared.scorings.Scoring.TheVariants.{Winner};
 ghost use Rattle.bound_table.specs.Ranges.{IsTrueOf};
 
 use crate::{BoundTable, Bounds, NoTable, Range, TableFault};
 use othello_bits::{Pos, Sym};
 use othello_rules::{Scoring, Side};
-use std::alloc::Global;
 use std::process::Abort;
 use std::test::Fail;
 use std::thread;
@@ -41,19 +40,9 @@ impl Exact {
     }
 }
 
-// A table, for which memory may be refused once.
-fn table_of(alloc: Global, entries: usize) -> Result<BoundTable, TableFault>
-    ensures { IfOk result (λ table. table.scoring ≡ Winner) }
-{
-    match BoundTable::new(alloc, entries, Scoring::Winner) {
-        Err(TableFault::Memory) => BoundTable::new(alloc, entries, Scoring::Winner),
-        made => made,
-    }
-}
-
 #[test]
 fn a_store_is_shown_to_every_image(rt: HostRuntime) -> Result<(), Fail> {
-    let table = table_of(rt.alloc(), 1)?;
+    let table = BoundTable::new(rt.alloc(), 1, Scoring::Winner)?;
     let unequal = Exact::of_unequal_corners(&rt);
     let equal = Exact::of_equal_corners(&rt);
     if let Some(shown) = table.probe(&unequal.position) {
@@ -70,22 +59,27 @@ fn a_store_is_shown_to_every_image(rt: HostRuntime) -> Result<(), Fail> {
     Ok(())
 }
 
-// Offers a range to the table, and whether it is of the scoring and shows nothing then.
+// Offers a range to the table, and whether it shows nothing then.
 fn keeps_nothing<T: Bounds>(table: &T, exact: &Exact) -> bool
     requires { T.scoring table.now ≡ Winner }
 {
     table.store(&exact.position, exact.range);
-    table.scoring() == Scoring::Winner && table.probe(&exact.position).is_none()
+    table.probe(&exact.position).is_none()
 }
 
 #[test]
 fn tables_of_each_size(rt: HostRuntime) -> Result<(), Fail> {
     let exact = Exact::of_equal_corners(&rt);
-    assert!(rt; keeps_nothing(&NoTable::new(Scoring::Winner), &exact));
-    assert!(rt; keeps_nothing(&table_of(rt.alloc(), 0)?, &exact));
-    assert!(rt; !keeps_nothing(&table_of(rt.alloc(), 16)?, &exact));
+    let no_table = NoTable::new(Scoring::Winner);
+    assert_eq!(rt; no_table.scoring(), Scoring::Winner);
+    assert!(rt; keeps_nothing(&no_table, &exact));
+    let empty = BoundTable::new(rt.alloc(), 0, Scoring::Winner)?;
+    assert!(rt; keeps_nothing(&empty, &exact));
+    let table = BoundTable::new(rt.alloc(), 16, Scoring::Winner)?;
+    assert_eq!(rt; table.scoring(), Scoring::Winner);
+    assert!(rt; !keeps_nothing(&table, &exact));
     assert_eq!(rt;
-        table_of(rt.alloc(), 4_194_305).err(),
+        BoundTable::new(rt.alloc(), 4_194_305, Scoring::Winner).err(),
         Some(TableFault::TooMany)
     );
     Ok(())
@@ -139,7 +133,7 @@ fn run_three<R: Threads + Sync>(
 
 #[test]
 fn what_threads_are_shown_is_true(rt: HostRuntime) -> Result<(), Fail> {
-    let table = table_of(rt.alloc(), 1)?;
+    let table = BoundTable::new(rt.alloc(), 1, Scoring::Winner)?;
     let unequal = Exact::of_unequal_corners(&rt);
     let equal = Exact::of_equal_corners(&rt);
     assert_eq!(rt; (unequal.range.low(), equal.range.low()), (62, 64));

@@ -1,4 +1,4 @@
--- What the search of a window gives.
+-- What the search of a window gives (fail-soft alpha-beta: Knuth and Moore 1975, Fishburn 1983).
 use Rattle.std.specs.Prelude.{ℤ, pos, negsuc, ◌≤ℤ◌, ◌<ℤ◌}
 
 -- the ends between which a search looks for a value: one below the least score and one above the greatest at most

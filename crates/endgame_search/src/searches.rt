@@ -1,4 +1,5 @@
-//! Alpha-beta search of a position's value in a window, with null windows after the first move.
+//! Alpha-beta search of a position's value in a window, with null windows after the first move (principal variation
+//! search).
 
 ghost use Rattle.std.specs.Prelude.{◌≡◌, ◌≢◌, ℕ, ◌≤◌, ◌≤ℤ◌, ◌<ℤ◌, pos, negsuc, neg_ℤ, count_ones};
 ghost use Rattle.othello_bits.specs.Discs.{moves_of, pass_of, value_of, IsMove, HasNoMove};

@@ -66,7 +66,7 @@ impl Solved {
     }
 }
 
-/// What a source that is not trusted says of a position: its score in discs, and what attains it.
+/// What a source that is not trusted says of a position: its score, and what attains it.
 #[derive(Clone, Copy, PartialEq, Eq, Debug)]
 pub struct Claim {
     pub score: i8,

@@ -5,54 +5,43 @@ ghost use Rattle.std.specs.Prelude.{◌≡◌};
 use crate::{Claim, Task, TooMany, confirm, solve, value_in};
 use bound_table::{BoundTable, Bounds, NoTable, Range};
 use othello_bits::{Pos, Sym};
-use othello_rules::{Best, Cell, Grid, Scoring, Side, Square};
-use std::cell::Cell as Counter;
+use othello_rules::{Best, Scoring, Side, Square};
+use std::cell::Cell;
+use std::process::Abort;
 
-// A row of black discs, of white discs, and of empty squares.
-const X: &[u8; 8] = b"XXXXXXXX";
+// The masks of Black's discs and of White's: A1 is the lowest bit, H8 the highest. Rows are told from row 1, X for
+// Black, O for White, - for an empty square.
+type Discs = (u64, u64);
 
-const O: &[u8; 8] = b"OOOOOOOO";
+// XXXXXXXX in all rows
+const BLACK_BOARD: Discs = (!0, 0);
 
-const E: &[u8; 8] = b"--------";
+// three rows XXXXXXXX, two empty rows, three rows OOOOOOOO
+const LEVEL_HALVES: Discs = (0xff_ffff, 0xffff_ff00_0000_0000);
 
-const BLACK_BOARD: [&[u8; 8]; 8] = [X, X, X, X, X, X, X, X];
+// four rows XXXXXXXX, two empty rows, two rows OOOOOOOO
+const UNEQUAL_HALVES: Discs = (0xffff_ffff, 0xffff_0000_0000_0000);
 
-const LEVEL_HALVES: [&[u8; 8]; 8] = [X, X, X, E, E, O, O, O];
+// -OOOOOOX and seven rows XXXXXXXX
+const LAST_CORNER: Discs = (!0x7f, 0x7e);
 
-const UNEQUAL_HALVES: [&[u8; 8]; 8] = [X, X, X, X, E, E, O, O];
+// --OOOOOX and seven rows XXXXXXXX
+const CORNER_LEFT_OVER: Discs = (!0x7f, 0x7c);
 
-const LAST_CORNER: [&[u8; 8]; 8] = [b"-OOOOOOX", X, X, X, X, X, X, X];
+// -OOXXOO- and seven rows XXXXXXXX
+const EQUAL_CORNERS: Discs = (!0xe7, 0x66);
 
-const CORNER_LEFT_OVER: [&[u8; 8]; 8] = [b"--OOOOOX", X, X, X, X, X, X, X];
+// -OXXXXX- XXXXXXXO XXXXXXXX XXXXXXXX XXXOXXXX and three rows XXXXXXXX
+const UNEQUAL_CORNERS: Discs = (!0x8_0000_8083, 0x8_0000_8002);
 
-const EQUAL_CORNERS: [&[u8; 8]; 8] = [b"-OOXXOO-", X, X, X, X, X, X, X];
+// position 40 of the FFO endgame test: O--OOOOX -OOOOOOX OOXXOOOX OOXOOOXX OOOOOOXX ---OOOOX ----O--X --------
+const FFO_40: Discs = (0x80_80c0_c48c_8080, 0x10_783f_3b73_7e79);
 
-const UNEQUAL_CORNERS: [&[u8; 8]; 8] = [b"-OXXXXX-", b"XXXXXXXO", X, X, b"XXXOXXXX", X, X, X];
+// the same without its disc on H7
+const FFO_40_WITHOUT_H7: Discs = (0x80c0_c48c_8080, 0x10_783f_3b73_7e79);
 
-// Position 40 of the FFO endgame test, and the same without its disc on H7.
-const FFO_40: [&[u8; 8]; 8] = [
-    b"O--OOOOX",
-    b"-OOOOOOX",
-    b"OOXXOOOX",
-    b"OOXOOOXX",
-    b"OOOOOOXX",
-    b"---OOOOX",
-    b"----O--X",
-    E,
-];
-
-const FFO_40_WITHOUT_H7: [&[u8; 8]; 8] = [
-    b"O--OOOOX",
-    b"-OOOOOOX",
-    b"OOXXOOOX",
-    b"OOXOOOXX",
-    b"OOOOOOXX",
-    b"---OOOOX",
-    b"----O---",
-    E,
-];
-
-const THREE_DISCS: [&[u8; 8]; 8] = [b"XXX-----", E, E, E, E, E, E, E];
+// XXX----- and seven empty rows
+const THREE_DISCS: Discs = (0x7, 0);
 
 const SCORINGS: [Scoring; 3] = [Scoring::Winner, Scoring::Discs, Scoring::Sign];
 
@@ -62,20 +51,18 @@ const B1: u64 = 0x2;
 
 const H1: u64 = 0x80;
 
-fn cell_of(byte: u8) -> Cell {
-    match byte {
-        b'X' => Cell::Black,
-        b'O' => Cell::White,
-        _ => Cell::Empty,
-    }
+fn pos_of(rt: &impl Abort, (black, white): Discs, side: Side) -> Pos {
+    let (own, opp) = match side {
+        Side::Black => (black, white),
+        Side::White => (white, black),
+    };
+    Pos::new(own, opp).expect(rt, "no square is taken twice")
 }
 
-fn pos_of(rows: [&[u8; 8]; 8], side: Side) -> Pos {
-    let mut cells = [Cell::Empty; 64];
-    for number in 0..64 {
-        cells[number] = cell_of(rows[number / 8][number % 8]);
-    }
-    Pos::of_grid(&Grid::new(cells, side))
+fn task_of(rt: &impl Abort, position: Pos, scoring: Scoring) -> Task
+    ensures { result.scoring ≡ scoring }
+{
+    Task::new(position, 20, scoring).expect(rt, "at most 20 empty squares")
 }
 
 #[test]
@@ -124,11 +111,11 @@ fn answers_under_each_scoring(rt: HostRuntime) {
             [(-40, h1), (-39, h1), (-1, h1)],
         ),
     ];
-    for (rows, side, answers) in table {
-        let position = pos_of(rows, side);
+    for (discs, side, answers) in table {
+        let position = pos_of(&rt, discs, side);
         let outcome = answers[2].0;
         for (scoring, (score, best)) in SCORINGS.into_iter().zip(answers) {
-            let task = Task::new(position, 20, scoring).expect(&rt, "few empty squares");
+            let task = task_of(&rt, position, scoring);
             let solved = solve(&NoTable::new(task.scoring()), task);
             assert_eq!(rt; solved.pos(), position);
             assert_eq!(rt; solved.scoring(), scoring);
@@ -141,17 +128,14 @@ fn answers_under_each_scoring(rt: HostRuntime) {
 
 #[test]
 fn windows_and_images(rt: HostRuntime) {
-    let position = pos_of(UNEQUAL_CORNERS, Side::Black);
+    let position = pos_of(&rt, UNEQUAL_CORNERS, Side::Black);
     let table = NoTable::new(Scoring::Winner);
     assert_eq!(rt; value_in(&table, position, -65, 65), 62);
     assert_eq!(rt; value_in(&table, position, 61, 63), 62);
     assert_eq!(rt; value_in(&table, position, 62, 65), 62);
     let best_moves: [&[u8; 2]; 8] = [b"H1", b"A1", b"H8", b"A8", b"A8", b"H8", b"A1", b"H1"];
     for (sym, name) in Sym::all().into_iter().zip(best_moves) {
-        let task = Task::new(position.image(sym), 20, Scoring::Winner).expect(
-            &rt,
-            "few empty squares",
-        );
+        let task = task_of(&rt, position.image(sym), Scoring::Winner);
         let answer = solve(&table, task).answer();
         let square = Square::from_name(name).expect(&rt, "a name");
         assert_eq!(rt; answer.score, 62);
@@ -170,10 +154,8 @@ fn claims_are_tested(rt: HostRuntime) {
         Best::Over,
     ];
     let table = NoTable::new(Scoring::Winner);
-    let unequal = Task::new(pos_of(UNEQUAL_CORNERS, Side::Black), 20, Scoring::Winner).expect(
-        &rt,
-        "few empty squares",
-    );
+    let unequal = pos_of(&rt, UNEQUAL_CORNERS, Side::Black);
+    let unequal = task_of(&rt, unequal, Scoring::Winner);
     for score in [-128, 52, 62, 64, 100] {
         for best in bests {
             let solved = confirm(&table, unequal, Claim { score, best });
@@ -181,9 +163,10 @@ fn claims_are_tested(rt: HostRuntime) {
             assert_eq!(rt; solved.answer().best, Best::Moves(H1), "{score} {best:?}");
         }
     }
-    let equal = Task::new(pos_of(EQUAL_CORNERS, Side::Black), 20, Scoring::Winner).expect(
+    let equal = task_of(
         &rt,
-        "few empty squares",
+        pos_of(&rt, EQUAL_CORNERS, Side::Black),
+        Scoring::Winner,
     );
     let one_of_two = Claim {
         score: 64,
@@ -203,8 +186,8 @@ fn limits_of_empty_squares(rt: HostRuntime) {
         (FFO_40, 20, None),
         (THREE_DISCS, 255, Some(61)),
     ];
-    for (rows, limit, refused) in table {
-        let position = pos_of(rows, Side::Black);
+    for (discs, limit, refused) in table {
+        let position = pos_of(&rt, discs, Side::Black);
         match Task::new(position, limit, Scoring::Winner) {
             Ok(task) => {
                 assert_eq!(rt; task.pos(), position);
@@ -217,15 +200,15 @@ fn limits_of_empty_squares(rt: HostRuntime) {
 
 // A table that counts its probes, and notes whether either of two positions was probed.
 #[derive(Drop)]
-struct Spy {
+struct ProbeCounter {
     table: BoundTable,
     watched: [Pos; 2],
-    probes: Counter<u32>,
-    seen: [Counter<bool>; 2],
+    probes: Cell<u32>,
+    seen: [Cell<bool>; 2],
 }
 
-impl Bounds for Spy {
-    ghost scoring = { λ spy. spy.table.scoring };
+impl Bounds for ProbeCounter {
+    ghost scoring = { λ counter. counter.table.scoring };
 
     fn scoring(&self) -> Scoring {
         self.table.scoring()
@@ -246,35 +229,35 @@ impl Bounds for Spy {
     }
 }
 
-fn spy_on(table: BoundTable, watched: [Pos; 2]) -> Spy
+fn count_probes(table: BoundTable, watched: [Pos; 2]) -> ProbeCounter
     ensures { result.table ≡ table }
 {
-    Spy {
+    ProbeCounter {
         table,
         watched,
-        probes: Counter::new(0),
-        seen: [Counter::new(false), Counter::new(false)],
+        probes: Cell::new(0),
+        seen: [Cell::new(false), Cell::new(false)],
     }
 }
 
 #[test]
 fn probes_and_cut_offs(rt: HostRuntime) {
-    let position = pos_of(UNEQUAL_CORNERS, Side::Black);
+    let position = pos_of(&rt, UNEQUAL_CORNERS, Side::Black);
     let after_h1 = position.play(Square::at(7)).expect(&rt, "a move");
     let after_a1 = position.play(Square::at(0)).expect(&rt, "a move");
     // H1 leaves White no move and A1 one, so H1 is searched first; it is enough for a window from 0 to 1.
     let table = BoundTable::new(rt.alloc(), 0, Scoring::Winner).expect(&rt, "memory");
-    let spy = spy_on(table, [after_h1, after_a1]);
-    assert!(rt; value_in(&spy, position, 0, 1) >= 1);
-    assert!(rt; spy.seen[0].get());
-    assert!(rt; !spy.seen[1].get());
+    let counter = count_probes(table, [after_h1, after_a1]);
+    assert!(rt; value_in(&counter, position, 0, 1) >= 1);
+    assert!(rt; counter.seen[0].get());
+    assert!(rt; !counter.seen[1].get());
     // Once the value was stored, one probe shows it.
     let table = BoundTable::new(rt.alloc(), 1, Scoring::Winner).expect(&rt, "memory");
-    let spy = spy_on(table, [after_h1, after_a1]);
-    assert_eq!(rt; value_in(&spy.table, position, -65, 65), 62);
-    assert_eq!(rt; value_in(&spy, position, -65, 65), 62);
-    assert_eq!(rt; spy.probes.get(), 1);
-    let task = Task::new(position, 20, Scoring::Winner).expect(&rt, "few empty squares");
-    assert_eq!(rt; solve(&spy, task).answer().best, Best::Moves(H1));
-    assert!(rt; spy.probes.get() > 1);
+    let counter = count_probes(table, [after_h1, after_a1]);
+    assert_eq!(rt; value_in(&counter.table, position, -65, 65), 62);
+    assert_eq!(rt; value_in(&counter, position, -65, 65), 62);
+    assert_eq!(rt; counter.probes.get(), 1);
+    let task = task_of(&rt, position, Scoring::Winner);
+    assert_eq!(rt; solve(&counter, task).answer().best, Best::Moves(H1));
+    assert!(rt; counter.probes.get() > 1);
 }

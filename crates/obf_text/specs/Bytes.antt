@@ -1,4 +1,4 @@
--- What single bytes stand for in a line.
+-- What single bytes stand for in a line (OBF position lines, in this project's profile).
 use Rattle.std.specs.Prelude.{ℕ, ◌==◌, ◌||◌, Bool, not, Option, Some, None, if◌then◌else◌}
 use Rattle.othello_rules.specs.declared.discs.Cell.{Cell}
 use Rattle.othello_rules.specs.declared.discs.Cell.TheVariants as cell

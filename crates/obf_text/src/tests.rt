@@ -3,7 +3,6 @@
 use crate::{Item, Line, LineFault, Listed, ListedMove, read_line, split_lines, write_line};
 use arrayvec::ArrayVec;
 use othello_rules::{Answer, Best, Cell, Grid, Side};
-use std::alloc::Global;
 use std::io;
 use std::io::Write;
 use std::test::Fail;
@@ -67,16 +66,8 @@ fn lists(line: &Line, fields: &[(&[u8; 2], i8)]) -> bool {
     true
 }
 
-// Where a line lists fields its memory may be refused once, and the line is then read again.
-fn read_twice(alloc: Global, line: &[u8], listed: bool) -> Result<Item, LineFault> {
-    match read_line(alloc, line) {
-        Err(LineFault::Memory) if listed => read_line(alloc, line),
-        read => read,
-    }
-}
-
 #[test]
-fn reads_fields(rt: HostRuntime) {
+fn reads_fields(rt: HostRuntime) -> Result<(), Fail> {
     let table: [(&[u8], &[(&[u8; 2], i8)]); 23] = [
         (b" X;H1:+62;", &[(b"H1", 62)]),
         (b" X;H1:+60;", &[(b"H1", 60)]),
@@ -107,14 +98,15 @@ fn reads_fields(rt: HostRuntime) {
     ];
     for (rest, fields) in table {
         let line = joined(TWO_EMPTY, b' ', 0, rest);
-        match read_twice(rt.alloc(), &line, !fields.is_empty()) {
-            Ok(Item::Entry(line)) => {
+        match read_line(rt.alloc(), &line)? {
+            Item::Entry(line) => {
                 assert!(rt; line.grid == grid_of(TWO_EMPTY, Side::Black));
                 assert!(rt; lists(&line, fields), "at {rest:?}");
             }
-            _ => assert!(rt; false, "at {rest:?}"),
+            Item::Skip => assert!(rt; false, "at {rest:?}"),
         }
     }
+    Ok(())
 }
 
 // Counts its calls, and fails at the one that finds none left.
@@ -310,21 +302,6 @@ fn writes_lines(rt: HostRuntime) {
             }
         }
         assert!(rt; written);
-    }
-}
-
-#[test]
-fn tells_faults(rt: HostRuntime) {
-    let table: [(LineFault, &[u8]); 4] = [
-        (LineFault::Short(63), b"board has 63 of 64 squares"),
-        (LineFault::BadCell(5), b"bad square at column 5"),
-        (LineFault::BadSide(66), b"bad side at column 66"),
-        (LineFault::Memory, b"out of memory"),
-    ];
-    for (fault, text) in table {
-        let mut told = CountedWriter::new(30);
-        assert!(rt; write!(told, "{fault}").is_ok());
-        assert!(rt; told.bytes == joined(text, b' ', 0, b""), "at {fault:?}");
     }
 }
 

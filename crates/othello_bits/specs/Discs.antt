@@ -1,4 +1,4 @@
--- What two masks mean: a position of the rules, for either side to move.
+-- What two masks mean (bitboards): a position of the rules, for either side to move.
 use Rattle.std.specs.Prelude.{◌≡◌, ℕ, Bool, true, cond, ◌&&◌, nat_eq, ◌==◌, List, map, ℤ, neg_ℤ}
 use Rattle.std.specs.List.{filter, list_any}
 use Rattle.std.specs.Ordering.{int_eq}

@@ -1,4 +1,4 @@
--- The eight symmetries of the square, the images of a position, and the least of them.
+-- The eight symmetries of the square (its dihedral group), the images of a position, and the least of them.
 use Rattle.std.specs.Prelude.{ℕ, ◌+◌, ◌-◌, ◌*◌, ◌^◌, nat_lt, List, [], ◌∷◌, map}
 use Rattle.std.specs.List.{best_of}
 use Rattle.othello_rules.specs.declared.discs.Side.TheVariants.{Black}

@@ -200,7 +200,7 @@ impl Pos {
     }
 }
 
-// The same calls on two masks.
+// The same calls on two masks: of an argument the check knows that it is below 2^64, of a field it does not.
 
 #[inline]
 fn legal(own: u64, opp: u64) -> u64

@@ -1,29 +1,27 @@
-//! Small positions whose masks, images and answers are known, and each public call once.
+//! Small positions whose masks and images are known, and each public call once.
 
 use crate::masks::{lowest, without};
 use crate::{Pos, Sym};
-use othello_rules::{Best, Cell, Grid, Scoring, Side, Square};
+use othello_rules::{Scoring, Side, Square};
+use std::process::Abort;
 
-// A row of black discs, of white discs, and of empty squares.
-const X: &[u8; 8] = b"XXXXXXXX";
+// The masks of Black's discs and of White's. Rows are told from row 1, X for Black, O for White, - for an empty square.
+type Discs = (u64, u64);
 
-const O: &[u8; 8] = b"OOOOOOOO";
+// four rows XXXXXXXX, two empty rows, two rows OOOOOOOO
+const UNEQUAL_HALVES: Discs = (0xffff_ffff, 0xffff_0000_0000_0000);
 
-const E: &[u8; 8] = b"--------";
+// -OOOOOOX and seven rows XXXXXXXX
+const LAST_CORNER: Discs = (!0x7f, 0x7e);
 
-const BLACK_BOARD: [&[u8; 8]; 8] = [X, X, X, X, X, X, X, X];
+// --OOOOOX and seven rows XXXXXXXX
+const CORNER_LEFT_OVER: Discs = (!0x7f, 0x7c);
 
-const LEVEL_HALVES: [&[u8; 8]; 8] = [X, X, X, E, E, O, O, O];
+// -OOXXOO- and seven rows XXXXXXXX
+const EQUAL_CORNERS: Discs = (!0xe7, 0x66);
 
-const UNEQUAL_HALVES: [&[u8; 8]; 8] = [X, X, X, X, E, E, O, O];
-
-const LAST_CORNER: [&[u8; 8]; 8] = [b"-OOOOOOX", X, X, X, X, X, X, X];
-
-const CORNER_LEFT_OVER: [&[u8; 8]; 8] = [b"--OOOOOX", X, X, X, X, X, X, X];
-
-const EQUAL_CORNERS: [&[u8; 8]; 8] = [b"-OOXXOO-", X, X, X, X, X, X, X];
-
-const UNEQUAL_CORNERS: [&[u8; 8]; 8] = [b"-OXXXXX-", b"XXXXXXXO", X, X, b"XXXOXXXX", X, X, X];
+// -OXXXXX- XXXXXXXO XXXXXXXX XXXXXXXX XXXOXXXX and three rows XXXXXXXX
+const UNEQUAL_CORNERS: Discs = (!0x8_0000_8083, 0x8_0000_8002);
 
 const A1: u8 = 0;
 
@@ -35,20 +33,12 @@ const A8: u8 = 56;
 
 const H8: u8 = 63;
 
-fn cell_of(byte: u8) -> Cell {
-    match byte {
-        b'X' => Cell::Black,
-        b'O' => Cell::White,
-        _ => Cell::Empty,
-    }
-}
-
-fn pos_of(rows: [&[u8; 8]; 8], side: Side) -> Pos {
-    let mut cells = [Cell::Empty; 64];
-    for number in 0..64 {
-        cells[number] = cell_of(rows[number / 8][number % 8]);
-    }
-    Pos::of_grid(&Grid::new(cells, side))
+fn pos_of(rt: &impl Abort, (black, white): Discs, side: Side) -> Pos {
+    let (own, opp) = match side {
+        Side::Black => (black, white),
+        Side::White => (white, black),
+    };
+    Pos::new(own, opp).expect(rt, "no square is taken twice")
 }
 
 #[test]
@@ -65,8 +55,8 @@ fn moves_and_flips(rt: HostRuntime) {
         (LAST_CORNER, Side::Black, 0x1, 0x7e, 0),
         (LAST_CORNER, Side::White, 0, 0, 0),
     ];
-    for (rows, side, moves, from_a1, from_h1) in table {
-        let pos = pos_of(rows, side);
+    for (discs, side, moves, from_a1, from_h1) in table {
+        let pos = pos_of(&rt, discs, side);
         assert_eq!(rt; pos.moves(), moves, "{pos:?}");
         assert_eq!(rt; pos.flips(Square::at(A1)), from_a1, "{pos:?}");
         assert_eq!(rt; pos.flips(Square::at(H1)), from_h1, "{pos:?}");
@@ -78,11 +68,11 @@ fn moves_and_flips(rt: HostRuntime) {
 
 #[test]
 fn moves_and_passes(rt: HostRuntime) {
-    let pos = pos_of(UNEQUAL_CORNERS, Side::Black);
+    let pos = pos_of(&rt, UNEQUAL_CORNERS, Side::Black);
     assert_eq!(rt; pos.own(), 0xffff_fff7_ffff_7f7c);
     assert_eq!(rt; pos.opp(), 0x8_0000_8002);
     assert_eq!(rt; pos.empties(), 2);
-    assert_eq!(rt; pos.pass(), pos_of(UNEQUAL_CORNERS, Side::White));
+    assert_eq!(rt; pos.pass(), pos_of(&rt, UNEQUAL_CORNERS, Side::White));
     assert_eq!(rt; Pos::of_grid(&pos.to_grid(Side::White)), pos);
     assert_eq!(rt; pos.play(Square::at(1)), None);
     assert_eq!(rt; without(0x81, Square::at(A1)), 0x80);
@@ -90,33 +80,24 @@ fn moves_and_passes(rt: HostRuntime) {
     assert_eq!(rt; square.number(), H1);
     let after_h1 = pos.play(square).expect(&rt, "a move");
     assert_eq!(rt; pos.after(square, pos.flips(square)), after_h1);
-    // White's discs on B1 and E5 are left, and H2 was turned.
+    // White's discs on B1 and D5 are left, and H2 was turned.
     assert_eq!(rt; after_h1.own(), 0x8_0000_0002);
     assert_eq!(rt; after_h1.opp(), 0xffff_fff7_ffff_fffc);
     assert!(rt; !after_h1.is_over());
 }
 
 #[test]
-fn scores_of_games_that_are_over(rt: HostRuntime) {
-    // The position, its mover, and the score under Winner, Discs and Sign.
-    let table = [
-        (BLACK_BOARD, Side::White, [-64, -64, -1]),
-        (LEVEL_HALVES, Side::Black, [0, 0, 0]),
-        (UNEQUAL_HALVES, Side::Black, [32, 16, 1]),
-    ];
-    for (rows, side, scores) in table {
-        let pos = pos_of(rows, side);
-        assert!(rt; pos.is_over(), "{pos:?}");
-        let scorings = [Scoring::Winner, Scoring::Discs, Scoring::Sign];
-        for (scoring, score) in scorings.into_iter().zip(scores) {
-            assert_eq!(rt; pos.final_score(scoring), score, "{scoring:?} {pos:?}");
-        }
-    }
+fn scores_of_a_game_that_is_over(rt: HostRuntime) {
+    let pos = pos_of(&rt, UNEQUAL_HALVES, Side::Black);
+    assert!(rt; pos.is_over());
+    assert_eq!(rt; pos.final_score(Scoring::Winner), 32);
+    assert_eq!(rt; pos.final_score(Scoring::Discs), 16);
+    assert_eq!(rt; pos.final_score(Scoring::Sign), 1);
 }
 
 #[test]
 fn symmetries_and_images(rt: HostRuntime) {
-    let pos = pos_of(UNEQUAL_CORNERS, Side::Black);
+    let pos = pos_of(&rt, UNEQUAL_CORNERS, Side::Black);
     // Where H1 goes under each symmetry, and which one undoes it.
     let table = [
         (H1, Sym::Identity),
@@ -132,45 +113,47 @@ fn symmetries_and_images(rt: HostRuntime) {
         assert_eq!(rt; sym.square(Square::at(H1)).number(), to, "{sym:?}");
         assert_eq!(rt; sym.mask(1 << H1), 1 << to, "{sym:?}");
         assert_eq!(rt; sym.inverse(), inverse);
-        // H1 is the only best move of the position, so its image is that of the image.
-        let image = pos.image(sym);
-        let answer = image.to_grid(Side::Black).plain_answer(Scoring::Winner);
-        assert_eq!(rt; answer.score, 62, "{sym:?}");
-        assert_eq!(rt; answer.best, Best::Moves(1 << to), "{sym:?}");
+        assert_eq!(rt; pos.image(sym).moves(), sym.mask(0x81), "{sym:?}");
     }
 }
 
 #[test]
 fn canonical_positions(rt: HostRuntime) {
-    // The position with Black to move, the first symmetry, and the masks of its canonical position.
+    // The position, its mover, the first symmetry, and the masks of its canonical position.
     let table = [
         (
             LAST_CORNER,
+            Side::Black,
             Sym::HalfTurn,
             0x01ff_ffff_ffff_ffff,
             0x7e00_0000_0000_0000,
         ),
+        // Two images have the mover on the same squares.
+        (LAST_CORNER, Side::White, Sym::FlipColumns, 0x7e, !0xfe),
         (
             CORNER_LEFT_OVER,
+            Side::Black,
             Sym::HalfTurn,
             0x01ff_ffff_ffff_ffff,
             0x3e00_0000_0000_0000,
         ),
         (
             EQUAL_CORNERS,
+            Side::Black,
             Sym::FlipRows,
             0x18ff_ffff_ffff_ffff,
             0x6600_0000_0000_0000,
         ),
         (
             UNEQUAL_CORNERS,
+            Side::Black,
             Sym::HalfTurn,
             0x3efe_ffff_efff_ffff,
             0x4001_0000_1000_0000,
         ),
     ];
-    for (rows, first, own, opp) in table {
-        let pos = pos_of(rows, Side::Black);
+    for (discs, side, first, own, opp) in table {
+        let pos = pos_of(&rt, discs, side);
         let (canonical, sym) = pos.canonical();
         assert_eq!(rt; sym, first, "{pos:?}");
         assert_eq!(rt; canonical.own(), own, "{pos:?}");

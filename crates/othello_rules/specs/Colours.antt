@@ -1,4 +1,4 @@
--- All discs exchanged, and the side to move with them.
+-- All discs exchanged, and the side to move with them (the colour symmetry of the game).
 use Rattle.std.specs.Prelude.{map}
 use Rattle.othello_rules.specs.declared.discs.Cell.{Cell}
 use Rattle.othello_rules.specs.declared.discs.Cell.TheVariants.{Empty, Black, White}

@@ -1,4 +1,4 @@
--- Sets of squares as numbers: square q is bit q, so A1 is bit 0 and H8 bit 63.
+-- Sets of squares as numbers (bitboards): square q is bit q, so A1 is bit 0 and H8 bit 63.
 use Rattle.std.specs.Prelude.{ℕ, ◌^◌, ◌==◌, Bool, List}
 use Rattle.std.specs.List.{filter, sum_by}
 use Rattle.std.specs.Int.{bit_at}

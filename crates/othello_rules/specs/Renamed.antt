@@ -1,4 +1,4 @@
--- What a renaming of the squares makes of a position.
+-- What a renaming of the squares makes of a position (the symmetries of the board are such renamings).
 use Rattle.std.specs.Prelude.{ℕ, List, map, get_or}
 use Rattle.othello_rules.specs.declared.discs.Cell.{Cell}
 use Rattle.othello_rules.specs.declared.discs.Cell.TheVariants.{Empty}

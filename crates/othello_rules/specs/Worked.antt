@@ -1,16 +1,18 @@
 -- Worked examples: flips, moves and answers of small positions, which the check computes from the definitions.
 -- Each position is told by its rows, row 1 first: X a black disc, O a white one, - an empty square.
-use Rattle.std.specs.Prelude.{◌≡◌, List, [], ◌∷◌, ◌++◌, pos, negsuc, replicate, refl}
+use Rattle.std.specs.Prelude.{◌≡◌, List, [], ◌∷◌, ◌++◌, ℤ, pos, negsuc, replicate, refl}
 use Rattle.othello_rules.specs.declared.discs.Side.{Side}
 use Rattle.othello_rules.specs.declared.discs.Side.TheVariants as side
 use Rattle.othello_rules.specs.declared.discs.Cell.{Cell}
 use Rattle.othello_rules.specs.declared.discs.Cell.TheVariants.{Empty, Black, White}
 use Rattle.othello_rules.specs.declared.scorings.Scoring.TheVariants.{Winner, Discs, Sign}
+use Rattle.othello_rules.specs.declared.answers.Best.{Best}
 use Rattle.othello_rules.specs.declared.answers.Best.TheVariants.{Moves, Pass, Over}
 use Rattle.othello_rules.specs.Board.{squares, directions, ray}
 use Rattle.othello_rules.specs.Rules.{Position, run, closes, turned, flips, moves, painted, play}
 use Rattle.othello_rules.specs.Scores.{final}
 use Rattle.othello_rules.specs.Masks.{mask_of}
+use Rattle.othello_rules.specs.Solution.{Solution}
 use Rattle.othello_rules.specs.Value.{greatest, can_move, best_of, value_at, value, best_moves, best, answer}
 
 -- 64 black discs
@@ -53,111 +55,46 @@ moves-equal_corners : moves (to_move side.Black equal_corners) ≡ 0 ∷ 7 ∷ [
 unfolding equal_corners moves flips turned run closes ray directions squares
 moves-equal_corners = refl
 
--- the answers under the three scorings. The squares of a mask: 1 is A1, 2 is B1, 128 is H1, 129 both corners.
-answer-black_board-white-winner : answer Winner (to_move side.White black_board) ≡ record { score = negsuc 63; best = Over }
+-- the answers as Winner, Discs and Sign score them
+abbrev answers : Position → List Solution
+answers P = answer Winner P ∷ answer Discs P ∷ answer Sign P ∷ []
+
+abbrev scored : ℤ → Best → Solution
+scored z b = record { score = z; best = b }
+
+-- The squares of a mask: 1 is A1, 2 is B1, 128 is H1, 129 both corners.
+answers-black_board-white : answers (to_move side.White black_board) ≡ scored (negsuc 63) Over ∷ scored (negsuc 63) Over ∷ scored (negsuc 0) Over ∷ []
 unfolding black_board moves flips turned run closes ray directions squares play painted final greatest can_move best_of value_at value best_moves mask_of best answer
-answer-black_board-white-winner = refl
+answers-black_board-white = refl
 
-answer-black_board-white-discs : answer Discs (to_move side.White black_board) ≡ record { score = negsuc 63; best = Over }
-unfolding black_board moves flips turned run closes ray directions squares play painted final greatest can_move best_of value_at value best_moves mask_of best answer
-answer-black_board-white-discs = refl
-
-answer-black_board-white-sign : answer Sign (to_move side.White black_board) ≡ record { score = negsuc 0; best = Over }
-unfolding black_board moves flips turned run closes ray directions squares play painted final greatest can_move best_of value_at value best_moves mask_of best answer
-answer-black_board-white-sign = refl
-
-answer-level_halves-black-winner : answer Winner (to_move side.Black level_halves) ≡ record { score = pos 0; best = Over }
+answers-level_halves-black : answers (to_move side.Black level_halves) ≡ scored (pos 0) Over ∷ scored (pos 0) Over ∷ scored (pos 0) Over ∷ []
 unfolding level_halves moves flips turned run closes ray directions squares play painted final greatest can_move best_of value_at value best_moves mask_of best answer
-answer-level_halves-black-winner = refl
+answers-level_halves-black = refl
 
-answer-level_halves-black-discs : answer Discs (to_move side.Black level_halves) ≡ record { score = pos 0; best = Over }
-unfolding level_halves moves flips turned run closes ray directions squares play painted final greatest can_move best_of value_at value best_moves mask_of best answer
-answer-level_halves-black-discs = refl
-
-answer-level_halves-black-sign : answer Sign (to_move side.Black level_halves) ≡ record { score = pos 0; best = Over }
-unfolding level_halves moves flips turned run closes ray directions squares play painted final greatest can_move best_of value_at value best_moves mask_of best answer
-answer-level_halves-black-sign = refl
-
-answer-unequal_halves-black-winner : answer Winner (to_move side.Black unequal_halves) ≡ record { score = pos 32; best = Over }
+answers-unequal_halves-black : answers (to_move side.Black unequal_halves) ≡ scored (pos 32) Over ∷ scored (pos 16) Over ∷ scored (pos 1) Over ∷ []
 unfolding unequal_halves moves flips turned run closes ray directions squares play painted final greatest can_move best_of value_at value best_moves mask_of best answer
-answer-unequal_halves-black-winner = refl
+answers-unequal_halves-black = refl
 
-answer-unequal_halves-black-discs : answer Discs (to_move side.Black unequal_halves) ≡ record { score = pos 16; best = Over }
-unfolding unequal_halves moves flips turned run closes ray directions squares play painted final greatest can_move best_of value_at value best_moves mask_of best answer
-answer-unequal_halves-black-discs = refl
-
-answer-unequal_halves-black-sign : answer Sign (to_move side.Black unequal_halves) ≡ record { score = pos 1; best = Over }
-unfolding unequal_halves moves flips turned run closes ray directions squares play painted final greatest can_move best_of value_at value best_moves mask_of best answer
-answer-unequal_halves-black-sign = refl
-
-answer-last_corner-black-winner : answer Winner (to_move side.Black last_corner) ≡ record { score = pos 64; best = Moves 1 }
+answers-last_corner-black : answers (to_move side.Black last_corner) ≡ scored (pos 64) (Moves 1) ∷ scored (pos 64) (Moves 1) ∷ scored (pos 1) (Moves 1) ∷ []
 unfolding last_corner moves flips turned run closes ray directions squares play painted final greatest can_move best_of value_at value best_moves mask_of best answer
-answer-last_corner-black-winner = refl
+answers-last_corner-black = refl
 
-answer-last_corner-black-discs : answer Discs (to_move side.Black last_corner) ≡ record { score = pos 64; best = Moves 1 }
+answers-last_corner-white : answers (to_move side.White last_corner) ≡ scored (negsuc 63) Pass ∷ scored (negsuc 63) Pass ∷ scored (negsuc 0) Pass ∷ []
 unfolding last_corner moves flips turned run closes ray directions squares play painted final greatest can_move best_of value_at value best_moves mask_of best answer
-answer-last_corner-black-discs = refl
+answers-last_corner-white = refl
 
-answer-last_corner-black-sign : answer Sign (to_move side.Black last_corner) ≡ record { score = pos 1; best = Moves 1 }
-unfolding last_corner moves flips turned run closes ray directions squares play painted final greatest can_move best_of value_at value best_moves mask_of best answer
-answer-last_corner-black-sign = refl
-
-answer-last_corner-white-winner : answer Winner (to_move side.White last_corner) ≡ record { score = negsuc 63; best = Pass }
-unfolding last_corner moves flips turned run closes ray directions squares play painted final greatest can_move best_of value_at value best_moves mask_of best answer
-answer-last_corner-white-winner = refl
-
-answer-last_corner-white-discs : answer Discs (to_move side.White last_corner) ≡ record { score = negsuc 63; best = Pass }
-unfolding last_corner moves flips turned run closes ray directions squares play painted final greatest can_move best_of value_at value best_moves mask_of best answer
-answer-last_corner-white-discs = refl
-
-answer-last_corner-white-sign : answer Sign (to_move side.White last_corner) ≡ record { score = negsuc 0; best = Pass }
-unfolding last_corner moves flips turned run closes ray directions squares play painted final greatest can_move best_of value_at value best_moves mask_of best answer
-answer-last_corner-white-sign = refl
-
-answer-corner_left_over-black-winner : answer Winner (to_move side.Black corner_left_over) ≡ record { score = pos 64; best = Moves 2 }
+answers-corner_left_over-black : answers (to_move side.Black corner_left_over) ≡ scored (pos 64) (Moves 2) ∷ scored (pos 63) (Moves 2) ∷ scored (pos 1) (Moves 2) ∷ []
 unfolding corner_left_over moves flips turned run closes ray directions squares play painted final greatest can_move best_of value_at value best_moves mask_of best answer
-answer-corner_left_over-black-winner = refl
+answers-corner_left_over-black = refl
 
-answer-corner_left_over-black-discs : answer Discs (to_move side.Black corner_left_over) ≡ record { score = pos 63; best = Moves 2 }
-unfolding corner_left_over moves flips turned run closes ray directions squares play painted final greatest can_move best_of value_at value best_moves mask_of best answer
-answer-corner_left_over-black-discs = refl
-
-answer-corner_left_over-black-sign : answer Sign (to_move side.Black corner_left_over) ≡ record { score = pos 1; best = Moves 2 }
-unfolding corner_left_over moves flips turned run closes ray directions squares play painted final greatest can_move best_of value_at value best_moves mask_of best answer
-answer-corner_left_over-black-sign = refl
-
-answer-equal_corners-black-winner : answer Winner (to_move side.Black equal_corners) ≡ record { score = pos 64; best = Moves 129 }
+answers-equal_corners-black : answers (to_move side.Black equal_corners) ≡ scored (pos 64) (Moves 129) ∷ scored (pos 64) (Moves 129) ∷ scored (pos 1) (Moves 129) ∷ []
 unfolding equal_corners moves flips turned run closes ray directions squares play painted final greatest can_move best_of value_at value best_moves mask_of best answer
-answer-equal_corners-black-winner = refl
+answers-equal_corners-black = refl
 
-answer-equal_corners-black-discs : answer Discs (to_move side.Black equal_corners) ≡ record { score = pos 64; best = Moves 129 }
-unfolding equal_corners moves flips turned run closes ray directions squares play painted final greatest can_move best_of value_at value best_moves mask_of best answer
-answer-equal_corners-black-discs = refl
-
-answer-equal_corners-black-sign : answer Sign (to_move side.Black equal_corners) ≡ record { score = pos 1; best = Moves 129 }
-unfolding equal_corners moves flips turned run closes ray directions squares play painted final greatest can_move best_of value_at value best_moves mask_of best answer
-answer-equal_corners-black-sign = refl
-
-answer-unequal_corners-black-winner : answer Winner (to_move side.Black unequal_corners) ≡ record { score = pos 62; best = Moves 128 }
+answers-unequal_corners-black : answers (to_move side.Black unequal_corners) ≡ scored (pos 62) (Moves 128) ∷ scored (pos 62) (Moves 128) ∷ scored (pos 1) (Moves 129) ∷ []
 unfolding unequal_corners moves flips turned run closes ray directions squares play painted final greatest can_move best_of value_at value best_moves mask_of best answer
-answer-unequal_corners-black-winner = refl
+answers-unequal_corners-black = refl
 
-answer-unequal_corners-black-discs : answer Discs (to_move side.Black unequal_corners) ≡ record { score = pos 62; best = Moves 128 }
+answers-unequal_corners-white : answers (to_move side.White unequal_corners) ≡ scored (negsuc 39) (Moves 128) ∷ scored (negsuc 38) (Moves 128) ∷ scored (negsuc 0) (Moves 128) ∷ []
 unfolding unequal_corners moves flips turned run closes ray directions squares play painted final greatest can_move best_of value_at value best_moves mask_of best answer
-answer-unequal_corners-black-discs = refl
-
-answer-unequal_corners-black-sign : answer Sign (to_move side.Black unequal_corners) ≡ record { score = pos 1; best = Moves 129 }
-unfolding unequal_corners moves flips turned run closes ray directions squares play painted final greatest can_move best_of value_at value best_moves mask_of best answer
-answer-unequal_corners-black-sign = refl
-
-answer-unequal_corners-white-winner : answer Winner (to_move side.White unequal_corners) ≡ record { score = negsuc 39; best = Moves 128 }
-unfolding unequal_corners moves flips turned run closes ray directions squares play painted final greatest can_move best_of value_at value best_moves mask_of best answer
-answer-unequal_corners-white-winner = refl
-
-answer-unequal_corners-white-discs : answer Discs (to_move side.White unequal_corners) ≡ record { score = negsuc 38; best = Moves 128 }
-unfolding unequal_corners moves flips turned run closes ray directions squares play painted final greatest can_move best_of value_at value best_moves mask_of best answer
-answer-unequal_corners-white-discs = refl
-
-answer-unequal_corners-white-sign : answer Sign (to_move side.White unequal_corners) ≡ record { score = negsuc 0; best = Moves 128 }
-unfolding unequal_corners moves flips turned run closes ray directions squares play painted final greatest can_move best_of value_at value best_moves mask_of best answer
-answer-unequal_corners-white-sign = refl
+answers-unequal_corners-white = refl

@@ -82,6 +82,7 @@ impl Grid {
         ensures value { result ≡ self.now.mover }
         ensures whole { length self.now.cells ≡ 64 }
     {
+        // A use of the cells shows the check that there are 64.
         let _cells = &self.cells;
         self.side
     }
@@ -228,7 +229,7 @@ impl Grid {
         self.count(Cell::Empty)
     }
 
-    /// The score in discs, as the mover sees it, by discs and empty squares as they stand, over or not.
+    /// The score as the mover sees it, by discs and empty squares as they stand, over or not.
     pub fn final_score(&self, scoring: Scoring) -> i8
         ensures value { result ≡ final scoring self.now }
         ensures in_range { IsScore result }
@@ -238,11 +239,12 @@ impl Grid {
         scoring.score(own, opposing, self.empties())
     }
 
-    /// The value by full minimax, in discs as the mover sees it: the slow oracle.
+    /// The value by full minimax, as the mover sees it: the slow oracle.
     pub fn plain_value(&self, scoring: Scoring) -> i8
         ensures value { result ≡ value scoring self.now }
         ensures in_range { IsScore result }
     {
+        // A use of the cells shows the check that there are 64.
         let _cells = &self.cells;
         let mut best: Option<i8> = None;
         for number in 0..64 {
