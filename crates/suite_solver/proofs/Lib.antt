@@ -4,3 +4,4 @@ pub mod RunLemmas
 pub mod InputLemmas
 pub mod ProgramLemmas
 pub mod EntryLemmas
+pub mod NumberLemmas

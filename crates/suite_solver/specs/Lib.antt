@@ -1,4 +1,5 @@
 pub mod Limits
+pub mod CommandLine
 pub mod Checks
 pub mod Text
 pub mod Rows

@@ -1,23 +1,47 @@
 -- What the program prints, and the status it ends with.
-use Rattle.std.specs.Prelude.{ℕ, ◌+◌, ◌≤◌, List, [], ◌∷◌, ◌++◌, length, codes, Option, IfSome}
+use Rattle.std.specs.Prelude.{◌≡◌, ℕ, ◌+◌, ◌≤◌, List, [], ◌∷◌, ◌++◌, length, codes, Option, None, IfSome, take}
 use Rattle.std.specs.Fmt.{decimal}
 use Rattle.std.specs.Io.KnownBytes.{Appends}
-use Rattle.suite_solver.specs.Limits.{defaults}
-use Rattle.suite_solver.specs.Reports.{report}
+use Rattle.std.specs.List.{concat}
+use Rattle.suite_solver.specs.CommandLine.{Asks}
+use Rattle.suite_solver.specs.Limits.{Configuration}
+use Rattle.suite_solver.specs.Reports.{reports}
+use Rattle.suite_solver.specs.Runs.{first_large}
 use Rattle.suite_solver.specs.declared.faults.RunFault.{RunFault}
 use Rattle.suite_solver.specs.declared.faults.RunFault.TheVariants.{Memory, Mixed, TooManyFiles, FileTooLarge}
 use Rattle.suite_solver.specs.declared.stops.Stop.{Stop}
 use Rattle.suite_solver.specs.declared.stops.Stop.TheVariants.{Run, BadWords, CannotRead, CannotWrite}
 
--- the report of the text on standard input, which is the only sender's
-unfoldable pub printed : List ℕ → List ℕ
-printed text = report defaults.scoring defaults.max_empties (0, text)
+-- The texts of a run: what standard input gives, where that is known, if no file is named; else one for each name.
+-- What a file holds is not known.
+abbrev pub AreTextsOf : List (List ℕ) → Option (List ℕ) → List (List ℕ) → Type 0
+AreTextsOf [] given texts = IfSome given (λ text. texts ≡ text ∷ [])
+AreTextsOf (name ∷ names) given texts = length texts ≡ length (name ∷ names)
 
--- What standard input gives, where that is known, is no more than a file may have, and its report was written to
--- standard output, which held `old` before and holds `new` now.
-abbrev pub Prints : Option (List ℕ) → Option (List ℕ) → Option (List ℕ) → Type 0
-Prints given old new =
-    IfSome given (λ text. (length text ≤ 1048576) × Appends old new (printed text))
+-- the same of the bytes that are read: one more than a file may have, where there are so many
+abbrev pub AreFrontsOf : List (List ℕ) → Option (List ℕ) → List (List ℕ) → Type 0
+AreFrontsOf [] given fronts = IfSome given (λ text. fronts ≡ take 1048577 text ∷ [])
+AreFrontsOf (name ∷ names) given fronts = length fronts ≡ length (name ∷ names)
+
+-- A run refuses none of the texts, and their reports were written to standard output, one after the other: it held
+-- `old` before and holds `new` now.
+pub record PrintsReports (c : Configuration) (texts : List (List ℕ)) (old new : Option (List ℕ)) : Type 0 where
+  pub few : length texts ≤ 64
+  pub small : first_large texts ≡ None
+  pub written : Appends old new (concat (reports c.scoring c.max_empties texts))
+
+-- the reports of the texts that were named
+pub record Prints (c : Configuration) (names : List (List ℕ)) (given old new : Option (List ℕ)) : Type 0 where
+  pub texts : List (List ℕ)
+  pub read : AreTextsOf names given texts
+  pub printed : PrintsReports c texts old new
+
+-- the words ask for settings and files, and their reports were printed
+pub record IsAnswered (words : List (List ℕ)) (given old new : Option (List ℕ)) : Type 0 where
+  pub settings : Configuration
+  pub names : List (List ℕ)
+  pub asked : Asks words settings names
+  pub printed : Prints settings names given old new
 
 unfoldable pub run_fault_text : RunFault → List ℕ
 run_fault_text Memory = codes "out of memory"

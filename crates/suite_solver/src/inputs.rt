@@ -1,16 +1,21 @@
 //! Reads what a run is given.
 
-ghost use Rattle.std.specs.Prelude.{◌≡◌, ◌≤◌, IfOk, IfSome, take, vec_len};
+ghost use Rattle.std.specs.Prelude.{◌≡◌, ◌≤◌, ◌⊎◌, [], ◌∷◌, IfOk, IfErr, IfSome, length, take, vec_len};
+ghost use Rattle.suite_solver.specs.CommandLine.{names_of};
+ghost use Rattle.suite_solver.specs.Programs.{AreFrontsOf, status_of};
+ghost use Rattle.suite_solver.specs.Runs.{texts_of};
 
+use crate::stops::{Stop, unread};
 use std::alloc::Global;
-use std::io;
 use std::io::Read;
+use std::rt::Files;
+use std::{fs, io};
 
 /// One byte more than a file may have: a file that is too large is told by it.
 pub(crate) const MOST_READ: usize = 1_048_577;
 
 // The front of what a reader gives. A reader that tells nothing of its bytes is cut again.
-pub(crate) fn read_capped<R: Read>(alloc: Global, reader: &mut R) -> io::Result<Vec<u8>>
+fn read_capped<R: Read>(alloc: Global, reader: &mut R) -> io::Result<Vec<u8>>
     ensures most { IfOk result (λ bytes. vec_len bytes ≤ 1048577) }
     ensures front { IfOk result
         (λ bytes. IfSome (R.remaining reader.old) (λ all. bytes.items ≡ take 1048577 all)) }
@@ -19,4 +24,68 @@ pub(crate) fn read_capped<R: Read>(alloc: Global, reader: &mut R) -> io::Result<
     reader.take(MOST_READ as u64).read_to_end(&mut bytes)?;
     bytes.truncate(MOST_READ);
     Ok(bytes)
+}
+
+// Standard input as the one file.
+fn read_input<R: Read>(alloc: Global, input: &mut R) -> Result<Vec<Vec<u8>>, Stop<'static>>
+    ensures ok { IfOk result (λ files. IfSome
+        (R.remaining input.old) (λ all. texts_of files.items ≡ take 1048577 all ∷ [])) }
+    ensures err { IfErr result (λ stop. (status_of stop ≡ 1) ⊎ (status_of stop ≡ 3)) }
+{
+    match read_capped(alloc, input) {
+        Ok(text) => {
+            let mut files = Vec::new(alloc);
+            files.push(text)?;
+            Ok(files)
+        }
+        Err(fault) => Err(unread(&fault, "standard input")),
+    }
+}
+
+// The file of a name.
+fn read_file<'a, T: Files>(rt: &T, alloc: Global, name: &'a str) -> Result<Vec<u8>, Stop<'a>>
+    ensures { IfErr result (λ stop. (status_of stop ≡ 1) ⊎ (status_of stop ≡ 3)) }
+{
+    let opened = fs::open(rt, name);
+    let read = match opened {
+        Ok(mut file) => read_capped(alloc, &mut file),
+        Err(fault) => Err(fault),
+    };
+    match read {
+        Ok(text) => Ok(text),
+        Err(fault) => Err(unread(&fault, name)),
+    }
+}
+
+// The files of these names, in their order.
+fn read_named<'a, T: Files>(
+    rt: &T,
+    alloc: Global,
+    names: &'a [String],
+) -> Result<Vec<Vec<u8>>, Stop<'a>>
+    ensures ok { IfOk result (λ files. length files.items ≡ length names.now) }
+    ensures err { IfErr result (λ stop. (status_of stop ≡ 1) ⊎ (status_of stop ≡ 3)) }
+{
+    let mut files = Vec::new(alloc);
+    for name in names {
+        files.push(read_file(rt, alloc, name.as_str())?)?;
+    }
+    Ok(files)
+}
+
+// The files of these names, or standard input where there is no name.
+pub(crate) fn read_files<'a, T: Files, R: Read>(
+    rt: &T,
+    alloc: Global,
+    names: &'a [String],
+    input: &mut R,
+) -> Result<Vec<Vec<u8>>, Stop<'a>>
+    ensures ok { IfOk result
+        (λ files. AreFrontsOf (names_of names.now) (R.remaining input.old) (texts_of files.items)) }
+    ensures err { IfErr result (λ stop. (status_of stop ≡ 1) ⊎ (status_of stop ≡ 3)) }
+{
+    if names.is_empty() {
+        return read_input(alloc, input);
+    }
+    read_named(rt, alloc, names)
 }

@@ -10,6 +10,8 @@ use std::marker::Model;
 pub const MOST_EMPTIES: u8 = 60;
 /// The most workers.
 pub const MOST_WORKERS: u8 = 64;
+/// The workers of a run that is not told how many.
+pub const DEFAULT_WORKERS: u8 = 2;
 /// The most entries of a table.
 pub const MOST_ENTRIES: u32 = 4_194_304;
 /// The most files of a run.
@@ -94,7 +96,7 @@ impl Default for Settings {
     {
         Settings {
             max_empties: 20,
-            workers: 2,
+            workers: DEFAULT_WORKERS,
             table: 65_536,
             scoring: Scoring::Winner,
         }

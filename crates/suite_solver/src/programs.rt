@@ -1,35 +1,26 @@
 //! The program `ffosolve`.
 
-ghost use Rattle.std.specs.Prelude.{◌≡◌, ◌⊎◌, [], ◌∷◌, take, OnOk, IfOk, IfErr, IfSome};
+ghost use Rattle.std.specs.Prelude.{◌≡◌, ◌≢◌, ◌⊎◌, ◌≤◌, map, OnOk, IfOk, IfErr, IsOkAnd};
 ghost use Rattle.std.specs.List.{concat};
 ghost use Rattle.std.specs.Io.KnownBytes.{Appends};
-ghost use Rattle.suite_solver.specs.Programs.{Prints, status_of};
+ghost use Rattle.clap.specs.Words.{kind_of};
+ghost use Rattle.clap.specs.declared.error.kind.ErrorKind.TheVariants.{DisplayHelp};
+ghost use Rattle.suite_solver.specs.CommandLine.{HasFault, IsTaken, names_of};
+ghost use Rattle.suite_solver.specs.Programs.{IsAnswered, Prints, PrintsReports, status_of};
 ghost use Rattle.suite_solver.specs.Runs.{texts_of};
 
+use crate::command_line::options;
 use crate::faults::RunFault;
-use crate::inputs::read_capped;
+use crate::inputs::read_files;
 use crate::limits::Settings;
+use crate::requests::{OptionFault, Options};
 use crate::runs::run_serial;
-use crate::stops::{Stop, unread, unread_words};
+use crate::stops::{Stop, unread_words};
+use clap::error::ErrorKind;
 use std::alloc::{AllocError, Global};
 use std::io;
 use std::io::{Read, Write};
-
-// Standard input as the one file.
-fn read_files<R: Read>(alloc: Global, input: &mut R) -> Result<Vec<Vec<u8>>, Stop<'static>>
-    ensures ok { IfOk result (λ files. IfSome
-        (R.remaining input.old) (λ all. texts_of files.items ≡ take 1048577 all ∷ [])) }
-    ensures err { IfErr result (λ stop. (status_of stop ≡ 1) ⊎ (status_of stop ≡ 3)) }
-{
-    match read_capped(alloc, input) {
-        Ok(text) => {
-            let mut files = Vec::new(alloc);
-            files.push(text)?;
-            Ok(files)
-        }
-        Err(fault) => Err(unread(&fault, "standard input")),
-    }
-}
+use std::rt::Files;
 
 // Writes the reports one after the other.
 fn write_reports<W: Write>(output: &mut W, reports: &[Vec<u8>]) -> io::Result<()>
@@ -42,24 +33,42 @@ fn write_reports<W: Write>(output: &mut W, reports: &[Vec<u8>]) -> io::Result<()
     output.flush()
 }
 
-// Reads, solves and prints.
-fn solve_input<R: Read, W: Write>(
+// Solves the texts of files and prints their reports.
+fn solve_files<W: Write>(
     alloc: Global,
-    input: &mut R,
+    settings: &Settings,
+    files: &[Vec<u8>],
     output: &mut W,
 ) -> Result<(), Stop<'static>>
-    ensures reported { OnOk result
-        (Prints (R.remaining input.old) (W.contents output.old) (W.contents output.new)) }
+    ensures reported { OnOk result (PrintsReports settings.now (texts_of files.now)
+        (W.contents output.old) (W.contents output.new)) }
     ensures unwritten { IfErr result
         (λ stop. status_of stop ≡ 1 → W.contents output.new ≡ W.contents output.old) }
     ensures status { IfErr result (λ stop. (status_of stop ≡ 1) ⊎ (status_of stop ≡ 3)) }
 {
-    let files = read_files(alloc, input)?;
-    let outcome = run_serial(alloc, &files, &Settings::default())?;
+    let outcome = run_serial(alloc, files, settings)?;
     match write_reports(output, outcome.reports.as_slice()) {
         Ok(()) => Ok(()),
         Err(_) => Err(Stop::CannotWrite("standard output")),
     }
+}
+
+// Reads, solves and prints.
+fn solve<'a, T: Files, R: Read, W: Write>(
+    rt: &T,
+    alloc: Global,
+    asked: &'a Options,
+    input: &mut R,
+    output: &mut W,
+) -> Result<(), Stop<'a>>
+    ensures reported { OnOk result (Prints asked.now.settings (names_of asked.now.files.items)
+        (R.remaining input.old) (W.contents output.old) (W.contents output.new)) }
+    ensures unwritten { IfErr result
+        (λ stop. status_of stop ≡ 1 → W.contents output.new ≡ W.contents output.old) }
+    ensures status { IfErr result (λ stop. (status_of stop ≡ 1) ⊎ (status_of stop ≡ 3)) }
+{
+    let files = read_files(rt, alloc, &asked.files, input)?;
+    solve_files(alloc, &asked.settings, &files, output)
 }
 
 // Tells what ends the program, and gives its status. A standard error that fails changes nothing.
@@ -70,31 +79,67 @@ fn ended<E: Write>(stop: &Stop<'_>, errors: &mut E) -> u8
     stop.status()
 }
 
-/// The whole program: standard input is its one file, and its report goes to standard output. It takes the default
-/// settings and does not look at its words. The status is 0 where all is done; 1 where the run is refused, for
-/// memory or for the file's size; 3 where standard input can't be read or standard output can't be written. What ends
-/// it early is told in one line on standard error; a standard error that fails changes nothing.
-pub fn program<T, R: Read, W: Write, E: Write>(
-    _rt: &T,
+// Writes help.
+fn write_help<W: Write>(output: &mut W, help: &clap::Error) -> io::Result<()> {
+    write!(output, "{help}")?;
+    output.flush()
+}
+
+// Prints what clap says in place of options: help on standard output, why the words are refused on standard error.
+fn explained<W: Write, E: Write>(error: &clap::Error, output: &mut W, errors: &mut E) -> u8
+    ensures status { (result ≡ 0) ⊎ ((result ≡ 2) ⊎ (result ≡ 3)) }
+    ensures helped { result ≡ 0 → kind_of error.now ≡ DisplayHelp }
+    ensures unwritten { result ≡ 2 → W.contents output.new ≡ W.contents output.old }
+{
+    match error.kind() {
+        ErrorKind::DisplayHelp => match write_help(output, error) {
+            Ok(()) => 0,
+            Err(_) => ended(&Stop::CannotWrite("standard output"), errors),
+        },
+        _ => {
+            let _ = write!(errors, "{error}");
+            2
+        }
+    }
+}
+
+/// The whole program over the words of its command line, the program's name first: it reads the files that they name,
+/// or standard input, and prints their reports, in their order, on standard output. The status is 0 where all is
+/// done, or where help was asked for and printed; 1 where the run is refused, for memory or for the number or size
+/// of its files; 2 where the command line is refused; 3 where a file can't be read, or standard output can't be
+/// written. What ends it early is told on standard error, by one line or clap's text; a standard error that fails
+/// changes nothing.
+pub fn program<T: Files, R: Read, W: Write, E: Write>(
+    rt: &T,
     alloc: Global,
-    _words: &[&str],
+    words: &[&str],
     input: &mut R,
     output: &mut W,
     errors: &mut E,
 ) -> u8
-    ensures status { (result ≡ 0) ⊎ ((result ≡ 1) ⊎ (result ≡ 3)) }
-    ensures reported { result ≡ 0 → Prints
+    ensures status { (result ≡ 0) ⊎ ((result ≡ 1) ⊎ ((result ≡ 2) ⊎ (result ≡ 3))) }
+    // All was done as the words ask, or help was printed, which they ask for.
+    ensures answered { result ≡ 0 → HasFault (map (λ word. word.now) words.now) DisplayHelp ⊎
+        IsAnswered (map (λ word. word.now) words.now)
         (R.remaining input.old) (W.contents output.old) (W.contents output.new) }
-    ensures unwritten { result ≡ 1 → W.contents output.new ≡ W.contents output.old }
+    ensures taken { IsTaken (map (λ word. word.now) words.now) → result ≢ 2 }
+    ensures unwritten { (result ≡ 1) ⊎
+        (result ≡ 2) → W.contents output.new ≡ W.contents output.old }
 {
-    match solve_input(alloc, input, output) {
-        Ok(()) => 0,
-        Err(stop) => ended(&stop, errors),
+    match options(alloc, words) {
+        Ok(asked) => match solve(rt, alloc, &asked, input, output) {
+            Ok(()) => 0,
+            Err(stop) => ended(&stop, errors),
+        },
+        Err(OptionFault::Memory) => ended(&Stop::Run(RunFault::Memory), errors),
+        Err(OptionFault::Refused(error)) => explained(&error, output, errors),
     }
 }
 
 // The words as slices.
-fn borrowed_words(alloc: Global, words: &[String]) -> Result<Vec<&str>, AllocError> {
+fn borrowed_words(alloc: Global, words: &[String]) -> Result<Vec<&str>, AllocError>
+    ensures { IfOk result (λ all. map (λ word. word.now) all.items ≡ names_of words.now) }
+{
     let mut borrowed = Vec::new(alloc);
     for word in words {
         borrowed.push(word.as_str())?;
@@ -103,7 +148,7 @@ fn borrowed_words(alloc: Global, words: &[String]) -> Result<Vec<&str>, AllocErr
 }
 
 /// The whole program over the words as `env::args` gives them. Where a word is no text, the status is 2.
-pub fn program_of<T, R: Read, W: Write, E: Write>(
+pub fn program_of<T: Files, R: Read, W: Write, E: Write>(
     rt: &T,
     alloc: Global,
     words: io::Result<Vec<String>>,
@@ -112,8 +157,9 @@ pub fn program_of<T, R: Read, W: Write, E: Write>(
     errors: &mut E,
 ) -> u8
     ensures status { (result ≡ 0) ⊎ ((result ≡ 1) ⊎ ((result ≡ 2) ⊎ (result ≡ 3))) }
-    ensures reported { result ≡ 0 → Prints
-        (R.remaining input.old) (W.contents output.old) (W.contents output.new) }
+    ensures answered { result ≡ 0 → IsOkAnd words (λ all. HasFault (names_of all.items) DisplayHelp ⊎
+        IsAnswered (names_of all.items)
+        (R.remaining input.old) (W.contents output.old) (W.contents output.new)) }
     ensures unwritten { (result ≡ 1) ⊎
         (result ≡ 2) → W.contents output.new ≡ W.contents output.old }
 {

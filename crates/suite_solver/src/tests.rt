@@ -1,130 +1,139 @@
 use crate::{
-    Refusal, ReportRow, RowResult, RunFault, Settings, program, program_of, run_serial,
+    Refusal, ReportRow, RowResult, RunFault, Settings, options, program, program_of, run_serial,
     write_report,
 };
 use othello_rules::Scoring;
 use std::alloc::{AllocError, Global};
-use std::io;
 use std::io::{Read, Write};
 use std::process::Abort;
+use std::rt::Files;
 use std::test::Fail;
+use std::{fs, io};
 
-// Adds a line: a board of 64 bytes, of which the first are given and the others are all the same, and what follows.
-fn push_line(text: &mut Vec<u8>, front: &[u8], fill: u8, rest: &[u8]) -> Result<(), AllocError> {
-    text.extend_from_slice(front)?;
-    for _ in front.len()..64 {
-        text.push(fill)?;
+// The words of a command line with spaces between, standard input, and the status, standard output and standard error
+// that the program ends with.
+type Run<'a> = (&'a str, &'a [u8], u8, &'a [u8], &'a [u8]);
+
+fn words_of(alloc: Global, line: &str) -> Result<Vec<&str>, Fail> {
+    let mut words = Vec::new(alloc);
+    for word in line.split(' ') {
+        words.push(word)?;
     }
-    text.extend_from_slice(rest)?;
-    text.push(b'\n')?;
+    Ok(words)
+}
+
+// Where an allocation was refused the program has said so, and printed nothing.
+fn is_refused_memory(rt: &impl Abort, status: u8, output: &[u8], errors: &[u8]) -> bool {
+    let is_refused = errors == NO_MEMORY;
+    if is_refused {
+        assert_eq!(rt; status, 1);
+        assert_eq!(rt; output.len(), 0);
+    }
+    is_refused
+}
+
+fn assert_run<T: Abort + Files>(rt: &T, alloc: Global, run: &Run<'_>) -> Result<(), Fail> {
+    let (line, mut input, wanted_status, wanted_output, wanted_errors) = *run;
+    let words = words_of(alloc, line)?;
+    let mut output = Vec::new(alloc);
+    let mut errors = Vec::new(alloc);
+    let status = program(rt, alloc, &words, &mut input, &mut output, &mut errors);
+    if is_refused_memory(rt, status, &output, &errors) {
+        return Err(Fail::from(AllocError));
+    }
+    assert_eq!(rt; status, wanted_status, "{line}");
+    assert_eq!(rt; output.as_slice(), wanted_output, "{line}");
+    assert_eq!(rt; errors.as_slice(), wanted_errors, "{line}");
     Ok(())
 }
 
-// The report of a text as the one file of a run.
-fn report_of(alloc: Global, settings: &Settings, text: Vec<u8>) -> Result<Vec<u8>, RunFault> {
-    let mut files = Vec::new(alloc);
-    files.push(text)?;
-    let mut reports = run_serial(alloc, &files, settings)?.reports.into_vec();
-    Ok(reports.pop().unwrap_or(Vec::new(alloc)))
-}
+// Positions, some with listed scores, and lines that begin with a byte that is no square.
+const POSITIONS: &[u8] = b"\
+XXXXXXXXXXXXXXXXXXXXXXXXXXXXXXXXXXXXXXXXXXXXXXXXXXXXXXXXXXXXXXXX O\n\
+XXXXXXXXXXXXXXXXXXXXXXXXXXXXXXXXXXXXXXXXXXXXXXXXXXXXXXXXXXXXXXXX O; A1:-64;\n\
+XXXXXXXXXXXXXXXXXXXXXXXXXXXXXXXXXXXXXXXXXXXXXXXXXXXXXXXXXXXXXXXX O; --:-64;\n\
+XXXXXXXXXXXXXXXXXXXXXXXX----------------OOOOOOOOOOOOOOOOOOOOOOOO X\n\
+XXXXXXXXXXXXXXXXXXXXXXXXXXXXXXXX----------------OOOOOOOOOOOOOOOO X\n\
+-OOOOOOXXXXXXXXXXXXXXXXXXXXXXXXXXXXXXXXXXXXXXXXXXXXXXXXXXXXXXXXX X\n\
+-OOOOOOXXXXXXXXXXXXXXXXXXXXXXXXXXXXXXXXXXXXXXXXXXXXXXXXXXXXXXXXX O; ps:-64;\n\
+--OOOOOXXXXXXXXXXXXXXXXXXXXXXXXXXXXXXXXXXXXXXXXXXXXXXXXXXXXXXXXX X\n\
+-OOXXOO-XXXXXXXXXXXXXXXXXXXXXXXXXXXXXXXXXXXXXXXXXXXXXXXXXXXXXXXX X\n\
+-OXXXXX-XXXXXXXOXXXXXXXXXXXXXXXXXXXOXXXXXXXXXXXXXXXXXXXXXXXXXXXX X\n\
+-OXXXXX-XXXXXXXOXXXXXXXXXXXXXXXXXXXOXXXXXXXXXXXXXXXXXXXXXXXXXXXX O\n\
+O--OOOOX-OOOOOOXOOXXOOOXOOXOOOXXOOOOOOXX---OOOOX----O----------- X\n\
+-OXXXXX-XXXXXXXOXXXXXXXXXXXXXXXXXXXOXXXXXXXXXXXXXXXXXXXXXXXXXXXX X; A1:+1; H1:+1;\n\
+-OXXXXX-XXXXXXXOXXXXXXXXXXXXXXXXXXXOXXXXXXXXXXXXXXXXXXXXXXXXXXXX X;\xffH1:+62; H1:+62;\n\
+-OXXXXX-XXXXXXXOXXXXXXXXXXXXXXXXXXXOXXXXXXXXXXXXXXXXXXXXXXXXXXXX X;H1:+62\r\n\
+-OXXXXX-XXXXXXXOXXXXXXXXXXXXXXXXXXXOXXXXXXXXXXXXXXXXXXXXXXXXXXXX X;H1:+62\r\r\n\
+\xefXXXXXXXXXXXXXXXXXXXXXXXXXXXXXXXXXXXXXXXXXXXXXXXXXXXXXXXXXXXXXXXX X\n\
+\x00XXXXXXXXXXXXXXXXXXXXXXXXXXXXXXXXXXXXXXXXXXXXXXXXXXXXXXXXXXXXXXXX X\n\
+";
 
-// A board's first bytes, the byte of its others, what follows it, and what the report says behind the line's number.
-type Case<'a> = (&'a [u8], u8, &'a [u8], &'a [u8]);
+const BY_WINNER: &[u8] = b"[1]
+1 -64 -- unlisted
+2 -64 -- differ
+3 -64 -- agree
+4 +00 -- unlisted
+5 +32 -- unlisted
+6 +64 A1 unlisted
+7 -64 PS agree
+8 +64 B1 unlisted
+9 +64 A1,H1 unlisted
+10 +62 H1 unlisted
+11 -40 H1 unlisted
+12 refused: 21 empties, limit 20
+13 +62 H1 differ
+14 +62 H1 agree
+15 +62 H1 agree
+16 +62 H1 unlisted
+17 refused: bad square at column 1
+18 refused: bad square at column 1
+solved 15 refused 3
+";
 
-// Reports each position as the one line of a file.
-fn reports_each(
-    rt: &impl Abort,
-    alloc: Global,
-    limit: u8,
-    scoring: Scoring,
-    cases: &[Case<'_>],
-) -> Result<(), Fail> {
-    let settings = Settings::new(limit, 0, 0, scoring).expect(rt, "within the limits");
-    for (front, fill, rest, want) in cases {
-        let mut text = Vec::new(alloc);
-        push_line(&mut text, front, *fill, rest)?;
-        let report = report_of(alloc, &settings, text)?;
-        let mut wanted = b"[1]\n1 ".to_vec(alloc)?;
-        wanted.extend_from_slice(want)?;
-        let refused = u8::from(want.starts_with(b"refused"));
-        write!(wanted, "\nsolved {} refused {refused}\n", 1 - refused)?;
-        assert_eq!(rt; report.as_slice(), wanted.as_slice());
-    }
-    Ok(())
-}
+const BY_DISCS: &[u8] = b"[1]
+1 -64 -- unlisted
+2 -64 -- differ
+3 -64 -- agree
+4 +00 -- unlisted
+5 +16 -- unlisted
+6 +64 A1 unlisted
+7 -64 PS agree
+8 +63 B1 unlisted
+9 +64 A1,H1 unlisted
+10 +62 H1 unlisted
+11 -39 H1 unlisted
+12 refused: 21 empties, limit 20
+13 +62 H1 differ
+14 +62 H1 agree
+15 +62 H1 agree
+16 +62 H1 unlisted
+17 refused: bad square at column 1
+18 refused: bad square at column 1
+solved 15 refused 3
+";
 
-const LEVEL_HALVES: &[u8] = b"XXXXXXXXXXXXXXXXXXXXXXXX----------------";
-
-const UNEQUAL_HALVES: &[u8] = b"XXXXXXXXXXXXXXXXXXXXXXXXXXXXXXXX----------------";
-
-const LAST_CORNER: &[u8] = b"-OOOOOOX";
-
-const CORNER_LEFT_OVER: &[u8] = b"--OOOOOX";
-
-const EQUAL_CORNERS: &[u8] = b"-OOXXOO-";
-
-const UNEQUAL_CORNERS: &[u8] = b"-OXXXXX-XXXXXXXOXXXXXXXXXXXXXXXXXXXO";
-// The board of position 40 of the FFO endgame test, and the same without its disc on H7.
-const FFO_40: &[u8] = b"O--OOOOX-OOOOOOXOOXXOOOXOOXOOOXXOOOOOOXX---OOOOX----O--X";
-
-const FFO_40_WITHOUT_H7: &[u8] = b"O--OOOOX-OOOOOOXOOXXOOOXOOXOOOXXOOOOOOXX---OOOOX----O---";
-
-const WINNER: [Case; 17] = [
-    (b"", b'X', b" O", b"-64 -- unlisted"),
-    (b"", b'X', b" O; A1:-64;", b"-64 -- differ"),
-    (b"", b'X', b" O; --:-64;", b"-64 -- agree"),
-    (LEVEL_HALVES, b'O', b" X", b"+00 -- unlisted"),
-    (UNEQUAL_HALVES, b'O', b" X", b"+32 -- unlisted"),
-    (LAST_CORNER, b'X', b" X", b"+64 A1 unlisted"),
-    (LAST_CORNER, b'X', b" O; ps:-64;", b"-64 PS agree"),
-    (LAST_CORNER, b'X', b" O", b"-64 PS unlisted"),
-    (CORNER_LEFT_OVER, b'X', b" X", b"+64 B1 unlisted"),
-    (EQUAL_CORNERS, b'X', b" X", b"+64 A1,H1 unlisted"),
-    (UNEQUAL_CORNERS, b'X', b" O", b"-40 H1 unlisted"),
-    (
-        FFO_40_WITHOUT_H7,
-        b'-',
-        b" X",
-        b"refused: 21 empties, limit 20",
-    ),
-    (
-        UNEQUAL_CORNERS,
-        b'X',
-        b" X;\xffH1:+62; H1:+62;",
-        b"+62 H1 agree",
-    ),
-    (UNEQUAL_CORNERS, b'X', b" X;H1:+62\r", b"+62 H1 agree"),
-    (UNEQUAL_CORNERS, b'X', b" X;H1:+62\r\r", b"+62 H1 unlisted"),
-    (b"\xef", b'X', b" X", b"refused: bad square at column 1"),
-    (b"\x00", b'X', b" X", b"refused: bad square at column 1"),
-];
-
-const DISCS: [Case; 4] = [
-    (LEVEL_HALVES, b'O', b" X", b"+00 -- unlisted"),
-    (UNEQUAL_HALVES, b'O', b" X", b"+16 -- unlisted"),
-    (CORNER_LEFT_OVER, b'X', b" X", b"+63 B1 unlisted"),
-    (UNEQUAL_CORNERS, b'X', b" O", b"-39 H1 unlisted"),
-];
-
-const SIGN: [Case; 3] = [
-    (b"", b'X', b" O", b"-01 -- unlisted"),
-    (UNEQUAL_HALVES, b'O', b" X", b"+01 -- unlisted"),
-    (UNEQUAL_CORNERS, b'X', b" X", b"+01 A1,H1 unlisted"),
-];
-
-const AT_LIMIT: [Case; 1] = [(UNEQUAL_CORNERS, b'X', b" X", b"+62 H1 unlisted")];
-
-const ABOVE_LIMIT: [Case; 1] = [(FFO_40, b'-', b" X", b"refused: 20 empties, limit 19")];
-
-#[test]
-fn reports_positions(rt: HostRuntime) -> Result<(), Fail> {
-    let alloc = rt.alloc();
-    reports_each(&rt, alloc, 20, Scoring::Winner, &WINNER)?;
-    reports_each(&rt, alloc, 20, Scoring::Discs, &DISCS)?;
-    reports_each(&rt, alloc, 20, Scoring::Sign, &SIGN)?;
-    reports_each(&rt, alloc, 2, Scoring::Winner, &AT_LIMIT)?;
-    reports_each(&rt, alloc, 19, Scoring::Winner, &ABOVE_LIMIT)
-}
+const BY_SIGN: &[u8] = b"[1]
+1 -01 -- unlisted
+2 -01 -- differ
+3 -01 -- differ
+4 +00 -- unlisted
+5 +01 -- unlisted
+6 +01 A1 unlisted
+7 -01 PS differ
+8 +01 B1 unlisted
+9 +01 A1,H1 unlisted
+10 +01 A1,H1 unlisted
+11 -01 H1 unlisted
+12 refused: 21 empties, limit 20
+13 +01 A1,H1 agree
+14 +01 A1,H1 differ
+15 +01 A1,H1 differ
+16 +01 A1,H1 unlisted
+17 refused: bad square at column 1
+18 refused: bad square at column 1
+solved 15 refused 3
+";
 
 // The eight images of a position under the rotations and reflections of the board.
 const IMAGES: &[u8] = b"\
@@ -206,30 +215,224 @@ const EMPTY_REPORT: &[u8] = b"[1]\nsolved 0 refused 0\n";
 
 const FULL_REPORT: &[u8] = b"[1]\n1 +64 -- unlisted\nsolved 1 refused 0\n";
 
-const FILES: [(&[u8], &[u8]); 5] = [
-    (IMAGES, IMAGES_REPORT),
-    (LISTED, LISTED_REPORT),
-    (FAULTY, FAULTY_REPORT),
-    (LENIENT, LENIENT_REPORT),
-    (b"", EMPTY_REPORT),
+// Boards with one empty square, two and two.
+const ONE: &[u8] = b"\
+-OOOOOOXXXXXXXXXXXXXXXXXXXXXXXXXXXXXXXXXXXXXXXXXXXXXXXXXXXXXXXXX X\n\
+--OOOOOXXXXXXXXXXXXXXXXXXXXXXXXXXXXXXXXXXXXXXXXXXXXXXXXXXXXXXXXX X\n\
+-OOXXOO-XXXXXXXXXXXXXXXXXXXXXXXXXXXXXXXXXXXXXXXXXXXXXXXXXXXXXXXX X\n\
+";
+
+// Two boards with two empty squares, and a full one.
+const TWO: &[u8] = b"\
+-OXXXXX-XXXXXXXOXXXXXXXXXXXXXXXXXXXOXXXXXXXXXXXXXXXXXXXXXXXXXXXX X\n\
+-OXXXXX-XXXXXXXOXXXXXXXXXXXXXXXXXXXOXXXXXXXXXXXXXXXXXXXXXXXXXXXX O\n\
+XXXXXXXXXXXXXXXXXXXXXXXXXXXXXXXXXXXXXXXXXXXXXXXXXXXXXXXXXXXXXXXX O\n\
+";
+
+const TWO_BY_WINNER: &[u8] = b"[1]
+1 +62 H1 unlisted
+2 -40 H1 unlisted
+3 -64 -- unlisted
+solved 3 refused 0
+";
+
+const TWO_BY_DISCS: &[u8] = b"[1]
+1 +62 H1 unlisted
+2 -39 H1 unlisted
+3 -64 -- unlisted
+solved 3 refused 0
+";
+
+const TWO_BY_SIGN: &[u8] = b"[1]
+1 +01 A1,H1 unlisted
+2 -01 H1 unlisted
+3 -01 -- unlisted
+solved 3 refused 0
+";
+
+const BOTH: &[u8] = b"[1]
+1 +64 A1 unlisted
+2 +64 B1 unlisted
+3 +64 A1,H1 unlisted
+solved 3 refused 0
+[2]
+1 +62 H1 unlisted
+2 -40 H1 unlisted
+3 -64 -- unlisted
+solved 3 refused 0
+";
+
+// Position 40 of the FFO endgame test.
+const FFO_40: &[u8] = b"O--OOOOX-OOOOOOXOOXXOOOXOOXOOOXXOOOOOOXX---OOOOX----O--X-------- X";
+
+const FFO_40_REFUSED: &[u8] = b"[1]\n1 refused: 20 empties, limit 19\nsolved 0 refused 1\n";
+
+const BAD_EMPTIES: &[u8] = b"\
+error: invalid value '61' for '--max-empties <N>': 61 is not in 0..=60
+
+For more information, try '--help'.
+";
+
+const BAD_TABLE: &[u8] = b"\
+error: invalid value 'x' for '--table <N>': invalid digit found in string
+
+For more information, try '--help'.
+";
+
+const LARGE_TABLE: &[u8] = b"\
+error: invalid value '4194305' for '--table <N>': 4194305 is not in 0..=4194304
+
+For more information, try '--help'.
+";
+
+const BAD_OPTION: &[u8] = b"\
+error: unexpected argument '--best' found
+
+  tip: to pass '--best' as a value, use '-- --best'
+
+Usage: ffosolve [OPTIONS] [FILES]...
+
+For more information, try '--help'.
+";
+
+const BAD_SCORING: &[u8] = b"\
+error: invalid value 'best' for '--scoring <NAME>'
+  [possible values: winner, discs, sign]
+
+For more information, try '--help'.
+";
+
+const NO_FILE: &[u8] = b"ffosolve: cannot read no-such.obf\n";
+
+const NO_MEMORY: &[u8] = b"ffosolve: out of memory\n";
+
+const NO_INPUT: &[u8] = b"ffosolve: cannot read standard input\n";
+
+const NO_OUTPUT: &[u8] = b"ffosolve: cannot write standard output\n";
+
+const TOO_LARGE: &[u8] = b"ffosolve: file 1 is larger than 1048576 bytes\n";
+
+const POSITION_RUNS: [Run; 3] = [
+    ("ffosolve --scoring winner", POSITIONS, 0, BY_WINNER, b""),
+    ("ffosolve --scoring discs", POSITIONS, 0, BY_DISCS, b""),
+    (
+        "ffosolve --scoring=sign --max-empties=20",
+        POSITIONS,
+        0,
+        BY_SIGN,
+        b"",
+    ),
+];
+
+const RUNS: [Run; 15] = [
+    ("ffosolve", b"", 0, EMPTY_REPORT, b""),
+    ("ffosolve --max-empties 2", IMAGES, 0, IMAGES_REPORT, b""),
+    ("ffosolve", LISTED, 0, LISTED_REPORT, b""),
+    ("ffosolve", FAULTY, 0, FAULTY_REPORT, b""),
+    ("ffosolve", LENIENT, 0, LENIENT_REPORT, b""),
+    ("ffosolve", TWO, 0, TWO_BY_WINNER, b""),
+    ("ffosolve --scoring discs", TWO, 0, TWO_BY_DISCS, b""),
+    ("ffosolve --scoring sign", TWO, 0, TWO_BY_SIGN, b""),
+    ("ffosolve --max-empties 19", FFO_40, 0, FFO_40_REFUSED, b""),
+    ("ffosolve --max-empties 61", b"", 2, b"", BAD_EMPTIES),
+    ("ffosolve --table x", b"", 2, b"", BAD_TABLE),
+    ("ffosolve --table 4194305", b"", 2, b"", LARGE_TABLE),
+    ("ffosolve --best", b"", 2, b"", BAD_OPTION),
+    ("ffosolve --scoring best", b"", 2, b"", BAD_SCORING),
+    ("ffosolve no-such.obf", b"", 3, b"", NO_FILE),
 ];
 
 #[test]
-fn reports_files(rt: HostRuntime) -> Result<(), Fail> {
-    let alloc = rt.alloc();
-    for (text, wanted) in FILES {
-        let report = report_of(alloc, &Settings::default(), text.to_vec(alloc)?)?;
-        assert_eq!(rt; report.as_slice(), wanted);
+fn runs_by_words(rt: HostRuntime) -> Result<(), Fail> {
+    for run in POSITION_RUNS.iter().chain(&RUNS) {
+        assert_run(&rt, rt.alloc(), run)?;
     }
+    Ok(())
+}
+
+const FILE_RUNS: [Run; 4] = [
+    ("ffosolve first.obf second.obf", TWO, 0, BOTH, b""),
+    ("ffosolve first.obf --table 0 second.obf", b"", 0, BOTH, b""),
+    (
+        "ffosolve first.obf no-such.obf",
+        b"",
+        3,
+        b"",
+        b"ffosolve: cannot read no-such.obf\n",
+    ),
+    (
+        "ffosolve first.obf large.obf",
+        b"",
+        1,
+        b"",
+        b"ffosolve: file 2 is larger than 1048576 bytes\n",
+    ),
+];
+
+#[test]
+fn runs_on_files(rt: HostRuntime) -> Result<(), Fail> {
+    let alloc = rt.alloc();
+    fs::write(&rt, "first.obf", ONE)?;
+    fs::write(&rt, "second.obf", TWO)?;
+    fs::write(&rt, "large.obf", &vec![in alloc; b' '; 1_048_577]?)?;
+    for run in &FILE_RUNS {
+        assert_run(&rt, alloc, run)?;
+    }
+    let mut line = String::from_str(alloc, "ffosolve")?;
+    for _ in 0..65 {
+        line.push_str(" first.obf")?;
+    }
+    assert_run(
+        &rt,
+        alloc,
+        &(
+            line.as_str(),
+            b"",
+            1,
+            b"",
+            b"ffosolve: more than 64 files\n",
+        ),
+    )?;
+    for name in ["first.obf", "second.obf", "large.obf"] {
+        fs::remove_file(&rt, name)?;
+    }
+    Ok(())
+}
+
+// Files of as many bytes as may be, all the same, and of one more.
+#[test]
+fn measures_input(rt: HostRuntime) -> Result<(), Fail> {
+    let alloc = rt.alloc();
+    for (byte, report) in [(b' ', EMPTY_REPORT), (b'X', FULL_REPORT)] {
+        let mut text = vec![in alloc; byte; 1_048_576]?;
+        assert_run(&rt, alloc, &("ffosolve", &text, 0, report, b""))?;
+        text.push(byte)?;
+        assert_run(&rt, alloc, &("ffosolve", &text, 1, b"", TOO_LARGE))?;
+    }
+    Ok(())
+}
+
+#[test]
+fn reads_options(rt: HostRuntime) -> Result<(), Fail> {
+    let alloc = rt.alloc();
+    let found = options(alloc, &words_of(alloc, "ffosolve")?)?;
+    assert_eq!(rt; found.settings, Settings::default());
+    assert!(rt; found.files.is_empty());
+    let line = "ffosolve a --max-empties=60 --table 4194304 --scoring sign -- --help";
+    let found = options(alloc, &words_of(alloc, line)?)?;
+    let wanted = Settings::new(60, 2, 4_194_304, Scoring::Sign).expect(&rt, "the limits");
+    assert_eq!(rt; found.settings, wanted);
+    let named = found.files.join(alloc, " ")?;
+    assert_eq!(rt; named.as_str(), "a --help");
     Ok(())
 }
 
 #[test]
 fn keeps_limits(rt: HostRuntime) {
     let scoring = Scoring::Winner;
-    assert!(rt; Settings::new(61, 2, 0, scoring).is_none());
-    assert!(rt; Settings::new(20, 65, 0, scoring).is_none());
-    assert!(rt; Settings::new(20, 2, 4_194_305, scoring).is_none());
+    for (max_empties, workers, table) in [(61, 2, 0), (20, 65, 0), (20, 2, 4_194_305)] {
+        assert!(rt; Settings::new(max_empties, workers, table, scoring).is_none());
+    }
     let most = Settings::new(60, 64, 4_194_304, scoring).expect(&rt, "the limits");
     assert_eq!(rt; (most.max_empties(), most.workers()), (60, 64));
     assert_eq!(rt; (most.table(), most.scoring()), (4_194_304, scoring));
@@ -240,49 +443,20 @@ fn counts_files(rt: HostRuntime) -> Result<(), Fail> {
     let alloc = rt.alloc();
     let settings = Settings::default();
     let mut files = Vec::new(alloc);
-    assert_eq!(rt;
-        run_serial(alloc, &files, &settings)?
-            .reports
-            .as_slice()
-            .len(),
-        0
-    );
+    let none = run_serial(alloc, &files, &settings)?.reports;
+    assert!(rt; none.as_slice().is_empty());
     for _ in 0..64 {
         files.push(Vec::new(alloc))?;
     }
-    let reports = run_serial(alloc, &files, &settings)?.reports;
-    assert_eq!(rt; reports.as_slice().len(), 64);
-    for (report, sender) in reports.as_slice().iter().zip(1..65u32) {
+    let reports = run_serial(alloc, &files, &settings)?.reports.into_vec();
+    assert_eq!(rt; reports.len(), 64);
+    for (report, sender) in reports.iter().zip(1..65u32) {
         let wanted = format!(in alloc; "[{sender}]\nsolved 0 refused 0\n")?;
         assert_eq!(rt; report.as_slice(), wanted.as_bytes());
     }
     files.push(Vec::new(alloc))?;
-    assert!(rt;
-        matches!(
-            run_serial(alloc, &files, &settings),
-            Err(RunFault::TooManyFiles)
-        )
-    );
-    Ok(())
-}
-
-// Files of as many bytes as may be, all the same, and their reports; and of one more.
-#[test]
-fn measures_files(rt: HostRuntime) -> Result<(), Fail> {
-    let alloc = rt.alloc();
-    let settings = Settings::default();
-    for (byte, wanted) in [(b' ', EMPTY_REPORT), (b'X', FULL_REPORT)] {
-        let mut text = vec![in alloc; byte; 1_048_576]?;
-        let report = report_of(alloc, &settings, text.clone()?)?;
-        assert_eq!(rt; report.as_slice(), wanted);
-        text.push(byte)?;
-        assert!(rt;
-            matches!(
-                report_of(alloc, &settings, text),
-                Err(RunFault::FileTooLarge(0))
-            )
-        );
-    }
+    let many = run_serial(alloc, &files, &settings);
+    assert!(rt; matches!(many, Err(RunFault::TooManyFiles)));
     Ok(())
 }
 
@@ -339,55 +513,7 @@ impl Write for FailingWriter {
     }
 }
 
-// Two boards with two empty squares, and a full one.
-const THREE: &[u8] = b"\
--OXXXXX-XXXXXXXOXXXXXXXXXXXXXXXXXXXOXXXXXXXXXXXXXXXXXXXXXXXXXXXX X\n\
--OXXXXX-XXXXXXXOXXXXXXXXXXXXXXXXXXXOXXXXXXXXXXXXXXXXXXXXXXXXXXXX O\n\
-XXXXXXXXXXXXXXXXXXXXXXXXXXXXXXXXXXXXXXXXXXXXXXXXXXXXXXXXXXXXXXXX O\n";
-
-const PRINTED: &[u8] = b"[1]
-1 +62 H1 unlisted
-2 -40 H1 unlisted
-3 -64 -- unlisted
-solved 3 refused 0
-";
-
-const NO_INPUT: &[u8] = b"ffosolve: cannot read standard input\n";
-
-const NO_OUTPUT: &[u8] = b"ffosolve: cannot write standard output\n";
-
-const TOO_LARGE: &[u8] = b"ffosolve: file 1 is larger than 1048576 bytes\n";
-
-#[test]
-fn prints_reports(rt: HostRuntime) -> Result<(), Fail> {
-    let alloc = rt.alloc();
-    let words = ["ffosolve", "--an-option"];
-    let mut input = THREE;
-    let mut output = Vec::new(alloc);
-    let mut errors = Vec::new(alloc);
-    let status = program(
-        &rt,
-        alloc,
-        words.as_slice(),
-        &mut input,
-        &mut output,
-        &mut errors,
-    );
-    assert_eq!(rt; status, 0);
-    assert_eq!(rt; output.as_slice(), PRINTED);
-    assert_eq!(rt; errors.len(), 0);
-
-    let mut owned = Vec::new(alloc);
-    owned.push(String::from_str(alloc, "ffosolve")?)?;
-    let mut input = THREE;
-    let mut output = Vec::new(alloc);
-    let status = program_of(&rt, alloc, Ok(owned), &mut input, &mut output, &mut errors);
-    assert_eq!(rt; status, 0);
-    assert_eq!(rt; output.as_slice(), PRINTED);
-    assert_eq!(rt; errors.len(), 0);
-    Ok(())
-}
-
+// A standard error that fails, whenever it does, changes no status.
 #[test]
 fn tells_failing_input(rt: HostRuntime) -> Result<(), Fail> {
     let alloc = rt.alloc();
@@ -398,84 +524,92 @@ fn tells_failing_input(rt: HostRuntime) -> Result<(), Fail> {
         };
         let mut output = Vec::new(alloc);
         let mut errors = Vec::new(alloc);
-        let status = program(&rt, alloc, &[], &mut input, &mut output, &mut errors);
+        let status = program(
+            &rt,
+            alloc,
+            &["ffosolve"],
+            &mut input,
+            &mut output,
+            &mut errors,
+        );
+        if is_refused_memory(&rt, status, &output, &errors) {
+            return Err(Fail::from(AllocError));
+        }
         assert_eq!(rt; status, 3);
         assert_eq!(rt; errors.as_slice(), NO_INPUT);
         assert_eq!(rt; output.len(), 0);
     }
-    Ok(())
-}
-
-// The report has 77 bytes, which are 26 writes of three bytes and less.
-#[test]
-fn tells_failing_output(rt: HostRuntime) -> Result<(), Fail> {
-    let alloc = rt.alloc();
-    for calls_left in 0..28 {
-        let mut input = THREE;
-        let mut output = FailingWriter { calls_left };
-        let mut errors = Vec::new(alloc);
-        let status = program(&rt, alloc, &[], &mut input, &mut output, &mut errors);
-        assert_eq!(rt; status, if calls_left < 26 { 3 } else { 0 });
-        assert_eq!(rt;
-            errors.as_slice(),
-            if calls_left < 26 { NO_OUTPUT } else { b"" }
-        );
-    }
-    Ok(())
-}
-
-#[test]
-fn tells_endless_input(rt: HostRuntime) -> Result<(), Fail> {
-    let alloc = rt.alloc();
-    let mut output = Vec::new(alloc);
-    let mut errors = Vec::new(alloc);
-    let status = program(
-        &rt,
-        alloc,
-        &[],
-        &mut EndlessReader {},
-        &mut output,
-        &mut errors,
-    );
-    assert_eq!(rt; status, 1);
-    assert_eq!(rt; errors.as_slice(), TOO_LARGE);
-    assert_eq!(rt; output.len(), 0);
-    // A standard error that fails, whenever it does, changes no status.
     for calls_left in 0..3 {
+        let mut input = EndlessReader {};
+        let mut output = Vec::new(alloc);
         let mut errors = FailingWriter { calls_left };
         let status = program(
             &rt,
             alloc,
-            &[],
-            &mut EndlessReader {},
+            &["ffosolve"],
+            &mut input,
             &mut output,
             &mut errors,
         );
         assert_eq!(rt; status, 1);
+        assert_eq!(rt; output.len(), 0);
     }
     Ok(())
 }
 
+// The report has 77 bytes, which are 26 writes of three bytes and less. Help has more.
 #[test]
-fn refuses_words(rt: HostRuntime) -> Result<(), Fail> {
+fn tells_failing_output(rt: HostRuntime) -> Result<(), Fail> {
     let alloc = rt.alloc();
-    let cases: [(io::ErrorKind, u8, &[u8]); 2] = [
+    for calls_left in 0..28 {
+        for (line, fails) in [("ffosolve", calls_left < 26), ("ffosolve --help", true)] {
+            let words = words_of(alloc, line)?;
+            let mut input = TWO;
+            let mut output = FailingWriter { calls_left };
+            let mut errors = Vec::new(alloc);
+            let status = program(&rt, alloc, &words, &mut input, &mut output, &mut errors);
+            if is_refused_memory(&rt, status, b"", &errors) {
+                return Err(Fail::from(AllocError));
+            }
+            assert_eq!(rt; status, if fails { 3 } else { 0 });
+            assert_eq!(rt; errors.as_slice(), if fails { NO_OUTPUT } else { b"" });
+        }
+    }
+    Ok(())
+}
+
+// Words as the system gives them, and a word that is no text.
+#[test]
+fn reads_words(rt: HostRuntime) -> Result<(), Fail> {
+    let alloc = rt.alloc();
+    let mut words = Vec::new(alloc);
+    for word in ["ffosolve", "--help"] {
+        words.push(String::from_str(alloc, word)?)?;
+    }
+    let no_text = io::Error::from(io::ErrorKind::InvalidData);
+    let no_memory = io::Error::from(io::ErrorKind::OutOfMemory);
+    let cases: [(io::Result<Vec<String>>, u8, &[u8], &[u8]); 3] = [
+        (Ok(words), 0, b"Solves Othello endgames", b""),
         (
-            io::ErrorKind::InvalidData,
+            Err(no_text),
             2,
+            b"",
             b"ffosolve: cannot read the command line\n",
         ),
-        (io::ErrorKind::OutOfMemory, 1, b"ffosolve: out of memory\n"),
+        (Err(no_memory), 1, b"", NO_MEMORY),
     ];
-    for (kind, want, line) in cases {
-        let mut input = b"".as_slice();
+    for (words, wanted, front, line) in Vec::from_array(alloc, cases)? {
+        let mut input = TWO;
         let mut output = Vec::new(alloc);
         let mut errors = Vec::new(alloc);
-        let words = Err(io::Error::from(kind));
         let status = program_of(&rt, alloc, words, &mut input, &mut output, &mut errors);
-        assert_eq!(rt; status, want);
+        if wanted == 0 && is_refused_memory(&rt, status, &output, &errors) {
+            return Err(Fail::from(AllocError));
+        }
+        assert_eq!(rt; status, wanted);
+        assert!(rt; output.starts_with(front));
+        assert_eq!(rt; output.is_empty(), front.is_empty());
         assert_eq!(rt; errors.as_slice(), line);
-        assert_eq!(rt; output.len(), 0);
     }
     Ok(())
 }
@@ -489,7 +623,9 @@ fn writes_reports(rt: HostRuntime) -> Result<(), Fail> {
         result,
     }];
     let mut report = Vec::new(alloc);
-    write_report(&mut report, u32::MAX, &rows)?;
+    if write_report(&mut report, u32::MAX, &rows).is_err() {
+        return Err(Fail::from(AllocError));
+    }
     let wanted = b"[4294967296]\n4294967295 refused: 61 empties, limit 60\nsolved 0 refused 1\n";
     assert_eq!(rt; report.as_slice(), wanted.as_slice());
     // The report has 73 bytes, which are 25 writes and more.

@@ -1,0 +1,6 @@
+pub mod BoardFacts
+pub mod Deliveries
+pub mod HistoryFacts
+pub mod Joins
+pub mod StateSteps
+pub mod TraceFacts

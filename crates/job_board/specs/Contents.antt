@@ -1,0 +1,74 @@
+-- What a board holds (a queue of work for each sender, as a state machine): the jobs of each sender.
+use Rattle.std.specs.Prelude.{ℕ, ◌+◌, Bool, true, false, List, [], ◌∷◌, ◌++◌, Option, Some, None, slice_get, slice_set, replicate}
+use Rattle.endgame_search.specs.Problems.{Problem}
+use Rattle.job_board.specs.declared.jobs.Stage.{Stage}
+use Rattle.job_board.specs.declared.jobs.Stage.TheVariants.{Waiting, Taken, Finished}
+
+-- of one sender: its accepted tasks, how far each has come, how many answers it was handed, and whether it is closed
+pub record State : Type 0 where
+  pub tasks : List Problem
+  pub stages : List Stage
+  pub handed : ℕ
+  pub closed : Bool
+
+-- the states of the senders 0, 1, 2, ..
+abbrev pub Content : Type 0
+Content = List State
+
+abbrev pub empty_state : State
+empty_state = record { tasks = []; stages = []; handed = 0; closed = false }
+
+-- of n senders, none of which has submitted a task
+abbrev pub empty_content : ℕ → Content
+empty_content n = replicate n empty_state
+
+abbrev pub put_state : Content → ℕ → (State → State) → Option State → Content
+put_state c s f None = c
+put_state c s f (Some state) = slice_set c s (f state)
+
+-- the content with the state of s changed, if there is such a sender
+abbrev pub change : Content → ℕ → (State → State) → Content
+change c s f = put_state c s f (slice_get c s)
+
+abbrev pub stage_in : ℕ → Option State → Option Stage
+stage_in k None = None
+stage_in k (Some state) = slice_get state.stages k
+
+-- how far job k of sender s has come; None where there is no such job
+abbrev pub stage_at : Content → ℕ → ℕ → Option Stage
+stage_at c s k = stage_in k (slice_get c s)
+
+abbrev pub task_in : ℕ → Option State → Option Problem
+task_in k None = None
+task_in k (Some state) = slice_get state.tasks k
+
+-- the task of job k of sender s
+abbrev pub task_at : Content → ℕ → ℕ → Option Problem
+task_at c s k = task_in k (slice_get c s)
+
+abbrev pub is_waiting : Option Stage → Bool
+is_waiting (Some Waiting) = true
+is_waiting _ = false
+
+abbrev pub is_taken : Stage → Bool
+is_taken Taken = true
+is_taken _ = false
+
+abbrev pub is_finished : Option Stage → Bool
+is_finished (Some (Finished a)) = true
+is_finished _ = false
+
+-- one more task is accepted, and waits
+abbrev pub with_task : Problem → State → State
+with_task t state = record state { tasks = state.tasks ++ t ∷ []; stages = state.stages ++ Waiting ∷ [] }
+
+-- job k comes to this stage
+abbrev pub with_stage : ℕ → Stage → State → State
+with_stage k stage state = record state { stages = slice_set state.stages k stage }
+
+-- one more answer is handed over
+abbrev pub hand_one : State → State
+hand_one state = record state { handed = state.handed + 1 }
+
+abbrev pub closed : State → State
+closed state = record state { closed = true }

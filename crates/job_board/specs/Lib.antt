@@ -1,0 +1,9 @@
+pub mod Boards
+pub mod Clients
+pub mod Contents
+pub mod Histories
+pub mod Queues
+pub mod Replies
+pub mod Steps
+pub mod Traces
+pub mod Turns

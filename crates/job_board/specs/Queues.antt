@@ -1,0 +1,16 @@
+-- The jobs that wait (a priority queue).
+use Rattle.std.specs.Prelude.{ℕ, ◌==◌, ◌&&◌, Bool, List, count_by}
+use Rattle.job_board.specs.declared.jobs.JobId.{JobId}
+
+-- the jobs in no certain order, and for how many there is room
+pub record Queue : Type 0 where
+  pub jobs : List JobId
+  pub room : ℕ
+
+-- id names job k of sender s
+abbrev pub names : ℕ → ℕ → JobId → Bool
+names s k id = (id.sender == s) && (id.number == k)
+
+-- how often a list names job k of sender s
+abbrev pub times : ℕ → ℕ → List JobId → ℕ
+times s k ids = count_by (names s k) ids

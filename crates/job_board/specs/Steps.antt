@@ -1,0 +1,52 @@
+-- Lists of steps with their replies (histories of the state machine).
+use Rattle.std.specs.Prelude.{◌≡◌, ℕ, List, [], ◌∷◌}
+use Rattle.job_board.specs.declared.jobs.Handed.TheVariants as handed
+use Rattle.job_board.specs.declared.steps.Step.{Step}
+use Rattle.job_board.specs.declared.steps.Step.TheVariants as step
+use Rattle.job_board.specs.declared.steps.Reply.{Reply}
+use Rattle.job_board.specs.declared.steps.Reply.TheVariants as reply
+use Rattle.job_board.specs.Contents.{Content, empty_content}
+use Rattle.job_board.specs.Replies.{Submits, after_submit, Takes, after_take, Finishes, after_finish, give_back_reply, after_give_back, deliver_reply, after_deliver, close_reply, after_close}
+
+-- the reply is lawful of a board with content c
+abbrev pub IsLawful : Content → Step → Reply → Type 0
+IsLawful c (step.Submit s t) (reply.Submitted r) = Submits c s r
+IsLawful c step.Take (reply.Took r) = Takes c r
+IsLawful c (step.Finish id a) (reply.Finished r) = Finishes c id a r
+IsLawful c (step.GiveBack id) (reply.GaveBack r) = r ≡ give_back_reply c id
+IsLawful c (step.Deliver s) (reply.Handed r) = r ≡ deliver_reply c s
+IsLawful c (step.Close s) (reply.Closed r) = r ≡ close_reply c s
+IsLawful c _ _ = ⊥
+
+-- the content after a step with its reply
+abbrev pub after : Content → Step → Reply → Content
+after c (step.Submit s t) (reply.Submitted r) = after_submit c s t r
+after c step.Take (reply.Took r) = after_take c r
+after c (step.Finish id a) (reply.Finished r) = after_finish c id a r
+after c (step.GiveBack id) (reply.GaveBack r) = after_give_back c id r
+after c (step.Deliver s) (reply.Handed r) = after_deliver c s r
+after c (step.Close s) (reply.Closed r) = after_close c s r
+after c _ _ = c
+
+-- the content after all steps with their replies
+abbrev pub after_all : Content → List Step → List Reply → Content
+after_all c (s ∷ ss) (r ∷ rs) = after_all (after c s r) ss rs
+after_all c _ _ = c
+
+-- one reply for each step, and each is lawful after those before it
+abbrev pub AreLawful : Content → List Step → List Reply → Type 0
+AreLawful c [] [] = Unit {0}
+AreLawful c (s ∷ ss) (r ∷ rs) = IsLawful c s r × AreLawful (after c s r) ss rs
+AreLawful c _ _ = ⊥
+
+-- A history of n senders is a list of steps with their replies. It is legal if each reply is lawful after those before.
+abbrev pub IsLegal : ℕ → List Step → List Reply → Type 0
+IsLegal n ss rs = AreLawful (empty_content n) ss rs
+
+-- what a history of n senders leaves
+abbrev pub content : ℕ → List Step → List Reply → Content
+content n ss rs = after_all (empty_content n) ss rs
+
+-- after a history of n senders, a deliver of s is answered Drained
+abbrev pub IsDrained : ℕ → ℕ → List Step → List Reply → Type 0
+IsDrained n s ss rs = handed.Drained ≡ deliver_reply (content n ss rs) s

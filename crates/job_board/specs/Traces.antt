@@ -1,0 +1,78 @@
+-- For each content that a board may have, a history that leaves it: a list of steps with their replies.
+use Rattle.std.specs.Prelude.{ℕ, zero, suc, ◌+◌, Bool, true, false, List, [], ◌∷◌, ◌++◌, Some, Ok}
+use Rattle.endgame_search.specs.Problems.{Problem}
+use Rattle.job_board.specs.declared.jobs.JobId.{JobId}
+use Rattle.job_board.specs.declared.jobs.Stage.{Stage}
+use Rattle.job_board.specs.declared.jobs.Stage.TheVariants.{Waiting, Taken, Finished}
+use Rattle.job_board.specs.declared.jobs.Handed.TheVariants as handed
+use Rattle.job_board.specs.declared.steps.Step.{Step}
+use Rattle.job_board.specs.declared.steps.Step.TheVariants as step
+use Rattle.job_board.specs.declared.steps.Reply.{Reply}
+use Rattle.job_board.specs.declared.steps.Reply.TheVariants as reply
+use Rattle.job_board.specs.Contents.{State, Content}
+
+-- the tasks are submitted, and get the numbers from k on
+abbrev pub submit_steps : ℕ → List Problem → List Step
+submit_steps s [] = []
+submit_steps s (t ∷ ts) = step.Submit s t ∷ submit_steps s ts
+
+abbrev pub submit_replies : ℕ → List Problem → List Reply
+submit_replies k [] = []
+submit_replies k (t ∷ ts) = reply.Submitted (Ok k) ∷ submit_replies (k + 1) ts
+
+abbrev pub job : ℕ → ℕ → JobId
+job s k = record { sender = s; number = k }
+
+-- what brings a taken job to its stage
+abbrev pub settle_steps : JobId → Stage → List Step
+settle_steps id Waiting = step.GiveBack id ∷ []
+settle_steps id Taken = []
+settle_steps id (Finished a) = step.Finish id a ∷ []
+
+abbrev pub settle_replies : Stage → List Reply
+settle_replies Waiting = reply.GaveBack (Ok tt) ∷ []
+settle_replies Taken = []
+settle_replies (Finished a) = reply.Finished (Ok tt) ∷ []
+
+-- each job is taken, and then brought to its stage
+abbrev pub job_steps : ℕ → ℕ → List Problem → List Stage → List Step
+job_steps s k (t ∷ ts) (st ∷ sts) = step.Take ∷ (settle_steps (job s k) st ++ job_steps s (k + 1) ts sts)
+job_steps s k _ _ = []
+
+abbrev pub job_replies : ℕ → ℕ → List Problem → List Stage → List Reply
+job_replies s k (t ∷ ts) (st ∷ sts) = reply.Took (Some (record { id = job s k; task = t })) ∷ (settle_replies st ++ job_replies s (k + 1) ts sts)
+job_replies s k _ _ = []
+
+-- n answers are handed over, from number k on
+abbrev pub deliver_steps : ℕ → ℕ → List Step
+deliver_steps s zero = []
+deliver_steps s (suc n) = step.Deliver s ∷ deliver_steps s n
+
+abbrev pub deliver_replies : ℕ → ℕ → List Stage → List Reply
+deliver_replies k (suc n) (Finished a ∷ sts) = reply.Handed (handed.Next (record { number = k; solved = a })) ∷ deliver_replies (k + 1) n sts
+deliver_replies k _ _ = []
+
+-- a closed sender is closed
+abbrev pub close_steps : ℕ → Bool → List Step
+close_steps s true = step.Close s ∷ []
+close_steps s false = []
+
+abbrev pub close_replies : Bool → List Reply
+close_replies true = reply.Closed (Ok true) ∷ []
+close_replies false = []
+
+-- what brings a sender from nothing to its state
+abbrev pub state_steps : ℕ → State → List Step
+state_steps s state = submit_steps s state.tasks ++ (job_steps s 0 state.tasks state.stages ++ (deliver_steps s state.handed ++ close_steps s state.closed))
+
+abbrev pub state_replies : ℕ → State → List Reply
+state_replies s state = submit_replies 0 state.tasks ++ (job_replies s 0 state.tasks state.stages ++ (deliver_replies 0 state.handed state.stages ++ close_replies state.closed))
+
+-- a history that leaves the content: the steps of one sender after those of another
+abbrev pub trace_steps : ℕ → Content → List Step
+trace_steps s [] = []
+trace_steps s (state ∷ c) = state_steps s state ++ trace_steps (s + 1) c
+
+abbrev pub trace_replies : ℕ → Content → List Reply
+trace_replies s [] = []
+trace_replies s (state ∷ c) = state_replies s state ++ trace_replies (s + 1) c

@@ -1,0 +1,141 @@
+//! What the thread of one sender knows: what it sent, and how much of it came back.
+
+ghost use Rattle.std.specs.Prelude.{◌≡◌, ◌≢◌, ◌<◌, ◌+◌, length, IfOk, IfSome, IfNone, OnOk, OnErr, Err};
+ghost use Rattle.job_board.specs.declared.faults.SubmitFault.TheVariants as fault;
+ghost use Rattle.job_board.specs.declared.clients.Turn.TheVariants.{Next, Drained};
+
+use crate::boards::Board;
+use crate::faults::{Mixed, SubmitFault};
+use crate::jobs::{Delivery, Handed, Job, is_answer_of};
+use endgame_search::Task;
+use std::alloc::Global;
+use std::marker::Model;
+
+/// What a turn at a desk gives.
+#[derive(Clone, Copy, PartialEq, Eq, Debug)]
+pub enum Turn {
+    /// The client's next answer.
+    Next(Delivery),
+    /// A job of any sender, which the client has now taken.
+    Work(Job),
+    /// The sender is closed, and all answers came back.
+    Drained,
+}
+
+/// One sender's part at a desk: its number, the tasks that it sent, and how many of their answers came back.
+#[derive(Drop)]
+pub struct Client {
+    sender: u32,
+    sent: Vec<Task>,
+    received: u32,
+}
+
+impl Model for Client {
+    ghost use Rattle.std.specs.Prelude.{◌≤◌, length};
+    ghost use Rattle.job_board.specs.Clients.{ClientState};
+
+    ghost Value = { ClientState };
+
+    ghost view = { λ c. record { sender = c.sender; sent = c.sent.items; received = c.received } };
+
+    ghost invariant = { λ c. c.received ≤ length c.sent.items };
+}
+
+impl Client {
+    ghost use Rattle.job_board.specs.Clients.{new_client, with_sent};
+    ghost use Rattle.job_board.specs.Replies.{Submits, after_submit, deliver_reply};
+    ghost use Rattle.job_board.specs.Turns.{IsNext, IsServed, TurnGives, LooksAt};
+
+    /// A client of the sender, which has sent nothing. It takes no memory yet.
+    pub fn new(alloc: Global, sender: u32) -> Client
+        ensures { result ≡ new_client sender }
+    {
+        Client {
+            sender,
+            sent: Vec::new(alloc),
+            received: 0,
+        }
+    }
+
+    /// The tasks that were accepted, in the order in which they were sent.
+    pub fn sent(&self) -> &[Task]
+        ensures { result.now ≡ self.now.sent }
+    {
+        self.sent.as_slice()
+    }
+
+    /// How many answers came back.
+    pub fn received(&self) -> u32
+        ensures { result ≡ self.now.received }
+    {
+        self.received
+    }
+
+    pub(crate) fn sender(&self) -> u32
+        ensures { result ≡ self.now.sender }
+    {
+        self.sender
+    }
+
+    /// Submits a task to the board, and keeps it. The client's own want of memory comes before all other refusals.
+    pub(crate) fn send(&mut self, board: &mut Board, task: Task) -> Result<u32, SubmitFault>
+        ensures ok { OnOk result (self.new ≡ with_sent task self.old) }
+        ensures err { OnErr result (self.new ≡ self.old) }
+        ensures lawful { result ≢ Err fault.Memory → Submits board.old self.old.sender result }
+        ensures content { board.new ≡ after_submit board.old self.old.sender task result }
+    {
+        let Ok(()) = self.sent.reserve(1) else {
+            return Err(SubmitFault::Memory);
+        };
+        let number = board.submit(self.sender, task)?;
+        self.sent.push_reserved(task);
+        Ok(number)
+    }
+
+    /// What one hold of the board gives the client: a deliver, and where that says to wait, a take. None where the
+    /// client has to wait.
+    pub(crate) fn look(&mut self, board: &mut Board) -> Option<Result<Turn, Mixed>>
+        ensures ok { IfSome result (λ found. IfOk found (TurnGives self.old self.new)) }
+        ensures err { IfSome result (λ found. OnErr found (self.new ≡ self.old)) }
+        ensures waits { IfNone result (self.new ≡ self.old) }
+        ensures hold { LooksAt board.old self.old (deliver_reply board.old self.old.sender) result board.new }
+    {
+        match board.deliver(self.sender) {
+            Handed::Next(delivery) => Some(self.accept(delivery)),
+            Handed::Drained => Some(self.settle()),
+            Handed::NoSender => Some(Err(Mixed)),
+            Handed::Waiting => {
+                let job = board.take()?;
+                Some(Ok(Turn::Work(job)))
+            }
+        }
+    }
+
+    // Counts a delivery, if it is the next.
+    fn accept(&mut self, delivery: Delivery) -> Result<Turn, Mixed>
+        requires { delivery.number < 65535 }
+        ensures ok { IfOk result (λ turn. (turn ≡ Next delivery) × TurnGives self.old self.new turn) }
+        ensures err { OnErr result ((IsNext self.old delivery → ⊥) × (self.new ≡ self.old)) }
+    {
+        let Some(task) = self.sent.get(self.received as usize).copied() else {
+            return Err(Mixed);
+        };
+        if delivery.number != self.received || !is_answer_of(delivery.solved, task) {
+            return Err(Mixed);
+        }
+        self.received += 1;
+        Ok(Turn::Next(delivery))
+    }
+
+    // Whether all answers came back.
+    fn settle(&self) -> Result<Turn, Mixed>
+        ensures ok { IfOk result (λ turn. (turn ≡ Drained) × IsServed self.now) }
+        ensures err { OnErr result (IsServed self.now → ⊥) }
+    {
+        if self.received as usize == self.sent.len() {
+            Ok(Turn::Drained)
+        } else {
+            Err(Mixed)
+        }
+    }
+}

@@ -1,0 +1,24 @@
+//! Jobs of many senders: solved in any order, by anyone, and handed back to each sender in the order of its submits.
+//!
+//! A `Board` is a machine of six steps, which runs on one thread. A `Desk` is a board that threads share under a lock,
+//! and a `Client` is one sender's part at a desk.
+#![tactic(auto)]
+
+pub mod boards;
+pub mod clients;
+pub mod desks;
+pub mod faults;
+pub mod jobs;
+pub mod laws;
+mod queues;
+mod senders;
+pub mod steps;
+#[cfg(test)]
+mod tests;
+
+pub use boards::Board;
+pub use clients::{Client, Turn};
+pub use desks::Desk;
+pub use faults::{BoardFault, JobFault, Mixed, NoSender, SubmitFault};
+pub use jobs::{Delivery, Handed, Job, JobId, Stage};
+pub use steps::{Reply, Step, run_steps};

@@ -1,0 +1,114 @@
+-- The command line, as clap's contracts see it.
+use Rattle.std.specs.Prelude.{◌≡◌, ◌≢◌, ◌⊎◌, ℕ, pos, true, List, [], ◌∷◌, map, Some, String, codes, string_bytes, unwrap_or}
+use Rattle.std.specs.Borrow.{Bor}
+use Rattle.std.specs.Str.Parse.{IsNumeral, digits_value, without_leading_plus}
+use Rattle.std.specs.declared.alloc.Global.{Global}
+use Rattle.clap.specs.Faults.{fault_of}
+use Rattle.clap.specs.Kinds.{IsAmong}
+use Rattle.clap.specs.Lexer.{usize_max}
+use Rattle.clap.specs.Words.{App, Row, Rule, Text, all_of, first_of, kind_of, matches_of, new_app, new_rule, one_of, takes, with_rule}
+use Rattle.clap.specs.declared.builder.ArgAction.TheVariants.{Append}
+use Rattle.clap.specs.declared.builder.value_parser.ValueParser.TheVariants as parser
+use Rattle.clap.specs.declared.error.Error.{Error}
+use Rattle.clap.specs.declared.error.kind.ErrorKind.{ErrorKind}
+use Rattle.clap.specs.declared.error.kind.ErrorKind.TheVariants.{OutOfMemory}
+use Rattle.othello_rules.specs.declared.scorings.Scoring.{Scoring}
+use Rattle.othello_rules.specs.declared.scorings.Scoring.TheVariants.{Winner, Discs, Sign}
+use Rattle.suite_solver.specs.Limits.{Configuration}
+use Rattle.suite_solver.specs.declared.requests.OptionFault.{OptionFault}
+use Rattle.suite_solver.specs.declared.requests.OptionFault.TheVariants.{Memory, Refused}
+
+-- ---- the command
+
+-- an option with a number from 0 to most
+abbrev pub number_rule : Text → ℕ → Text → Rule
+number_rule name most default = record (new_rule name) {
+  long = Some name;
+  value_names = 1;
+  defaults = default ∷ [];
+  parser = Some (parser.Signed (pos 0) (pos most));
+}
+
+abbrev pub scoring_name : Scoring → Text
+scoring_name Winner = codes "winner"
+scoring_name Discs = codes "discs"
+scoring_name Sign = codes "sign"
+
+-- clap holds a list of names where it stands in memory
+abbrev pub NameList : Type 0
+NameList = Bor (List (Bor Text))
+
+abbrev pub NamesScorings : NameList → Type 0
+NamesScorings names =
+    map (λ name. name.now) names.now ≡ scoring_name Winner ∷ scoring_name Discs ∷ scoring_name Sign ∷ []
+
+-- an option with one of these names
+abbrev pub scoring_rule : NameList → Rule
+scoring_rule names = record (new_rule (codes "scoring")) {
+  long = Some (codes "scoring");
+  value_names = 1;
+  defaults = scoring_name Winner ∷ [];
+  parser = Some (parser.Names names);
+}
+
+-- any number of words
+abbrev pub files_rule : Rule
+files_rule = record (new_rule (codes "FILES")) {
+  action = Some Append;
+  range = Some (record { start_inclusive = 0; end_inclusive = usize_max });
+}
+
+abbrev pub ffosolve : NameList → App
+ffosolve names = with_rule (with_rule (with_rule (with_rule (new_app (codes "ffosolve"))
+    (number_rule (codes "max-empties") 60 (codes "20")))
+    (number_rule (codes "table") 4194304 (codes "65536")))
+    (scoring_rule names))
+    files_rule
+
+-- ---- what stands in its matches
+
+-- the text that stands for an option is the decimal numeral of n
+pub record HasNumber (name : Text) (rows : List Row) (n : ℕ) : Type 0 where
+  pub text : Text
+  pub given : one_of name rows ≡ Some text
+  pub numeral : IsNumeral 10 (without_leading_plus text)
+  pub value : n ≡ digits_value 10 (without_leading_plus text)
+
+-- no option sets the number of workers
+pub record HasSettings (c : Configuration) (rows : List Row) : Type 0 where
+  pub max_empties : HasNumber (codes "max-empties") rows c.max_empties
+  pub workers : c.workers ≡ 2
+  pub table : HasNumber (codes "table") rows c.table
+  pub scoring : first_of (codes "scoring") rows ≡ Some (scoring_name c.scoring)
+
+abbrev pub names_of : List (String Global) → List Text
+names_of names = map string_bytes names
+
+-- The words ask for these settings and files: they stand in the matches that clap defines for the words and the
+-- command.
+pub record Asks (words : List Text) (c : Configuration) (files : List Text) : Type 0 where
+  pub names : NameList
+  pub named : NamesScorings names
+  pub settings : HasSettings c (matches_of (ffosolve names) words)
+  pub listed : files ≡ unwrap_or (all_of (codes "FILES") (matches_of (ffosolve names) words)) []
+
+-- ---- when it is refused
+
+-- clap takes the words, wherever the names of the scorings stand
+abbrev pub IsTaken : List Text → Type 0
+IsTaken words = (names : NameList) → NamesScorings names → takes (ffosolve names) words ≡ true
+
+-- clap finds a fault of this kind in the words; a request for help is one
+pub record HasFault (words : List Text) (kind : ErrorKind) : Type 0 where
+  pub names : NameList
+  pub named : NamesScorings names
+  pub found : IsAmong kind (fault_of (ffosolve names) words)
+
+abbrev pub IsFaultOf : List Text → OptionFault → Type 0
+IsFaultOf words Memory = Unit {0}
+IsFaultOf words (Refused error) = HasFault words (kind_of error)
+
+-- clap's own want of memory is want of memory
+abbrev pub IsFaultBy : Error → OptionFault → Type 0
+IsFaultBy error fault =
+    ((kind_of error ≡ OutOfMemory) × (fault ≡ Memory)) ⊎ ((kind_of error ≢ OutOfMemory) × (fault ≡ Refused error))

@@ -1,0 +1,56 @@
+//! What a command line asks for, and why it can't be read.
+
+ghost use Rattle.std.specs.Prelude.{◌≡◌};
+ghost use Rattle.suite_solver.specs.CommandLine.{IsFaultBy};
+ghost use Rattle.suite_solver.specs.declared.requests.OptionFault.TheVariants.{Memory};
+
+use crate::limits::Settings;
+use clap::error::ErrorKind;
+use std::alloc::{AllocError, AllocFailed};
+use thiserror::Error;
+
+/// What a command line asks for.
+#[derive(Debug, Drop)]
+pub struct Options {
+    pub settings: Settings,
+    /// The names of the files as given, in their order. Without any, standard input is the one file.
+    pub files: Vec<String>,
+}
+
+/// Why a command line gives no options.
+#[derive(Debug, Drop, Error)]
+pub enum OptionFault {
+    /// There was no memory for it, or none for clap's own work.
+    #[error("out of memory")]
+    Memory,
+    /// What clap says of the words: why it refuses them, or the help that they ask for.
+    #[error("{0}")]
+    Refused(clap::Error),
+}
+
+impl From<AllocError> for OptionFault {
+    ghost from_gives = { λ _ fault. fault ≡ Memory };
+
+    fn from(_error: AllocError) -> OptionFault {
+        OptionFault::Memory
+    }
+}
+
+impl<T: Drop> From<AllocFailed<T>> for OptionFault {
+    ghost from_gives = { λ _ fault. fault ≡ Memory };
+
+    fn from(_error: AllocFailed<T>) -> OptionFault {
+        OptionFault::Memory
+    }
+}
+
+impl From<clap::Error> for OptionFault {
+    ghost from_gives = { λ error fault. IsFaultBy error fault };
+
+    fn from(error: clap::Error) -> OptionFault {
+        match error.kind() {
+            ErrorKind::OutOfMemory => OptionFault::Memory,
+            _ => OptionFault::Refused(error),
+        }
+    }
+}
