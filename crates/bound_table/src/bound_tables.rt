@@ -12,6 +12,7 @@ use othello_bits::Pos;
 use othello_rules::Scoring;
 use std::alloc::Global;
 use std::marker::Model;
+use std::sync::atomic::{AtomicU8, Ordering};
 
 /// A table with a fixed number of entries, which threads share by reference: no call waits, and none but `new` takes
 /// memory. An entry holds a canonical position and a range that is true of it. A store replaces what its entry holds,
@@ -19,6 +20,8 @@ use std::marker::Model;
 #[derive(Drop)]
 pub struct BoundTable {
     scoring: Scoring,
+    // The fewest empty squares of a position that was stored; 65 before the first store.
+    fewest_empties: AtomicU8,
     slots: Vec<Slot>,
 }
 
@@ -72,7 +75,11 @@ impl BoundTable {
         for _ in 0..entries {
             slots.push_reserved(unused(scoring));
         }
-        Ok(BoundTable { scoring, slots })
+        Ok(BoundTable {
+            scoring,
+            fewest_empties: AtomicU8::new(65),
+            slots,
+        })
     }
 
     // Whether the table has no entries, and so keeps nothing.
@@ -81,6 +88,20 @@ impl BoundTable {
         ensures { IsTrue result ↔ (self.now.entries ≡ 0) }
     {
         self.slots.is_empty()
+    }
+
+    // Whether no position with so few empty squares was stored: then a probe need not look for it.
+    #[inline]
+    fn is_below_all(&self, empties: u8) -> bool {
+        empties < self.fewest_empties.load(Ordering::SeqCst)
+    }
+
+    // Notes how few empty squares a stored position has.
+    #[inline]
+    fn note(&self, empties: u8) {
+        if self.is_below_all(empties) {
+            self.fewest_empties.fetch_min(empties, Ordering::SeqCst);
+        }
     }
 
     // The slot that a canonical position chooses.
@@ -109,6 +130,9 @@ impl Bounds for BoundTable {
         if self.is_empty() {
             return None;
         }
+        if self.is_below_all(position.empties()) {
+            return None;
+        }
         let canonical = position.least_image();
         let entry = read(self.slot(canonical))?;
         entry.range_of(canonical)
@@ -119,6 +143,7 @@ impl Bounds for BoundTable {
         if self.is_empty() {
             return;
         }
+        self.note(position.empties());
         let entry = Entry::of(position, range);
         write(self.slot(entry.position), entry);
     }

@@ -3,6 +3,7 @@
 
 mod children;
 mod ranges;
+mod roots;
 mod searches;
 mod solutions;
 mod tasks;

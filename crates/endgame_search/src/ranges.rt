@@ -49,6 +49,9 @@ fn told(low: i8, high: i8, score: i8) -> Range
     Range::new(score, score).unwrap()
 }
 
+// The fewest empty squares of a position that is stored: one with fewer is searched again sooner than it is found.
+const FEWEST_STORED: u8 = 7;
+
 // Stores what a score from a search of the window says of the position, and gives the score back.
 #[inline]
 pub(crate) fn stored<T: Bounds>(table: &T, position: Pos, low: i8, high: i8, score: i8) -> i8
@@ -56,6 +59,8 @@ pub(crate) fn stored<T: Bounds>(table: &T, position: Pos, low: i8, high: i8, sco
     requires places { Places low high (value_of (T.scoring table.now) position) score }
     ensures { result ≡ score }
 {
-    table.store(&position, told(low, high, score));
+    if position.empties() >= FEWEST_STORED {
+        table.store(&position, told(low, high, score));
+    }
     score
 }

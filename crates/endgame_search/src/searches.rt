@@ -185,7 +185,7 @@ fn search_children<T: Bounds>(table: &T, position: Pos, children: &[Child], low:
 // A score that places in the window what a move to this position is worth to the side that made it. After the first
 // move a null window asks whether it is worth more than the lower end, before the rest of the window is searched.
 #[cycle(search)]
-fn search_after<T: Bounds>(
+pub(crate) fn search_after<T: Bounds>(
     table: &T,
     after: Pos,
     replies: u64,

@@ -1,12 +1,14 @@
 //! Positions with their answers.
 
-ghost use Rattle.std.specs.Prelude.{◌≡◌, ◌↔◌, ◌≤ℤ◌, neg_ℤ, IsTrue};
+ghost use Rattle.std.specs.Prelude.{◌≡◌, ◌≢◌, ◌↔◌, ◌≤ℤ◌, neg_ℤ, IsTrue};
 ghost use Rattle.othello_rules.specs.declared.scorings.Scoring.TheVariants.{Sign};
 ghost use Rattle.othello_rules.specs.Solution.{IsScore};
 ghost use Rattle.std.proofs.Common.{sym};
 ghost use Rattle.endgame_search.specs.Problems.{Problem};
 ghost use Rattle.othello_bits.specs.Discs.{moves_of, play_of, value_of, answer_of, best_of, is_best, mask_where, IsMove};
 
+use crate::ranges::{decided, stored};
+use crate::roots::leading_moves;
 use crate::searches::value_in;
 use crate::tasks::Task;
 use bound_table::Bounds;
@@ -78,8 +80,28 @@ pub fn solve<T: Bounds>(table: &T, task: Task) -> Solved
     requires { task.scoring ≡ T.scoring table.now }
     ensures { result ≡ task }
 {
+    let moves = task.pos().moves();
+    if moves != 0 {
+        return solve_moves(table, task, moves);
+    }
     let score = value_in(table, task.pos(), -65, 65);
     solved_at(table, task, score)
+}
+
+// The same where the mover has a move: one pass over the moves, unless the table shows the value.
+fn solve_moves<T: Bounds>(table: &T, task: Task, moves: u64) -> Solved
+    requires scoring { task.scoring ≡ T.scoring table.now }
+    requires moves { moves ≡ moves_of task.position }
+    requires some { moves ≢ 0 }
+    ensures { result ≡ task }
+{
+    let position = task.pos();
+    if let Some(score) = decided(table, position, -65, 65) {
+        return solved_at(table, task, score);
+    }
+    let leaders = leading_moves(table, position, moves);
+    let score = stored(table, position, -65, 65, leaders.score);
+    solved_as(task, score, Best::Moves(leaders.moves))
 }
 
 /// What `solve` gives, sooner where the claim is right: two null windows test the score, and one tests each move.
@@ -120,6 +142,15 @@ fn solved_at<T: Bounds>(table: &T, task: Task, score: i8) -> Solved
     ensures { result ≡ task }
 {
     let best = best_from(table, task.pos(), score);
+    solved_as(task, score, best)
+}
+
+// The task's position with its answer, where both parts of it are known.
+fn solved_as(task: Task, score: i8, best: Best) -> Solved
+    requires value { score ≡ value_of task.scoring task.position }
+    requires best { best ≡ best_of task.scoring task.position }
+    ensures { result ≡ task }
+{
     Solved {
         position: task.pos(),
         scoring: task.scoring(),

@@ -40,6 +40,9 @@ const FFO_40: Discs = (0x80_80c0_c48c_8080, 0x10_783f_3b73_7e79);
 // the same without its disc on H7
 const FFO_40_WITHOUT_H7: Discs = (0x80c0_c48c_8080, 0x10_783f_3b73_7e79);
 
+// OOOOOOOX OXXXXXXX OOXXOXOX OOOXXOXX OXOOXOXX OOXXOXXX OOOXXXXX --------
+const EMPTY_LAST_ROW: Discs = (0xf8_ecd2_d8ac_fe80, 0x7_132d_2753_017f);
+
 // XXX----- and seven empty rows
 const THREE_DISCS: Discs = (0x7, 0);
 
@@ -240,6 +243,13 @@ fn count_probes(table: BoundTable, watched: [Pos; 2]) -> ProbeCounter
     }
 }
 
+// Stores the value of a position.
+fn store_value(table: &BoundTable, position: Pos) {
+    let score = value_in(table, position, -65, 65);
+    let exact = Range::new(score, score).unwrap();
+    table.store(&position, exact);
+}
+
 #[test]
 fn probes_and_cut_offs(rt: HostRuntime) {
     let position = pos_of(&rt, UNEQUAL_CORNERS, Side::Black);
@@ -254,10 +264,23 @@ fn probes_and_cut_offs(rt: HostRuntime) {
     // Once the value was stored, one probe shows it.
     let table = BoundTable::new(rt.alloc(), 1, Scoring::Winner).expect(&rt, "memory");
     let counter = count_probes(table, [after_h1, after_a1]);
-    assert_eq!(rt; value_in(&counter.table, position, -65, 65), 62);
+    store_value(&counter.table, position);
     assert_eq!(rt; value_in(&counter, position, -65, 65), 62);
     assert_eq!(rt; counter.probes.get(), 1);
     let task = task_of(&rt, position, Scoring::Winner);
     assert_eq!(rt; solve(&counter, task).answer().best, Best::Moves(H1));
     assert!(rt; counter.probes.get() > 1);
+}
+
+#[test]
+fn values_are_stored(rt: HostRuntime) {
+    let position = pos_of(&rt, EMPTY_LAST_ROW, Side::White);
+    let table = BoundTable::new(rt.alloc(), 1, Scoring::Winner).expect(&rt, "memory");
+    let counter = count_probes(table, [position, position.pass()]);
+    let score = value_in(&counter, position, -65, 65);
+    // The position was stored last, and one probe more shows its value.
+    let probes = counter.probes.replace(0);
+    assert!(rt; probes > 1);
+    assert_eq!(rt; value_in(&counter, position, -65, 65), score);
+    assert_eq!(rt; counter.probes.get(), 1);
 }

@@ -1,6 +1,6 @@
 //! A mask's squares, one after another.
 
-ghost use Rattle.std.specs.Prelude.{◌≡◌, ℕ, ◌<◌, ◌&&◌, ◌==◌, not, true, false};
+ghost use Rattle.std.specs.Prelude.{◌≡◌, ℕ, ◌<◌, ◌&&◌, ◌||◌, ◌==◌, not, true, false};
 ghost use Rattle.othello_rules.specs.Masks.{in_mask};
 
 use othello_rules::Square;
@@ -21,4 +21,12 @@ pub fn without(mask: u64, square: Square) -> u64
     ensures { (i : ℕ) → in_mask result i ≡ (in_mask mask i && not (square == i)) }
 {
     mask & !(1u64 << square.number())
+}
+
+/// The mask with a square.
+#[inline]
+pub fn including(mask: u64, square: Square) -> u64
+    ensures { (i : ℕ) → in_mask result i ≡ (in_mask mask i || square == i) }
+{
+    mask | 1u64 << square.number()
 }

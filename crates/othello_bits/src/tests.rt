@@ -1,6 +1,6 @@
 //! Small positions whose masks and images are known, and each public call once.
 
-use crate::masks::{lowest, without};
+use crate::masks::{including, lowest, without};
 use crate::{Pos, Sym};
 use othello_rules::{Scoring, Side, Square};
 use std::process::Abort;
@@ -76,6 +76,7 @@ fn moves_and_passes(rt: HostRuntime) {
     assert_eq!(rt; Pos::of_grid(&pos.to_grid(Side::White)), pos);
     assert_eq!(rt; pos.play(Square::at(1)), None);
     assert_eq!(rt; without(0x81, Square::at(A1)), 0x80);
+    assert_eq!(rt; including(0x80, Square::at(A1)), 0x81);
     let square = lowest(0x80);
     assert_eq!(rt; square.number(), H1);
     let after_h1 = pos.play(square).expect(&rt, "a move");

@@ -12,5 +12,5 @@ solved_at-requires g c =
     let e = c.value_in-score.ensures in
     record {
       scoring = c.requires;
-      value = s ∙ whole_window (g.T.Bounds.scoring c.args.table.now) c.pos.result r e.inside e.below e.above ∙ (λ k. value_of (sym c.requires k) (c.pos.ensures.value k));
+      value = s ∙ whole_window (g.T.Bounds.scoring c.args.table.now) c.pos-2.result r e.inside e.below e.above ∙ (λ k. value_of (sym c.requires k) (c.pos-2.ensures.value k));
     }
