@@ -14,6 +14,9 @@ use crate::entries::ListedMove;
 use othello_rules::Square;
 use std::alloc::{AllocError, Global};
 
+// The greatest size of a score.
+const GREATEST_SIZE: u8 = 64;
+
 fn digit_of(byte: u8) -> Option<u8>
     ensures value { result ≡ digit_of byte }
     ensures small { IfSome result (λ d. d ≤ 9) }
@@ -54,7 +57,11 @@ fn size_of(digits: &[u8]) -> Option<u8>
             let tens = digit_of(*first)?;
             let ones = digit_of(*second)?;
             let size = 10 * tens + ones;
-            if size <= 64 { Some(size) } else { None }
+            if size <= GREATEST_SIZE {
+                Some(size)
+            } else {
+                None
+            }
         }
         _ => None,
     }
@@ -136,7 +143,7 @@ fn before_comment(rest: &[u8]) -> &[u8]
 }
 
 // The pieces between semicolons that are left.
-#[derive(Clone, Copy, Debug)]
+#[derive(Clone, Copy)]
 struct Pieces<'a> {
     left: Option<&'a [u8]>,
 }

@@ -31,17 +31,17 @@ fn read_side(alloc: Global, place: usize, cells: [Cell; 64], rest: &[u8]) -> Res
 {
     let gap = blank_count(rest);
     let column = place + gap + 1;
-    let Some((byte, fields)) = rest[gap..].split_first() else {
-        return Err(LineFault::BadSide(column));
-    };
-    let Some(side) = side_of(*byte) else {
-        return Err(LineFault::BadSide(column));
-    };
-    let listed = read_fields(alloc, fields)?;
-    Ok(Item::Entry(Line {
-        grid: Grid::new(cells, side),
-        listed: Listed::from(listed),
-    }))
+    match &rest[gap..] {
+        [] => Err(LineFault::BadSide(column)),
+        [byte, fields @ ..] => {
+            let Some(side) = side_of(*byte) else {
+                return Err(LineFault::BadSide(column));
+            };
+            let grid = Grid::new(cells, side);
+            let listed = Listed::from(read_fields(alloc, fields)?);
+            Ok(Item::Entry(Line { grid, listed }))
+        }
+    }
 }
 
 // From the first cell on, which stands behind `start` blanks.

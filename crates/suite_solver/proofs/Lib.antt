@@ -1,5 +1,6 @@
 pub mod NameLemmas
 pub mod RowLemmas
+pub mod TaskLemmas
 pub mod RunLemmas
 pub mod InputLemmas
 pub mod ProgramLemmas

@@ -3,6 +3,7 @@ pub mod CommandLine
 pub mod Checks
 pub mod Text
 pub mod Rows
+pub mod Readings
 pub mod Reports
 pub mod Runs
 pub mod Programs

@@ -1,6 +1,6 @@
 //! Reads the command line, by `clap`.
 
-ghost use Rattle.std.specs.Prelude.{◌≡◌, ◌≤◌, ◌≤ℤ◌, ℕ, false, IfOk, IfErr, IfSome, [], codes, map, nat_abs, option_map, pos, string_bytes, unwrap_or};
+ghost use Rattle.std.specs.Prelude.{◌≡◌, ◌≤◌, ℕ, false, IfOk, IfErr, IfSome, [], codes, map, option_map, string_bytes, unwrap_or};
 ghost use Rattle.clap.specs.Words.{app_of, found_of, matched_of, raw_values, rows_of, rule_of};
 ghost use Rattle.suite_solver.specs.CommandLine.{Asks, HasNumber, HasSettings, IsFaultOf, IsTaken};
 ghost use Rattle.suite_solver.specs.CommandLine.{ffosolve, files_rule, names_of, number_rule, scoring_name, scoring_rule};
@@ -23,19 +23,18 @@ the side to move sees it, every best move, and how the scores that the line list
 fn number_arg<'a>(
     alloc: Global,
     name: &'a str,
-    most: i64,
+    most: u32,
     default: &'a str,
     help: &'a str,
 ) -> Arg<'a>
-    requires { pos 0 ≤ℤ most }
-    ensures rule { rule_of result ≡ number_rule name.entry.now (nat_abs most) default.entry.now }
+    ensures rule { rule_of result ≡ number_rule name.entry.now most default.entry.now }
     ensures local { result.global ≡ false }
 {
     Arg::new(alloc, name)
         .long(name)
         .value_name("N")
         .default_value(default)
-        .value_parser(ValueParser::signed(0, most))
+        .value_parser(ValueParser::signed(0, i64::from(most)))
         .help(help)
 }
 
@@ -68,6 +67,7 @@ fn files_arg<'a>(alloc: Global) -> Arg<'a>
 fn command<'a>(alloc: Global, names: &'a [&'a str]) -> Result<Command<'a>, AllocError>
     ensures { IfOk result (λ c. app_of c ≡ ffosolve names.entry) }
 {
+    let bare = Command::new(alloc, "ffosolve").about(ABOUT);
     let max_empties = number_arg(
         alloc,
         "max-empties",
@@ -75,6 +75,7 @@ fn command<'a>(alloc: Global, names: &'a [&'a str]) -> Result<Command<'a>, Alloc
         "20",
         "Solve positions with at most N empty squares, 0 to 60",
     );
+    let c1 = bare.arg(max_empties)?;
     let table = number_arg(
         alloc,
         "table",
@@ -82,13 +83,9 @@ fn command<'a>(alloc: Global, names: &'a [&'a str]) -> Result<Command<'a>, Alloc
         "65536",
         "Keep the bounds of at most N positions, 0 to 4194304",
     );
-    let scoring = scoring_arg(alloc, names);
-    let files = files_arg(alloc);
-    let bare = Command::new(alloc, "ffosolve").about(ABOUT);
-    let c1 = bare.arg(max_empties)?;
     let c2 = c1.arg(table)?;
-    let c3 = c2.arg(scoring)?;
-    c3.arg(files)
+    let c3 = c2.arg(scoring_arg(alloc, names))?;
+    c3.arg(files_arg(alloc))
 }
 
 fn byte_of(matches: &ArgMatches<'_>, id: &str) -> Option<u8>

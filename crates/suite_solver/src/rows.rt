@@ -1,15 +1,13 @@
 //! What a report says of each line.
 
 ghost use Rattle.std.specs.Prelude.{◌≡◌, ◌≤◌, length, IfOk};
-ghost use Rattle.obf_text.specs.Obf.{entry_of, item_of};
-ghost use Rattle.suite_solver.specs.Rows.{entry_result, result_of, rows};
+ghost use Rattle.suite_solver.specs.Rows.{rows, tasks};
 
-use crate::checks::{Check, check_of};
-use bound_table::{BoundTable, Bounds};
-use endgame_search::{Task, TooMany, solve};
-use obf_text::{Item, Line, LineFault, read_line, split_lines};
-use othello_bits::Pos;
-use othello_rules::Answer;
+use crate::checks::Check;
+use crate::readings::reading_of;
+use endgame_search::Solved;
+use obf_text::split_lines;
+use othello_rules::{Answer, Scoring};
 use std::alloc::{AllocError, Global};
 
 /// Why a line was not solved.
@@ -39,62 +37,33 @@ pub struct ReportRow {
     pub result: RowResult,
 }
 
-// A position is solved unless it has more empty squares than the limit.
-fn entry_result(table: &BoundTable, limit: u8, entry: &Line) -> RowResult
-    requires { limit ≤ 60 }
-    ensures { result ≡ entry_result table.now.scoring limit (entry_of entry.now) }
-{
-    match Task::new(Pos::of_grid(&entry.grid), limit, table.scoring()) {
-        Ok(task) => {
-            let answer = solve(table, task).answer();
-            let check = check_of(entry.listed.as_slice(), &answer);
-            RowResult::Solved(answer, check)
-        }
-        Err(TooMany(found)) => RowResult::Refused(Refusal::Empties(found, limit)),
-    }
-}
-
-// What comes of a line, unless it is skipped.
-fn result_of(
-    alloc: Global,
-    table: &BoundTable,
-    limit: u8,
-    line: &[u8],
-) -> Result<Option<RowResult>, AllocError>
-    requires few_empties { limit ≤ 60 }
-    requires short { length line.now ≤ 1048576 }
-    ensures { IfOk result (λ found. found ≡ result_of table.now.scoring limit (item_of line.now)) }
-{
-    let refusal = match read_line(alloc, line) {
-        Ok(Item::Skip) => return Ok(None),
-        Ok(Item::Entry(entry)) => return Ok(Some(entry_result(table, limit, &entry))),
-        Err(LineFault::Short(found)) => Refusal::Short(found as u32),
-        Err(LineFault::BadCell(column)) => Refusal::BadCell(column as u32),
-        Err(LineFault::BadSide(column)) => Refusal::BadSide(column as u32),
-        Err(LineFault::Memory) => return Err(AllocError),
-    };
-    Ok(Some(RowResult::Refused(refusal)))
-}
-
-// The rows of a text.
+// The rows of a text, whose tasks were solved, in their order.
 pub(crate) fn rows_of(
     alloc: Global,
-    table: &BoundTable,
     limit: u8,
+    scoring: Scoring,
     text: &[u8],
+    solved: &[Solved],
 ) -> Result<Vec<ReportRow>, AllocError>
     requires few_empties { limit ≤ 60 }
     requires short { length text.now ≤ 1048576 }
-    ensures { IfOk result (λ found. found.items ≡ rows table.now.scoring limit text.now) }
+    requires solved { solved.now ≡ tasks scoring limit text.now }
+    ensures { IfOk result (λ found. found.items ≡ rows scoring limit text.now) }
 {
     let mut rows = Vec::new(alloc);
     let mut number: u32 = 1;
+    let mut next: usize = 0;
     for line in split_lines(text) {
-        match result_of(alloc, table, limit, line)? {
-            Some(result) => rows.push(ReportRow {
-                line: number,
-                result,
-            })?,
+        match reading_of(alloc, limit, scoring, line)? {
+            Some(reading) => {
+                let answers = reading.answers();
+                let result = reading.result(solved, next);
+                rows.push(ReportRow {
+                    line: number,
+                    result,
+                })?;
+                next += answers;
+            }
             None => {}
         }
         number += 1;

@@ -9,8 +9,8 @@ ghost use Rattle.suite_solver.specs.declared.faults.RunFault.TheVariants.{Mixed,
 use crate::faults::RunFault;
 use crate::limits::{MOST_BYTES, MOST_FILES, Settings};
 use crate::outcomes::{Outcome, Reports};
+use crate::parts::serial_part;
 use crate::report::write_report;
-use crate::rows::rows_of;
 use bound_table::BoundTable;
 use std::alloc::{AllocError, Global};
 
@@ -26,9 +26,9 @@ fn report_of(
     requires short { length text.now ≤ 1048576 }
     ensures { IfOk result (λ made. made.items ≡ report table.now.scoring limit (sender, text.now)) }
 {
-    let rows = rows_of(alloc, table, limit, text)?;
+    let part = serial_part(alloc, text, limit, table)?;
     let mut report = Vec::new(alloc);
-    match write_report(&mut report, sender, &rows) {
+    match write_report(&mut report, sender, &part.rows) {
         Ok(()) => Ok(report),
         Err(_) => Err(AllocError),
     }

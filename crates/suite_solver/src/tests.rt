@@ -1,12 +1,18 @@
+use crate::laws::client_part;
 use crate::{
-    Refusal, ReportRow, RowResult, RunFault, Settings, options, program, program_of, run_serial,
-    write_report,
+    NoGate, Options, Refusal, ReportRow, RowResult, RunFault, Settings, options, program,
+    program_of, run_serial, write_report,
 };
+use bound_table::{BoundTable, NoTable};
+use endgame_search::Task;
+use job_board::{Client, Desk, JobId};
+use othello_bits::Pos;
 use othello_rules::Scoring;
 use std::alloc::{AllocError, Global};
 use std::io::{Read, Write};
 use std::process::Abort;
 use std::rt::Files;
+use std::sync::Wait;
 use std::test::Fail;
 use std::{fs, io};
 
@@ -14,37 +20,53 @@ use std::{fs, io};
 // that the program ends with.
 type Run<'a> = (&'a str, &'a [u8], u8, &'a [u8], &'a [u8]);
 
-fn words_of(alloc: Global, line: &str) -> Result<Vec<&str>, Fail> {
-    let mut words = Vec::new(alloc);
-    for word in line.split(' ') {
-        words.push(word)?;
-    }
-    Ok(words)
+// How a program ended.
+#[derive(Drop)]
+struct Ended {
+    status: u8,
+    output: Vec<u8>,
+    errors: Vec<u8>,
 }
 
-// Where an allocation was refused the program has said so, and printed nothing.
-fn is_refused_memory(rt: &impl Abort, status: u8, output: &[u8], errors: &[u8]) -> bool {
-    let is_refused = errors == NO_MEMORY;
-    if is_refused {
-        assert_eq!(rt; status, 1);
-        assert_eq!(rt; output.len(), 0);
-    }
-    is_refused
+fn words_of(alloc: Global, line: &str) -> Result<Vec<&str>, AllocError> {
+    line.split(' ').collect(alloc)
 }
 
-fn assert_run<T: Abort + Files>(rt: &T, alloc: Global, run: &Run<'_>) -> Result<(), Fail> {
-    let (line, mut input, wanted_status, wanted_output, wanted_errors) = *run;
-    let words = words_of(alloc, line)?;
+fn run<T: Files, R: Read>(rt: &T, alloc: Global, words: &[&str], input: &mut R) -> Ended {
     let mut output = Vec::new(alloc);
     let mut errors = Vec::new(alloc);
-    let status = program(rt, alloc, &words, &mut input, &mut output, &mut errors);
-    if is_refused_memory(rt, status, &output, &errors) {
+    let status = program(rt, alloc, words, input, &mut output, &mut errors);
+    Ended {
+        status,
+        output,
+        errors,
+    }
+}
+
+// Where an allocation was refused, the program has said so and printed nothing.
+fn assert_ended(
+    rt: &impl Abort,
+    ended: &Ended,
+    wanted: (u8, &[u8], &[u8]),
+    line: &str,
+) -> Result<(), Fail> {
+    let found = (
+        ended.status,
+        ended.output.as_slice(),
+        ended.errors.as_slice(),
+    );
+    if found != wanted && found == WANT_OF_MEMORY {
         return Err(Fail::from(AllocError));
     }
-    assert_eq!(rt; status, wanted_status, "{line}");
-    assert_eq!(rt; output.as_slice(), wanted_output, "{line}");
-    assert_eq!(rt; errors.as_slice(), wanted_errors, "{line}");
+    assert_eq!(rt; found, wanted, "{line}");
     Ok(())
+}
+
+fn assert_run<T: Abort + Files>(rt: &T, alloc: Global, wanted: &Run<'_>) -> Result<(), Fail> {
+    let (line, mut input, status, output, errors) = *wanted;
+    let words = words_of(alloc, line)?;
+    let ended = run(rt, alloc, &words, &mut input);
+    assert_ended(rt, &ended, (status, output, errors), line)
 }
 
 // Positions, some with listed scores, and lines that begin with a byte that is no square.
@@ -306,7 +328,15 @@ const NO_FILE: &[u8] = b"ffosolve: cannot read no-such.obf\n";
 
 const NO_MEMORY: &[u8] = b"ffosolve: out of memory\n";
 
+const WANT_OF_MEMORY: (u8, &[u8], &[u8]) = (1, b"", NO_MEMORY);
+
+const HELP: &[u8] = b"Solves Othello endgames";
+
 const NO_INPUT: &[u8] = b"ffosolve: cannot read standard input\n";
+
+const NO_WORDS: &[u8] = b"ffosolve: cannot read the command line\n";
+
+const MANY_FILES: &[u8] = b"ffosolve: more than 64 files\n";
 
 const NO_OUTPUT: &[u8] = b"ffosolve: cannot write standard output\n";
 
@@ -344,7 +374,10 @@ const RUNS: [Run; 15] = [
 
 #[test]
 fn runs_by_words(rt: HostRuntime) -> Result<(), Fail> {
-    for run in POSITION_RUNS.iter().chain(&RUNS) {
+    for run in &POSITION_RUNS {
+        assert_run(&rt, rt.alloc(), run)?;
+    }
+    for run in &RUNS {
         assert_run(&rt, rt.alloc(), run)?;
     }
     Ok(())
@@ -369,30 +402,31 @@ const FILE_RUNS: [Run; 4] = [
     ),
 ];
 
+// The program's name and so many times the name of one file.
+fn line_of_files(alloc: Global, files: u32) -> Result<String, AllocError> {
+    let mut line = String::from_str(alloc, "ffosolve")?;
+    for _ in 0..files {
+        line.push_str(" first.obf")?;
+    }
+    Ok(line)
+}
+
+fn write_files<T: Files>(rt: &T, alloc: Global) -> Result<(), Fail> {
+    fs::write(rt, "first.obf", ONE)?;
+    fs::write(rt, "second.obf", TWO)?;
+    fs::write(rt, "large.obf", &vec![in alloc; b' '; 1_048_577]?)?;
+    Ok(())
+}
+
 #[test]
 fn runs_on_files(rt: HostRuntime) -> Result<(), Fail> {
     let alloc = rt.alloc();
-    fs::write(&rt, "first.obf", ONE)?;
-    fs::write(&rt, "second.obf", TWO)?;
-    fs::write(&rt, "large.obf", &vec![in alloc; b' '; 1_048_577]?)?;
+    write_files(&rt, alloc)?;
     for run in &FILE_RUNS {
         assert_run(&rt, alloc, run)?;
     }
-    let mut line = String::from_str(alloc, "ffosolve")?;
-    for _ in 0..65 {
-        line.push_str(" first.obf")?;
-    }
-    assert_run(
-        &rt,
-        alloc,
-        &(
-            line.as_str(),
-            b"",
-            1,
-            b"",
-            b"ffosolve: more than 64 files\n",
-        ),
-    )?;
+    let line = line_of_files(alloc, 65)?;
+    assert_run(&rt, alloc, &(line.as_str(), b"", 1, b"", MANY_FILES))?;
     for name in ["first.obf", "second.obf", "large.obf"] {
         fs::remove_file(&rt, name)?;
     }
@@ -412,17 +446,26 @@ fn measures_input(rt: HostRuntime) -> Result<(), Fail> {
     Ok(())
 }
 
+fn asked(alloc: Global, line: &str) -> Result<Options, Fail> {
+    let words = words_of(alloc, line)?;
+    Ok(options(alloc, &words)?)
+}
+
 #[test]
-fn reads_options(rt: HostRuntime) -> Result<(), Fail> {
-    let alloc = rt.alloc();
-    let found = options(alloc, &words_of(alloc, "ffosolve")?)?;
+fn reads_no_options(rt: HostRuntime) -> Result<(), Fail> {
+    let found = asked(rt.alloc(), "ffosolve")?;
     assert_eq!(rt; found.settings, Settings::default());
     assert!(rt; found.files.is_empty());
+    Ok(())
+}
+
+#[test]
+fn reads_options(rt: HostRuntime) -> Result<(), Fail> {
     let line = "ffosolve a --max-empties=60 --table 4194304 --scoring sign -- --help";
-    let found = options(alloc, &words_of(alloc, line)?)?;
-    let wanted = Settings::new(60, 2, 4_194_304, Scoring::Sign).expect(&rt, "the limits");
-    assert_eq!(rt; found.settings, wanted);
-    let named = found.files.join(alloc, " ")?;
+    let found = asked(rt.alloc(), line)?;
+    let wanted = Settings::new(60, 2, 4_194_304, Scoring::Sign);
+    assert_eq!(rt; Some(found.settings), wanted);
+    let named = found.files.join(rt.alloc(), " ")?;
     assert_eq!(rt; named.as_str(), "a --help");
     Ok(())
 }
@@ -434,29 +477,111 @@ fn keeps_limits(rt: HostRuntime) {
         assert!(rt; Settings::new(max_empties, workers, table, scoring).is_none());
     }
     let most = Settings::new(60, 64, 4_194_304, scoring).expect(&rt, "the limits");
-    assert_eq!(rt; (most.max_empties(), most.workers()), (60, 64));
-    assert_eq!(rt; (most.table(), most.scoring()), (4_194_304, scoring));
+    let found = (
+        most.max_empties(),
+        most.workers(),
+        most.table(),
+        most.scoring(),
+    );
+    assert_eq!(rt; found, (60, 64, 4_194_304, scoring));
+}
+
+fn empty_files(alloc: Global, count: u32) -> Result<Vec<Vec<u8>>, AllocError> {
+    let mut files = Vec::new(alloc);
+    for _ in 0..count {
+        files.push(Vec::new(alloc))?;
+    }
+    Ok(files)
+}
+
+fn assert_empty_report(
+    rt: &impl Abort,
+    alloc: Global,
+    report: &[u8],
+    number: u32,
+) -> Result<(), Fail> {
+    let wanted = format!(in alloc; "[{number}]\nsolved 0 refused 0\n")?;
+    assert_eq!(rt; report, wanted.as_bytes());
+    Ok(())
+}
+
+fn assert_empty_reports(rt: &impl Abort, alloc: Global, reports: &[Vec<u8>]) -> Result<(), Fail> {
+    for (report, number) in reports.iter().zip(1..65u32) {
+        assert_empty_report(rt, alloc, report, number)?;
+    }
+    Ok(())
+}
+
+fn reports_of(alloc: Global, files: &[Vec<u8>]) -> Result<Vec<Vec<u8>>, Fail> {
+    let outcome = run_serial(alloc, files, &Settings::default())?;
+    Ok(outcome.reports.into_vec())
 }
 
 #[test]
 fn counts_files(rt: HostRuntime) -> Result<(), Fail> {
-    let alloc = rt.alloc();
-    let settings = Settings::default();
-    let mut files = Vec::new(alloc);
-    let none = run_serial(alloc, &files, &settings)?.reports;
-    assert!(rt; none.as_slice().is_empty());
-    for _ in 0..64 {
-        files.push(Vec::new(alloc))?;
+    for count in [0, 64] {
+        let files = empty_files(rt.alloc(), count)?;
+        let reports = reports_of(rt.alloc(), &files)?;
+        assert_eq!(rt; reports.len(), files.len());
+        assert_empty_reports(&rt, rt.alloc(), &reports)?;
     }
-    let reports = run_serial(alloc, &files, &settings)?.reports.into_vec();
-    assert_eq!(rt; reports.len(), 64);
-    for (report, sender) in reports.iter().zip(1..65u32) {
-        let wanted = format!(in alloc; "[{sender}]\nsolved 0 refused 0\n")?;
-        assert_eq!(rt; report.as_slice(), wanted.as_bytes());
-    }
-    files.push(Vec::new(alloc))?;
-    let many = run_serial(alloc, &files, &settings);
+    Ok(())
+}
+
+#[test]
+fn refuses_many_files(rt: HostRuntime) -> Result<(), Fail> {
+    let files = empty_files(rt.alloc(), 65)?;
+    let many = run_serial(rt.alloc(), &files, &Settings::default());
     assert!(rt; matches!(many, Err(RunFault::TooManyFiles)));
+    Ok(())
+}
+
+// Writes the report of one client's part, at a desk where others have no part in its jobs.
+fn report_part<R: Wait + Abort>(
+    rt: &R,
+    alloc: Global,
+    desk: &Desk,
+    table: &BoundTable,
+    sender: u32,
+    text: &[u8],
+    output: &mut Vec<u8>,
+) -> Result<(), Fail>
+    requires { length text.now ≤ 1048576 }
+{
+    let part = client_part(rt, alloc, text, sender, 20, desk, table, &NoGate)?;
+    assert_eq!(rt; part.solved.len(), part.rows.len());
+    write_report(output, sender, &part.rows)?;
+    Ok(())
+}
+
+#[test]
+fn clients_serve_themselves(rt: HostRuntime) -> Result<(), Fail> {
+    let alloc = rt.alloc();
+    let desk = Desk::new(alloc, 2)?;
+    let table = BoundTable::new(alloc, 16, Scoring::Winner)?;
+    let mut output = Vec::new(alloc);
+    report_part(&rt, alloc, &desk, &table, 0, ONE, &mut output)?;
+    report_part(&rt, alloc, &desk, &table, 1, TWO, &mut output)?;
+    assert_eq!(rt; output.as_slice(), BOTH);
+    assert!(rt; desk.take_or_wait(&rt).is_none());
+    Ok(())
+}
+
+// A job of another scoring is given back, and a sender that is not the desk's is refused.
+#[test]
+fn clients_are_refused(rt: HostRuntime) -> Result<(), Fail> {
+    let alloc = rt.alloc();
+    let desk = Desk::new(alloc, 2)?;
+    let table = NoTable::new(Scoring::Winner);
+    let position = Pos::new(!0xff, 0x7e).expect(&rt, "no square is taken twice");
+    let mut other = Client::new(alloc, 0);
+    desk.submit(&rt, &mut other, Task::new(position, 20, Scoring::Discs)?)?;
+    for sender in [1, 2] {
+        let part = client_part(&rt, alloc, ONE, sender, 20, &desk, &table, &NoGate);
+        assert!(rt; matches!(part, Err(RunFault::Mixed | RunFault::Memory)));
+    }
+    let job = desk.take_or_wait(&rt).expect(&rt, "the job waits again");
+    assert_eq!(rt; job.id, JobId { sender: 0, number: 0 });
     Ok(())
 }
 
@@ -513,72 +638,89 @@ impl Write for FailingWriter {
     }
 }
 
-// A standard error that fails, whenever it does, changes no status.
 #[test]
 fn tells_failing_input(rt: HostRuntime) -> Result<(), Fail> {
-    let alloc = rt.alloc();
     for calls_left in 0..8 {
         let mut input = FailingReader {
             bytes: IMAGES,
             calls_left,
         };
-        let mut output = Vec::new(alloc);
-        let mut errors = Vec::new(alloc);
-        let status = program(
-            &rt,
-            alloc,
-            &["ffosolve"],
-            &mut input,
-            &mut output,
-            &mut errors,
-        );
-        if is_refused_memory(&rt, status, &output, &errors) {
-            return Err(Fail::from(AllocError));
-        }
-        assert_eq!(rt; status, 3);
-        assert_eq!(rt; errors.as_slice(), NO_INPUT);
-        assert_eq!(rt; output.len(), 0);
+        let ended = run(&rt, rt.alloc(), &["ffosolve"], &mut input);
+        assert_ended(&rt, &ended, (3, b"", NO_INPUT), "ffosolve")?;
     }
+    Ok(())
+}
+
+// A standard error that fails, whenever it does, changes no status.
+#[test]
+fn ends_though_errors_fail(rt: HostRuntime) {
+    let alloc = rt.alloc();
     for calls_left in 0..3 {
         let mut input = EndlessReader {};
         let mut output = Vec::new(alloc);
         let mut errors = FailingWriter { calls_left };
-        let status = program(
-            &rt,
-            alloc,
-            &["ffosolve"],
-            &mut input,
-            &mut output,
-            &mut errors,
-        );
-        assert_eq!(rt; status, 1);
-        assert_eq!(rt; output.len(), 0);
+        let words = ["ffosolve"];
+        let status = program(&rt, alloc, &words, &mut input, &mut output, &mut errors);
+        assert_eq!(rt; (status, output.len()), (1, 0));
     }
-    Ok(())
+}
+
+// A standard output that fails after so many calls.
+fn assert_fails<T: Abort + Files>(
+    rt: &T,
+    alloc: Global,
+    line: &str,
+    calls_left: u32,
+    wanted: (u8, &[u8]),
+) -> Result<(), Fail> {
+    let mut input = TWO;
+    let mut output = FailingWriter { calls_left };
+    let mut errors = Vec::new(alloc);
+    let words = words_of(alloc, line)?;
+    let status = program(rt, alloc, &words, &mut input, &mut output, &mut errors);
+    let ended = Ended {
+        status,
+        output: Vec::new(alloc),
+        errors,
+    };
+    let (status, errors) = wanted;
+    assert_ended(rt, &ended, (status, b"", errors), line)
 }
 
 // The report has 77 bytes, which are 26 writes of three bytes and less. Help has more.
 #[test]
 fn tells_failing_output(rt: HostRuntime) -> Result<(), Fail> {
-    let alloc = rt.alloc();
     for calls_left in 0..28 {
-        for (line, fails) in [("ffosolve", calls_left < 26), ("ffosolve --help", true)] {
-            let words = words_of(alloc, line)?;
-            let mut input = TWO;
-            let mut output = FailingWriter { calls_left };
-            let mut errors = Vec::new(alloc);
-            let status = program(&rt, alloc, &words, &mut input, &mut output, &mut errors);
-            if is_refused_memory(&rt, status, b"", &errors) {
-                return Err(Fail::from(AllocError));
-            }
-            assert_eq!(rt; status, if fails { 3 } else { 0 });
-            assert_eq!(rt; errors.as_slice(), if fails { NO_OUTPUT } else { b"" });
-        }
+        let wanted: (u8, &[u8]) = if calls_left < 26 {
+            (3, NO_OUTPUT)
+        } else {
+            (0, b"")
+        };
+        assert_fails(&rt, rt.alloc(), "ffosolve", calls_left, wanted)?;
+        assert_fails(
+            &rt,
+            rt.alloc(),
+            "ffosolve --help",
+            calls_left,
+            (3, NO_OUTPUT),
+        )?;
     }
     Ok(())
 }
 
-// Words as the system gives them, and a word that is no text.
+// Words as the system gives them.
+fn run_words<T: Files>(rt: &T, alloc: Global, words: io::Result<Vec<String>>) -> Ended {
+    let mut input = TWO;
+    let mut output = Vec::new(alloc);
+    let mut errors = Vec::new(alloc);
+    let status = program_of(rt, alloc, words, &mut input, &mut output, &mut errors);
+    Ended {
+        status,
+        output,
+        errors,
+    }
+}
+
 #[test]
 fn reads_words(rt: HostRuntime) -> Result<(), Fail> {
     let alloc = rt.alloc();
@@ -586,32 +728,23 @@ fn reads_words(rt: HostRuntime) -> Result<(), Fail> {
     for word in ["ffosolve", "--help"] {
         words.push(String::from_str(alloc, word)?)?;
     }
-    let no_text = io::Error::from(io::ErrorKind::InvalidData);
-    let no_memory = io::Error::from(io::ErrorKind::OutOfMemory);
-    let cases: [(io::Result<Vec<String>>, u8, &[u8], &[u8]); 3] = [
-        (Ok(words), 0, b"Solves Othello endgames", b""),
-        (
-            Err(no_text),
-            2,
-            b"",
-            b"ffosolve: cannot read the command line\n",
-        ),
-        (Err(no_memory), 1, b"", NO_MEMORY),
-    ];
-    for (words, wanted, front, line) in Vec::from_array(alloc, cases)? {
-        let mut input = TWO;
-        let mut output = Vec::new(alloc);
-        let mut errors = Vec::new(alloc);
-        let status = program_of(&rt, alloc, words, &mut input, &mut output, &mut errors);
-        if wanted == 0 && is_refused_memory(&rt, status, &output, &errors) {
-            return Err(Fail::from(AllocError));
-        }
-        assert_eq!(rt; status, wanted);
-        assert!(rt; output.starts_with(front));
-        assert_eq!(rt; output.is_empty(), front.is_empty());
-        assert_eq!(rt; errors.as_slice(), line);
+    let ended = run_words(&rt, alloc, Ok(words));
+    if !ended.output.starts_with(HELP) {
+        return assert_ended(&rt, &ended, (0, HELP, b""), "ffosolve --help");
     }
+    assert_eq!(rt; (ended.status, ended.errors.len()), (0, 0));
     Ok(())
+}
+
+// A word that is no text, and no memory for the words.
+#[test]
+fn tells_failing_words(rt: HostRuntime) -> Result<(), Fail> {
+    let no_text = Err(io::Error::from(io::ErrorKind::InvalidData));
+    let ended = run_words(&rt, rt.alloc(), no_text);
+    assert_ended(&rt, &ended, (2, b"", NO_WORDS), "no text")?;
+    let no_memory = Err(io::Error::from(io::ErrorKind::OutOfMemory));
+    let ended = run_words(&rt, rt.alloc(), no_memory);
+    assert_ended(&rt, &ended, WANT_OF_MEMORY, "no memory")
 }
 
 #[test]

@@ -13,5 +13,5 @@ returns c =
     let a0 : app_of c.about-bare.result ≡ s0 = search rules in
     let a1 : app_of c.in_ok-c1.c1 ≡ s1 = c.in_ok-c1.ensures.shape c.number_arg-max_empties.ensures.local ∙ ap₂ with_rule a0 c.number_arg-max_empties.ensures.rule in
     let a2 : app_of c.in_ok-c2.c2 ≡ s2 = c.in_ok-c2.ensures.shape c.number_arg-table.ensures.local ∙ ap₂ with_rule a1 c.number_arg-table.ensures.rule in
-    let a3 : app_of c.in_ok-c3.c3 ≡ s3 = c.in_ok-c3.ensures.shape c.scoring_arg-scoring.ensures.local ∙ ap₂ with_rule a2 c.scoring_arg-scoring.ensures.rule in
-    IfOk-weaker c.arg-4.result _ _ (λ r h. h.shape c.files_arg-files.ensures.local ∙ ap₂ with_rule a3 c.files_arg-files.ensures.rule) c.arg-4.ensures
+    let a3 : app_of c.in_ok-c3.c3 ≡ s3 = c.in_ok-c3.ensures.shape c.scoring_arg.ensures.local ∙ ap₂ with_rule a2 c.scoring_arg.ensures.rule in
+    IfOk-weaker c.arg-4.result _ _ (λ r h. h.shape c.files_arg.ensures.local ∙ ap₂ with_rule a3 c.files_arg.ensures.rule) c.arg-4.ensures

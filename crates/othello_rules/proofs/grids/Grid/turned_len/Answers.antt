@@ -23,3 +23,6 @@ pub returns-clause-value : goal.returns-clause-value
 returns-clause-value c =
     let ended : c.loop-run.run ≡ room c.args.direction c.args.from = omega arith in
     turned_edge c.args.self.now c.args.from c.args.direction (rw (← ended) c.loop-run.invariant)
+
+pub returns-clause-short : goal.returns-clause-short
+returns-clause-short c = omega arith
