@@ -48,16 +48,27 @@ fn id(sender: u32, number: u32) -> JobId {
     JobId { sender, number }
 }
 
+fn job_of(id: JobId, task: Task) -> Job {
+    Job { id, task }
+}
+
+// The first job of the first sender, and its second.
+const FIRST: JobId = JobId {
+    sender: 0,
+    number: 0,
+};
+
+const SECOND: JobId = JobId {
+    sender: 0,
+    number: 1,
+};
+
 // A new board after these steps, and its replies.
-fn run(alloc: Global, rows: &[(Step, Reply)]) -> Result<(Board, Vec<Reply>), AllocError> {
+fn run(alloc: Global, steps: &[Step]) -> Result<(Board, Vec<Reply>), AllocError> {
     let Ok(mut board) = Board::new(alloc, 1) else {
         return Err(AllocError);
     };
-    let mut steps = Vec::new(alloc);
-    for (step, _) in rows {
-        steps.push(*step)?;
-    }
-    let replies = run_steps(alloc, &mut board, &steps)?;
+    let replies = run_steps(alloc, &mut board, steps)?;
     if replies.contains(&Reply::Submitted(Err(SubmitFault::Memory))) {
         return Err(AllocError);
     }
@@ -68,116 +79,145 @@ fn run(alloc: Global, rows: &[(Step, Reply)]) -> Result<(Board, Vec<Reply>), All
 fn board_after(
     rt: &impl Abort,
     alloc: Global,
-    rows: &[(Step, Reply)],
+    steps: &[Step],
+    wanted: &[Reply],
 ) -> Result<Board, AllocError> {
-    let (board, replies) = match run(alloc, rows) {
+    let (board, replies) = match run(alloc, steps) {
         Ok(ran) => ran,
-        Err(AllocError) => run(alloc, rows)?,
+        Err(AllocError) => run(alloc, steps)?,
     };
-    assert_eq!(rt; replies.len(), rows.len());
-    for (reply, (step, want)) in replies.iter().zip(rows) {
-        assert_eq!(rt; reply, want, "{step:?}");
-    }
+    assert_eq!(rt; replies.as_slice(), wanted);
     Ok(board)
+}
+
+// The reply to a take that gives this job.
+fn took(id: JobId, task: Task) -> Reply {
+    Reply::Took(Some(job_of(id, task)))
+}
+
+// The reply to a deliver that gives this answer.
+fn next(number: u32, task: Task) -> Reply {
+    let solved = solved(task);
+    Reply::Handed(Handed::Next(Delivery { number, solved }))
+}
+
+fn steps_of_two_jobs(first: Task, second: Task, by_discs: Solved) -> [Step; 13] {
+    let answer = solved(second);
+    [
+        Step::Submit(0, first),
+        Step::Submit(0, second),
+        Step::Take,
+        Step::Take,
+        Step::Take,
+        Step::Finish(SECOND, answer),
+        Step::Deliver(0),
+        Step::Finish(FIRST, answer),
+        Step::Finish(FIRST, by_discs),
+        Step::Finish(FIRST, solved(first)),
+        Step::Deliver(0),
+        Step::Deliver(0),
+        Step::Deliver(0),
+    ]
+}
+
+fn replies_to_two_jobs(first: Task, second: Task) -> [Reply; 13] {
+    [
+        Reply::Submitted(Ok(0)),
+        Reply::Submitted(Ok(1)),
+        took(FIRST, first),
+        took(SECOND, second),
+        Reply::Took(None),
+        Reply::Finished(Ok(())),
+        Reply::Handed(Handed::Waiting),
+        Reply::Finished(Err(JobFault::OtherPosition)),
+        Reply::Finished(Err(JobFault::OtherPosition)),
+        Reply::Finished(Ok(())),
+        next(0, first),
+        next(1, second),
+        Reply::Handed(Handed::Waiting),
+    ]
+}
+
+// Closes the one sender of a board, which was handed all.
+fn close_drained(rt: &impl Abort, board: &mut Board) {
+    let was_done = board.is_done();
+    let closed = board.close(0);
+    let handed = board.deliver(0);
+    let found = (was_done, closed, handed, board.is_done());
+    assert_eq!(rt; found, (false, Ok(true), Handed::Drained, true));
 }
 
 #[test]
 fn two_jobs_of_one_sender(rt: HostRuntime) -> Result<(), Fail> {
     let first = task_of(&rt, CORNER_LEFT_OVER, Scoring::Winner);
     let second = task_of(&rt, EQUAL_CORNERS, Scoring::Winner);
-    let by_discs = task_of(&rt, CORNER_LEFT_OVER, Scoring::Discs);
-    let job = |number, task| Reply::Took(Some(Job {
-        id: id(0, number),
-        task,
-    }));
-    let next = |number, task| {
-        let solved = solved(task);
-        Reply::Handed(Handed::Next(Delivery { number, solved }))
-    };
-    let rows = [
-        (Step::Submit(0, first), Reply::Submitted(Ok(0))),
-        (Step::Submit(0, second), Reply::Submitted(Ok(1))),
-        (Step::Take, job(0, first)),
-        (Step::Take, job(1, second)),
-        (Step::Take, Reply::Took(None)),
-        (
-            Step::Finish(id(0, 1), solved(second)),
-            Reply::Finished(Ok(())),
-        ),
-        (Step::Deliver(0), Reply::Handed(Handed::Waiting)),
-        (
-            Step::Finish(id(0, 0), solved(second)),
-            Reply::Finished(Err(JobFault::OtherPosition)),
-        ),
-        (
-            Step::Finish(id(0, 0), solved(by_discs)),
-            Reply::Finished(Err(JobFault::OtherPosition)),
-        ),
-        (
-            Step::Finish(id(0, 0), solved(first)),
-            Reply::Finished(Ok(())),
-        ),
-        (Step::Deliver(0), next(0, first)),
-        (Step::Deliver(0), next(1, second)),
-        (Step::Deliver(0), Reply::Handed(Handed::Waiting)),
-    ];
-    let mut board = board_after(&rt, rt.alloc(), &rows)?;
-    assert!(rt; !board.is_done());
-    assert_eq!(rt; board.close(0), Ok(true));
-    assert_eq!(rt; board.deliver(0), Handed::Drained);
-    assert!(rt; board.is_done());
+    let by_discs = solved(task_of(&rt, CORNER_LEFT_OVER, Scoring::Discs));
+    let steps = steps_of_two_jobs(first, second, by_discs);
+    let wanted = replies_to_two_jobs(first, second);
+    let mut board = board_after(&rt, rt.alloc(), &steps, &wanted)?;
+    close_drained(&rt, &mut board);
     Ok(())
+}
+
+fn steps_round_a_close(task: Task) -> [Step; 17] {
+    let answer = solved(task);
+    [
+        Step::Deliver(0),
+        Step::Submit(0, task),
+        Step::Take,
+        Step::Close(0),
+        Step::Submit(0, task),
+        Step::GiveBack(FIRST),
+        Step::GiveBack(FIRST),
+        Step::Take,
+        Step::Finish(FIRST, answer),
+        Step::Finish(FIRST, answer),
+        Step::Deliver(0),
+        Step::Deliver(0),
+        Step::Close(0),
+        Step::Submit(0, task),
+        Step::Submit(1, task),
+        Step::Deliver(1),
+        Step::Close(1),
+    ]
+}
+
+fn replies_round_a_close(task: Task) -> [Reply; 17] {
+    [
+        Reply::Handed(Handed::Waiting),
+        Reply::Submitted(Ok(0)),
+        took(FIRST, task),
+        Reply::Closed(Ok(true)),
+        Reply::Submitted(Err(SubmitFault::Closed)),
+        Reply::GaveBack(Ok(())),
+        Reply::GaveBack(Err(JobFault::NotTaken)),
+        took(FIRST, task),
+        Reply::Finished(Ok(())),
+        Reply::Finished(Err(JobFault::NotTaken)),
+        next(0, task),
+        Reply::Handed(Handed::Drained),
+        Reply::Closed(Ok(false)),
+        Reply::Submitted(Err(SubmitFault::Closed)),
+        Reply::Submitted(Err(SubmitFault::NoSender)),
+        Reply::Handed(Handed::NoSender),
+        Reply::Closed(Err(NoSender)),
+    ]
 }
 
 #[test]
 fn a_job_given_back_after_the_close(rt: HostRuntime) -> Result<(), Fail> {
     let task = task_of(&rt, UNEQUAL_CORNERS, Scoring::Winner);
-    let took = Reply::Took(Some(Job { id: id(0, 0), task }));
-    let answer = solved(task);
-    let delivery = Delivery {
-        number: 0,
-        solved: answer,
-    };
-    let rows = [
-        (Step::Deliver(0), Reply::Handed(Handed::Waiting)),
-        (Step::Submit(0, task), Reply::Submitted(Ok(0))),
-        (Step::Take, took),
-        (Step::Close(0), Reply::Closed(Ok(true))),
-        (
-            Step::Submit(0, task),
-            Reply::Submitted(Err(SubmitFault::Closed)),
-        ),
-        (Step::GiveBack(id(0, 0)), Reply::GaveBack(Ok(()))),
-        (
-            Step::GiveBack(id(0, 0)),
-            Reply::GaveBack(Err(JobFault::NotTaken)),
-        ),
-        (Step::Take, took),
-        (Step::Finish(id(0, 0), answer), Reply::Finished(Ok(()))),
-        (
-            Step::Finish(id(0, 0), answer),
-            Reply::Finished(Err(JobFault::NotTaken)),
-        ),
-        (Step::Deliver(0), Reply::Handed(Handed::Next(delivery))),
-        (Step::Deliver(0), Reply::Handed(Handed::Drained)),
-        (Step::Close(0), Reply::Closed(Ok(false))),
-        (
-            Step::Submit(0, task),
-            Reply::Submitted(Err(SubmitFault::Closed)),
-        ),
-        (
-            Step::Submit(1, task),
-            Reply::Submitted(Err(SubmitFault::NoSender)),
-        ),
-        (Step::Deliver(1), Reply::Handed(Handed::NoSender)),
-        (Step::Close(1), Reply::Closed(Err(NoSender))),
-    ];
-    assert!(rt; board_after(&rt, rt.alloc(), &rows)?.is_done());
-    let rows = [
-        (Step::Close(0), Reply::Closed(Ok(true))),
-        (Step::Deliver(0), Reply::Handed(Handed::Drained)),
-    ];
-    assert!(rt; board_after(&rt, rt.alloc(), &rows)?.is_done());
+    let steps = steps_round_a_close(task);
+    let wanted = replies_round_a_close(task);
+    assert!(rt; board_after(&rt, rt.alloc(), &steps, &wanted)?.is_done());
+    Ok(())
+}
+
+#[test]
+fn a_close_before_any_job(rt: HostRuntime) -> Result<(), Fail> {
+    let steps = [Step::Close(0), Step::Deliver(0)];
+    let wanted = [Reply::Closed(Ok(true)), Reply::Handed(Handed::Drained)];
+    assert!(rt; board_after(&rt, rt.alloc(), &steps, &wanted)?.is_done());
     Ok(())
 }
 
@@ -197,44 +237,76 @@ fn submit(board: &mut Board, sender: u32, task: Task) -> Result<u32, SubmitFault
     }
 }
 
+fn assert_submit(
+    rt: &impl Abort,
+    board: &mut Board,
+    sender: u32,
+    task: Task,
+    wanted: Result<u32, SubmitFault>,
+) {
+    assert_eq!(rt; submit(board, sender, task), wanted);
+}
+
+// The job that a take gives.
+fn taken(board: &mut Board) -> Option<JobId> {
+    Some(board.take()?.id)
+}
+
+// Takes give these jobs, in this order.
+fn assert_takes(rt: &impl Abort, board: &mut Board, order: &[Option<JobId>]) {
+    for wanted in order {
+        assert_eq!(rt; taken(board), *wanted);
+    }
+}
+
+fn give_back_all(rt: &impl Abort, board: &mut Board, jobs: &[JobId]) {
+    for job in jobs {
+        assert_eq!(rt; board.give_back(*job), Ok(()));
+    }
+}
+
 #[test]
 fn longest_jobs_first(rt: HostRuntime) -> Result<(), Fail> {
     let one_empty = task_of(&rt, LAST_CORNER, Scoring::Winner);
     let two_empty = task_of(&rt, UNEQUAL_CORNERS, Scoring::Winner);
     let mut board = board_of(rt.alloc(), 2)?;
-    assert_eq!(rt; submit(&mut board, 1, two_empty), Ok(0));
-    assert_eq!(rt; submit(&mut board, 0, two_empty), Ok(0));
-    assert_eq!(rt; submit(&mut board, 0, one_empty), Ok(1));
-    let order = [Some(id(0, 0)), Some(id(1, 0)), Some(id(0, 1)), None];
-    for want in order {
-        assert_eq!(rt; board.take().map(|job| job.id), want);
-    }
-    assert_eq!(rt; board.give_back(id(1, 0)), Ok(()));
-    assert_eq!(rt; board.give_back(id(0, 0)), Ok(()));
-    for want in [Some(id(0, 0)), Some(id(1, 0))] {
-        assert_eq!(rt; board.take().map(|job| job.id), want);
-    }
-    let mut board = board_of(rt.alloc(), 1)?;
-    assert_eq!(rt; submit(&mut board, 0, one_empty), Ok(0));
-    assert_eq!(rt; submit(&mut board, 0, two_empty), Ok(1));
-    assert_eq!(rt; board.take().map(|job| job.id), Some(id(0, 1)));
+    assert_submit(&rt, &mut board, 1, two_empty, Ok(0));
+    assert_submit(&rt, &mut board, 0, two_empty, Ok(0));
+    assert_submit(&rt, &mut board, 0, one_empty, Ok(1));
+    let other = id(1, 0);
+    let order = [Some(FIRST), Some(other), Some(SECOND), None];
+    assert_takes(&rt, &mut board, &order);
+    give_back_all(&rt, &mut board, &[other, FIRST]);
+    assert_takes(&rt, &mut board, &[Some(FIRST), Some(other)]);
     Ok(())
 }
 
 #[test]
+fn longer_job_before_an_earlier_one(rt: HostRuntime) -> Result<(), Fail> {
+    let one_empty = task_of(&rt, LAST_CORNER, Scoring::Winner);
+    let two_empty = task_of(&rt, UNEQUAL_CORNERS, Scoring::Winner);
+    let mut board = board_of(rt.alloc(), 1)?;
+    assert_submit(&rt, &mut board, 0, one_empty, Ok(0));
+    assert_submit(&rt, &mut board, 0, two_empty, Ok(1));
+    assert_takes(&rt, &mut board, &[Some(SECOND)]);
+    Ok(())
+}
+
+#[test]
+fn too_many_senders(rt: HostRuntime) {
+    assert!(rt; matches!(board_of(rt.alloc(), 65), Err(BoardFault::TooManySenders)));
+}
+
+#[test]
 fn most_senders_and_jobs(rt: HostRuntime) -> Result<(), Fail> {
-    assert_eq!(rt;
-        board_of(rt.alloc(), 65).err(),
-        Some(BoardFault::TooManySenders)
-    );
     let mut board = board_of(rt.alloc(), 64)?;
     let task = task_of(&rt, NO_DISCS, Scoring::Winner);
     for number in 0..65_535 {
-        assert_eq!(rt; submit(&mut board, 63, task), Ok(number));
+        assert_submit(&rt, &mut board, 63, task, Ok(number));
     }
-    assert_eq!(rt; board.submit(63, task), Err(SubmitFault::Full));
+    assert_submit(&rt, &mut board, 63, task, Err(SubmitFault::Full));
     assert_eq!(rt; board.close(63), Ok(true));
-    assert_eq!(rt; board.submit(63, task), Err(SubmitFault::Closed));
+    assert_submit(&rt, &mut board, 63, task, Err(SubmitFault::Closed));
     Ok(())
 }
 
@@ -263,69 +335,139 @@ fn send<R: Wait + Abort>(
     }
 }
 
+fn assert_send<R: Wait + Abort>(
+    rt: &R,
+    desk: &Desk,
+    client: &mut Client,
+    task: Task,
+    wanted: Result<u32, SubmitFault>,
+) {
+    assert_eq!(rt; send(rt, desk, client, task), wanted);
+}
+
+fn assert_turn<R: Wait + Abort>(
+    rt: &R,
+    desk: &Desk,
+    client: &mut Client,
+    wanted: Result<Turn, Mixed>,
+) {
+    assert_eq!(rt; desk.turn(rt, client), wanted);
+}
+
+fn assert_finish<R: Wait + Abort>(rt: &R, desk: &Desk, id: JobId, task: Task) {
+    assert_eq!(rt; desk.finish(rt, id, solved(task)), Ok(()));
+}
+
+fn assert_give_back<R: Wait + Abort>(rt: &R, desk: &Desk, id: JobId, wanted: Result<(), JobFault>) {
+    assert_eq!(rt; desk.give_back(rt, id), wanted);
+}
+
+fn assert_close<R: Wait + Abort>(
+    rt: &R,
+    desk: &Desk,
+    client: &Client,
+    wanted: Result<bool, NoSender>,
+) {
+    assert_eq!(rt; desk.close(rt, client), wanted);
+}
+
+// A call at a desk about a job, and its answer.
+#[derive(Clone, Copy)]
+enum Call {
+    // A turn that gives the job to solve.
+    Work,
+    // A turn that gives the job's answer.
+    Next,
+    Finish,
+    GiveBack,
+    // A give back of a job that is not taken.
+    NotTaken,
+}
+
+// The calls about the first job and the second, in their order.
+const CALLS: [(Call, JobId); 11] = [
+    (Call::Work, FIRST),
+    (Call::Work, SECOND),
+    (Call::GiveBack, FIRST),
+    (Call::NotTaken, FIRST),
+    (Call::Work, FIRST),
+    (Call::GiveBack, SECOND),
+    (Call::Finish, FIRST),
+    (Call::Next, FIRST),
+    (Call::Work, SECOND),
+    (Call::Finish, SECOND),
+    (Call::Next, SECOND),
+];
+
+fn assert_call<R: Wait + Abort>(rt: &R, desk: &Desk, client: &mut Client, call: Call, job: Job) {
+    match call {
+        Call::Work => assert_turn(rt, desk, client, Ok(Turn::Work(job))),
+        Call::Next => {
+            let number = job.id.number;
+            let solved = solved(job.task);
+            assert_turn(
+                rt,
+                desk,
+                client,
+                Ok(Turn::Next(Delivery { number, solved })),
+            );
+        }
+        Call::Finish => assert_finish(rt, desk, job.id, job.task),
+        Call::GiveBack => assert_give_back(rt, desk, job.id, Ok(())),
+        Call::NotTaken => assert_give_back(rt, desk, job.id, Err(JobFault::NotTaken)),
+    }
+}
+
+// A client whose sender is closed, and to which all came back.
+fn assert_served<R: Wait + Abort>(rt: &R, desk: &Desk, client: &mut Client, tasks: &[Task; 2]) {
+    assert_turn(rt, desk, client, Ok(Turn::Drained));
+    assert_eq!(rt; desk.take_or_wait(rt), None);
+    assert_close(rt, desk, client, Ok(false));
+    assert_send(rt, desk, client, tasks[0], Err(SubmitFault::Closed));
+    assert_eq!(rt; (client.sent(), client.received()), (tasks.as_slice(), 2));
+}
+
 #[test]
 fn a_desk_on_one_thread(rt: HostRuntime) -> Result<(), Fail> {
     let first = task_of(&rt, CORNER_LEFT_OVER, Scoring::Winner);
     let second = task_of(&rt, EQUAL_CORNERS, Scoring::Winner);
-    let work = |number, task| Ok(Turn::Work(Job {
-        id: id(0, number),
-        task,
-    }));
-    let next = |number, task| {
-        let solved = solved(task);
-        Ok(Turn::Next(Delivery { number, solved }))
-    };
     let desk = desk_of(rt.alloc())?;
     let mut client = Client::new(rt.alloc(), 0);
-    assert_eq!(rt; send(&rt, &desk, &mut client, first), Ok(0));
-    assert_eq!(rt; send(&rt, &desk, &mut client, second), Ok(1));
-    assert_eq!(rt; desk.close(&rt, &client), Ok(true));
-    assert_eq!(rt; desk.turn(&rt, &mut client), work(0, first));
-    assert_eq!(rt; desk.turn(&rt, &mut client), work(1, second));
-    assert_eq!(rt; desk.give_back(&rt, id(0, 0)), Ok(()));
-    assert_eq!(rt; desk.give_back(&rt, id(0, 0)), Err(JobFault::NotTaken));
-    assert_eq!(rt; desk.turn(&rt, &mut client), work(0, first));
-    assert_eq!(rt; desk.give_back(&rt, id(0, 1)), Ok(()));
-    assert_eq!(rt; desk.finish(&rt, id(0, 0), solved(first)), Ok(()));
-    assert_eq!(rt; desk.turn(&rt, &mut client), next(0, first));
-    assert_eq!(rt; desk.turn(&rt, &mut client), work(1, second));
-    assert_eq!(rt; desk.finish(&rt, id(0, 1), solved(second)), Ok(()));
-    assert_eq!(rt; desk.turn(&rt, &mut client), next(1, second));
-    assert_eq!(rt; desk.turn(&rt, &mut client), Ok(Turn::Drained));
-    assert_eq!(rt; desk.take_or_wait(&rt), None);
-    assert_eq!(rt; desk.close(&rt, &client), Ok(false));
-    assert_eq!(rt;
-        send(&rt, &desk, &mut client, first),
-        Err(SubmitFault::Closed)
-    );
-    assert_eq!(rt; client.sent(), [first, second].as_slice());
-    assert_eq!(rt; client.received(), 2);
+    assert_send(&rt, &desk, &mut client, first, Ok(0));
+    assert_send(&rt, &desk, &mut client, second, Ok(1));
+    assert_close(&rt, &desk, &client, Ok(true));
+    for (call, id) in &CALLS {
+        let task = if id.number == 0 { first } else { second };
+        assert_call(&rt, &desk, &mut client, *call, job_of(*id, task));
+    }
+    assert_served(&rt, &desk, &mut client, &[first, second]);
     Ok(())
 }
 
 #[test]
-fn clients_that_get_no_answers(rt: HostRuntime) -> Result<(), Fail> {
+fn a_client_of_no_sender(rt: HostRuntime) -> Result<(), Fail> {
+    let task = task_of(&rt, CORNER_LEFT_OVER, Scoring::Winner);
+    let desk = desk_of(rt.alloc())?;
+    let mut stranger = Client::new(rt.alloc(), 1);
+    assert_send(&rt, &desk, &mut stranger, task, Err(SubmitFault::NoSender));
+    assert_close(&rt, &desk, &stranger, Err(NoSender));
+    assert_turn(&rt, &desk, &mut stranger, Err(Mixed));
+    Ok(())
+}
+
+#[test]
+fn two_clients_of_one_sender(rt: HostRuntime) -> Result<(), Fail> {
     let first = task_of(&rt, CORNER_LEFT_OVER, Scoring::Winner);
     let second = task_of(&rt, EQUAL_CORNERS, Scoring::Winner);
     let desk = desk_of(rt.alloc())?;
-    let mut stranger = Client::new(rt.alloc(), 1);
-    assert_eq!(rt;
-        send(&rt, &desk, &mut stranger, first),
-        Err(SubmitFault::NoSender)
-    );
-    assert_eq!(rt; desk.close(&rt, &stranger), Err(NoSender));
-    assert_eq!(rt; desk.turn(&rt, &mut stranger), Err(Mixed));
     let mut one = Client::new(rt.alloc(), 0);
     let mut other = Client::new(rt.alloc(), 0);
-    assert_eq!(rt; send(&rt, &desk, &mut one, first), Ok(0));
-    assert_eq!(rt; send(&rt, &desk, &mut other, second), Ok(1));
-    let job = Job {
-        id: id(0, 0),
-        task: first,
-    };
-    assert_eq!(rt; desk.turn(&rt, &mut other), Ok(Turn::Work(job)));
-    assert_eq!(rt; desk.finish(&rt, id(0, 0), solved(first)), Ok(()));
-    assert_eq!(rt; desk.turn(&rt, &mut other), Err(Mixed));
+    assert_send(&rt, &desk, &mut one, first, Ok(0));
+    assert_send(&rt, &desk, &mut other, second, Ok(1));
+    let work = Turn::Work(job_of(FIRST, first));
+    assert_turn(&rt, &desk, &mut other, Ok(work));
+    assert_finish(&rt, &desk, FIRST, first);
+    assert_turn(&rt, &desk, &mut other, Err(Mixed));
     Ok(())
 }
 
@@ -383,15 +525,16 @@ fn run_three<R: Threads + Wait + Sync>(
 fn a_worker_leaves(rt: HostRuntime) -> Result<(), Fail> {
     let desk = desk_of(rt.alloc())?;
     let mut client = Client::new(rt.alloc(), 0);
-    let all = [CORNER_LEFT_OVER, EQUAL_CORNERS, UNEQUAL_CORNERS];
-    for (number, masks) in (0..3).zip(all) {
-        let task = task_of(&rt, masks, Scoring::Winner);
-        assert_eq!(rt; send(&rt, &desk, &mut client, task), Ok(number));
-    }
-    assert_eq!(rt; desk.close(&rt, &client), Ok(true));
-    let taken = desk.take_or_wait(&rt).map(|job| job.id);
-    assert_eq!(rt; taken, Some(id(0, 0)));
-    assert_eq!(rt; desk.give_back(&rt, id(0, 0)), Ok(()));
+    let first = task_of(&rt, CORNER_LEFT_OVER, Scoring::Winner);
+    let second = task_of(&rt, EQUAL_CORNERS, Scoring::Winner);
+    let third = task_of(&rt, UNEQUAL_CORNERS, Scoring::Winner);
+    assert_send(&rt, &desk, &mut client, first, Ok(0));
+    assert_send(&rt, &desk, &mut client, second, Ok(1));
+    assert_send(&rt, &desk, &mut client, third, Ok(2));
+    assert_close(&rt, &desk, &client, Ok(true));
+    let taken = Some(job_of(FIRST, first));
+    assert_eq!(rt; desk.take_or_wait(&rt), taken);
+    assert_give_back(&rt, &desk, FIRST, Ok(()));
     assert_eq!(rt; run_three(&rt, &desk, client), (true, (true, Some(3))));
     Ok(())
 }

@@ -1,4 +1,4 @@
-use Rattle.std.proofs.Common.{sym, ◌∙◌}
+use Rattle.std.proofs.Common.{◌∙◌}
 use Rattle.std.proofs.lemmas.List.Elements.{All-same}
 use Rattle.suite_solver.specs.Rows.{tasks}
 use Rattle.suite_solver.proofs.TaskLemmas.{HasScoring, tasks_scored}

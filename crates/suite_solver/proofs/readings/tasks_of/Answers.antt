@@ -1,5 +1,5 @@
 use Rattle.std.proofs.Common.{◌≡◌, ◌∷◌, [], rules, sym, ◌∙◌, arith}
-use Rattle.std.specs.Prelude.{Some, None}
+use Rattle.std.specs.Prelude.{Some}
 use Rattle.suite_solver.specs.Rows.{tasks}
 use Rattle.suite_solver.proofs.RowLemmas.{room_more}
 use Rattle.suite_solver.proofs.TaskLemmas.{tasks_more, tasks_skip, tasks_all}

@@ -4,8 +4,6 @@ use Rattle.othello_rules.specs.Rules.{Position}
 use Rattle.othello_bits.specs.Discs.{Discs, position_of, empties_of, answer_of}
 use Rattle.othello_bits.proofs.CellLaws.{length-cells_of}
 use Rattle.obf_text.specs.Obf.{entry_of}
-use Rattle.suite_solver.specs.Checks.{check}
-use Rattle.suite_solver.specs.declared.rows.RowResult.TheVariants.{Solved}
 use Rattle.suite_solver.proofs.EntryLemmas.{solved_entry, entry_task, refused_entry, entry_none}
 use Rattle.suite_solver.proofs.readings.Reading.of_entry.Goals as goal
 
