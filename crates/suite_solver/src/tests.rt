@@ -2,8 +2,8 @@ ghost use Rattle.std.specs.Prelude.{◌≤◌, length};
 
 use crate::laws::client_part;
 use crate::{
-    NoGate, Options, Part, Refusal, ReportRow, RowResult, RunFault, Settings, options, program,
-    program_of, run_serial, write_report,
+    Gate, NoGate, Options, Part, Refusal, ReportRow, RowResult, RunFault, Settings, options,
+    program, program_of, run_serial, write_report,
 };
 use bound_table::{BoundTable, NoTable};
 use endgame_search::Task;
@@ -15,6 +15,7 @@ use std::io::{Read, Write};
 use std::process::Abort;
 use std::rt::Files;
 use std::sync::Wait;
+use std::sync::atomic::{AtomicU32, Ordering};
 use std::test::Fail;
 use std::{fs, io};
 
@@ -538,19 +539,37 @@ fn refuses_many_files(rt: HostRuntime) -> Result<(), Fail> {
     Ok(())
 }
 
-// Writes the report of one client's part, at a desk where others have no part in its jobs.
-fn report_part<R: Wait + Abort>(
+// Counts the jobs that were begun and ended.
+#[derive(Drop)]
+struct CountingGate {
+    entered: AtomicU32,
+    left: AtomicU32,
+}
+
+impl Gate for CountingGate {
+    fn enter<R: Wait>(&self, _rt: &R, _sender: u32, _number: u32) {
+        self.entered.fetch_add(1, Ordering::SeqCst);
+    }
+
+    fn leave<R: Wait>(&self, _rt: &R, _sender: u32, _number: u32) {
+        self.left.fetch_add(1, Ordering::SeqCst);
+    }
+}
+
+// Writes the report of one client's part.
+fn report_part<R: Wait + Abort, G: Gate>(
     rt: &R,
     alloc: Global,
+    output: &mut Vec<u8>,
     desk: &Desk,
-    table: &BoundTable,
+    gate: &G,
     sender: u32,
     text: &[u8],
-    output: &mut Vec<u8>,
 ) -> Result<(), Fail>
     requires { length text.now ≤ 1048576 }
 {
-    let part = client_part(rt, alloc, text, sender, 20, desk, table, &NoGate)?;
+    let table = BoundTable::new(alloc, 16, Scoring::Winner)?;
+    let part = client_part(rt, alloc, text, sender, 20, desk, &table, gate)?;
     assert_eq!(rt; part.solved.len(), part.rows.len());
     write_report(output, sender, &part.rows)?;
     Ok(())
@@ -558,13 +577,16 @@ fn report_part<R: Wait + Abort>(
 
 #[test]
 fn clients_serve_themselves(rt: HostRuntime) -> Result<(), Fail> {
-    let alloc = rt.alloc();
-    let desk = Desk::new(alloc, 2)?;
-    let table = BoundTable::new(alloc, 16, Scoring::Winner)?;
-    let mut output = Vec::new(alloc);
-    report_part(&rt, alloc, &desk, &table, 0, ONE, &mut output)?;
-    report_part(&rt, alloc, &desk, &table, 1, TWO, &mut output)?;
+    let desk = Desk::new(rt.alloc(), 2)?;
+    let gate = CountingGate {
+        entered: AtomicU32::new(0),
+        left: AtomicU32::new(0),
+    };
+    let mut output = Vec::new(rt.alloc());
+    report_part(&rt, rt.alloc(), &mut output, &desk, &gate, 0, ONE)?;
+    report_part(&rt, rt.alloc(), &mut output, &desk, &gate, 1, TWO)?;
     assert_eq!(rt; output.as_slice(), BOTH);
+    assert_eq!(rt; (gate.entered.into_inner(), gate.left.into_inner()), (6, 6));
     assert!(rt; desk.take_or_wait(&rt).is_none());
     Ok(())
 }

@@ -1,0 +1,126 @@
+-- Entries that are kept under the masks of their positions.
+use Rattle.std.proofs.Common.{◌≡◌, List, [], ◌∷◌, Contains, refl, ap, sym, ◌∙◌, subst, true, false, cond, inl, inr, Option, Some, None}
+use Rattle.std.specs.Prelude.{◌⊎◌, ◌↔◌, Bool, IsSome, is_some, not, IsTrue}
+use Rattle.std.specs.BTreeMap as tree
+use Rattle.std.specs.BTreeMap.{BTreeMap, insert_entry, Updates}
+use Rattle.std.specs.Cmp.{IsTotalOrder}
+use Rattle.std.specs.List.{AllByRecursion}
+use Rattle.std.specs.List.Sorted.{IsStrictlySortedBy}
+use Rattle.std.specs.Map.{keys_of}
+use Rattle.std.specs.Ordering.{nat_cmp, ordering_then, match_ordering, is_eq}
+use Rattle.std.specs.declared.cmp.Ordering.{Ordering}
+use Rattle.std.specs.declared.cmp.Ordering.TheVariants.{Less, Equal, Greater}
+use Rattle.std.proofs.lemmas.Bool.{false≢true}
+use Rattle.std.proofs.lemmas.Cmp.{nat_cmp_total, on_total, then_total, tied_itself}
+use Rattle.std.proofs.lemmas.List.Elements.{All-from_recursion, All-map, All-weaker, recursion_from_All}
+use Rattle.std.proofs.lemmas.Map.Lookups.{CmpEqualImpliesEq, exact_pairs, exact_unsigned}
+use Rattle.std.proofs.lemmas.Map.Views.{btree_map_contains_key_iff}
+use Rattle.othello_rules.specs.declared.scorings.Scoring.{Scoring}
+use Rattle.othello_rules.specs.Solution.{Solution}
+use Rattle.othello_rules.proofs.BoundLaws.{Contains-map, Contains-from_map}
+use Rattle.othello_bits.specs.Discs.{Discs}
+use Rattle.solved_book.specs.Books.{AreSolved, IsSolvedEntry, Masks, position_at, positions_in}
+use Rattle.solved_book.specs.Order.{AreRising, IsCanonical, AreBookPositions, by_masks}
+
+-- the order of the pairs of masks
+abbrev pub masks_cmp : Masks → Masks → Ordering
+masks_cmp x y = ordering_then (nat_cmp x.0 y.0) (nat_cmp x.1 y.1)
+
+pub masks_total : IsTotalOrder masks_cmp
+masks_total = then_total (on_total (λ (x : Masks). x.0) nat_cmp_total) (on_total (λ (x : Masks). x.1) nat_cmp_total)
+
+pub masks_exact : CmpEqualImpliesEq masks_cmp
+masks_exact = exact_pairs nat_cmp nat_cmp exact_unsigned exact_unsigned
+
+abbrev pub masks_at : Discs → Masks
+masks_at p = (p.own, p.opp)
+
+-- keys in order are positions in order
+all_after : {X : Type 0} (k : Masks) (es : List (Masks × X)) → AllByRecursion (λ y. masks_cmp k y ≡ Less) (keys_of es) → AllByRecursion (λ q. by_masks (position_at k) q ≡ Less) (positions_in es)
+all_after k [] h = h
+all_after k (e ∷ es) h = (h.0, all_after k es h.1)
+
+pub rising_from_keys : {X : Type 0} (es : List (Masks × X)) → IsStrictlySortedBy masks_cmp (keys_of es) → AreRising (positions_in es)
+unfolding IsStrictlySortedBy
+rising_from_keys [] h = h
+rising_from_keys (e ∷ es) h = (all_after e.0 es h.0, rising_from_keys es h.1)
+
+pub book_positions_from : (g : Scoring) (es : List (Masks × Solution)) → AreSolved g es → IsStrictlySortedBy masks_cmp (keys_of es) → AreBookPositions (positions_in es)
+book_positions_from g es solved sorted = record {
+  rising = rising_from_keys es sorted;
+  canonical = All-map IsCanonical (λ (e : Masks × Solution). position_at e.0) es (All-weaker (IsSolvedEntry g) (λ e. IsCanonical (position_at e.0)) (λ e s. s.canonical) es solved);
+}
+
+-- an entry that is put in
+insert_all : (P : Masks × Solution → Type 0) (k : Masks) (v : Solution) → P (k, v) → (es : List (Masks × Solution)) → AllByRecursion P es → AllByRecursion P (insert_entry masks_cmp es k v)
+insert_all P k v h [] a = (h, tt)
+insert_all P k v h (e ∷ es) a = by (masks_cmp k e.0) refl (insert_all P k v h es a.1)
+  where
+    by : (o : Ordering) → masks_cmp k e.0 ≡ o → AllByRecursion P (insert_entry masks_cmp es k v) → AllByRecursion P (match_ordering o ((k, v) ∷ e ∷ es) ((e.0, v) ∷ es) (e ∷ insert_entry masks_cmp es k v))
+    by Less s rest = (h, (a.0, a.1))
+    by Equal s rest = (subst (λ (x : Masks). P (x, v)) (masks_exact k e.0 s) h, a.1)
+    by Greater s rest = (a.0, rest)
+
+pub solved_insert : (g : Scoring) (k : Masks) (v : Solution) (es new : List (Masks × Solution)) → IsSolvedEntry g (k, v) → AreSolved g es → new ≡ insert_entry masks_cmp es k v → AreSolved g new
+solved_insert g k v es new h a e =
+    rw e (All-from_recursion (IsSolvedEntry g) (insert_entry masks_cmp es k v) (insert_all (IsSolvedEntry g) k v h es (recursion_from_All (IsSolvedEntry g) es a)))
+
+-- positions and keys
+key_from_position : {X : Type 0} (es : List (Masks × X)) (p : Discs) → Contains (positions_in es) p → Contains (keys_of es) (masks_at p)
+key_from_position {X} es p h =
+    let found = Contains-from_map (λ (e : Masks × X). position_at e.0) es p h in
+    subst (Contains (keys_of es)) (ap masks_at found.2) (Contains-map (λ (e : Masks × X). e.0) es found.0 found.1)
+
+position_from_key : {X : Type 0} (es : List (Masks × X)) (p : Discs) → Contains (keys_of es) (masks_at p) → Contains (positions_in es) p
+position_from_key {X} es p h =
+    let found = Contains-from_map (λ (e : Masks × X). e.0) es (masks_at p) h in
+    subst (Contains (positions_in es)) (ap position_at found.2) (Contains-map (λ (e : Masks × X). position_at e.0) es found.0 found.1)
+
+pub holds_iff : {X : Type 0} (m : BTreeMap Masks X) (p : Discs) → IsSome (tree.get masks_cmp m (masks_at p)) ↔ Contains (positions_in m.entries) p
+holds_iff m p =
+    let keys = btree_map_contains_key_iff masks_total masks_exact m (masks_at p) in
+    (λ s. position_from_key m.entries p (keys.0 s), λ h. keys.1 (key_from_position m.entries p h))
+
+none_when : {X : Type 0} (o : Option X) (none : Bool) (P : Type 0) → is_some o ≡ not none → IsSome o ↔ P → (IsTrue none → P → ⊥) × ((P → ⊥) → IsTrue none)
+none_when o true P e h = (λ t p. absurd (false≢true (sym e ∙ h.1 p)), λ n. refl)
+none_when o false P e h = (λ t p. absurd (false≢true t), λ n. absurd (n (h.0 e)))
+
+-- a position is new where nothing is kept under its masks
+pub new_when : {X : Type 0} (m : BTreeMap Masks X) (p : Discs) (k : Masks) (old : Option X) (none : Bool) → is_some old ≡ not none → position_at k ≡ p → old ≡ tree.get masks_cmp m k
+    → (IsTrue none → Contains (positions_in m.entries) p → ⊥) × ((Contains (positions_in m.entries) p → ⊥) → IsTrue none)
+new_when {X} m p k old none e ek eo =
+    let same : tree.get masks_cmp m (masks_at p) ≡ old = ap (λ q. tree.get masks_cmp m (masks_at q)) (sym ek) ∙ sym eo in
+    none_when old none (Contains (positions_in m.entries) p) e (subst (λ (o : Option X). IsSome o ↔ Contains (positions_in m.entries) p) same (holds_iff m p))
+
+pub none_held : {X : Type 0} (m : BTreeMap Masks X) (p : Discs) (k : Masks) → position_at k ≡ p → tree.get masks_cmp m k ≡ None → Contains (positions_in m.entries) p → ⊥
+none_held {X} m p k ek none h =
+    let same : tree.get masks_cmp m (masks_at p) ≡ None = ap (λ q. tree.get masks_cmp m (masks_at q)) (sym ek) ∙ none in
+    false≢true (sym (ap is_some same) ∙ (holds_iff m p).1 h)
+
+-- what is held then
+pub held_then : {X : Type 0} (m n : BTreeMap Masks X) (c : Discs) (k : Masks) (v : X) → position_at k ≡ c → Updates masks_cmp m n k (Some v)
+    → (p : Discs) → Contains (positions_in n.entries) p ↔ ((p ≡ c) ⊎ Contains (positions_in m.entries) p)
+held_then {X} m n c k v ek u p = by (masks_cmp k (masks_at p)) refl
+  where
+    other : (o : Ordering) → is_eq o ≡ false → masks_cmp k (masks_at p) ≡ o → tree.get masks_cmp n (masks_at p) ≡ tree.get masks_cmp m (masks_at p)
+    other o apart e = u.0 (masks_at p) ∙ ap (λ b. cond b (Some v) (tree.get masks_cmp m (masks_at p))) (ap is_eq e ∙ apart)
+
+    kept : (o : Ordering) → is_eq o ≡ false → masks_cmp k (masks_at p) ≡ o → Contains (positions_in n.entries) p ↔ ((p ≡ c) ⊎ Contains (positions_in m.entries) p)
+    kept o apart e = (
+      λ h. inr ((holds_iff m p).0 (subst (λ (x : Option X). IsSome x) (other o apart e) ((holds_iff n p).1 h))),
+      λ h. elim h [
+        | inl is ↦
+            let same : masks_cmp k (masks_at p) ≡ Equal = ap (masks_cmp k) (ap masks_at (is ∙ sym ek)) ∙ tied_itself masks_total k in
+            absurd (false≢true (sym apart ∙ ap is_eq (sym e ∙ same)))
+        | inr h ↦ (holds_iff n p).0 (subst (λ (x : Option X). IsSome x) (sym (other o apart e)) ((holds_iff m p).1 h))
+      ],
+    )
+
+    by : (o : Ordering) → masks_cmp k (masks_at p) ≡ o → Contains (positions_in n.entries) p ↔ ((p ≡ c) ⊎ Contains (positions_in m.entries) p)
+    by Less e = kept Less refl e
+    by Greater e = kept Greater refl e
+    by Equal e =
+        let got : tree.get masks_cmp n (masks_at p) ≡ Some v = u.0 (masks_at p) ∙ ap (λ o. cond (is_eq o) (Some v) (tree.get masks_cmp m (masks_at p))) e in (
+          λ h. inl (ap position_at (sym (masks_exact k (masks_at p) e)) ∙ ek),
+          λ h. (holds_iff n p).0 (ap is_some got),
+        )

@@ -1,0 +1,7 @@
+use Rattle.std.proofs.Common.{take}
+use Rattle.solved_book.proofs.MaskSteps.{HasListed}
+use Rattle.solved_book.proofs.listing.squares_listed.Given as goal
+
+-- the squares of the fields so far
+abbrev pub invariant-loop-field : goal.invariant-loop-field
+invariant-loop-field l = HasListed l.score (take l.field-index l.listed) l.squares

@@ -1,0 +1,154 @@
+-- What a text of a book claims, and how a claim is found.
+use Rattle.std.specs.Prelude.{◌≡◌, ◌≢◌, ℕ, ◌+◌, ◌&&◌, Bool, true, false, nat_eq, List, [], ◌∷◌, ◌++◌, length, codes, Option, Some, None, option_map, Result, Ok, Err, if◌then◌else◌}
+use Rattle.std.specs.List.{starts_with}
+use Rattle.std.specs.Map.{lookup}
+use Rattle.std.specs.Ordering.{is_gt, is_eq}
+use Rattle.std.specs.Str.{bytes_eq}
+use Rattle.othello_rules.specs.declared.discs.Side.{Side}
+use Rattle.othello_rules.specs.declared.discs.Side.TheVariants.{Black, White}
+use Rattle.othello_rules.specs.declared.scorings.Scoring.{Scoring}
+use Rattle.othello_rules.specs.declared.scorings.Scoring.TheVariants.{Winner, Discs, Sign}
+use Rattle.othello_rules.specs.Rules.{Position}
+use Rattle.othello_rules.specs.Solution.{Solution}
+use Rattle.othello_bits.specs.Discs as bits
+use Rattle.othello_bits.specs.Discs.{discs_of, position_of}
+use Rattle.othello_bits.specs.Symmetries.{best_image, canonical_of, first_symmetry, inverse}
+use Rattle.othello_bits.specs.declared.symmetries.Sym.{Sym}
+use Rattle.obf_text.specs.LineText.{lines_of}
+use Rattle.obf_text.specs.Obf.{Entry, Meaning, Skipped, Holds, Faulty, item_of}
+use Rattle.endgame_search.specs.declared.solutions.Claim.{Claim}
+use Rattle.solved_book.specs.Order.{by_masks}
+use Rattle.solved_book.specs.Books.{header}
+use Rattle.solved_book.specs.Listing.{claim_of}
+use Rattle.solved_book.specs.declared.faults.BookFault.{BookFault}
+use Rattle.solved_book.specs.declared.faults.BookFault.TheVariants as fault
+
+-- a position with what is claimed of it
+abbrev pub Claimed : Type 0
+Claimed = bits.Discs × Claim
+
+-- what contracts see of claims: their scoring, and the claimed positions in rising order
+pub record Advice : Type 0 where
+  pub scoring : Scoring
+  pub claims : List Claimed
+
+-- ---- the first line
+
+-- a header names the scoring; another line that begins as one is unknown; without a header it is `Winner`
+abbrev pub scoring_in : List ℕ → Option Scoring
+scoring_in line =
+    if bytes_eq line (header Winner) then Some Winner
+    else (if bytes_eq line (header Discs) then Some Discs
+    else (if bytes_eq line (header Sign) then Some Sign
+    else (if starts_with nat_eq line (codes "% ffobook ") then None else Some Winner)))
+
+abbrev pub scoring_of_lines : List (List ℕ) → Option Scoring
+scoring_of_lines [] = Some Winner
+scoring_of_lines (line ∷ lines) = scoring_in line
+
+-- ---- one line
+
+-- a position stands behind the one before it, if there is one
+abbrev pub is_behind : Option bits.Discs → bits.Discs → Bool
+is_behind None p = true
+is_behind (Some q) p = is_gt (by_masks p q)
+
+abbrev pub is_black : Side → Bool
+is_black Black = true
+is_black White = false
+
+abbrev pub same_discs : bits.Discs → bits.Discs → Bool
+same_discs p q = nat_eq p.own q.own && nat_eq p.opp q.opp
+
+-- Black is to move, and the position is canonical
+abbrev pub is_canonical_entry : Position → Bool
+is_canonical_entry P = is_black P.mover && same_discs (canonical_of (discs_of P)) (discs_of P)
+
+abbrev pub lists_nothing : Entry → Bool
+lists_nothing entry = nat_eq (length entry.listed) 0
+
+-- the claim of line n, or the first of its faults: it lists nothing, it is not behind, it is not canonical
+abbrev pub checked : ℕ → Bool → Bool → Bool → Claimed → Result (Option Claimed) BookFault
+checked n nothing behind canonical claim =
+    if nothing then Err (fault.NoMoves n)
+    else (if behind then (if canonical then Ok (Some claim) else Err (fault.NotCanonical n)) else Err (fault.Unsorted n))
+
+-- what an entry gives that stands in line n behind a position
+abbrev pub entry_gives : ℕ → Option bits.Discs → Entry → Result (Option Claimed) BookFault
+entry_gives n before entry =
+    checked n (lists_nothing entry) (is_behind before (discs_of entry.position)) (is_canonical_entry entry.position)
+    (discs_of entry.position, claim_of entry.listed)
+
+-- a line gives nothing where it is skipped
+abbrev pub line_gives : ℕ → Option bits.Discs → Meaning → Result (Option Claimed) BookFault
+line_gives n before Skipped = Ok None
+line_gives n before (Faulty f) = Err (fault.Line n f)
+line_gives n before (Holds entry) = entry_gives n before entry
+
+-- the claim of a line that is an entry
+abbrev pub entry_claim : Meaning → Option Claimed
+entry_claim Skipped = None
+entry_claim (Faulty f) = None
+entry_claim (Holds entry) = Some (discs_of entry.position, claim_of entry.listed)
+
+-- ---- all lines
+
+abbrev pub onto : List Claimed → Result (List Claimed) BookFault → Result (List Claimed) BookFault
+onto front (Ok claims) = Ok (front ++ claims)
+onto front (Err f) = Err f
+
+-- lines, the first of which is line n, behind a position: the claims that they give, or the fault of the first faulty one
+unfoldable pub claims_from : ℕ → Option bits.Discs → List (List ℕ) → Result (List Claimed) BookFault
+claims_from n before [] = Ok []
+claims_from n before (line ∷ lines) =
+    elim (line_gives n before (item_of line)) [
+      | Err f ↦ Err f
+      | Ok given ↦
+          elim given [
+            | None ↦ claims_from (n + 1) before lines
+            | Some c ↦ onto (c ∷ []) (claims_from (n + 1) (Some c.0) lines)
+          ]
+    ]
+
+-- the position of the last claim, or the one before all of them
+abbrev pub last_position : Option bits.Discs → List Claimed → Option bits.Discs
+last_position before [] = before
+last_position before (c ∷ claims) = last_position (Some c.0) claims
+
+abbrev pub advice : Scoring → Result (List Claimed) BookFault → Result Advice BookFault
+advice g (Ok claims) = Ok (record { scoring = g; claims = claims })
+advice g (Err f) = Err f
+
+abbrev pub advice_under : Option Scoring → List (List ℕ) → Result Advice BookFault
+advice_under None lines = Err fault.Header
+advice_under (Some g) lines = advice g (claims_from 1 None lines)
+
+-- the claims of a text, or its first fault; lines are numbered from 1, skipped ones counted
+abbrev pub claims_of : List ℕ → Result Advice BookFault
+claims_of text = advice_under (scoring_of_lines (lines_of text)) (lines_of text)
+
+-- ---- what calls give
+
+-- a call gives these claims or this fault; else it wants memory, but never in place of an unknown header
+abbrev pub Gives : Result Advice BookFault → Result Advice BookFault → Type 0
+Gives (Ok a) meaning = meaning ≡ Ok a
+Gives (Err fault.Memory) meaning = meaning ≢ Err fault.Header
+Gives (Err f) meaning = meaning ≡ Err f
+
+abbrev pub claim_at : bits.Discs → List Claimed → Option Claim
+claim_at p claims = lookup (λ q. is_eq (by_masks p q)) claims
+
+abbrev pub image_claim : Sym → Claim → Claim
+image_claim s c = record { score = c.score; best = best_image s c.best }
+
+-- the claim of the canonical position, its squares moved by the inverse of the symmetry that leads to it
+abbrev pub found_in : Advice → bits.Discs → Option Claim
+found_in a p = option_map (image_claim (inverse (first_symmetry (position_of Black p)))) (claim_at (canonical_of p) a.claims)
+
+-- an answer as a claim
+abbrev pub claim_by : Solution → Claim
+claim_by answer = record { score = answer.score; best = answer.best }
+
+-- a position with its answer as the claim
+abbrev pub answered : Scoring → bits.Discs → Claimed
+answered g p = (p, claim_by (bits.answer_of g p))

@@ -1,0 +1,41 @@
+-- What the listed fields of a line claim.
+use Rattle.std.specs.Prelude.{ℕ, ℤ, ◌==◌, ◌&&◌, Bool, false, List, map, if◌then◌else◌}
+use Rattle.std.specs.List.{list_any}
+use Rattle.std.specs.Ordering.{int_eq}
+use Rattle.othello_rules.specs.Value.{greatest}
+use Rattle.othello_rules.specs.declared.answers.Best.{Best}
+use Rattle.othello_rules.specs.declared.answers.Best.TheVariants as best
+use Rattle.othello_bits.specs.Discs.{mask_where}
+use Rattle.obf_text.specs.Fields.{Field}
+use Rattle.obf_text.specs.declared.entries.ListedMove.TheVariants.{At, Pass, Over}
+use Rattle.endgame_search.specs.declared.solutions.Claim.{Claim}
+
+-- the greatest of the listed scores
+abbrev pub greatest_listed : List Field → ℤ
+greatest_listed fields = greatest (map (λ f. f.1) fields)
+
+-- whether a field lists a square, or a pass, with this score
+abbrev pub lists_square : ℤ → ℕ → Field → Bool
+lists_square score q (At square, listed) = (square == q) && int_eq listed score
+lists_square score q (Pass, listed) = false
+lists_square score q (Over, listed) = false
+
+abbrev pub lists_pass : ℤ → Field → Bool
+lists_pass score (At square, listed) = false
+lists_pass score (Pass, listed) = int_eq listed score
+lists_pass score (Over, listed) = false
+
+-- the squares that are listed with this score
+unfoldable pub squares_listed : ℤ → List Field → ℕ
+squares_listed score fields = mask_where (λ q. list_any (lists_square score q) fields)
+
+-- what is listed with this score: the squares; where there is none a pass, or else the end of the game
+abbrev pub best_by : ℕ → Bool → Best
+best_by squares pass = if squares == 0 then (if pass then best.Pass else best.Over) else best.Moves squares
+
+abbrev pub best_listed : ℤ → List Field → Best
+best_listed score fields = best_by (squares_listed score fields) (list_any (lists_pass score) fields)
+
+-- the greatest listed score, and what is listed with it
+abbrev pub claim_of : List Field → Claim
+claim_of fields = record { score = greatest_listed fields; best = best_listed (greatest_listed fields) fields }

@@ -1,0 +1,103 @@
+//! Claims of positions, read from the text of a book.
+
+ghost use Rattle.std.specs.Prelude.{◌≡◌, None, length};
+ghost use Rattle.obf_text.specs.LineText.{lines_of};
+ghost use Rattle.solved_book.specs.Advice.{Gives, claims_from, claims_of, found_in};
+ghost use Rattle.solved_book.specs.Order.{AreRising};
+ghost use Rattle.solved_book.specs.Reading.{GivesMap, claimed_positions};
+
+use crate::entries::read_claim;
+use crate::faults::BookFault;
+use crate::headers::scoring_of;
+use crate::images::{Masks, best_on_image, masks_of};
+use endgame_search::Claim;
+use obf_text::split_lines;
+use othello_bits::Pos;
+use othello_rules::Scoring;
+use std::alloc::Global;
+use std::collections::BTreeMap;
+use std::marker::Model;
+
+/// What a book claims of positions under its scoring. A claim is advice and need not be true. Contracts see the scoring
+/// and the claimed positions with their claims, in rising order.
+#[derive(Drop)]
+pub struct Claims {
+    scoring: Scoring,
+    claims: BTreeMap<Masks, Claim>,
+}
+
+impl Model for Claims {
+    ghost use Rattle.std.specs.Prelude.{map};
+    ghost use Rattle.solved_book.specs.Advice.{Advice};
+    ghost use Rattle.solved_book.specs.Reading.{claimed};
+
+    ghost Value = { Advice };
+
+    ghost view = { λ c. record { scoring = c.scoring; claims = map claimed c.claims.entries } };
+}
+
+// The claims of the lines of a text.
+fn read_claims(alloc: Global, text: &[u8]) -> Result<BTreeMap<Masks, Claim>, BookFault>
+    ensures { GivesMap result (claims_from 1 None (lines_of text.now)) }
+{
+    let mut claims = BTreeMap::new(alloc);
+    let mut before = None;
+    let mut number: usize = 1;
+    for line in split_lines(text) {
+        match read_claim(alloc, number, before, line)? {
+            Some((masks, claim)) => {
+                claims.insert(masks, claim)?;
+                before = Some(masks);
+            }
+            None => {}
+        }
+        number += 1;
+    }
+    Ok(claims)
+}
+
+impl Claims {
+    /// Reads the text of a book.
+    ///
+    /// If the first line is a header, it names the scoring; a first line that begins as a header and is none is refused;
+    /// without a header the scoring is `Winner`. Each line that is not skipped is a line of OBF text with Black to move
+    /// in a canonical position, which stands behind the one before it, and with a listed move. The greatest listed score
+    /// is claimed of the position, with the squares that are listed with it as the best moves; where there is none, a
+    /// pass if one is listed with it, else that the game is over.
+    ///
+    /// The first faulty line is told, with the first of its faults in the order of `BookFault`.
+    pub fn read(alloc: Global, text: &[u8]) -> Result<Claims, BookFault>
+        ensures { Gives result (claims_of text.now) }
+    {
+        let Some(scoring) = scoring_of(text) else {
+            return Err(BookFault::Header);
+        };
+        let claims = read_claims(alloc, text)?;
+        Ok(Claims { scoring, claims })
+    }
+
+    /// The scoring of the claims.
+    pub fn scoring(&self) -> Scoring
+        ensures { result ≡ self.now.scoring }
+    {
+        self.scoring
+    }
+
+    /// How many positions have a claim.
+    pub fn len(&self) -> usize
+        ensures count { result ≡ length self.now.claims }
+        ensures rising { AreRising (claimed_positions self.now.claims) }
+    {
+        self.claims.len()
+    }
+
+    /// The claim of a position, if there is one: that of its canonical position, with the squares moved back.
+    pub fn find(&self, position: &Pos) -> Option<Claim>
+        ensures { result ≡ found_in self.now position.now }
+    {
+        let (canonical, sym) = position.canonical();
+        let mut claim = *self.claims.get(&masks_of(canonical))?;
+        claim.best = best_on_image(claim.best, sym.inverse());
+        Some(claim)
+    }
+}

@@ -1,0 +1,134 @@
+//! Books of solved positions.
+
+ghost use Rattle.std.specs.Prelude.{◌≡◌, ◌↔◌, ◌⊎◌, [], ◌∷◌, ◌++◌, length, Contains, IfOk, OnErr, OnOk, IsTrue};
+ghost use Rattle.std.specs.Io.KnownBytes.{Appends};
+ghost use Rattle.othello_rules.specs.declared.discs.Side.TheVariants.{Black};
+ghost use Rattle.othello_bits.specs.Discs.{Discs, answer_of, position_of};
+ghost use Rattle.othello_bits.specs.Symmetries.{canonical_of, first_symmetry};
+ghost use Rattle.solved_book.specs.Books.{book_text, entry_text, header, position_at, IsSolvedEntry};
+ghost use Rattle.solved_book.specs.Order.{AreBookPositions};
+
+use crate::headers::header;
+use crate::images::{Masks, best_on_image, masks_of};
+use endgame_search::Solved;
+use obf_text::write_line;
+use othello_bits::{Pos, Sym};
+use othello_rules::{Answer, Scoring, Side};
+use std::alloc::{AllocError, Global};
+use std::collections::BTreeMap;
+use std::io;
+use std::io::Write;
+use std::marker::Model;
+
+/// Positions with their answers under one scoring. Of the eight images of a position it holds the canonical one, once.
+/// Contracts see the scoring and the canonical positions, in rising order: by this type their answers are those of the
+/// definitions.
+#[derive(Drop)]
+pub struct Book {
+    scoring: Scoring,
+    answers: BTreeMap<Masks, Answer>,
+}
+
+impl Model for Book {
+    ghost use Rattle.solved_book.specs.Books.{Contents, AreSolved, positions_in};
+
+    ghost Value = { Contents };
+
+    ghost view = { λ b. record { scoring = b.scoring; positions = positions_in b.answers.entries } };
+
+    ghost invariant = { λ b. AreSolved b.scoring b.answers.entries };
+}
+
+// The answer of the canonical position, to which the symmetry leads.
+fn canonical_answer(solved: Solved, sym: Sym) -> Answer
+    requires { sym ≡ first_symmetry (position_of Black solved.position) }
+    ensures { result ≡ answer_of solved.scoring (canonical_of solved.position) }
+{
+    let answer = solved.answer();
+    Answer {
+        score: answer.score,
+        best: best_on_image(answer.best, sym),
+    }
+}
+
+// The line of a position that is kept with its answer.
+#[tactic(auto, unfolding(crate::specs::Books::entry_text))]
+fn write_entry<W: Write>(
+    writer: &mut W,
+    scoring: Scoring,
+    masks: Masks,
+    answer: &Answer,
+) -> io::Result<()>
+    requires { IsSolvedEntry scoring (masks, answer.now) }
+    ensures { OnOk result (Appends (W.contents writer.old) (W.contents writer.new) (entry_text scoring (position_at masks))) }
+{
+    let (own, opp) = masks;
+    let Some(position) = Pos::new(own, opp) else {
+        unreachable!()
+    };
+    write_line(writer, &position.to_grid(Side::Black), answer)
+}
+
+// The header and its end.
+fn write_header<W: Write>(writer: &mut W, scoring: Scoring) -> io::Result<()>
+    ensures { OnOk result (Appends (W.contents writer.old) (W.contents writer.new) (header scoring ++ 10 ∷ [])) }
+{
+    writer.write_all(header(scoring))?;
+    writer.write_all(b"\n")
+}
+
+impl Book {
+    /// An empty book for answers under a scoring. It takes no memory yet.
+    pub fn new(alloc: Global, scoring: Scoring) -> Book
+        ensures { result ≡ record { scoring = scoring; positions = [] } }
+    {
+        Book {
+            scoring,
+            answers: BTreeMap::new(alloc),
+        }
+    }
+
+    /// The scoring of its answers.
+    pub fn scoring(&self) -> Scoring
+        ensures { result ≡ self.now.scoring }
+    {
+        self.scoring
+    }
+
+    /// How many positions it holds.
+    pub fn len(&self) -> usize
+        ensures count { result ≡ length self.now.positions }
+        ensures positions { AreBookPositions self.now.positions }
+    {
+        self.answers.len()
+    }
+
+    /// Adds the canonical position of a solved one. True where it is new. Want of memory leaves the book as it was.
+    pub fn add(&mut self, solved: &Solved) -> Result<bool, AllocError>
+        requires { solved.now.scoring ≡ self.old.scoring }
+        ensures new { IfOk result (λ added. IsTrue added ↔ (Contains self.old.positions (canonical_of solved.now.position) → ⊥)) }
+        ensures holds { OnOk result ((p : Discs) → Contains self.new.positions p ↔ ((p ≡ canonical_of solved.now.position) ⊎ Contains self.old.positions p)) }
+        ensures scoring { self.new.scoring ≡ self.old.scoring }
+        ensures unchanged { OnErr result (self.new ≡ self.old) }
+        // Only a new position takes memory.
+        ensures err { OnErr result (Contains self.old.positions (canonical_of solved.now.position) → ⊥) }
+    {
+        let (position, sym) = solved.pos().canonical();
+        let answer = canonical_answer(*solved, sym);
+        let known = self.answers.insert(masks_of(position), answer)?;
+        Ok(known.is_none())
+    }
+
+    /// Writes the header of the scoring and the line of each position, with Black as the mover, in rising order. It
+    /// takes no memory of its own. After a fault nothing is said of how much went out.
+    pub fn write<W: Write>(&self, writer: &mut W) -> io::Result<()>
+        ensures text { OnOk result (Appends (W.contents writer.old) (W.contents writer.new) (book_text self.now.scoring self.now.positions)) }
+        ensures positions { OnOk result (AreBookPositions self.now.positions) }
+    {
+        write_header(writer, self.scoring)?;
+        for (masks, answer) in &self.answers {
+            write_entry(writer, self.scoring, *masks, answer)?;
+        }
+        Ok(())
+    }
+}

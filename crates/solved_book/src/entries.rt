@@ -1,0 +1,75 @@
+//! One line of a book.
+
+ghost use Rattle.std.specs.Prelude.{◌≡◌, option_map, IfOk, IfErr};
+ghost use Rattle.obf_text.specs.Obf.{entry_of, item_of};
+ghost use Rattle.othello_bits.specs.Discs.{discs_of};
+ghost use Rattle.solved_book.specs.Advice.{entry_gives, is_behind, is_canonical_entry, line_gives};
+ghost use Rattle.solved_book.specs.Books.{position_at};
+ghost use Rattle.solved_book.specs.Reading.{GivesLine};
+
+use crate::faults::BookFault;
+use crate::images::{Masks, masks_of};
+use crate::listing::claim_of;
+use endgame_search::Claim;
+use obf_text::{Item, Line, LineFault, read_line};
+use othello_bits::Pos;
+use othello_rules::{Grid, Side};
+use std::alloc::Global;
+
+// Whether a position stands behind the one before it, if there is one.
+fn is_behind(before: Option<Masks>, masks: Masks) -> bool
+    ensures { result ≡ is_behind (option_map position_at before) (position_at masks) }
+{
+    match before {
+        None => true,
+        Some(last) => masks > last,
+    }
+}
+
+// Whether Black is to move in a position that is the least of its images.
+fn is_canonical(grid: &Grid, position: Pos) -> bool
+    requires { position ≡ discs_of grid.now }
+    ensures { result ≡ is_canonical_entry grid.now }
+{
+    grid.side() == Side::Black && position.least_image() == position
+}
+
+// The claim of an entry in line `number`, with the masks of its position.
+fn claim_entry(
+    number: usize,
+    before: Option<Masks>,
+    entry: &Line,
+) -> Result<Option<(Masks, Claim)>, BookFault>
+    ensures { GivesLine result (entry_gives number (option_map position_at before) (entry_of entry.now)) }
+{
+    let Some(claim) = claim_of(entry.listed.as_slice()) else {
+        return Err(BookFault::NoMoves(number));
+    };
+    let position = Pos::of_grid(&entry.grid);
+    let masks = masks_of(position);
+    if !is_behind(before, masks) {
+        return Err(BookFault::Unsorted(number));
+    }
+    if is_canonical(&entry.grid, position) {
+        Ok(Some((masks, claim)))
+    } else {
+        Err(BookFault::NotCanonical(number))
+    }
+}
+
+/// The claim of line `number`, with the masks of its position, unless the line is skipped.
+pub(crate) fn read_claim(
+    alloc: Global,
+    number: usize,
+    before: Option<Masks>,
+    line: &[u8],
+) -> Result<Option<(Masks, Claim)>, BookFault>
+    ensures { GivesLine result (line_gives number (option_map position_at before) (item_of line.now)) }
+{
+    match read_line(alloc, line) {
+        Ok(Item::Skip) => Ok(None),
+        Ok(Item::Entry(entry)) => claim_entry(number, before, &entry),
+        Err(LineFault::Memory) => Err(BookFault::Memory),
+        Err(fault) => Err(BookFault::Line(number, fault)),
+    }
+}

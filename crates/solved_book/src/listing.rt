@@ -1,0 +1,110 @@
+//! What the listed fields of a line claim.
+
+ghost use Rattle.std.specs.Prelude.{◌≡◌, ◌↔◌, ◌==◌, ◌||◌, ◌<◌, ℕ, [], map, IsNone, IfSome};
+ghost use Rattle.std.specs.Int.{int_max};
+ghost use Rattle.std.specs.List.{fold, list_any};
+ghost use Rattle.othello_rules.specs.Masks.{in_mask};
+ghost use Rattle.solved_book.specs.Listing.{best_by, best_listed, claim_of, greatest_listed, lists_pass, lists_square, squares_listed};
+
+use endgame_search::Claim;
+use obf_text::ListedMove;
+use othello_rules::{Best, Square};
+
+// The greatest of the scores of a field and others.
+fn greatest_of(first: &(ListedMove, i8), others: &[(ListedMove, i8)]) -> i8
+    ensures { result ≡ fold int_max first.now.1 (map (λ f. f.1) others.now) }
+{
+    let (_, mut greatest) = *first;
+    for (_, score) in others {
+        greatest = greatest.max(*score);
+    }
+    greatest
+}
+
+// The greatest listed score, where there is one.
+#[tactic(auto, unfolding(othello_rules::specs::Value::greatest))]
+fn greatest_score(listed: &[(ListedMove, i8)]) -> Option<i8>
+    ensures none { IsNone result ↔ (listed.now ≡ []) }
+    ensures greatest { IfSome result (λ score. score ≡ greatest_listed listed.now) }
+{
+    let (first, others) = listed.split_first()?;
+    Some(greatest_of(first, others))
+}
+
+// The mask with a square.
+fn with_square(mask: u64, square: Square) -> u64
+    ensures { (q : ℕ) → q < 64 → in_mask result q ≡ ((square == q) || in_mask mask q) }
+{
+    mask | (1u64 << square.number())
+}
+
+// The mask with the square of a field, if the field lists one with the score.
+fn with_listed(squares: u64, field: &(ListedMove, i8), score: i8) -> u64
+    ensures { (q : ℕ) → q < 64 → in_mask result q ≡ (lists_square score q field.now || in_mask squares q) }
+{
+    let (listed_move, listed_score) = *field;
+    match listed_move {
+        ListedMove::At(square) => {
+            if listed_score == score {
+                with_square(squares, square)
+            } else {
+                squares
+            }
+        }
+        _ => squares,
+    }
+}
+
+// The squares that are listed with a score.
+fn squares_listed(listed: &[(ListedMove, i8)], score: i8) -> u64
+    ensures { result ≡ squares_listed score listed.now }
+{
+    let mut squares = 0u64;
+    for field in listed {
+        squares = with_listed(squares, field, score);
+    }
+    squares
+}
+
+fn is_pass(listed_move: ListedMove, listed_score: i8, score: i8) -> bool
+    ensures { result ≡ lists_pass score (listed_move, listed_score) }
+{
+    match listed_move {
+        ListedMove::Pass => listed_score == score,
+        _ => false,
+    }
+}
+
+// Whether a pass is listed with a score.
+fn is_pass_listed(listed: &[(ListedMove, i8)], score: i8) -> bool
+    ensures { result ≡ list_any (lists_pass score) listed.now }
+{
+    listed.iter().any(|(listed_move, listed_score)| is_pass(*listed_move, *listed_score, score))
+}
+
+// What is listed with a score.
+fn best_listed(listed: &[(ListedMove, i8)], score: i8) -> Best
+    ensures { result ≡ best_listed score listed.now }
+{
+    let squares = squares_listed(listed, score);
+    if squares != 0 {
+        return Best::Moves(squares);
+    }
+    if is_pass_listed(listed, score) {
+        Best::Pass
+    } else {
+        Best::Over
+    }
+}
+
+/// The greatest listed score and what is listed with it; None where nothing is listed.
+pub(crate) fn claim_of(listed: &[(ListedMove, i8)]) -> Option<Claim>
+    ensures none { IsNone result ↔ (listed.now ≡ []) }
+    ensures claim { IfSome result (λ claim. claim ≡ claim_of listed.now) }
+{
+    let score = greatest_score(listed)?;
+    Some(Claim {
+        score,
+        best: best_listed(listed, score),
+    })
+}
