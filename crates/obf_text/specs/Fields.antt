@@ -1,9 +1,10 @@
 -- The fields of a line: what stands behind the side, up to the first `%`, is cut at each `;`; a piece that is a move, a
 -- colon and a score lists that move, and any other piece lists nothing.
-use Rattle.std.specs.Prelude.{◌≡◌, ◌⊎◌, ℕ, ℤ, pos, neg_ℤ, ◌+◌, ◌-◌, ◌*◌, ◌<◌, ◌≤◌, ◌==◌, ◌&&◌, ◌||◌, Bool, nat_le, List, [], ◌∷◌, ◌++◌, length, take, drop, Option, Some, None, if◌then◌else◌}
+use Rattle.std.specs.Prelude.{◌≡◌, ◌⊎◌, ℕ, ℤ, pos, neg_ℤ, ◌+◌, ◌-◌, ◌*◌, ◌<◌, ◌≤◌, ◌==◌, ◌&&◌, ◌||◌, Bool, nat_le, List, [], ◌∷◌, ◌++◌, length, map, take, drop, Option, Some, None, if◌then◌else◌}
 use Rattle.std.specs.List.{AllPass, slice_split, before_first, position_or_len, suffix_len, filter_map}
 use Rattle.std.specs.Option.{option_map}
 use Rattle.othello_rules.specs.Board.{IsNameOf}
+use Rattle.othello_rules.specs.Value.{greatest}
 use Rattle.obf_text.specs.Bytes.{is_blank, is_content}
 use Rattle.obf_text.specs.declared.entries.ListedMove.{ListedMove}
 use Rattle.obf_text.specs.declared.entries.ListedMove.TheVariants.{At, Pass, Over}
@@ -11,6 +12,10 @@ use Rattle.obf_text.specs.declared.entries.ListedMove.TheVariants.{At, Pass, Ove
 -- a listed move, with its score as the side to move sees it
 abbrev pub Field : Type 0
 Field = ListedMove × ℤ
+
+-- the greatest of the listed scores
+abbrev pub greatest_listed : List Field → ℤ
+greatest_listed fields = greatest (map (λ f. f.1) fields)
 
 -- the pieces behind the side
 abbrev pub pieces_of : List ℕ → List (List ℕ)

@@ -1,6 +1,9 @@
 //! What a line holds.
 
-ghost use Rattle.std.specs.Prelude.{◌≡◌};
+ghost use Rattle.std.specs.Prelude.{◌≡◌, ◌↔◌, [], map, IsNone, IfSome};
+ghost use Rattle.std.specs.Int.{int_max};
+ghost use Rattle.std.specs.List.{fold};
+ghost use Rattle.obf_text.specs.Fields.{greatest_listed};
 
 use othello_rules::{Grid, Square};
 use std::marker::Model;
@@ -69,4 +72,25 @@ pub enum Item {
     Skip,
     /// A position.
     Entry(Line),
+}
+
+// The greatest of the scores of a field and others.
+fn greatest_of(first: &(ListedMove, i8), others: &[(ListedMove, i8)]) -> i8
+    ensures { result ≡ fold int_max first.now.1 (map (λ f. f.1) others.now) }
+{
+    let (_, mut greatest) = *first;
+    for (_, score) in others {
+        greatest = greatest.max(*score);
+    }
+    greatest
+}
+
+/// The greatest of the listed scores, where there is one.
+#[tactic(auto, unfolding(othello_rules::specs::Value::greatest))]
+pub fn greatest_score(listed: &[(ListedMove, i8)]) -> Option<i8>
+    ensures none { IsNone result ↔ (listed.now ≡ []) }
+    ensures greatest { IfSome result (λ score. score ≡ greatest_listed listed.now) }
+{
+    let (first, others) = listed.split_first()?;
+    Some(greatest_of(first, others))
 }

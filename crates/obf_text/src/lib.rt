@@ -15,7 +15,7 @@ mod tests;
 mod writes;
 
 pub use cuts::{Lines, split_lines};
-pub use entries::{Item, Line, Listed, ListedMove};
+pub use entries::{Item, Line, Listed, ListedMove, greatest_score};
 pub use faults::LineFault;
 pub use reads::read_line;
 pub use writes::{score_bytes, write_line};

@@ -1,6 +1,8 @@
 //! Worked lines, and what no clause says: memory that is refused and writers that fail.
 
-use crate::{Item, Line, LineFault, Listed, ListedMove, read_line, split_lines, write_line};
+use crate::{
+    Item, Line, LineFault, Listed, ListedMove, greatest_score, read_line, split_lines, write_line,
+};
 use arrayvec::ArrayVec;
 use othello_rules::{Answer, Best, Cell, Grid, Side};
 use std::io;
@@ -310,6 +312,8 @@ fn keeps_listed_moves(rt: HostRuntime) -> Result<(), Fail> {
     let fields = vec![in rt.alloc(); (ListedMove::Pass, -4), (ListedMove::Over, 4)]?;
     let listed = Listed::from(fields);
     assert_eq!(rt; listed.as_slice().len(), 2);
+    assert_eq!(rt; greatest_score(listed.as_slice()), Some(4));
+    assert_eq!(rt; greatest_score(&[]), None);
     let fields = listed.into_vec();
     assert!(rt; fields[0] == (ListedMove::Pass, -4) && fields[1] == (ListedMove::Over, 4));
     Ok(())

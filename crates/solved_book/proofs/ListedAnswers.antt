@@ -21,11 +21,11 @@ use Rattle.othello_rules.proofs.MoveLaws.{Contains-squares}
 use Rattle.othello_bits.proofs.Bits.{in_mask-zero}
 use Rattle.othello_bits.proofs.TurnedMasks.{zero_from_none}
 use Rattle.othello_bits.proofs.Wheres.{is_where}
-use Rattle.obf_text.specs.Fields.{Field}
+use Rattle.obf_text.specs.Fields.{Field, greatest_listed}
 use Rattle.obf_text.specs.Written.{best_fields}
 use Rattle.obf_text.specs.declared.entries.ListedMove.TheVariants.{At, Pass, Over}
 use Rattle.endgame_search.specs.declared.solutions.Claim.{Claim}
-use Rattle.solved_book.specs.Listing.{best_by, best_listed, claim_of, greatest_listed, lists_pass, lists_square, squares_listed}
+use Rattle.solved_book.specs.Listing.{best_by, best_listed, claim_of, lists_pass, lists_square, squares_listed}
 
 abbrev pub at : ℤ → ℕ → Field
 at score q = (At q, score)

@@ -2,17 +2,12 @@
 use Rattle.std.specs.Prelude.{ℕ, ℤ, ◌==◌, ◌&&◌, Bool, false, List, map, if◌then◌else◌}
 use Rattle.std.specs.List.{list_any}
 use Rattle.std.specs.Ordering.{int_eq}
-use Rattle.othello_rules.specs.Value.{greatest}
 use Rattle.othello_rules.specs.declared.answers.Best.{Best}
 use Rattle.othello_rules.specs.declared.answers.Best.TheVariants as best
 use Rattle.othello_bits.specs.Discs.{mask_where}
-use Rattle.obf_text.specs.Fields.{Field}
+use Rattle.obf_text.specs.Fields.{Field, greatest_listed}
 use Rattle.obf_text.specs.declared.entries.ListedMove.TheVariants.{At, Pass, Over}
 use Rattle.endgame_search.specs.declared.solutions.Claim.{Claim}
-
--- the greatest of the listed scores
-abbrev pub greatest_listed : List Field → ℤ
-greatest_listed fields = greatest (map (λ f. f.1) fields)
 
 -- whether a field lists a square, or a pass, with this score
 abbrev pub lists_square : ℤ → ℕ → Field → Bool

@@ -1,35 +1,13 @@
 //! What the listed fields of a line claim.
 
-ghost use Rattle.std.specs.Prelude.{◌≡◌, ◌↔◌, ◌==◌, ◌||◌, ◌<◌, ℕ, [], map, IsNone, IfSome};
-ghost use Rattle.std.specs.Int.{int_max};
-ghost use Rattle.std.specs.List.{fold, list_any};
+ghost use Rattle.std.specs.Prelude.{◌≡◌, ◌↔◌, ◌==◌, ◌||◌, ◌<◌, ℕ, [], IsNone, IfSome};
+ghost use Rattle.std.specs.List.{list_any};
 ghost use Rattle.othello_rules.specs.Masks.{in_mask};
-ghost use Rattle.solved_book.specs.Listing.{best_by, best_listed, claim_of, greatest_listed, lists_pass, lists_square, squares_listed};
+ghost use Rattle.solved_book.specs.Listing.{best_by, best_listed, claim_of, lists_pass, lists_square, squares_listed};
 
 use endgame_search::Claim;
-use obf_text::ListedMove;
+use obf_text::{ListedMove, greatest_score};
 use othello_rules::{Best, Square};
-
-// The greatest of the scores of a field and others.
-fn greatest_of(first: &(ListedMove, i8), others: &[(ListedMove, i8)]) -> i8
-    ensures { result ≡ fold int_max first.now.1 (map (λ f. f.1) others.now) }
-{
-    let (_, mut greatest) = *first;
-    for (_, score) in others {
-        greatest = greatest.max(*score);
-    }
-    greatest
-}
-
-// The greatest listed score, where there is one.
-#[tactic(auto, unfolding(othello_rules::specs::Value::greatest))]
-fn greatest_score(listed: &[(ListedMove, i8)]) -> Option<i8>
-    ensures none { IsNone result ↔ (listed.now ≡ []) }
-    ensures greatest { IfSome result (λ score. score ≡ greatest_listed listed.now) }
-{
-    let (first, others) = listed.split_first()?;
-    Some(greatest_of(first, others))
-}
 
 // The mask with a square.
 fn with_square(mask: u64, square: Square) -> u64

@@ -4,18 +4,13 @@ use Rattle.std.specs.List.{list_all}
 use Rattle.std.specs.Ordering.{int_eq}
 use Rattle.othello_rules.specs.Masks.{in_mask}
 use Rattle.othello_rules.specs.Solution.{Solution}
-use Rattle.othello_rules.specs.Value.{greatest}
 use Rattle.othello_rules.specs.declared.answers.Best.{Best}
 use Rattle.othello_rules.specs.declared.answers.Best.TheVariants as best
-use Rattle.obf_text.specs.Fields.{Field}
+use Rattle.obf_text.specs.Fields.{Field, greatest_listed}
 use Rattle.obf_text.specs.declared.entries.ListedMove.{ListedMove}
 use Rattle.obf_text.specs.declared.entries.ListedMove.TheVariants as listed
 use Rattle.suite_solver.specs.declared.checks.Check.{Check}
 use Rattle.suite_solver.specs.declared.checks.Check.TheVariants.{Agree, Differ, Unlisted}
-
--- the greatest of the listed scores
-abbrev pub greatest_listed : List Field → ℤ
-greatest_listed fields = greatest (map (λ f. f.1) fields)
 
 -- the fields with this score
 abbrev pub fields_with : ℤ → List Field → List Field

@@ -1,11 +1,9 @@
 //! How the scores that a line lists compare with the answer.
 
-ghost use Rattle.std.specs.Prelude.{◌≡◌, ◌↔◌, [], map, IsNone, IfSome};
-ghost use Rattle.std.specs.Int.{int_max};
-ghost use Rattle.std.specs.List.{fold};
-ghost use Rattle.suite_solver.specs.Checks.{check, greatest_listed, is_best_in, are_best_in};
+ghost use Rattle.std.specs.Prelude.{◌≡◌};
+ghost use Rattle.suite_solver.specs.Checks.{check, is_best_in, are_best_in};
 
-use obf_text::ListedMove;
+use obf_text::{ListedMove, greatest_score};
 use othello_rules::{Answer, Best, has_square};
 
 /// What a line's listed scores say of the answer.
@@ -37,27 +35,6 @@ fn are_best_in(best: Best, score: i8, listed: &[(ListedMove, i8)]) -> bool
         .iter()
         .filter(|(_, listed_score)| *listed_score == score)
         .all(|(listed_move, _)| is_best_in(best, *listed_move))
-}
-
-// The greatest of the scores of a field and others.
-fn greatest_of(first: &(ListedMove, i8), others: &[(ListedMove, i8)]) -> i8
-    ensures { result ≡ fold int_max first.now.1 (map (λ f. f.1) others.now) }
-{
-    let (_, mut greatest) = *first;
-    for (_, score) in others {
-        greatest = greatest.max(*score);
-    }
-    greatest
-}
-
-// The greatest listed score, where there is one.
-#[tactic(auto, unfolding(othello_rules::specs::Value::greatest))]
-fn greatest_score(listed: &[(ListedMove, i8)]) -> Option<i8>
-    ensures none { IsNone result ↔ (listed.now ≡ []) }
-    ensures greatest { IfSome result (λ score. score ≡ greatest_listed listed.now) }
-{
-    let (first, others) = listed.split_first()?;
-    Some(greatest_of(first, others))
 }
 
 /// Compares the listed scores of a line with its answer.

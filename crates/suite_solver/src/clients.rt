@@ -1,4 +1,4 @@
-//! What clients and workers do at a desk.
+//! What a client does at a desk.
 
 ghost use Rattle.std.specs.Prelude.{◌≡◌, ◌⊎◌, ◌++◌, IfOk, IfErr, OnOk};
 ghost use Rattle.suite_solver.specs.declared.faults.RunFault.TheVariants.{Memory, Mixed};
@@ -84,19 +84,6 @@ pub(crate) fn receive_all<R: Wait, T: Bounds, G: Gate>(
             Ok(Turn::Drained) => return Ok(solved),
             Err(_) => return Err(RunFault::Mixed),
         }
-    }
-    unreachable!()
-}
-
-// Solves jobs until all are done, or one is refused.
-pub(crate) fn work<R: Wait, T: Bounds, G: Gate>(rt: &R, desk: &Desk, table: &T, gate: &G) {
-    for _ in rt.forever() {
-        let Some(job) = desk.take_or_wait(rt) else {
-            return;
-        };
-        let Ok(()) = solve_job(rt, desk, table, gate, job) else {
-            return;
-        };
     }
     unreachable!()
 }

@@ -1,7 +1,7 @@
 use Rattle.std.proofs.Common.{◌≡◌, map, drop}
 use Rattle.std.specs.List.{fold}
 use Rattle.std.specs.Int.{int_max}
-use Rattle.suite_solver.proofs.checks.greatest_of.Given as goal
+use Rattle.obf_text.proofs.entries.greatest_of.Given as goal
 
 -- the greatest so far and the scores that are left have the greatest of all
 abbrev pub invariant-loop-score : goal.invariant-loop-score
