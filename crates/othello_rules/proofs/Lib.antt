@@ -1,4 +1,5 @@
 pub mod BoardLaws
+pub mod RayLaws
 pub mod SquareLaws
 pub mod ListLaws
 pub mod TurnLaws

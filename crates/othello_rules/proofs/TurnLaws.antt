@@ -7,13 +7,13 @@ use Rattle.othello_rules.specs.declared.discs.Side.TheVariants as side
 use Rattle.othello_rules.specs.declared.discs.Cell.{Cell}
 use Rattle.othello_rules.specs.declared.discs.Cell.TheVariants as cell
 use Rattle.std.proofs.Common.{Option, Some, None, refl}
-use Rattle.othello_rules.specs.Board.{room, stepped, ray}
+use Rattle.othello_rules.specs.Board.{room, square_after, ray}
 use Rattle.othello_rules.specs.Rules.{Position, has, own, opposing, other, disc, is_some_cell, run, closes, turned}
 use Rattle.othello_rules.proofs.BoardLaws.{length-ray, get_or-ray}
 
 -- the first n squares of the ray are opposing
 abbrev pub AllOpposing : Position → ℕ → Direction → ℕ → Type 0
-AllOpposing P q d n = (k : ℕ) → k < n → has P (opposing P) (stepped d q (k + 1)) ≡ true
+AllOpposing P q d n = (k : ℕ) → k < n → has P (opposing P) (square_after d q (k + 1)) ≡ true
 
 is_some-own_not : (s : Side) (o : Option Cell) → is_some_cell (disc s) o ≡ true → is_some_cell (disc (other s)) o ≡ false
 is_some-own_not side.Black None h = refl
@@ -46,7 +46,7 @@ never_closes mine opp (x ∷ xs) all =
     let first : opp x ≡ true = all 0 (omega arith) in
     rw first (never_closes mine opp xs (λ k l. all (suc k) (omega arith)))
 
-on_ray : (P : Position) (q : ℕ) (d : Direction) (n : ℕ) → n < room d q → AllOpposing P q d n → has P (opposing P) (stepped d q (n + 1)) ≡ false → (run (has P (opposing P)) (ray d q) ≡ take n (ray d q)) × (closes (has P (own P)) (has P (opposing P)) (ray d q) ≡ has P (own P) (stepped d q (n + 1)))
+on_ray : (P : Position) (q : ℕ) (d : Direction) (n : ℕ) → n < room d q → AllOpposing P q d n → has P (opposing P) (square_after d q (n + 1)) ≡ false → (run (has P (opposing P)) (ray d q) ≡ take n (ray d q)) × (closes (has P (own P)) (has P (opposing P)) (ray d q) ≡ has P (own P) (square_after d q (n + 1)))
 on_ray P q d n within all stop =
     let r = run_to (has P (own P)) (has P (opposing P)) n (ray d q)
     (rw length-ray within)
@@ -55,14 +55,14 @@ on_ray P q d n within all stop =
     (r.0, r.1 ∙ ap (has P (own P)) (get_or-ray d q n 0 within))
 
 -- the run is followed by an own disc
-pub turned_closed : (P : Position) (q : ℕ) (d : Direction) (n : ℕ) → n < room d q → AllOpposing P q d n → has P (own P) (stepped d q (n + 1)) ≡ true → turned P q d ≡ take n (ray d q)
+pub turned_closed : (P : Position) (q : ℕ) (d : Direction) (n : ℕ) → n < room d q → AllOpposing P q d n → has P (own P) (square_after d q (n + 1)) ≡ true → turned P q d ≡ take n (ray d q)
 unfolding turned
 turned_closed P q d n within all closing =
-    let r = on_ray P q d n within all (own_not_opposing P (stepped d q (n + 1)) closing) in
+    let r = on_ray P q d n within all (own_not_opposing P (square_after d q (n + 1)) closing) in
     rw (r.1, closing) r.0
 
 -- the run is followed by an empty square
-pub turned_open : (P : Position) (q : ℕ) (d : Direction) (n : ℕ) → n < room d q → AllOpposing P q d n → has P (own P) (stepped d q (n + 1)) ≡ false → has P (opposing P) (stepped d q (n + 1)) ≡ false → turned P q d ≡ []
+pub turned_open : (P : Position) (q : ℕ) (d : Direction) (n : ℕ) → n < room d q → AllOpposing P q d n → has P (own P) (square_after d q (n + 1)) ≡ false → has P (opposing P) (square_after d q (n + 1)) ≡ false → turned P q d ≡ []
 unfolding turned
 turned_open P q d n within all not_own not_opposing =
     let r = on_ray P q d n within all not_opposing in

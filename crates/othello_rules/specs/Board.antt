@@ -44,22 +44,22 @@ room_along Stay at = 7
 room_along Ahead at = 7 - at
 
 -- the column, or the row, k steps on
-abbrev pub moved : Step → ℕ → ℕ → ℕ
-moved Back at k = at - k
-moved Stay at k = at
-moved Ahead at k = at + k
+abbrev pub place_after : Step → ℕ → ℕ → ℕ
+place_after Back at k = at - k
+place_after Stay at k = at
+place_after Ahead at k = at + k
 
 -- how many steps can be made from q before the edge
 abbrev pub room : Direction → ℕ → ℕ
 room d q = min (room_along d.column (column q)) (room_along d.row (row q))
 
 -- the square k steps from q
-abbrev pub stepped : Direction → ℕ → ℕ → ℕ
-stepped d q k = square_at (moved d.column (column q) k) (moved d.row (row q) k)
+abbrev pub square_after : Direction → ℕ → ℕ → ℕ
+square_after d q k = square_at (place_after d.column (column q) k) (place_after d.row (row q) k)
 
 -- the squares met by stepping from q up to the edge, nearest first, without q
 unfoldable pub ray : Direction → ℕ → List ℕ
-ray d q = map (stepped d q) (range_with_len 1 (room d q))
+ray d q = map (square_after d q) (range_with_len 1 (room d q))
 
 -- the letter of the column, from A, and the digit of the row, from 1
 unfoldable pub name_of : ℕ → List ℕ

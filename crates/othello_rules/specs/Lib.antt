@@ -1,4 +1,5 @@
 pub mod Board
+pub mod Neighbours
 pub mod Rules
 pub mod Scores
 pub mod Masks

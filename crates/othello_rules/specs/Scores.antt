@@ -1,5 +1,5 @@
--- The score of a position by its discs, as the mover sees it, under each scoring.
-use Rattle.std.specs.Prelude.{ℕ, nat_lt, if◌then◌else◌, ℤ, pos, ◌+ℤ◌, ◌-ℤ◌}
+-- The scorings: the score of a position by its discs, as the mover sees it, under each, and their names.
+use Rattle.std.specs.Prelude.{ℕ, nat_lt, if◌then◌else◌, ℤ, pos, ◌+ℤ◌, ◌-ℤ◌, List, codes}
 use Rattle.std.specs.Int.{int_signum}
 use Rattle.othello_rules.specs.declared.scorings.Scoring.{Scoring}
 use Rattle.othello_rules.specs.declared.scorings.Scoring.TheVariants.{Winner, Discs, Sign}
@@ -18,3 +18,9 @@ score_of Sign m o e = int_signum (pos m -ℤ pos o)
 
 unfoldable pub final : Scoring → Position → ℤ
 final g P = score_of g (count_of P (own P)) (count_of P (opposing P)) (count_of P Empty)
+
+-- the name of a scoring in options and texts
+abbrev pub scoring_name : Scoring → List ℕ
+scoring_name Winner = codes "winner"
+scoring_name Discs = codes "discs"
+scoring_name Sign = codes "sign"

@@ -1,7 +1,7 @@
 //! Directions, by their steps in the column and in the row.
 
 ghost use Rattle.std.specs.Prelude.{◌≡◌, ◌<◌, ◌≤◌};
-ghost use Rattle.othello_rules.specs.Board.{room_along, moved};
+ghost use Rattle.othello_rules.specs.Board.{place_after, room_along};
 
 // One step along the columns or along the rows.
 #[derive(Clone, Copy)]
@@ -25,10 +25,11 @@ impl Step {
         }
     }
 
-    pub(crate) fn moved(self, at: u8, by: u8) -> u8
+    // The column, or the row, so many steps from `at`.
+    pub(crate) fn advance(self, at: u8, by: u8) -> u8
         requires on_board { at < 8 }
         requires room { by ≤ room_along self at }
-        ensures value { result ≡ moved self at by }
+        ensures value { result ≡ place_after self at by }
         ensures below { result < 8 }
     {
         match self {

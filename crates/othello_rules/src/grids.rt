@@ -1,11 +1,12 @@
 //! The grid of 64 cells, and what a move does to it.
 
-ghost use Rattle.std.specs.Prelude.{◌≡◌, ◌+◌, ◌<◌, ◌≤◌, ◌++◌, ◌↔◌, [], Bool, true, false, length, take, slice_get, Some, IsTrue, IsOk, IfOk, neg_ℤ};
+ghost use Rattle.std.specs.Prelude.{◌≡◌, ◌+◌, ◌<◌, ◌≤◌, ◌++◌, ◌↔◌, [], Bool, true, false};
+ghost use Rattle.std.specs.Prelude.{length, take, slice_get, Some, IsTrue, IsOk, IfOk, neg_ℤ};
 ghost use Rattle.std.specs.Option.{option_map_or};
 ghost use Rattle.std.specs.Int.{int_max};
 ghost use Rattle.arrayvec.specs.ArrayVec.{array_vec_len};
 ghost use Rattle.othello_rules.specs.Board.{ray, room};
-ghost use Rattle.othello_rules.specs.Rules.{turned, flips, moves, play, pass, has, IsOver, count_of};
+ghost use Rattle.othello_rules.specs.Rules.{IsOver, count_of, flips, has, moves, pass, play, turned};
 ghost use Rattle.othello_rules.specs.Scores.{final};
 ghost use Rattle.othello_rules.specs.Masks.{mask_of};
 ghost use Rattle.othello_rules.specs.Solution.{IsScore};
@@ -21,7 +22,8 @@ use crate::squares::Square;
 use arrayvec::ArrayVec;
 use std::marker::Model;
 
-/// A position: 64 cells in the order of the squares' numbers (A1, B1, .. H1, A2, .. H8), and the side to move, the mover.
+/// A position: 64 cells in the order of the squares' numbers (A1, B1, .. H1, A2, .. H8), and the side to move, the
+/// mover.
 #[derive(Clone, Copy, PartialEq, Eq, Debug)]
 pub struct Grid {
     cells: [Cell; 64],
@@ -42,7 +44,7 @@ impl Model for Grid {
 }
 
 // A score as the other side sees it.
-fn negated(score: i8) -> i8
+fn negate(score: i8) -> i8
     requires { IsScore score }
     ensures value { result ≡ neg_ℤ score }
     ensures in_range { IsScore result }
@@ -51,7 +53,7 @@ fn negated(score: i8) -> i8
 }
 
 // The greater of the best so far, if there is one, and one more.
-fn raised(best: Option<i8>, worth: i8) -> i8
+fn raise(best: Option<i8>, worth: i8) -> i8
     ensures { result ≡ option_map_or (λ so_far. int_max so_far worth) best worth }
 {
     match best {
@@ -104,7 +106,7 @@ impl Grid {
     }
 
     // How many of the squares in a direction a move would turn.
-    fn turned_len(&self, from: Square, direction: Direction) -> u8
+    fn count_turned(&self, from: Square, direction: Direction) -> u8
         ensures value { turned self.now from direction ≡ take result (ray direction from) }
         ensures short { result ≤ 6 }
         ensures room { result ≤ room direction from }
@@ -114,7 +116,7 @@ impl Grid {
         // A run that reaches the edge turns nothing.
         let open_run = 0;
         for run in 0..from.room(direction) {
-            let next = from.stepped(direction, run + 1);
+            let next = from.step(direction, run + 1);
             if self.has(own, next) {
                 return run;
             }
@@ -131,8 +133,8 @@ impl Grid {
         ensures items { out.new.items ≡ out.old.items ++ turned self.now from direction }
         ensures len { array_vec_len out.new ≤ array_vec_len out.old + 6 }
     {
-        for step in 0..self.turned_len(from, direction) {
-            out.push(from.stepped(direction, step + 1));
+        for step in 0..self.count_turned(from, direction) {
+            out.push(from.step(direction, step + 1));
         }
     }
 
@@ -163,8 +165,10 @@ impl Grid {
     /// The position after a move: the square and all that the move turns are the mover's, and the other side is to
     /// move. `Occupied` on an occupied square, else `TurnsNothing` where nothing would turn.
     pub fn play(&self, square: Square) -> Result<Grid, RuleFault>
-        ensures occupied { (result ≡ Err RuleFault.Occupied) ↔ (has self.now Cell.Empty square ≡ false) }
-        ensures turns_nothing { (result ≡ Err RuleFault.TurnsNothing) ↔ ((has self.now Cell.Empty square ≡ true) × (flips self.now square ≡ [])) }
+        ensures occupied { (result ≡ Err RuleFault.Occupied)
+            ↔ (has self.now Cell.Empty square ≡ false) }
+        ensures turns_nothing { (result ≡ Err RuleFault.TurnsNothing)
+            ↔ ((has self.now Cell.Empty square ≡ true) × (flips self.now square ≡ [])) }
         ensures legal { IsOk result ↔ Contains (moves self.now) square }
         ensures ok { IfOk result (λ g. g ≡ play self.now square) }
     {
@@ -250,8 +254,8 @@ impl Grid {
         for number in 0..64 {
             if let Ok(next) = self.play(Square::at(number)) {
                 let reply = next.plain_value(scoring);
-                let worth = negated(reply);
-                best = Some(raised(best, worth));
+                let worth = negate(reply);
+                best = Some(raise(best, worth));
             }
         }
         match best {
@@ -260,7 +264,7 @@ impl Grid {
                 let passed = self.pass();
                 if passed.can_move() {
                     let theirs = passed.plain_value(scoring);
-                    negated(theirs)
+                    negate(theirs)
                 } else {
                     self.final_score(scoring)
                 }
@@ -277,7 +281,7 @@ impl Grid {
         for number in 0..64 {
             if let Ok(next) = self.play(Square::at(number)) {
                 let reply = next.plain_value(scoring);
-                let worth = negated(reply);
+                let worth = negate(reply);
                 if worth == score {
                     mask += 1 << number;
                 }

@@ -1,24 +1,43 @@
 //! What the definitions promise above their own text. Each function's body is empty: its contract is the law.
 
-ghost use Rattle.std.specs.Prelude.{◌≡◌, ◌≢◌, ◌≤ℤ◌, ℕ, [], neg_ℤ, length, map, ◌≤◌};
+ghost use Rattle.std.specs.Prelude.{◌≡◌, ◌≢◌, ◌<◌, ◌≤◌, ◌≤ℤ◌, ℕ, [], ◌∷◌, Some, None};
+ghost use Rattle.std.specs.Prelude.{neg_ℤ, length, map};
 ghost use Rattle.std.specs.List.{Contains};
 ghost use Rattle.std.specs.Int.{int_signum};
+ghost use Rattle.othello_rules.specs.declared.directions.Direction.{Direction};
 ghost use Rattle.othello_rules.specs.declared.scorings.Scoring.{Scoring};
 ghost use Rattle.othello_rules.specs.declared.scorings.Scoring.TheVariants.{Sign};
+ghost use Rattle.othello_rules.specs.Board.{directions, ray};
+ghost use Rattle.othello_rules.specs.Neighbours.{neighbour};
 ghost use Rattle.othello_rules.specs.Rules.{Position, IsOver, moves, pass, play};
 ghost use Rattle.othello_rules.specs.Scores.{final};
 ghost use Rattle.othello_rules.specs.Value.{greatest, value, best_moves, answer};
 ghost use Rattle.othello_rules.specs.Colours.{swapped};
 ghost use Rattle.othello_rules.specs.Solution.{IsScore};
 
+/// A ray goes step by step: it is empty where the square has no neighbour in the direction, and else it is the
+/// neighbour, and then the neighbour's ray.
+pub fn rays_go_step_by_step()
+    ensures edge { (d : Direction) (q : ℕ) → Contains directions d → q < 64
+        → neighbour d q ≡ None
+        → ray d q ≡ [] }
+    ensures onward { (d : Direction) (q next : ℕ) → Contains directions d → q < 64
+        → neighbour d q ≡ Some next
+        → ray d q ≡ next ∷ ray d next }
+{}
+
 /// The value is the one of textbook minimax: the score where the game is over, minus the value after a pass where
 /// only the mover has no move, and else the greatest of minus the value after each move.
 pub fn value_is_minimax()
     ensures over { (g : Scoring) (P : Position) → IsOver P → value g P ≡ final g P }
-    ensures passed { (g : Scoring) (P : Position) → moves P ≡ [] → moves (pass P) ≢ [] → value g P ≡ neg_ℤ (value g (pass P)) }
-    ensures moved { (g : Scoring) (P : Position) → moves P ≢ [] → value g P ≡ greatest (map (λ q. neg_ℤ (value g (play P q))) (moves P)) }
-    ensures at_least { (g : Scoring) (P : Position) (q : ℕ) → Contains (moves P) q → neg_ℤ (value g (play P q)) ≤ℤ value g P }
-    ensures attained { (g : Scoring) (P : Position) → moves P ≢ [] → (q : ℕ) × Contains (moves P) q × (neg_ℤ (value g (play P q)) ≡ value g P) }
+    ensures passed { (g : Scoring) (P : Position) → moves P ≡ [] → moves (pass P) ≢ []
+        → value g P ≡ neg_ℤ (value g (pass P)) }
+    ensures moved { (g : Scoring) (P : Position) → moves P ≢ []
+        → value g P ≡ greatest (map (λ q. neg_ℤ (value g (play P q))) (moves P)) }
+    ensures at_least { (g : Scoring) (P : Position) (q : ℕ) → Contains (moves P) q
+        → neg_ℤ (value g (play P q)) ≤ℤ value g P }
+    ensures attained { (g : Scoring) (P : Position) → moves P ≢ []
+        → (q : ℕ) × Contains (moves P) q × (neg_ℤ (value g (play P q)) ≡ value g P) }
     ensures in_range { (g : Scoring) (P : Position) → length P.cells ≤ 64 → IsScore (value g P) }
 {}
 
@@ -32,5 +51,6 @@ pub fn colours_are_alike()
 /// The sign of a value is the value under `Scoring::Sign`, and a best move under any scoring is best under that one.
 pub fn scorings_agree()
     ensures value { (g : Scoring) (P : Position) → int_signum (value g P) ≡ value Sign P }
-    ensures best { (g : Scoring) (P : Position) (q : ℕ) → Contains (best_moves g P) q → Contains (best_moves Sign P) q }
+    ensures best { (g : Scoring) (P : Position) (q : ℕ) → Contains (best_moves g P) q
+        → Contains (best_moves Sign P) q }
 {}

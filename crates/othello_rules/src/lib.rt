@@ -1,15 +1,26 @@
 //! The rules of Othello on a grid of 64 cells, and the value of a position by full minimax.
+//!
+//! ```rust
+//! use othello_rules::{Cell, Grid, Scoring, Side, Square};
+//!
+//! let mut cells = [Cell::Black; 64];
+//! cells[0] = Cell::Empty;
+//! cells[1] = Cell::White;
+//! let grid = Grid::new(cells, Side::Black);
+//! assert!(rt; grid.is_legal(Square::at(0)));
+//! assert_eq!(rt; grid.plain_value(Scoring::Winner), 64);
+//! ```
 #![tactic(auto)]
 
-pub mod answers;
+mod answers;
 mod directions;
-pub mod discs;
-pub mod faults;
-pub mod grids;
+mod discs;
+mod faults;
+mod grids;
 pub mod laws;
-pub mod masks;
-pub mod scorings;
-pub mod squares;
+mod masks;
+mod scorings;
+mod squares;
 #[cfg(test)]
 mod tests;
 

@@ -1,8 +1,9 @@
 //! How a position is scored.
 
-ghost use Rattle.std.specs.Prelude.{◌≡◌, ◌≤◌, ◌+◌};
-ghost use Rattle.othello_rules.specs.Scores.{score_of};
+ghost use Rattle.std.specs.Prelude.{◌≡◌, ◌≤◌, ◌+◌, IfSome, Some};
+ghost use Rattle.othello_rules.specs.Scores.{scoring_name, score_of};
 ghost use Rattle.othello_rules.specs.Solution.{IsScore};
+ghost use Rattle.othello_rules.specs.declared.scorings.Scoring.{Scoring};
 ghost use Rattle.othello_rules.specs.declared.scorings.Scoring.TheVariants.{Winner};
 
 use std::cmp::Ordering;
@@ -20,6 +21,34 @@ pub enum Scoring {
 }
 
 impl Scoring {
+    /// The name by which options and texts call the scoring: `winner`, `discs` or `sign`.
+    pub fn name(self) -> &'static str
+        ensures { result.now ≡ scoring_name self }
+    {
+        match self {
+            Scoring::Winner => "winner",
+            Scoring::Discs => "discs",
+            Scoring::Sign => "sign",
+        }
+    }
+
+    /// The scoring of a name; None for anything else.
+    pub fn from_name(name: &[u8]) -> Option<Scoring>
+        ensures named { IfSome result (λ scoring. name.now ≡ scoring_name scoring) }
+        ensures all { (g : Scoring) → name.now ≡ scoring_name g → result ≡ Some g }
+    {
+        if name == Scoring::Winner.name().as_bytes() {
+            return Some(Scoring::Winner);
+        }
+        if name == Scoring::Discs.name().as_bytes() {
+            return Some(Scoring::Discs);
+        }
+        if name == Scoring::Sign.name().as_bytes() {
+            return Some(Scoring::Sign);
+        }
+        None
+    }
+
     /// The score of so many discs of the mover, discs of the opponent and empty squares.
     pub fn score(self, own: u8, opposing: u8, empty: u8) -> i8
         requires { own + opposing + empty ≤ 64 }

@@ -1,7 +1,7 @@
 //! Squares and their names.
 
 ghost use Rattle.std.specs.Prelude.{◌≡◌, ◌<◌, ◌≤◌, ◌↔◌, IsSome, IfSome, Some, ℕ};
-ghost use Rattle.othello_rules.specs.Board.{name_of, IsNameOf, room, stepped};
+ghost use Rattle.othello_rules.specs.Board.{name_of, IsNameOf, room, square_after, squares};
 
 use crate::directions::Direction;
 use std::marker::Model;
@@ -54,6 +54,17 @@ impl Square {
         Square { index: number }
     }
 
+    /// All 64 squares, in the order of their numbers.
+    pub fn all() -> [Square; 64]
+        ensures { result ≡ squares }
+    {
+        let mut all = [Square::default(); 64];
+        for number in 0..64 {
+            all[number] = Square::at(number as u8);
+        }
+        all
+    }
+
     /// The square's number, from 0 to 63.
     pub fn number(self) -> u8
         ensures value { result ≡ self }
@@ -73,12 +84,12 @@ impl Square {
     }
 
     // The square so many steps from here.
-    pub(crate) fn stepped(self, direction: Direction, steps: u8) -> Square
+    pub(crate) fn step(self, direction: Direction, steps: u8) -> Square
         requires { steps ≤ room direction self }
-        ensures value { result ≡ stepped direction self steps }
+        ensures value { result ≡ square_after direction self steps }
     {
-        let column = direction.column.moved(self.number() % 8, steps);
-        let row = direction.row.moved(self.number() / 8, steps);
+        let column = direction.column.advance(self.number() % 8, steps);
+        let row = direction.row.advance(self.number() / 8, steps);
         Square::at(column + 8 * row)
     }
 

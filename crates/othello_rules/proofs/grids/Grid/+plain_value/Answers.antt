@@ -25,15 +25,15 @@ pub loop-number-preserved : goal.loop-number-preserved
 loop-number-preserved t c =
     elim c.match-play.branch [
       | in-Ok w ↦
-          let kept : to_z w8 (of_z w8 w.raised.result) ≡ w.raised.result = omega (arith, ints) in
+          let kept : to_z w8 (of_z w8 w.raise.result) ≡ w.raise.result = omega (arith, ints) in
           let kept_reply : to_z w8 (of_z w8 w.plain_value-reply.result) ≡ w.plain_value-reply.result = omega (arith, ints) in
-          let kept_worth : to_z w8 (of_z w8 w.negated-worth.result) ≡ w.negated-worth.result = omega (arith, ints) in
+          let kept_worth : to_z w8 (of_z w8 w.negate-worth.result) ≡ w.negate-worth.result = omega (arith, ints) in
           let legal : is_move c.args.self.now c.loop-number.number ≡ true =
           rw (← c.at.ensures) (is_move-from_Contains c.args.self.now c.at.result (w.in-Ok.ensures.legal.0 refl)) in
           let next_is : w.in-Ok.next ≡ play c.args.self.now c.loop-number.number = w.in-Ok.ensures.ok ∙ ap (play c.args.self.now) c.at.ensures in
-          let worth_is : w.negated-worth.result ≡ worth (value c.args.scoring) c.args.self.now c.loop-number.number = w.negated-worth.ensures.value ∙ ap neg_ℤ (kept_reply ∙ w.plain_value-reply.ensures.value ∙ ap (value c.args.scoring) next_is) in
-          let raised_is : w.raised.result ≡ raised_to (tried c.args.scoring c.args.self.now c.loop-number.number) (worth (value c.args.scoring) c.args.self.now c.loop-number.number) =
-          w.raised.ensures ∙ rw (c.loop-number.invariant, kept_worth, worth_is) refl in
+          let worth_is : w.negate-worth.result ≡ worth (value c.args.scoring) c.args.self.now c.loop-number.number = w.negate-worth.ensures.value ∙ ap neg_ℤ (kept_reply ∙ w.plain_value-reply.ensures.value ∙ ap (value c.args.scoring) next_is) in
+          let raised_is : w.raise.result ≡ raised_to (tried c.args.scoring c.args.self.now c.loop-number.number) (worth (value c.args.scoring) c.args.self.now c.loop-number.number) =
+          w.raise.ensures ∙ rw (c.loop-number.invariant, kept_worth, worth_is) refl in
           w.best-is ∙ ap Some (kept ∙ raised_is) ∙ sym (tried_yes c.args.scoring c.args.self.now c.loop-number.number c.loop-number-test.true legal)
       | in_default w ↦
           let illegal : is_move c.args.self.now c.loop-number.number ≡ false =
@@ -75,8 +75,8 @@ returns-then-can_move-clause-value t c =
     let stuck : can_move c.args.self.now ≡ false = tried_all_none c.args.scoring c.args.self.now c.loop-number.number c.loop-number-test.false (sym c.loop-number.invariant ∙ c.in-None.is) in
     let other_moves : can_move (pass c.args.self.now) ≡ true = rw (← c.pass-passed.ensures) (sym c.can_move.ensures ∙ c.if-can_move.true) in
     let kept_theirs : to_z w8 (of_z w8 c.plain_value-theirs.result) ≡ c.plain_value-theirs.result = omega (arith, ints) in
-    let kept : to_z w8 (of_z w8 c.negated.result) ≡ c.negated.result = omega (arith, ints) in
-    kept ∙ c.negated.ensures.value ∙ ap neg_ℤ (kept_theirs ∙ c.plain_value-theirs.ensures.value ∙ ap (value c.args.scoring) c.pass-passed.ensures) ∙ sym (value-pass c.args.scoring c.args.self.now stuck other_moves)
+    let kept : to_z w8 (of_z w8 c.negate.result) ≡ c.negate.result = omega (arith, ints) in
+    kept ∙ c.negate.ensures.value ∙ ap neg_ℤ (kept_theirs ∙ c.plain_value-theirs.ensures.value ∙ ap (value c.args.scoring) c.pass-passed.ensures) ∙ sym (value-pass c.args.scoring c.args.self.now stuck other_moves)
 
 pub returns-else-can_move-clause-value : goal.returns-else-can_move-clause-value
 returns-else-can_move-clause-value t c =

@@ -21,8 +21,8 @@ loop-number-preserved c =
           rw (← c.at.ensures) (is_move-from_Contains c.args.self.now c.at.result (w.in-Ok.ensures.legal.0 refl)) in
           let next_is : w.in-Ok.next ≡ play c.args.self.now c.loop-number.number = w.in-Ok.ensures.ok ∙ ap (play c.args.self.now) c.at.ensures in
           let kept_reply : to_z w8 (of_z w8 w.plain_value-reply.result) ≡ w.plain_value-reply.result = omega (arith, ints) in
-          let worth_is : w.negated-worth.result ≡ worth (value c.args.scoring) c.args.self.now c.loop-number.number = w.negated-worth.ensures.value ∙ ap neg_ℤ (kept_reply ∙ w.plain_value-reply.ensures.value ∙ ap (value c.args.scoring) next_is) in
-          let same : w.negated-worth.result ≡ c.args.score = omega (arith, ints) in
+          let worth_is : w.negate-worth.result ≡ worth (value c.args.scoring) c.args.self.now c.loop-number.number = w.negate-worth.ensures.value ∙ ap neg_ℤ (kept_reply ∙ w.plain_value-reply.ensures.value ∙ ap (value c.args.scoring) next_is) in
+          let same : w.negate-worth.result ≡ c.args.score = omega (arith, ints) in
           let best : is_best c.args.scoring c.args.self.now c.loop-number.number ≡ true = is_best_yes c.args.scoring c.args.self.now c.loop-number.number (sym worth_is ∙ same ∙ c.requires) in
           let bit : 1 * 2 ^ c.loop-number.number % 2 ^ 64 ≡ 2 ^ c.loop-number.number = one_shl c.loop-number.number 64 c.loop-number-test.true in
           let mask_is : c.match-play.mask ≡ c.loop-number.mask + 2 ^ c.loop-number.number = w.mask-is ∙ ap (λ n. c.loop-number.mask + n) bit in
@@ -35,8 +35,8 @@ loop-number-preserved c =
           rw (← c.at.ensures) (is_move-from_Contains c.args.self.now c.at.result (w.in-Ok.ensures.legal.0 refl)) in
           let next_is : w.in-Ok.next ≡ play c.args.self.now c.loop-number.number = w.in-Ok.ensures.ok ∙ ap (play c.args.self.now) c.at.ensures in
           let kept_reply : to_z w8 (of_z w8 w.plain_value-reply.result) ≡ w.plain_value-reply.result = omega (arith, ints) in
-          let worth_is : w.negated-worth.result ≡ worth (value c.args.scoring) c.args.self.now c.loop-number.number = w.negated-worth.ensures.value ∙ ap neg_ℤ (kept_reply ∙ w.plain_value-reply.ensures.value ∙ ap (value c.args.scoring) next_is) in
-          let apart : w.negated-worth.result ≡ c.args.score → ⊥ = λ e. w.if-worth-score.false (ap (of_z w8) e) in
+          let worth_is : w.negate-worth.result ≡ worth (value c.args.scoring) c.args.self.now c.loop-number.number = w.negate-worth.ensures.value ∙ ap neg_ℤ (kept_reply ∙ w.plain_value-reply.ensures.value ∙ ap (value c.args.scoring) next_is) in
+          let apart : w.negate-worth.result ≡ c.args.score → ⊥ = λ e. w.if-worth-score.false (ap (of_z w8) e) in
           let worse : is_best c.args.scoring c.args.self.now c.loop-number.number ≡ false =
           is_best_no c.args.scoring c.args.self.now c.loop-number.number (λ e. apart (worth_is ∙ e ∙ sym c.requires)) in
           record {
