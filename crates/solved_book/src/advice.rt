@@ -1,6 +1,6 @@
 //! Claims of positions, read from the text of a book.
 
-ghost use Rattle.std.specs.Prelude.{◌≡◌, None, length};
+ghost use Rattle.std.specs.Prelude.{◌≡◌, [], None, length};
 ghost use Rattle.obf_text.specs.LineText.{lines_of};
 ghost use Rattle.solved_book.specs.Advice.{Gives, claims_from, claims_of, found_in};
 ghost use Rattle.solved_book.specs.Order.{AreRising};
@@ -57,6 +57,16 @@ fn read_claims(alloc: Global, text: &[u8]) -> Result<BTreeMap<Masks, Claim>, Boo
 }
 
 impl Claims {
+    /// No claims, under a scoring. They take no memory.
+    pub fn new(alloc: Global, scoring: Scoring) -> Claims
+        ensures { result ≡ record { scoring = scoring; claims = [] } }
+    {
+        Claims {
+            scoring,
+            claims: BTreeMap::new(alloc),
+        }
+    }
+
     /// Reads the text of a book.
     ///
     /// If the first line is a header, it names the scoring; a first line that begins as a header and is none is refused;

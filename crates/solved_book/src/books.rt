@@ -23,7 +23,7 @@ use std::marker::Model;
 /// Positions with their answers under one scoring. Of the eight images of a position it holds the canonical one, once.
 /// Contracts see the scoring and the canonical positions, in rising order: by this type their answers are those of the
 /// definitions.
-#[derive(Drop)]
+#[derive(Debug, Drop)]
 pub struct Book {
     scoring: Scoring,
     answers: BTreeMap<Masks, Answer>,

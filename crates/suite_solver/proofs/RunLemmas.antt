@@ -1,13 +1,11 @@
 -- The steps of the reports, and what is refused.
-use Rattle.std.proofs.Common.{◌≡◌, ℕ, ◌+◌, ◌<◌, ◌≤◌, ◌⊎◌, inl, inr, Bool, true, false, not, cond, List, [], ◌∷◌, ◌++◌, length, drop, get_or, refl, sym, ◌∙◌, ap, arith, Vec, Global}
+use Rattle.std.proofs.Common.{◌≡◌, ℕ, ◌+◌, ◌<◌, ◌≤◌, ◌⊎◌, inl, inr, Bool, true, false, not, cond, List, [], ◌∷◌, length, get_or, refl, sym, ◌∙◌, ap, arith, Vec, Global}
 use Rattle.std.specs.Prelude.{◌↔◌, Option, Some, None, Result, Ok, Err, IsErrOf, nat_lt, option_map}
 use Rattle.std.specs.List.{position, position_or_len}
-use Rattle.std.proofs.lemmas.List.{append_assoc, append-nil, drop_more, length-map, map-append}
+use Rattle.std.proofs.lemmas.List.{length-map}
 use Rattle.std.proofs.lemmas.List.Sums.{fails_before_first}
 use borrow.Author.Tests.{ltb-true, ltb-false}
-use Rattle.othello_rules.specs.declared.scorings.Scoring.{Scoring}
 use Rattle.suite_solver.specs.Limits.{Configuration}
-use Rattle.suite_solver.specs.Reports.{report, reports_from}
 use Rattle.suite_solver.specs.Runs.{Answers, first_large, is_large, refusal_of, texts_of}
 use Rattle.suite_solver.specs.declared.faults.RunFault.{RunFault}
 use Rattle.suite_solver.specs.declared.faults.RunFault.TheVariants.{Memory, Mixed, TooManyFiles, FileTooLarge}
@@ -34,22 +32,6 @@ small_at files i d none lt =
     let e = first_map files ∙ none in
     let past : length files ≤ position_or_len (λ f. is_large f.items) files = ltb-false _ _ (cond_none (nat_lt (position_or_len (λ f. is_large f.items) files) (length files)) (position_or_len (λ f. is_large f.items) files) e) in
     ltb-false _ _ (fails_before_first (λ f. is_large f.items) files i d (omega arith))
-
-reports_more : (g : Scoring) (limit n : ℕ) (text : List ℕ) (texts : List (List ℕ)) → reports_from g limit n (text ∷ texts) ≡ report g limit (n, text) ∷ reports_from g limit (n + 1) texts
-unfolding reports_from
-reports_more g limit n text texts = refl
-
-reports_none : (g : Scoring) (limit n : ℕ) → reports_from g limit n [] ≡ []
-unfolding reports_from
-reports_none g limit n = refl
-
--- a file adds its report
-pub reports_step : (g : Scoring) (limit i : ℕ) (files : List File) (d : File) (made : List File) (next : File) (all : List (List ℕ)) → i < length files
-    → next.items ≡ report g limit (i, (get_or files i d).items) → texts_of made ++ reports_from g limit i (texts_of (drop i files)) ≡ all
-    → texts_of (made ++ next ∷ []) ++ reports_from g limit (i + 1) (texts_of (drop (i + 1) files)) ≡ all
-reports_step g limit i files d made next all lt e h =
-    let k = rw (drop_more files i d lt, reports_more g limit i (get_or files i d).items (texts_of (drop (i + 1) files))) at h in
-    rw (map-append, e, append_assoc) k
 
 -- ---- what is refused
 
@@ -126,5 +108,28 @@ large_iff r c n texts len a s =
       ]),
     )
 
-pub all_reports : (made : List File) (g : Scoring) (limit n : ℕ) (all : List (List ℕ)) (left : List File) → left ≡ [] → texts_of made ++ reports_from g limit n (texts_of left) ≡ all → texts_of made ≡ all
-all_reports made g limit n all left none h = let k = rw (none, reports_none g limit n) at h in sym (append-nil (texts_of made)) ∙ k
+never : (o : Option ℕ) → (option_map FileTooLarge o ≡ Some Memory → ⊥) × (option_map FileTooLarge o ≡ Some Mixed → ⊥)
+never None = ((λ e. cc), (λ e. cc))
+never (Some s) = ((λ e. cc), (λ e. cc))
+
+not_memory : (texts : List (List ℕ)) → refusal_of texts ≡ Some Memory → ⊥
+not_memory texts e = elim (refusal_cases texts) [
+  | inl h ↦ let bad : Some TooManyFiles ≡ Some Memory = sym h.1 ∙ e in cc
+  | inr h ↦ (never (first_large texts)).0 (sym h.1 ∙ e)
+]
+
+not_mixed : (texts : List (List ℕ)) → refusal_of texts ≡ Some Mixed → ⊥
+not_mixed texts e = elim (refusal_cases texts) [
+  | inl h ↦ let bad : Some TooManyFiles ≡ Some Mixed = sym h.1 ∙ e in cc
+  | inr h ↦ (never (first_large texts)).1 (sym h.1 ∙ e)
+]
+
+-- what is refused is the answer
+pub refused_answers : (fault : RunFault) (c : Configuration) (texts : List (List ℕ)) → refusal_of texts ≡ Some fault → Answers (Err fault) c texts
+refused_answers Memory c texts e = absurd (not_memory texts e)
+refused_answers Mixed c texts e = absurd (not_mixed texts e)
+refused_answers TooManyFiles c texts e = e
+refused_answers (FileTooLarge s) c texts e = e
+
+pub refused_unmixed : (fault : RunFault) (texts : List (List ℕ)) → refusal_of texts ≡ Some fault → fault ≡ Mixed → ⊥
+refused_unmixed fault texts e h = not_mixed texts (e ∙ ap Some h)

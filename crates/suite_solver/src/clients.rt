@@ -1,18 +1,24 @@
-//! What a client does at a desk.
+//! What the threads of a run do at its desk.
 
-ghost use Rattle.std.specs.Prelude.{◌≡◌, ◌⊎◌, ◌++◌, IfOk, IfErr, OnOk};
+ghost use Rattle.std.specs.Prelude.{◌≡◌, ◌⊎◌, ◌≤◌, ◌++◌, length, IfOk, IfErr, OnOk, IsOkAnd, IsErr, IsErrOf};
+ghost use Rattle.suite_solver.specs.Rows.{rows, tasks};
 ghost use Rattle.suite_solver.specs.declared.faults.RunFault.TheVariants.{Memory, Mixed};
 
-use crate::faults::RunFault;
+use crate::faults::{RunFault, worse};
 use crate::gates::Gate;
+use crate::parts::Part;
+use crate::readings::tasks_of;
+use crate::rows::rows_of;
+use crate::solvers::Solver;
 use bound_table::Bounds;
-use endgame_search::{Solved, Task, solve};
-use job_board::{Client, Desk, Job, SubmitFault, Turn};
-use std::alloc::Global;
+use endgame_search::{Solved, Task};
+use job_board::{Client, Desk, Job, Turn};
+use solved_book::Claims;
+use std::alloc::{AllocError, Global};
 use std::sync::Wait;
 
 // Submits all tasks.
-pub(crate) fn send_all<R: Wait>(
+fn send_all<R: Wait>(
     rt: &R,
     desk: &Desk,
     client: &mut Client,
@@ -22,32 +28,28 @@ pub(crate) fn send_all<R: Wait>(
     ensures faults { IfErr result (λ fault. (fault ≡ Memory) ⊎ (fault ≡ Mixed)) }
 {
     for task in tasks {
-        match desk.submit(rt, client, *task) {
-            Ok(_) => {}
-            Err(SubmitFault::Memory) => return Err(RunFault::Memory),
-            Err(_) => return Err(RunFault::Mixed),
-        }
+        desk.submit(rt, client, *task)?;
     }
     Ok(())
 }
 
 // Solves a job that was taken, and finishes it. One of another scoring than the table's is given back. `Mixed` then, and
 // where the desk refuses the answer.
-pub(crate) fn solve_job<R: Wait, T: Bounds, G: Gate>(
+fn solve_job<R: Wait, T: Bounds, G: Gate>(
     rt: &R,
     desk: &Desk,
-    table: &T,
+    solver: &Solver<'_, T>,
     gate: &G,
     job: Job,
 ) -> Result<(), RunFault>
     ensures { IfErr result (λ fault. fault ≡ Mixed) }
 {
-    if job.task.scoring() != table.scoring() {
+    if job.task.scoring() != solver.scoring() {
         let _ = desk.give_back(rt, job.id);
         return Err(RunFault::Mixed);
     }
     gate.enter(rt, job.id.sender, job.id.number);
-    let finished = desk.finish(rt, job.id, solve(table, job.task));
+    let finished = desk.finish(rt, job.id, solver.answer(job.task));
     gate.leave(rt, job.id.sender, job.id.number);
     match finished {
         Ok(()) => Ok(()),
@@ -56,12 +58,12 @@ pub(crate) fn solve_job<R: Wait, T: Bounds, G: Gate>(
 }
 
 // Takes the answers of all that the client sent, in their order, and solves the jobs that it is given meanwhile.
-pub(crate) fn receive_all<R: Wait, T: Bounds, G: Gate>(
+fn receive_all<R: Wait, T: Bounds, G: Gate>(
     rt: &R,
     alloc: Global,
     desk: &Desk,
     client: &mut Client,
-    table: &T,
+    solver: &Solver<'_, T>,
     gate: &G,
 ) -> Result<Vec<Solved>, RunFault>
     requires { client.old.received ≡ 0 }
@@ -77,7 +79,7 @@ pub(crate) fn receive_all<R: Wait, T: Bounds, G: Gate>(
                 };
             }
             Ok(Turn::Work(job)) => {
-                let Ok(()) = solve_job(rt, desk, table, gate, job) else {
+                let Ok(()) = solve_job(rt, desk, solver, gate, job) else {
                     return Err(RunFault::Mixed);
                 };
             }
@@ -86,4 +88,74 @@ pub(crate) fn receive_all<R: Wait, T: Bounds, G: Gate>(
         }
     }
     unreachable!()
+}
+
+/// A worker's part: it solves what jobs it is given until the desk is done. It ends after a job that was refused.
+pub(crate) fn work<R: Wait, T: Bounds, G: Gate>(
+    rt: &R,
+    desk: &Desk,
+    solver: &Solver<'_, T>,
+    gate: &G,
+) {
+    for _ in rt.forever() {
+        let Some(job) = desk.take_or_wait(rt) else {
+            return;
+        };
+        let Ok(()) = solve_job(rt, desk, solver, gate, job) else {
+            return;
+        };
+    }
+}
+
+// Submits the tasks, where there was memory for them, and closes the sender in any case, since others wait for that.
+fn send_and_close<R: Wait>(
+    rt: &R,
+    desk: &Desk,
+    client: &mut Client,
+    tasks: Result<Vec<Task>, AllocError>,
+) -> Result<(), RunFault>
+    ensures sent { OnOk result (IsOkAnd tasks (λ all. client.new ≡ record client.old { sent = client.old.sent ++ all.items })) }
+    ensures wanting { IsErr tasks → IsErrOf result Memory }
+    ensures faults { IfErr result (λ fault. (fault ≡ Memory) ⊎ (fault ≡ Mixed)) }
+{
+    let sent = match tasks {
+        Ok(all) => send_all(rt, desk, client, &all),
+        Err(_) => Err(RunFault::Memory),
+    };
+    match desk.close(rt, client) {
+        Ok(_) => sent,
+        Err(_) => Err(worse(sent.err(), RunFault::Mixed)),
+    }
+}
+
+/// The whole part of one client: it submits the tasks of the text's lines for its sender, closes it, and solves what
+/// jobs it is given until all of its answers came back. The tasks are under the scoring of the table. Where it is Ok,
+/// its rows are those of the text, and its solved positions are those of the text's lines, in their order, at any desk,
+/// whatever is claimed, and whatever other threads do there. `Memory` where that was refused; `Mixed` for any other
+/// refusal of the desk. After a fault the desk keeps the steps that were made, and the sender is closed. It may wait for
+/// other threads.
+pub fn client_part<R: Wait, T: Bounds, G: Gate>(
+    rt: &R,
+    alloc: Global,
+    text: &[u8],
+    sender: u32,
+    limit: u8,
+    desk: &Desk,
+    table: &T,
+    claims: Option<&Claims>,
+    gate: &G,
+) -> Result<Part, RunFault>
+    requires few_empties { limit ≤ 60 }
+    requires short { length text.now ≤ 1048576 }
+    ensures rows { IfOk result (λ part. part.rows.items ≡ rows (T.scoring table.now) limit text.now) }
+    ensures solved { IfOk result (λ part. part.solved.items ≡ tasks (T.scoring table.now) limit text.now) }
+    ensures faults { IfErr result (λ fault. (fault ≡ Memory) ⊎ (fault ≡ Mixed)) }
+{
+    let solver = Solver::new(table, claims);
+    let mut client = Client::new(alloc, sender);
+    let tasks = tasks_of(alloc, limit, table.scoring(), text);
+    send_and_close(rt, desk, &mut client, tasks)?;
+    let solved = receive_all(rt, alloc, desk, &mut client, &solver, gate)?;
+    let rows = rows_of(alloc, limit, table.scoring(), text, &solved)?;
+    Ok(Part { rows, solved })
 }

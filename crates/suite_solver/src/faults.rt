@@ -1,8 +1,10 @@
 //! Why a run gives no reports.
 
 ghost use Rattle.std.specs.Prelude.{◌≡◌};
+ghost use Rattle.suite_solver.specs.Parts.{submit_refused, worse};
 ghost use Rattle.suite_solver.specs.declared.faults.RunFault.TheVariants.{Memory};
 
+use job_board::SubmitFault;
 use std::alloc::{AllocError, AllocFailed};
 use thiserror::Error;
 
@@ -11,7 +13,7 @@ use thiserror::Error;
 pub enum RunFault {
     #[error("out of memory")]
     Memory,
-    /// An answer came back that belongs to another position.
+    /// A step of the job board was refused, as where an answer came back that belongs to another position.
     #[error("answers mixed")]
     Mixed,
     /// There are more than 64 files.
@@ -35,5 +37,26 @@ impl<T: Drop> From<AllocFailed<T>> for RunFault {
 
     fn from(_error: AllocFailed<T>) -> RunFault {
         RunFault::Memory
+    }
+}
+
+impl From<SubmitFault> for RunFault {
+    ghost from_gives = { λ refused fault. fault ≡ submit_refused refused };
+
+    fn from(refused: SubmitFault) -> RunFault {
+        match refused {
+            SubmitFault::Memory => RunFault::Memory,
+            _ => RunFault::Mixed,
+        }
+    }
+}
+
+/// The worse of two faults: want of memory is told before any other.
+pub(crate) fn worse(before: Option<RunFault>, fault: RunFault) -> RunFault
+    ensures { result ≡ worse before fault }
+{
+    match before {
+        Some(RunFault::Memory) => RunFault::Memory,
+        _ => fault,
     }
 }

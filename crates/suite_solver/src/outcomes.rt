@@ -1,8 +1,18 @@
 //! What a run gives.
 
-ghost use Rattle.std.specs.Prelude.{◌≡◌, map};
+ghost use Rattle.std.specs.Prelude.{◌≡◌, ◌⊎◌, ◌↔◌, ◌++◌, ◌≤◌, length, map, All, Contains, IfOk, OnOk};
+ghost use Rattle.othello_bits.specs.Discs.{Discs};
+ghost use Rattle.endgame_search.specs.Problems.{Problem};
+ghost use Rattle.suite_solver.specs.Parts.{IsBookOf, Yield, canonicals, yield_of, yield_report, yield_reports, yield_tasks};
 ghost use Rattle.suite_solver.specs.Runs.{texts_of};
 
+use crate::parts::Part;
+use crate::report::write_report;
+use crate::rows::ReportRow;
+use endgame_search::Solved;
+use othello_rules::Scoring;
+use solved_book::Book;
+use std::alloc::{AllocError, Global};
 use std::marker::Model;
 
 /// The reports of a run, one for each file in the order of the files. Contracts see their bytes.
@@ -45,4 +55,71 @@ impl Reports {
 #[derive(Debug, Drop)]
 pub struct Outcome {
     pub reports: Reports,
+    /// Every solved position of the run.
+    pub book: Book,
+}
+
+// The report of a sender's rows.
+fn report_of(alloc: Global, sender: u32, part: &Part) -> Result<Vec<u8>, AllocError>
+    ensures { IfOk result (λ made. made.items ≡ yield_report (sender, yield_of part.now)) }
+{
+    let mut report = Vec::new(alloc);
+    match write_report(&mut report, sender, &part.rows) {
+        Ok(()) => Ok(report),
+        Err(_) => Err(AllocError),
+    }
+}
+
+// The report of each part, in their order.
+fn reports_of(alloc: Global, parts: &[Part]) -> Result<Reports, AllocError>
+    requires few { length parts.now ≤ 64 }
+    ensures { IfOk result (λ made. made ≡ yield_reports 0 (map yield_of parts.now)) }
+{
+    let mut reports = Vec::new(alloc);
+    let mut sender: u32 = 0;
+    for part in parts {
+        reports.push(report_of(alloc, sender, part)?)?;
+        sender += 1;
+    }
+    Ok(Reports::from(reports))
+}
+
+// Adds solved positions to a book.
+fn add_all(book: &mut Book, solved: &[Solved]) -> Result<(), AllocError>
+    requires { All (λ (t : Problem). t.scoring ≡ book.old.scoring) solved.now }
+    ensures scoring { OnOk result (book.new.scoring ≡ book.old.scoring) }
+    ensures holds { OnOk result ((p : Discs) → Contains book.new.positions p ↔ (Contains book.old.positions p ⊎ Contains (canonicals solved.now) p)) }
+{
+    for one in solved {
+        book.add(one)?;
+    }
+    Ok(())
+}
+
+// The book of all solved positions.
+fn book_of(alloc: Global, scoring: Scoring, parts: &[Part]) -> Result<Book, AllocError>
+    requires { All (λ (y : Yield). All (λ (t : Problem). t.scoring ≡ scoring) y.1) (map yield_of parts.now) }
+    ensures { IfOk result (IsBookOf scoring (yield_tasks (map yield_of parts.now))) }
+{
+    let mut book = Book::new(alloc, scoring);
+    for part in parts {
+        add_all(&mut book, &part.solved)?;
+    }
+    Ok(book)
+}
+
+/// The reports and the book of what comes of files.
+pub(crate) fn outcome_of(
+    alloc: Global,
+    scoring: Scoring,
+    parts: &[Part],
+) -> Result<Outcome, AllocError>
+    requires few { length parts.now ≤ 64 }
+    requires scored { All (λ (y : Yield). All (λ (t : Problem). t.scoring ≡ scoring) y.1) (map yield_of parts.now) }
+    ensures reports { IfOk result (λ outcome. outcome.reports ≡ yield_reports 0 (map yield_of parts.now)) }
+    ensures book { IfOk result (λ outcome. IsBookOf scoring (yield_tasks (map yield_of parts.now)) outcome.book) }
+{
+    let reports = reports_of(alloc, parts)?;
+    let book = book_of(alloc, scoring, parts)?;
+    Ok(Outcome { reports, book })
 }

@@ -10,13 +10,15 @@ use endgame_search::Task;
 use job_board::{Client, Desk, JobId};
 use othello_bits::Pos;
 use othello_rules::Scoring;
+use solved_book::{Book, Claims};
 use std::alloc::{AllocError, Global};
 use std::io::{Read, Write};
 use std::process::Abort;
 use std::rt::Files;
-use std::sync::Wait;
 use std::sync::atomic::{AtomicU32, Ordering};
+use std::sync::{Mutex, Wait};
 use std::test::Fail;
+use std::thread::Threads;
 use std::{fs, io};
 
 // The words of a command line with spaces between, standard input, and the status, standard output and standard error
@@ -35,7 +37,12 @@ fn words_of(alloc: Global, line: &str) -> Result<Vec<&str>, AllocError> {
     line.split(' ').collect(alloc)
 }
 
-fn run<T: Files, R: Read>(rt: &T, alloc: Global, words: &[&str], input: &mut R) -> Ended {
+fn run<T: Files + Threads + Wait + Sync, R: Read>(
+    rt: &T,
+    alloc: Global,
+    words: &[&str],
+    input: &mut R,
+) -> Ended {
     let mut output = Vec::new(alloc);
     let mut errors = Vec::new(alloc);
     let status = program(rt, alloc, words, input, &mut output, &mut errors);
@@ -65,7 +72,11 @@ fn assert_ended(
     Ok(())
 }
 
-fn assert_run<T: Abort + Files>(rt: &T, alloc: Global, wanted: &Run<'_>) -> Result<(), Fail> {
+fn assert_run<T: Abort + Files + Threads + Wait + Sync>(
+    rt: &T,
+    alloc: Global,
+    wanted: &Run<'_>,
+) -> Result<(), Fail> {
     let (line, mut input, status, output, errors) = *wanted;
     let words = words_of(alloc, line)?;
     let ended = run(rt, alloc, &words, &mut input);
@@ -516,7 +527,7 @@ fn assert_empty_reports(rt: &impl Abort, alloc: Global, reports: &[Vec<u8>]) -> 
 }
 
 fn reports_of(alloc: Global, files: &[Vec<u8>]) -> Result<Vec<Vec<u8>>, Fail> {
-    let outcome = run_serial(alloc, files, &Settings::default())?;
+    let outcome = run_serial(alloc, files, &Settings::default(), None)?;
     Ok(outcome.reports.into_vec())
 }
 
@@ -534,7 +545,7 @@ fn counts_files(rt: HostRuntime) -> Result<(), Fail> {
 #[test]
 fn refuses_many_files(rt: HostRuntime) -> Result<(), Fail> {
     let files = empty_files(rt.alloc(), 65)?;
-    let many = run_serial(rt.alloc(), &files, &Settings::default());
+    let many = run_serial(rt.alloc(), &files, &Settings::default(), None);
     assert!(rt; matches!(many, Err(RunFault::TooManyFiles)));
     Ok(())
 }
@@ -569,7 +580,7 @@ fn report_part<R: Wait + Abort, G: Gate>(
     requires { length text.now ≤ 1048576 }
 {
     let table = BoundTable::new(alloc, 16, Scoring::Winner)?;
-    let part = client_part(rt, alloc, text, sender, 20, desk, &table, gate)?;
+    let part = client_part(rt, alloc, text, sender, 20, desk, &table, None, gate)?;
     assert_eq!(rt; part.solved.len(), part.rows.len());
     write_report(output, sender, &part.rows)?;
     Ok(())
@@ -610,7 +621,7 @@ fn clients_are_refused(rt: HostRuntime) -> Result<(), Fail> {
     let mut other = Client::new(alloc, 0);
     desk.submit(&rt, &mut other, Task::new(position, 20, Scoring::Discs)?)?;
     for sender in [1, 2] {
-        let part = client_part(&rt, alloc, ONE, sender, 20, &desk, &table, &NoGate);
+        let part = client_part(&rt, alloc, ONE, sender, 20, &desk, &table, None, &NoGate);
         assert!(rt; is_mixed(&part)?);
     }
     let job = desk.take_or_wait(&rt).expect(&rt, "the job waits again");
@@ -705,7 +716,7 @@ fn ends_though_errors_fail(rt: HostRuntime) {
 }
 
 // A standard output that fails after so many calls.
-fn assert_fails<T: Abort + Files>(
+fn assert_fails<T: Abort + Files + Threads + Wait + Sync>(
     rt: &T,
     alloc: Global,
     line: &str,
@@ -748,7 +759,11 @@ fn tells_failing_output(rt: HostRuntime) -> Result<(), Fail> {
 }
 
 // Words as the system gives them.
-fn run_words<T: Files>(rt: &T, alloc: Global, words: io::Result<Vec<String>>) -> Ended {
+fn run_words<T: Files + Threads + Wait + Sync>(
+    rt: &T,
+    alloc: Global,
+    words: io::Result<Vec<String>>,
+) -> Ended {
     let mut input = TWO;
     let mut output = Vec::new(alloc);
     let mut errors = Vec::new(alloc);
@@ -807,5 +822,167 @@ fn writes_reports(rt: HostRuntime) -> Result<(), Fail> {
     }
     let mut writer = FailingWriter { calls_left: 100 };
     assert!(rt; write_report(&mut writer, u32::MAX, &rows).is_ok());
+    Ok(())
+}
+
+// What a gate was told: how often each of two jobs was entered and left, and whether the first saw the second's end.
+#[derive(Clone, Copy, PartialEq, Eq, Debug)]
+struct Told {
+    entered: [u32; 2],
+    left: [u32; 2],
+    seen: bool,
+}
+
+// Holds the first job until the second was left, for so many turns at most.
+#[derive(Drop)]
+struct HoldingGate {
+    told: Mutex<Told>,
+}
+
+impl HoldingGate {
+    fn new() -> HoldingGate {
+        HoldingGate {
+            told: Mutex::new(Told {
+                entered: [0, 0],
+                left: [0, 0],
+                seen: false,
+            }),
+        }
+    }
+
+    // Notes that the second job was left, if it was.
+    fn sees<R: Wait>(&self, rt: &R) -> bool {
+        let mut told = self.told.lock(rt);
+        told.seen = told.left[1] != 0;
+        told.seen
+    }
+
+    fn hold<R: Wait>(&self, rt: &R) {
+        for _ in 0..10_000_000u32 {
+            if self.sees(rt) {
+                return;
+            }
+        }
+    }
+}
+
+impl Gate for HoldingGate {
+    fn enter<R: Wait>(&self, rt: &R, sender: u32, number: u32) {
+        if sender == 0 && number < 2 {
+            count_call(&mut self.told.lock(rt).entered, number as usize);
+        }
+        if number == 0 {
+            self.hold(rt);
+        }
+    }
+
+    fn leave<R: Wait>(&self, rt: &R, sender: u32, number: u32) {
+        if sender == 0 && number < 2 {
+            count_call(&mut self.told.lock(rt).left, number as usize);
+        }
+    }
+}
+
+fn count_call(calls: &mut [u32; 2], at: usize) {
+    if at < 2 {
+        calls[at] = calls[at].wrapping_add(1);
+    }
+}
+
+fn text_of(alloc: Global, text: &[u8]) -> Result<Vec<u8>, AllocError> {
+    Vec::from_slice(alloc, text)
+}
+
+#[test]
+fn two_threads_solve(rt: HostRuntime) -> Result<(), Fail> {
+    let alloc = rt.alloc();
+    let mut files = Vec::new(alloc);
+    files.push(text_of(alloc, TWO_JOBS)?)?;
+    let settings = Settings::new(20, 1, 16, Scoring::Winner).expect(&rt, "the limits");
+    let gate = HoldingGate::new();
+    let outcome = crate::run(&rt, alloc, &files, &settings, None, &gate)?;
+    let report = outcome.reports.into_vec().concat(alloc)?;
+    assert_eq!(rt; report.as_slice(), TWO_JOBS_REPORT);
+    let wanted = Told {
+        entered: [1, 1],
+        left: [1, 1],
+        seen: true,
+    };
+    assert_eq!(rt; gate.told.into_inner(), wanted);
+    Ok(())
+}
+
+const TWO_JOBS: &[u8] = b"\
+--OOOOOXXXXXXXXXXXXXXXXXXXXXXXXXXXXXXXXXXXXXXXXXXXXXXXXXXXXXXXXX X\n\
+-OOXXOO-XXXXXXXXXXXXXXXXXXXXXXXXXXXXXXXXXXXXXXXXXXXXXXXXXXXXXXXX X\n\
+";
+
+const TWO_JOBS_REPORT: &[u8] = b"[1]
+1 +64 B1 unlisted
+2 +64 A1,H1 unlisted
+solved 2 refused 0
+";
+
+fn book_text(alloc: Global, book: &Book) -> Result<Vec<u8>, AllocError> {
+    let mut text = Vec::new(alloc);
+    match book.write(&mut text) {
+        Ok(()) => Ok(text),
+        Err(_) => Err(AllocError),
+    }
+}
+
+// The same bytes on threads and on one thread, with and without claims.
+fn assert_same<R: Threads + Wait + Sync + Abort>(
+    rt: &R,
+    alloc: Global,
+    files: &[Vec<u8>],
+    settings: &Settings,
+    claims: Option<&Claims>,
+) -> Result<(), Fail> {
+    let serial = run_serial(alloc, files, settings, claims)?;
+    let threaded = crate::run(rt, alloc, files, settings, claims, &NoGate)?;
+    let wanted = book_text(alloc, &serial.book)?;
+    let found = book_text(alloc, &threaded.book)?;
+    assert_eq!(rt; found.as_slice(), wanted.as_slice());
+    let serial = serial.reports.into_vec();
+    let threaded = threaded.reports.into_vec();
+    let text = threaded.concat(alloc)?;
+    assert_eq!(rt; text.as_slice(), BOTH);
+    assert!(rt; serial == threaded);
+    Ok(())
+}
+
+#[test]
+fn runs_on_threads(rt: HostRuntime) -> Result<(), Fail> {
+    let alloc = rt.alloc();
+    let mut files = Vec::new(alloc);
+    files.push(text_of(alloc, ONE)?)?;
+    files.push(text_of(alloc, TWO)?)?;
+    let lies = Claims::read(alloc, LYING_BOOK)?;
+    for workers in [0, 1, 4] {
+        for table in [0, 65_536] {
+            let settings = Settings::new(20, workers, table, Scoring::Winner);
+            let settings = settings.expect(&rt, "the limits");
+            assert_same(&rt, alloc, &files, &settings, None)?;
+            assert_same(&rt, alloc, &files, &settings, Some(&lies))?;
+        }
+    }
+    Ok(())
+}
+
+const LYING_BOOK: &[u8] =
+    b"XXXXXXXXXXXXXXXXXXXXXXXXXXXXOXXXXXXXXXXXXXXXXXXXOXXXXXXX-XXXXXO- X; H8:+64;\n";
+
+#[test]
+fn runs_many_files(rt: HostRuntime) -> Result<(), Fail> {
+    let alloc = rt.alloc();
+    let mut files = Vec::new(alloc);
+    for _ in 0..64 {
+        files.push(text_of(alloc, TWO)?)?;
+    }
+    let settings = Settings::new(20, 64, 16, Scoring::Winner).expect(&rt, "the limits");
+    let outcome = crate::run(&rt, alloc, &files, &settings, None, &NoGate)?;
+    assert_eq!(rt; outcome.reports.into_vec().len(), 64);
+    assert_eq!(rt; outcome.book.len(), 3);
     Ok(())
 }

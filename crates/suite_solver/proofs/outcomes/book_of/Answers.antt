@@ -1,0 +1,25 @@
+use Rattle.std.proofs.Common.{◌∙◌, ap, map, subst}
+use Rattle.std.proofs.lemmas.List.{take_all}
+use Rattle.std.proofs.lemmas.List.Elements.{All-same}
+use Rattle.suite_solver.specs.declared.parts.Part.{Part}
+use Rattle.suite_solver.specs.Parts.{IsBookOf, yield_of, yield_tasks}
+use Rattle.suite_solver.proofs.PartLemmas.{book_more, scored_at}
+use Rattle.suite_solver.proofs.TaskLemmas.{HasScoring}
+use Rattle.suite_solver.proofs.outcomes.book_of.Goals as goal
+
+pub add_all-requires : goal.add_all-requires
+add_all-requires c =
+    let scored = scored_at c.args.scoring c.args.parts.now c.loop-part.part-index c.part-item.result c.loop-part-test.true c.requires in
+    rw c.loop-part.invariant.scoring (All-same (HasScoring c.args.scoring) _ _ (c.deref.ensures.value ∙ ap (λ (p : Part). p.solved.items) c.part-item.is) scored)
+
+pub loop-part-preserved : goal.loop-part-preserved
+loop-part-preserved c = record {
+  scoring = c.in_ok-add_all.ensures.scoring ∙ c.loop-part.invariant.scoring;
+  positions = book_more c.loop-part.book.positions c.add_all.new.book.positions c.args.parts.now c.loop-part.part-index c.part-item.result c.deref.result.now
+      c.loop-part-test.true (c.deref.ensures.value ∙ ap (λ (p : Part). p.solved.items) c.part-item.is) c.loop-part.invariant.positions c.in_ok-add_all.ensures.holds;
+}
+
+pub returns : goal.returns
+returns c =
+    subst (λ l. IsBookOf c.args.scoring (yield_tasks (map yield_of l)) c.loop-part.book)
+    (take_all c.loop-part.part-index c.args.parts.now c.loop-part-test.false) c.loop-part.invariant

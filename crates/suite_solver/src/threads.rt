@@ -1,0 +1,279 @@
+//! A run's threads: a client for each file, and workers.
+
+ghost use Rattle.std.specs.Prelude.{◌≡◌, ◌<◌, ◌≤◌, ◌+◌, ◌++◌, ◌∷◌, length, map, IfOk, IfErr, Some, None, [], vec_len, vec_capacity};
+ghost use Rattle.suite_solver.specs.Parts.{GivesPart, GivesParts, worse};
+ghost use Rattle.suite_solver.specs.Runs.{first_large, texts_of};
+ghost use Rattle.suite_solver.specs.Threads.{AreJoined, assignment};
+
+use crate::clients::{client_part, work};
+use crate::faults::{RunFault, worse};
+use crate::gates::Gate;
+use crate::limits::Settings;
+use crate::parts::Part;
+use crate::solvers::Solver;
+use bound_table::{BoundTable, Bounds};
+use job_board::Desk;
+use othello_rules::Scoring;
+use solved_book::Claims;
+use std::alloc::Global;
+use std::marker::Model;
+use std::sync::Wait;
+use std::thread;
+use std::thread::{Promise, PromisedHandle, Scope, Threads};
+
+/// What all threads of a run share. It has no type parameter and no lifetime: of a closure that captures a type with one,
+/// its caller would know nothing.
+#[derive(Drop)]
+pub(crate) struct Site {
+    pub(crate) alloc: Global,
+    pub(crate) settings: Settings,
+    pub(crate) desk: Desk,
+    pub(crate) table: BoundTable,
+}
+
+impl Site {
+    // The part of one client.
+    fn part<R: Wait, G: Gate>(
+        &self,
+        rt: &R,
+        claims: &Claims,
+        gate: &G,
+        sender: u32,
+        text: &[u8],
+    ) -> Result<Part, RunFault>
+        requires { length text.now ≤ 1048576 }
+        ensures { GivesPart self.now.table.scoring self.now.settings.max_empties text.now result }
+    {
+        client_part(
+            rt,
+            self.alloc,
+            text,
+            sender,
+            self.settings.max_empties(),
+            &self.desk,
+            &self.table,
+            Some(claims),
+            gate,
+        )
+    }
+
+    // The part of one worker.
+    fn work<R: Wait, G: Gate>(&self, rt: &R, claims: &Claims, gate: &G) {
+        work(
+            rt,
+            &self.desk,
+            &Solver::new(&self.table, Some(claims)),
+            gate,
+        );
+    }
+}
+
+// That a thread gives what comes of a text.
+#[derive(Clone, Copy)]
+struct PartOf<'a> {
+    scoring: Scoring,
+    limit: u8,
+    text: &'a [u8],
+}
+
+impl<'a> Promise<Result<Part, RunFault>> for PartOf<'a> {
+    ghost kept_by = { λ promise result. GivesPart promise.scoring promise.limit promise.text.now result };
+}
+
+// A client in a thread, or what came of it where no thread could be started.
+#[derive(Drop)]
+enum Progress<'a> {
+    There(PromisedHandle<Result<Part, RunFault>, PartOf<'a>>),
+    Here(Result<Part, RunFault>),
+}
+
+// A client that was started.
+#[derive(Drop)]
+struct Started<'a> {
+    promise: PartOf<'a>,
+    progress: Progress<'a>,
+}
+
+impl<'a> Model for Started<'a> {
+    ghost use Rattle.suite_solver.specs.Threads.{Assignment, IsFor, assigned};
+
+    ghost Value = { Assignment };
+
+    ghost view = { λ s. assigned s.promise };
+
+    ghost invariant = { λ s. IsFor (assigned s.promise) s.progress };
+}
+
+impl<'a> Started<'a> {
+    fn join<R: Threads>(self, rt: &R) -> Result<Part, RunFault>
+        ensures { GivesPart self.entry.scoring self.entry.limit self.entry.text result }
+    {
+        let Started {
+            promise: _,
+            progress,
+        } = self;
+        match progress {
+            Progress::There(handle) => handle.join(rt),
+            Progress::Here(part) => part,
+        }
+    }
+}
+
+// Starts a client. Where no thread can be started, this one does its part.
+fn start<'a, E, R: Threads + Wait + Sync, G: Gate>(
+    scope: &Scope<'a, E>,
+    rt: &'a R,
+    site: &'a Site,
+    claims: &'a Claims,
+    gate: &'a G,
+    sender: u32,
+    text: &'a [u8],
+) -> Started<'a>
+    requires { length text.now ≤ 1048576 }
+    ensures { result ≡ assignment site.now.table.scoring site.now.settings.max_empties text.now }
+{
+    let promise = PartOf {
+        scoring: site.table.scoring(),
+        limit: site.settings.max_empties(),
+        text,
+    };
+    let spawned = scope.spawn_with(
+        promise,
+        move || -> Result<Part, RunFault>
+            requires { length text.now ≤ 1048576 }
+            ensures { GivesPart site.entry.now.table.scoring site.entry.now.settings.max_empties text.entry.now result }
+        { site.part(rt, claims, gate, sender, text) },
+    );
+    let progress = match spawned {
+        Ok(handle) => Progress::There(handle),
+        Err(refused) => Progress::Here((refused.value)()),
+    };
+    Started { promise, progress }
+}
+
+// Starts a client for each file, in their order.
+fn start_all<'a, E, R: Threads + Wait + Sync, G: Gate>(
+    scope: &Scope<'a, E>,
+    rt: &'a R,
+    site: &'a Site,
+    claims: &'a Claims,
+    gate: &'a G,
+    files: &'a [Vec<u8>],
+    clients: &mut Vec<Started<'a>>,
+)
+    requires few { length files.now ≤ 64 }
+    requires small { first_large (texts_of files.now) ≡ None }
+    requires none { clients.old.items ≡ [] }
+    requires room { length files.now ≤ vec_capacity clients.old }
+    ensures { clients.new.items ≡ map (assignment site.now.table.scoring site.now.settings.max_empties) (texts_of files.now) }
+{
+    let mut sender: u32 = 0;
+    for file in files {
+        clients.push_reserved(start(scope, rt, site, claims, gate, sender, file));
+        sender += 1;
+    }
+}
+
+// Starts workers. Where a thread can't be started there are fewer.
+fn start_workers<'a, E, R: Threads + Wait + Sync, G: Gate>(
+    scope: &Scope<'a, E>,
+    rt: &'a R,
+    site: &'a Site,
+    claims: &'a Claims,
+    gate: &'a G,
+) {
+    for _ in 0..site.settings.workers() {
+        let _ = scope.spawn(move || site.work(rt, claims, gate));
+    }
+}
+
+// What came of the clients that were joined.
+#[derive(Drop)]
+struct Joined {
+    parts: Vec<Part>,
+    fault: Option<RunFault>,
+}
+
+impl Joined {
+    // Keeps a part, or the worse of the faults.
+    fn take(&mut self, given: Result<Part, RunFault>)
+        requires { vec_len self.old.parts < vec_capacity self.old.parts }
+        ensures part { IfOk given (λ part. (self.new.parts.items ≡ self.old.parts.items ++ part ∷ []) × (self.new.fault ≡ self.old.fault)) }
+        ensures fault { IfErr given (λ fault. self.new.fault ≡ Some (worse self.old.fault fault)) }
+        ensures room { vec_capacity self.new.parts ≡ vec_capacity self.old.parts }
+        ensures len { vec_len self.new.parts ≤ vec_len self.old.parts + 1 }
+    {
+        match given {
+            Ok(part) => self.parts.push_reserved(part),
+            Err(fault) => self.fault = Some(worse(self.fault, fault)),
+        }
+    }
+
+    // The parts, unless there was a fault.
+    fn into_parts(self) -> Result<Vec<Part>, RunFault>
+        ensures ok { IfOk result (λ parts. (parts ≡ self.parts) × (self.fault ≡ None)) }
+        ensures err { IfErr result (λ fault. self.fault ≡ Some fault) }
+    {
+        let Joined { parts, fault } = self;
+        match fault {
+            None => Ok(parts),
+            Some(fault) => Err(fault),
+        }
+    }
+}
+
+// Joins all clients.
+fn join_all<R: Threads>(rt: &R, clients: Vec<Started<'_>>, joined: &mut Joined)
+    requires none { (joined.old.parts.items ≡ []) × (joined.old.fault ≡ None) }
+    requires room { vec_len clients ≤ vec_capacity joined.old.parts }
+    ensures { AreJoined clients.entry.items joined.new.parts.items joined.new.fault }
+{
+    for client in clients {
+        joined.take(client.join(rt));
+    }
+}
+
+// What comes of all files. All lists are made before the first thread is started, so that nothing can fail between the
+// starts and the joins.
+fn parts_in<'a, E, R: Threads + Wait + Sync, G: Gate>(
+    scope: &Scope<'a, E>,
+    rt: &'a R,
+    site: &'a Site,
+    claims: &'a Claims,
+    gate: &'a G,
+    files: &'a [Vec<u8>],
+) -> Result<Vec<Part>, RunFault>
+    requires few { length files.now ≤ 64 }
+    requires small { first_large (texts_of files.now) ≡ None }
+    ensures { GivesParts site.now.table.scoring site.now.settings.max_empties (texts_of files.now) result }
+{
+    let mut clients = Vec::with_capacity(site.alloc, files.len())?;
+    let parts = Vec::with_capacity(site.alloc, files.len())?;
+    let mut joined = Joined { parts, fault: None };
+    start_workers(scope, rt, site, claims, gate);
+    start_all(scope, rt, site, claims, gate, files, &mut clients);
+    join_all(rt, clients, &mut joined);
+    joined.into_parts()
+}
+
+/// What comes of all files, by a client for each and the workers.
+pub(crate) fn threaded_parts<R: Threads + Wait + Sync, G: Gate>(
+    rt: &R,
+    site: &Site,
+    claims: &Claims,
+    gate: &G,
+    files: &[Vec<u8>],
+) -> Result<Vec<Part>, RunFault>
+    requires few { length files.now ≤ 64 }
+    requires small { first_large (texts_of files.now) ≡ None }
+    ensures { GivesParts site.now.table.scoring site.now.settings.max_empties (texts_of files.now) result }
+{
+    thread::scope(
+        thread::scope_env(),
+        rt,
+        |scope| -> Result<Vec<Part>, RunFault>
+            requires { (length files.now ≤ 64) × (first_large (texts_of files.now) ≡ None) }
+            ensures { GivesParts site.entry.now.table.scoring site.entry.now.settings.max_empties (texts_of files.entry.now) result }
+        { parts_in(scope, rt, site, claims, gate, files) },
+    )
+}
