@@ -7,6 +7,7 @@ pub mod ScoreLemmas
 pub mod MoveLemmas
 pub mod FieldLemmas
 pub mod ListedLemmas
+pub mod GreatestLemmas
 pub mod OnlyMeaning
 pub mod SomeMeaning
 pub mod PlaceLemmas

@@ -1,5 +1,5 @@
--- The fields of a line: what stands behind the side, up to the first `%`, is cut at each `;`; a piece that is a move, a
--- colon and a score lists that move, and any other piece lists nothing.
+-- The fields of a line: what stands behind the side, up to the first `%`, is cut at each `;`; a piece
+-- that is a move, a colon and a score lists that move, and any other piece lists nothing.
 use Rattle.std.specs.Prelude.{◌≡◌, ◌⊎◌, ℕ, ℤ, pos, neg_ℤ, ◌+◌, ◌-◌, ◌*◌, ◌<◌, ◌≤◌, ◌==◌, ◌&&◌, ◌||◌, Bool, nat_le, List, [], ◌∷◌, ◌++◌, length, map, take, drop, Option, Some, None, if◌then◌else◌}
 use Rattle.std.specs.List.{AllPass, slice_split, before_first, position_or_len, suffix_len, filter_map}
 use Rattle.std.specs.Option.{option_map}
@@ -56,7 +56,8 @@ IsNumber _ n = ⊥
 -- a sign may stand first; a minus turns the sign of the score
 abbrev pub IsSigned : List ℕ → ℕ → ℤ → Type 0
 IsSigned sign size score =
-    ((sign ≡ 45 ∷ []) × (score ≡ neg_ℤ (pos size))) ⊎ (((sign ≡ 43 ∷ []) ⊎ (sign ≡ [])) × (score ≡ pos size))
+    ((sign ≡ 45 ∷ []) × (score ≡ neg_ℤ (pos size)))
+    ⊎ (((sign ≡ 43 ∷ []) ⊎ (sign ≡ [])) × (score ≡ pos size))
 
 -- a score, at most 64 in size
 pub record IsScoreText (text : List ℕ) (score : ℤ) : Type 0 where
@@ -88,7 +89,8 @@ abbrev pub Lists : List (List ℕ) → List Field → Type 0
 Lists [] [] = Unit {0}
 Lists [] (field ∷ fields) = ⊥
 Lists (piece ∷ pieces) [] = IsNoField piece × Lists pieces []
-Lists (piece ∷ pieces) (field ∷ fields) = (IsField piece field × Lists pieces fields) ⊎ (IsNoField piece × Lists pieces (field ∷ fields))
+Lists (piece ∷ pieces) (field ∷ fields) =
+    (IsField piece field × Lists pieces fields) ⊎ (IsNoField piece × Lists pieces (field ∷ fields))
 
 -- ---- the same, computed
 
@@ -114,7 +116,9 @@ abbrev pub is_pass : ℕ → ℕ → Bool
 is_pass a b = ((a == 80) || (a == 112)) && ((b == 83) || (b == 115))
 
 abbrev pub move_of : ℕ → ℕ → Option ListedMove
-move_of a b = if is_pass a b then Some Pass else (if (a == 45) && (b == 45) then Some Over else square_in (column_of a) (row_of b))
+move_of a b =
+    if is_pass a b then Some Pass
+    else (if (a == 45) && (b == 45) then Some Over else square_in (column_of a) (row_of b))
 
 abbrev pub at_most_64 : ℕ → Option ℕ
 at_most_64 n = if nat_le n 64 then Some n else None
@@ -132,14 +136,16 @@ abbrev pub score_of : List ℕ → Option ℤ
 score_of [] = None
 score_of (sign ∷ digits) =
     if sign == 43 then option_map pos (size_of digits)
-    else (if sign == 45 then option_map (λ n. neg_ℤ (pos n)) (size_of digits) else option_map pos (size_of (sign ∷ digits)))
+    else (if sign == 45 then option_map (λ n. neg_ℤ (pos n)) (size_of digits)
+    else option_map pos (size_of (sign ∷ digits)))
 
 abbrev pub both : Option ListedMove → Option ℤ → Option Field
 both (Some move) (Some score) = Some (move, score)
 both _ _ = None
 
 abbrev pub field_of_text : List ℕ → Option Field
-field_of_text (a ∷ b ∷ colon ∷ score) = if colon == 58 then both (move_of a b) (score_of score) else None
+field_of_text (a ∷ b ∷ colon ∷ score) =
+    if colon == 58 then both (move_of a b) (score_of score) else None
 field_of_text _ = None
 
 abbrev pub without_first_blanks : List ℕ → List ℕ

@@ -110,7 +110,8 @@ Says line (Faulty Memory) = ⊥
 
 abbrev pub side_item_at : ℕ → List Cell → Option Side → List ℕ → Meaning
 side_item_at place cells None more = Faulty (BadSide (place + 1))
-side_item_at place cells (Some mover) more = Holds (record { position = record { cells = cells; mover = mover }; listed = fields_of more })
+side_item_at place cells (Some mover) more =
+    Holds (record { position = record { cells = cells; mover = mover }; listed = fields_of more })
 
 -- from the side's place on, which is after `place` bytes
 abbrev pub side_item : ℕ → List Cell → List ℕ → Meaning
@@ -120,20 +121,25 @@ side_item place cells (b ∷ more) = side_item_at place cells (side_of b) more
 -- behind the cells
 abbrev pub gap_item : ℕ → List Cell → List ℕ → Meaning
 gap_item place cells rest =
-    side_item (place + position_or_len is_content rest) cells (drop (position_or_len is_content rest) rest)
+    side_item (place + position_or_len is_content rest) cells
+    (drop (position_or_len is_content rest) rest)
 
 -- from the first cell on, with `count` cells in front
 abbrev pub board_item : ℕ → ℕ → List ℕ → Meaning
 board_item start count rest =
-    if nat_lt count 64 then (if count == length rest then Faulty (Short count) else Faulty (BadCell (start + (count + 1))))
+    if nat_lt count 64
+    then (if count == length rest then Faulty (Short count) else Faulty (BadCell (start + (count + 1))))
     else gap_item (start + 64) (map cell_of (take 64 rest)) (drop 64 rest)
 
 abbrev pub content_item : ℕ → List ℕ → Meaning
 content_item start [] = Skipped
-content_item start (b ∷ rest) = if b == 37 then Skipped else board_item start (position_or_len is_no_cell (b ∷ rest)) (b ∷ rest)
+content_item start (b ∷ rest) =
+    if b == 37 then Skipped
+    else board_item start (position_or_len is_no_cell (b ∷ rest)) (b ∷ rest)
 
 abbrev pub item_of : List ℕ → Meaning
-item_of line = content_item (position_or_len is_content line) (drop (position_or_len is_content line) line)
+item_of line =
+    content_item (position_or_len is_content line) (drop (position_or_len is_content line) line)
 
 -- ---- what a call gives
 

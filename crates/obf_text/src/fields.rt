@@ -156,7 +156,8 @@ fn first_semicolon(text: &[u8]) -> Option<usize>
 
 // The first piece, and what is left after its semicolon, if it has one.
 fn first_piece(text: &[u8]) -> (&[u8], Option<&[u8]>)
-    ensures { pieces_left (Some text.now) ≡ result.0.now ∷ pieces_left (option_map (λ t. t.now) result.1) }
+    ensures { pieces_left (Some text.now)
+        ≡ result.0.now ∷ pieces_left (option_map (λ t. t.now) result.1) }
 {
     match first_semicolon(text) {
         Some(end) => (&text[..end], Some(&text[end + 1..])),

@@ -1,29 +1,44 @@
 //! What holds of the grammar of lines, and of what is written.
 
-ghost use Rattle.std.specs.Prelude.{◌≡◌, ◌↔◌, ◌∷◌, ◌++◌, ℕ, List, Some, None, length};
+ghost use Rattle.std.specs.Prelude.{◌≡◌, ◌≢◌, ◌≤ℤ◌, ◌↔◌, [], ◌∷◌, ◌++◌, ℕ, List, Some, None};
+ghost use Rattle.std.specs.Prelude.{length};
+ghost use Rattle.std.specs.List.{Contains};
 ghost use Rattle.othello_rules.specs.Rules.{Position};
 ghost use Rattle.othello_rules.specs.Solution.{IsScore, Solution};
-ghost use Rattle.obf_text.specs.Fields.{Field, IsField, IsNoField, field_of};
+ghost use Rattle.obf_text.specs.Fields.{Field, IsField, IsNoField, field_of, greatest_listed};
 ghost use Rattle.obf_text.specs.LineText.{lines_of};
 ghost use Rattle.obf_text.specs.Obf.{Holds, Meaning, Says, item_of};
 ghost use Rattle.obf_text.specs.Written.{entry_written, line_text, written};
 
 /// Each piece is one field, or none.
 pub fn one_field()
-    ensures only { (piece : List ℕ) (f g : Field) → IsField piece f → IsField piece g → f ≡ g }
+    ensures only { (piece : List ℕ) (f g : Field) → IsField piece f → IsField piece g
+        → f ≡ g }
     ensures found { (piece : List ℕ) (f : Field) → (field_of piece ≡ Some f) ↔ IsField piece f }
     ensures none { (piece : List ℕ) → (field_of piece ≡ None) ↔ IsNoField piece }
+{}
+
+/// The greatest of the listed scores is the score of a listed move, and no listed move has a greater one.
+pub fn greatest_is_listed()
+    ensures listed { (fields : List Field) → fields ≢ []
+        → (f : Field) × Contains fields f × (f.1 ≡ greatest_listed fields) }
+    ensures none_greater { (fields : List Field) (f : Field) → Contains fields f
+        → f.1 ≤ℤ greatest_listed fields }
 {}
 
 /// Each list of bytes says exactly one thing.
 pub fn one_meaning()
     ensures says { (line : List ℕ) → Says line (item_of line) }
-    ensures only { (line : List ℕ) (meaning : Meaning) → Says line meaning → meaning ≡ item_of line }
+    ensures only { (line : List ℕ) (meaning : Meaning) → Says line meaning
+        → meaning ≡ item_of line }
 {}
 
 /// A position that is written with an answer is one line, and that line says just what was written.
 pub fn written_is_read()
-    ensures line { (P : Position) (A : Solution) (rest : List ℕ) → IsScore A.score → lines_of (written P A ++ rest) ≡ line_text P A ∷ lines_of rest }
-    ensures says { (P : Position) (A : Solution) → length P.cells ≡ 64 → IsScore A.score → Says (line_text P A) (Holds (entry_written P A)) }
-    ensures item { (P : Position) (A : Solution) → length P.cells ≡ 64 → IsScore A.score → item_of (line_text P A) ≡ Holds (entry_written P A) }
+    ensures line { (P : Position) (A : Solution) (rest : List ℕ) → IsScore A.score
+        → lines_of (written P A ++ rest) ≡ line_text P A ∷ lines_of rest }
+    ensures says { (P : Position) (A : Solution) → length P.cells ≡ 64 → IsScore A.score
+        → Says (line_text P A) (Holds (entry_written P A)) }
+    ensures item { (P : Position) (A : Solution) → length P.cells ≡ 64 → IsScore A.score
+        → item_of (line_text P A) ≡ Holds (entry_written P A) }
 {}

@@ -1,6 +1,16 @@
 //! Lines of OBF text, a form in which the FFO endgame test is distributed: 64 squares, the side to move, and fields that
 //! list moves with their scores. The letters, the spellings of a pass and of a finished game, and the fields are this
 //! project's own profile.
+//!
+//! ```rust
+//! use obf_text::{Item, greatest_score, read_line, split_lines};
+//!
+//! for bytes in split_lines(text) {
+//!     if let Item::Entry(line) = read_line(alloc, bytes)? {
+//!         assert!(rt; greatest_score(line.listed.as_slice()) <= Some(64));
+//!     }
+//! }
+//! ```
 #![tactic(auto)]
 
 mod bytes;

@@ -67,7 +67,8 @@ pub fn score_bytes(score: i8) -> [u8; 3]
 // The squares, a space, the side to move and a semicolon.
 #[tactic(auto, unfolding(crate::specs::Written::board_text))]
 fn write_board<W: Write>(writer: &mut W, grid: &Grid) -> io::Result<()>
-    ensures { OnOk result (Appends (W.contents writer.old) (W.contents writer.new) (board_text grid.now)) }
+    ensures { OnOk result
+        (Appends (W.contents writer.old) (W.contents writer.new) (board_text grid.now)) }
 {
     let mover = side_byte(grid.side());
     writer.write_all(&board_bytes(grid))?;
@@ -78,7 +79,8 @@ fn write_board<W: Write>(writer: &mut W, grid: &Grid) -> io::Result<()>
 #[tactic(auto, unfolding(crate::specs::Written::score_part))]
 fn write_score<W: Write>(writer: &mut W, score: i8) -> io::Result<()>
     requires { nat_abs score < 100 }
-    ensures { OnOk result (Appends (W.contents writer.old) (W.contents writer.new) (score_part score)) }
+    ensures { OnOk result
+        (Appends (W.contents writer.old) (W.contents writer.new) (score_part score)) }
 {
     writer.write_all(b":")?;
     writer.write_all(&score_bytes(score))?;
@@ -89,7 +91,8 @@ fn write_score<W: Write>(writer: &mut W, score: i8) -> io::Result<()>
 #[tactic(auto, unfolding(crate::specs::Written::field_text))]
 fn write_field<W: Write>(writer: &mut W, listed: ListedMove, score: i8) -> io::Result<()>
     requires { nat_abs score < 100 }
-    ensures { OnOk result (Appends (W.contents writer.old) (W.contents writer.new) (field_text (listed, score))) }
+    ensures { OnOk result
+        (Appends (W.contents writer.old) (W.contents writer.new) (field_text (listed, score))) }
 {
     writer.write_all(b" ")?;
     writer.write_all(&move_bytes(listed))?;
@@ -99,7 +102,8 @@ fn write_field<W: Write>(writer: &mut W, listed: ListedMove, score: i8) -> io::R
 // A field for each square of a mask.
 fn write_moves<W: Write>(writer: &mut W, score: i8, mask: u64) -> io::Result<()>
     requires { nat_abs score < 100 }
-    ensures { OnOk result (Appends (W.contents writer.old) (W.contents writer.new) (best_text score (Moves mask))) }
+    ensures { OnOk result
+        (Appends (W.contents writer.old) (W.contents writer.new) (best_text score (Moves mask))) }
 {
     for square in squares_in(mask).iter() {
         write_field(writer, ListedMove::At(*square), score)?;
@@ -111,7 +115,8 @@ fn write_moves<W: Write>(writer: &mut W, score: i8, mask: u64) -> io::Result<()>
 #[tactic(auto, unfolding(crate::specs::Written::best_text, crate::specs::Written::fields_text))]
 fn write_best<W: Write>(writer: &mut W, score: i8, best: Best) -> io::Result<()>
     requires { nat_abs score < 100 }
-    ensures { OnOk result (Appends (W.contents writer.old) (W.contents writer.new) (best_text score best)) }
+    ensures { OnOk result
+        (Appends (W.contents writer.old) (W.contents writer.new) (best_text score best)) }
 {
     match best {
         Best::Moves(mask) => write_moves(writer, score, mask),
@@ -129,7 +134,8 @@ fn write_best<W: Write>(writer: &mut W, score: i8, best: Best) -> io::Result<()>
 /// Takes no memory. After a fault nothing is said of how much went out.
 #[tactic(auto, unfolding(crate::specs::Written::line_text))]
 pub fn write_line<W: Write>(writer: &mut W, grid: &Grid, answer: &Answer) -> io::Result<()>
-    ensures { OnOk result (Appends (W.contents writer.old) (W.contents writer.new) (written grid.now answer.now)) }
+    ensures { OnOk result
+        (Appends (W.contents writer.old) (W.contents writer.new) (written grid.now answer.now)) }
 {
     write_board(writer, grid)?;
     write_best(writer, answer.score, answer.best)?;

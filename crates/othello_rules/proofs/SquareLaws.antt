@@ -37,3 +37,8 @@ first_squares_none p = refl
 pub first_squares_all : (p : ℕ → Bool) (n : ℕ) → 64 ≤ n → first_squares p n ≡ filter p squares
 unfolding first_squares
 first_squares_all p n h = let past : length squares ≤ n = rw length-squares h in ap (filter p) (take_all n squares past)
+
+-- the square at an index of all squares
+pub item_of_squares : (all : List ℕ) (n e : ℕ) → all ≡ squares → n < 64 → get_or all n e ≡ n
+unfolding squares
+item_of_squares all n e h below = ap (λ qs. get_or qs n e) h ∙ get_or-range_with_len 0 64 n e below ∙ omega arith

@@ -195,8 +195,8 @@ impl Grid {
     fn can_move(&self) -> bool
         ensures { result ≡ can_move self.now }
     {
-        for number in 0..64 {
-            if self.is_legal(Square::at(number)) {
+        for square in Square::all().iter() {
+            if self.is_legal(*square) {
                 return true;
             }
         }
@@ -251,8 +251,8 @@ impl Grid {
         // A use of the cells shows the check that there are 64.
         let _cells = &self.cells;
         let mut best: Option<i8> = None;
-        for number in 0..64 {
-            if let Ok(next) = self.play(Square::at(number)) {
+        for square in Square::all().iter() {
+            if let Ok(next) = self.play(*square) {
                 let reply = next.plain_value(scoring);
                 let worth = negate(reply);
                 best = Some(raise(best, worth));
@@ -278,12 +278,12 @@ impl Grid {
         ensures { result ≡ mask_of (best_moves scoring self.now) }
     {
         let mut mask: u64 = 0;
-        for number in 0..64 {
-            if let Ok(next) = self.play(Square::at(number)) {
+        for square in Square::all().iter() {
+            if let Ok(next) = self.play(*square) {
                 let reply = next.plain_value(scoring);
                 let worth = negate(reply);
                 if worth == score {
-                    mask += 1 << number;
+                    mask += 1 << square.number();
                 }
             }
         }

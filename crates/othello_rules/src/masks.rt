@@ -19,10 +19,9 @@ pub fn squares_in(mask: u64) -> ArrayVec<Square, 64>
     ensures { result.items ≡ squares_of mask }
 {
     let mut squares = ArrayVec::new();
-    for number in 0..64 {
-        let square = Square::at(number);
-        if has_square(mask, square) {
-            squares.push(square);
+    for square in Square::all().iter() {
+        if has_square(mask, *square) {
+            squares.push(*square);
         }
     }
     squares
