@@ -1,0 +1,7 @@
+use Rattle.std.proofs.lemmas.Bool.{false≢true}
+use Rattle.othello_bits.proofs.MaskMeaning.{IsMove-on_board}
+use Rattle.ffosolve_c.proofs.positions.played.Goals as goal
+
+pub returns-in_default-clause-no_move : goal.returns-in_default-clause-no_move
+returns-in_default-clause-no_move c _ move =
+    absurd (false≢true (c.in_default.ensures.valid.1 (IsMove-on_board _ _ move)))

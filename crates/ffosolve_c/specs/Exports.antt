@@ -1,0 +1,117 @@
+-- What C hands in and is handed back: scorings, refusals and answers as numbers.
+use Rattle.std.specs.Prelude.{◌≡◌, ◌⊎◌, ℕ, ℤ, pos, All, List, length, map, IfSome, Option, Some, None, is_some, option_and_then, position, slice_get, bit_and, nat_eq, nat_lt, if◌then◌else◌}
+use Rattle.othello_rules.specs.Solution.{Solution}
+use Rattle.othello_rules.specs.declared.answers.Best.{Best}
+use Rattle.othello_rules.specs.declared.answers.Best.TheVariants.{Moves, Pass, Over}
+use Rattle.othello_rules.specs.declared.scorings.Scoring.{Scoring}
+use Rattle.othello_rules.specs.declared.scorings.Scoring.TheVariants as scoring
+use Rattle.othello_bits.specs.Discs.{Discs, discs, empties_of, answer_of}
+use Rattle.ffosolve_c.specs.declared.answers.FfosolveAnswer.{FfosolveAnswer}
+use Rattle.ffosolve_c.specs.declared.positions.FfosolvePosition.{FfosolvePosition}
+use Rattle.ffosolve_c.specs.declared.refusals.Refusal.{Refusal}
+use Rattle.ffosolve_c.specs.declared.refusals.Refusal.TheVariants.{UnknownScoring, TooManyEntries, UnequalLengths, SharedSquare, TooManyEmpties, NoMove, NoMemory}
+
+-- the scoring that a number names
+unfoldable pub scoring_of : ℕ → Option Scoring
+scoring_of n =
+    if nat_eq n 0 then Some scoring.Winner
+    else (if nat_eq n 1 then Some scoring.Discs else (if nat_eq n 2 then Some scoring.Sign else None))
+
+-- the position of the masks
+abbrev pub discs_at : FfosolvePosition → Discs
+discs_at p = discs p.own p.opp
+
+-- a position as C reads it
+abbrev pub placed : Discs → FfosolvePosition
+placed p = record { own = p.own; opp = p.opp }
+
+-- what attains the score, as a kind: 0 moves, 1 a pass, 2 the end of the game; and the mask of the moves, 0 for none
+abbrev pub kind_of : Best → ℤ
+kind_of (Moves mask) = pos 0
+kind_of Pass = pos 1
+kind_of Over = pos 2
+
+abbrev pub moves_in : Best → ℕ
+moves_in (Moves mask) = mask
+moves_in Pass = 0
+moves_in Over = 0
+
+-- an answer as C reads it, and the answer of a position
+abbrev pub written : Solution → FfosolveAnswer
+written answer = record { score = answer.score; kind = kind_of answer.best; best = moves_in answer.best }
+
+abbrev pub answer_at : Scoring → FfosolvePosition → FfosolveAnswer
+answer_at g p = written (answer_of g (discs_at p))
+
+-- the answer of the position, and the answers of the positions, under the scoring of this number
+abbrev pub IsAnswer : ℕ → FfosolvePosition → FfosolveAnswer → Type 0
+IsAnswer scoring p answer = IfSome (scoring_of scoring) (λ g. answer ≡ answer_at g p)
+
+abbrev pub AreAnswers : ℕ → List FfosolvePosition → List FfosolveAnswer → Type 0
+AreAnswers scoring ps answers = IfSome (scoring_of scoring) (λ g. answers ≡ map (answer_at g) ps)
+
+-- ---- refusals, in the order in which a request is tested
+
+abbrev pub status_of : Refusal → ℤ
+status_of UnknownScoring = pos 1
+status_of TooManyEntries = pos 2
+status_of UnequalLengths = pos 3
+status_of SharedSquare = pos 4
+status_of TooManyEmpties = pos 5
+status_of NoMove = pos 6
+status_of NoMemory = pos 7
+
+-- the first of two refusals, if there is one
+abbrev pub first_of : Option Refusal → Option Refusal → Option Refusal
+first_of (Some refusal) next = Some refusal
+first_of None next = next
+
+-- why no table is made: no scoring has the number, or there are more than 4194304 entries
+unfoldable pub table_refusal : ℕ → ℕ → Option Refusal
+table_refusal scoring entries =
+    if nat_lt 2 scoring then Some UnknownScoring
+    else (if nat_lt 4194304 entries then Some TooManyEntries else None)
+
+-- why a position is not solved: its masks share a square, or it has more than 60 empty squares
+unfoldable pub position_refusal : FfosolvePosition → Option Refusal
+position_refusal p =
+    if nat_eq (bit_and p.own p.opp) 0
+    then (if nat_lt 60 (empties_of (discs_at p)) then Some TooManyEmpties else None)
+    else Some SharedSquare
+
+-- each of the positions can be solved
+abbrev pub AreSolvable : List FfosolvePosition → Type 0
+AreSolvable ps = All (λ p. position_refusal p ≡ None) ps
+
+-- why a request for one answer is refused
+abbrev pub refusal_of : ℕ → ℕ → FfosolvePosition → Option Refusal
+refusal_of scoring entries p = first_of (table_refusal scoring entries) (position_refusal p)
+
+-- why two lists don't fit
+abbrev pub lengths_refusal : ℕ → ℕ → Option Refusal
+lengths_refusal m n = if nat_eq m n then None else Some UnequalLengths
+
+-- the index of the first position that is refused, and why it is
+abbrev pub first_refused : List FfosolvePosition → Option ℕ
+first_refused ps = position (λ p. is_some (position_refusal p)) ps
+
+abbrev pub first_refusal : List FfosolvePosition → Option Refusal
+first_refusal ps = option_and_then (λ i. option_and_then position_refusal (slice_get ps i)) (first_refused ps)
+
+-- why a request for the answers of a list is refused, where there is room for so many answers
+abbrev pub refusal_of_all : ℕ → ℕ → List FfosolvePosition → ℕ → Option Refusal
+refusal_of_all scoring entries ps room =
+    first_of (table_refusal scoring entries) (first_of (lengths_refusal (length ps) room) (first_refusal ps))
+
+-- what a request ends with that has this refusal: a good one may still want memory
+abbrev pub IsRefusal : Option Refusal → Refusal → Type 0
+IsRefusal (Some refusal) told = told ≡ refusal
+IsRefusal None told = told ≡ NoMemory
+
+abbrev pub IsStatus : Option Refusal → ℤ → Type 0
+IsStatus (Some refusal) status = status ≡ status_of refusal
+IsStatus None status = (status ≡ pos 0) ⊎ (status ≡ status_of NoMemory)
+
+-- the status tells of one of the positions
+abbrev pub IsOfPosition : ℤ → Type 0
+IsOfPosition status = (status ≡ status_of SharedSquare) ⊎ (status ≡ status_of TooManyEmpties)

@@ -1,0 +1,134 @@
+//! The solver for C: exact answers of positions that are given as masks.
+#![tactic(auto)]
+
+pub mod answers;
+mod lists;
+pub mod positions;
+pub mod refusals;
+mod requests;
+#[cfg(test)]
+mod tests;
+
+ghost use Rattle.std.specs.Prelude.{◌≡◌, ◌≢◌, ◌↔◌, pos, Some, bit_and, length};
+ghost use Rattle.othello_bits.specs.Discs.{moves_of, play_of, IsMove};
+ghost use Rattle.ffosolve_c.specs.declared.refusals.Refusal.TheVariants as refusal;
+ghost use Rattle.ffosolve_c.specs.Exports.{discs_at, first_refused, placed, refusal_of, refusal_of_all, status_of, AreAnswers, IsAnswer, IsOfPosition, IsStatus};
+
+use crate::answers::{FfosolveAnswer, claim_of};
+use crate::lists::answered_all;
+use crate::positions::{FfosolvePosition, played, position_of};
+use crate::requests::answered;
+use std::alloc::Global;
+
+/// The answer of a position, by a search over a table with so many entries. The status is 0 where `answer` was
+/// written; else it is as it was, and the status tells why.
+#[unsafe(no_mangle)]
+pub extern "C" fn ffosolve_answer(
+    alloc: Global,
+    position: FfosolvePosition,
+    scoring: u32,
+    entries: usize,
+    answer: &mut FfosolveAnswer,
+) -> i32
+    ensures status { IsStatus (refusal_of scoring entries position) result }
+    ensures without_memory { entries ≡ 0 → result ≢ status_of refusal.NoMemory }
+    ensures answer { result ≡ pos 0 → IsAnswer scoring position answer.new }
+    ensures unchanged { result ≢ pos 0 → answer.new ≡ answer.old }
+{
+    match answered(alloc, position, scoring, entries, None) {
+        Ok(found) => {
+            *answer = found;
+            0
+        }
+        Err(refused) => refused.status(),
+    }
+}
+
+/// What `ffosolve_answer` gives, sooner where the claim is right. Any claim may be made.
+#[unsafe(no_mangle)]
+pub extern "C" fn ffosolve_confirm(
+    alloc: Global,
+    position: FfosolvePosition,
+    scoring: u32,
+    entries: usize,
+    claim: FfosolveAnswer,
+    answer: &mut FfosolveAnswer,
+) -> i32
+    ensures status { IsStatus (refusal_of scoring entries position) result }
+    ensures without_memory { entries ≡ 0 → result ≢ status_of refusal.NoMemory }
+    ensures answer { result ≡ pos 0 → IsAnswer scoring position answer.new }
+    ensures unchanged { result ≢ pos 0 → answer.new ≡ answer.old }
+{
+    match answered(alloc, position, scoring, entries, claim_of(claim)) {
+        Ok(found) => {
+            *answer = found;
+            0
+        }
+        Err(refused) => refused.status(),
+    }
+}
+
+/// The answers of positions, in their order, by searches over one table. The status is 0 where all of `answers` was
+/// written; else it is as it was, and the status tells why. Where that is a position, `at` is the index of the first
+/// one that is refused; else `at` is as it was.
+#[unsafe(no_mangle)]
+pub extern "C" fn ffosolve_answers(
+    alloc: Global,
+    positions: &[FfosolvePosition],
+    scoring: u32,
+    entries: usize,
+    answers: &mut [FfosolveAnswer],
+    at: &mut usize,
+) -> i32
+    ensures status { IsStatus (refusal_of_all scoring entries positions.now (length answers.old)) result }
+    ensures without_memory { entries ≡ 0 → result ≢ status_of refusal.NoMemory }
+    ensures answers { result ≡ pos 0 → AreAnswers scoring positions.now answers.new }
+    ensures unchanged { result ≢ pos 0 → answers.new ≡ answers.old }
+    ensures refused { IsOfPosition result → first_refused positions.now ≡ Some at.new }
+    ensures at_unchanged { (IsOfPosition result → ⊥) → at.new ≡ at.old }
+{
+    match answered_all(alloc, positions, scoring, entries, answers, at) {
+        Ok(()) => 0,
+        Err(refused) => refused.status(),
+    }
+}
+
+/// The squares on which the mover may move. The status is 0, or `SharedSquare`.
+#[unsafe(no_mangle)]
+pub extern "C" fn ffosolve_moves(position: FfosolvePosition, moves: &mut u64) -> i32
+    ensures done { (result ≡ pos 0) ↔ (bit_and position.own position.opp ≡ 0) }
+    ensures shared { result ≢ pos 0 → result ≡ status_of refusal.SharedSquare }
+    ensures moves { result ≡ pos 0 → moves.new ≡ moves_of (discs_at position) }
+    ensures unchanged { result ≢ pos 0 → moves.new ≡ moves.old }
+{
+    match position_of(position) {
+        Ok(position) => {
+            *moves = position.moves();
+            0
+        }
+        Err(refused) => refused.status(),
+    }
+}
+
+/// The position after a move. The status is 0; `SharedSquare`; or `NoMove` where the square is no move.
+#[unsafe(no_mangle)]
+pub extern "C" fn ffosolve_play(
+    position: FfosolvePosition,
+    square: u8,
+    after: &mut FfosolvePosition,
+) -> i32
+    ensures shared { (result ≡ status_of refusal.SharedSquare) ↔ (bit_and position.own position.opp ≢ 0) }
+    ensures legal { result ≡ pos 0 → IsMove (discs_at position) square }
+    ensures no_move { result ≡ status_of refusal.NoMove → IsMove (discs_at position) square → ⊥ }
+    ensures others { result ≢ pos 0 → result ≢ status_of refusal.SharedSquare → result ≡ status_of refusal.NoMove }
+    ensures after { result ≡ pos 0 → after.new ≡ placed (play_of (discs_at position) square) }
+    ensures unchanged { result ≢ pos 0 → after.new ≡ after.old }
+{
+    match played(position, square) {
+        Ok(position) => {
+            *after = position;
+            0
+        }
+        Err(refused) => refused.status(),
+    }
+}

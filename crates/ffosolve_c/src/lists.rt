@@ -1,0 +1,83 @@
+//! Requests for the answers of many positions.
+
+ghost use Rattle.std.specs.Prelude.{◌≡◌, ◌≢◌, Some, None, IsNone, IfSome, IfErr, OnOk, OnErr, length, map};
+ghost use Rattle.ffosolve_c.specs.declared.refusals.Refusal.TheVariants as refusal;
+ghost use Rattle.ffosolve_c.specs.Exports.{answer_at, first_refusal, first_refused, position_refusal, refusal_of_all, status_of, AreAnswers, AreSolvable, IsOfPosition, IsRefusal};
+
+use crate::answers::{FfosolveAnswer, written};
+use crate::positions::{FfosolvePosition, task_of};
+use crate::refusals::Refusal;
+use crate::requests::{table_of, table_scoring};
+use bound_table::{BoundTable, Bounds};
+use endgame_search::solve;
+use othello_rules::Scoring;
+use std::alloc::Global;
+
+// The index of the first position that is refused, and why it is.
+fn first_refused(positions: &[FfosolvePosition]) -> Option<(usize, Refusal)>
+    ensures good { IsNone result → AreSolvable positions.now }
+    ensures none { IsNone result → first_refusal positions.now ≡ None }
+    ensures at { IfSome result (λ first. first_refused positions.now ≡ Some first.0) }
+    ensures refused { IfSome result (λ first. first_refusal positions.now ≡ Some first.1) }
+    ensures kinds { IfSome result (λ first. IsOfPosition (status_of first.1)) }
+{
+    for i in 0..positions.len() {
+        if let Err(refusal) = task_of(positions[i], Scoring::Winner) {
+            return Some((i, refusal));
+        }
+    }
+    None
+}
+
+// The answer of a position that is not refused.
+fn answer_at(table: &BoundTable, position: FfosolvePosition) -> FfosolveAnswer
+    requires { position_refusal position ≡ None }
+    ensures { result ≡ answer_at table.now.scoring position }
+{
+    match task_of(position, table.scoring()) {
+        Ok(task) => written(solve(table, task).answer()),
+        Err(_) => unreachable!(),
+    }
+}
+
+// The answers of positions, in their order.
+fn fill(table: &BoundTable, positions: &[FfosolvePosition], answers: &mut [FfosolveAnswer])
+    requires good { AreSolvable positions.now }
+    requires lengths { length answers.old ≡ length positions.now }
+    ensures { answers.new ≡ map (answer_at table.now.scoring) positions.now }
+{
+    for i in 0..positions.len() {
+        answers[i] = answer_at(table, positions[i]);
+    }
+}
+
+/// Writes the answers of all positions; or nothing but, where a position is refused, its index into `at`.
+pub fn answered_all(
+    alloc: Global,
+    positions: &[FfosolvePosition],
+    scoring: u32,
+    entries: usize,
+    answers: &mut [FfosolveAnswer],
+    at: &mut usize,
+) -> Result<(), Refusal>
+    ensures good { OnOk result (refusal_of_all scoring entries positions.now (length answers.old) ≡ None) }
+    ensures answers { OnOk result (AreAnswers scoring positions.now answers.new) }
+    ensures refused { IfErr result (IsRefusal (refusal_of_all scoring entries positions.now (length answers.old))) }
+    ensures without_memory { entries ≡ 0 → IfErr result (λ r. r ≢ refusal.NoMemory) }
+    ensures unchanged { OnErr result (answers.new ≡ answers.old) }
+    ensures at { IfErr result (λ r. IsOfPosition (status_of r) → first_refused positions.now ≡ Some at.new) }
+    ensures at_unchanged { IfErr result (λ r. (IsOfPosition (status_of r) → ⊥) → at.new ≡ at.old) }
+    ensures at_kept { OnOk result (at.new ≡ at.old) }
+{
+    let scoring = table_scoring(scoring, entries)?;
+    if positions.len() != answers.len() {
+        return Err(Refusal::UnequalLengths);
+    }
+    if let Some((first, refusal)) = first_refused(positions) {
+        *at = first;
+        return Err(refusal);
+    }
+    let table = table_of(alloc, entries, scoring)?;
+    fill(&table, positions, answers);
+    Ok(())
+}

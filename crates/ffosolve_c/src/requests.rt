@@ -1,0 +1,89 @@
+//! Requests for an answer.
+
+ghost use Rattle.std.specs.Prelude.{◌≡◌, ◌≢◌, ◌≤◌, Some, None, IfOk, IfErr};
+ghost use Rattle.othello_bits.specs.Discs.{answer_of};
+ghost use Rattle.ffosolve_c.specs.declared.refusals.Refusal.TheVariants as refusal;
+ghost use Rattle.ffosolve_c.specs.Exports.{refusal_of, scoring_of, status_of, table_refusal, IsAnswer, IsOfPosition, IsRefusal};
+
+use crate::answers::{FfosolveAnswer, written};
+use crate::positions::{FfosolvePosition, task_of};
+use crate::refusals::Refusal;
+use bound_table::{BoundTable, Bounds};
+use endgame_search::{Claim, Task, confirm, solve};
+use othello_rules::{Answer, Scoring};
+use std::alloc::Global;
+
+#[tactic(auto, unfolding(crate::specs::Exports::scoring_of))]
+fn scoring_of(number: u32) -> Option<Scoring>
+    ensures { result ≡ scoring_of number }
+{
+    match number {
+        0 => Some(Scoring::Winner),
+        1 => Some(Scoring::Discs),
+        2 => Some(Scoring::Sign),
+        _ => None,
+    }
+}
+
+/// The scoring of the table that a request asks for, or why none is made.
+#[tactic(auto, unfolding(crate::specs::Exports::table_refusal, crate::specs::Exports::scoring_of))]
+pub fn table_scoring(number: u32, entries: usize) -> Result<Scoring, Refusal>
+    ensures good { IfOk result (λ g. table_refusal number entries ≡ None) }
+    ensures few { IfOk result (λ g. entries ≤ 4194304) }
+    ensures scoring { IfOk result (λ g. scoring_of number ≡ Some g) }
+    ensures refused { IfErr result (λ r. table_refusal number entries ≡ Some r) }
+    ensures kinds { IfErr result (λ r. IsOfPosition (status_of r) → ⊥) }
+    ensures not_memory { IfErr result (λ r. r ≢ refusal.NoMemory) }
+{
+    let Some(scoring) = scoring_of(number) else {
+        return Err(Refusal::UnknownScoring);
+    };
+    if entries > BoundTable::MOST_ENTRIES {
+        return Err(Refusal::TooManyEntries);
+    }
+    Ok(scoring)
+}
+
+/// A new table, of a number of entries that is allowed.
+pub fn table_of(alloc: Global, entries: usize, scoring: Scoring) -> Result<BoundTable, Refusal>
+    requires { entries ≤ 4194304 }
+    ensures made { IfOk result (λ table. table.scoring ≡ scoring) }
+    ensures refused { IfErr result (λ r. r ≡ refusal.NoMemory) }
+    ensures without_memory { IfErr result (λ r. entries ≢ 0) }
+{
+    match BoundTable::new(alloc, entries, scoring) {
+        Ok(table) => Ok(table),
+        Err(_) => Err(Refusal::NoMemory),
+    }
+}
+
+// The answer of a task by a search, or by a claim where there is one.
+fn found(table: &BoundTable, task: Task, claim: Option<Claim>) -> Answer
+    requires { task.scoring ≡ table.now.scoring }
+    ensures { result ≡ answer_of task.scoring task.position }
+{
+    let solved = match claim {
+        Some(claim) => confirm(table, task, claim),
+        None => solve(table, task),
+    };
+    solved.answer()
+}
+
+/// The answer of a position, by a claim where there is one; or why there is none.
+pub fn answered(
+    alloc: Global,
+    position: FfosolvePosition,
+    scoring: u32,
+    entries: usize,
+    claim: Option<Claim>,
+) -> Result<FfosolveAnswer, Refusal>
+    ensures good { IfOk result (λ answer. refusal_of scoring entries position ≡ None) }
+    ensures answer { IfOk result (IsAnswer scoring position) }
+    ensures refused { IfErr result (IsRefusal (refusal_of scoring entries position)) }
+    ensures without_memory { entries ≡ 0 → IfErr result (λ r. r ≢ refusal.NoMemory) }
+{
+    let scoring = table_scoring(scoring, entries)?;
+    let task = task_of(position, scoring)?;
+    let table = table_of(alloc, entries, scoring)?;
+    Ok(written(found(&table, task, claim)))
+}

@@ -1,0 +1,64 @@
+//! That calls succeed where memory is at hand.
+
+ghost use Rattle.std.specs.Prelude.{◌≡◌};
+
+use crate::answers::FfosolveAnswer;
+use crate::positions::FfosolvePosition;
+use crate::{ffosolve_answer, ffosolve_answers, ffosolve_confirm};
+use std::alloc::Global;
+
+const NO_MEMORY: i32 = 7;
+
+const NOTHING: FfosolveAnswer = FfosolveAnswer {
+    score: 99,
+    kind: 99,
+    best: 99,
+};
+
+// -OXXXXX- XXXXXXXO XXXXXXXX XXXXXXXX XXXOXXXX and three rows XXXXXXXX, X to move
+const UNEQUAL_CORNERS: FfosolvePosition = FfosolvePosition {
+    own: !0x8_0000_8083,
+    opp: 0x8_0000_8002,
+};
+
+// its answer: +62 by H1
+const FOUND: FfosolveAnswer = FfosolveAnswer {
+    score: 62,
+    kind: 0,
+    best: 0x80,
+};
+
+// Each call is made again where memory is refused.
+
+fn answer(alloc: Global) -> FfosolveAnswer {
+    let mut answer = NOTHING;
+    if ffosolve_answer(alloc, UNEQUAL_CORNERS, 0, 64, &mut answer) == NO_MEMORY {
+        let _ = ffosolve_answer(alloc, UNEQUAL_CORNERS, 0, 64, &mut answer);
+    }
+    answer
+}
+
+fn confirmed(alloc: Global, claim: FfosolveAnswer) -> FfosolveAnswer {
+    let mut answer = NOTHING;
+    if ffosolve_confirm(alloc, UNEQUAL_CORNERS, 0, 64, claim, &mut answer) == NO_MEMORY {
+        let _ = ffosolve_confirm(alloc, UNEQUAL_CORNERS, 0, 64, claim, &mut answer);
+    }
+    answer
+}
+
+fn answers(alloc: Global) -> [FfosolveAnswer; 2] {
+    let positions = [UNEQUAL_CORNERS; 2];
+    let mut answers = [NOTHING; 2];
+    let mut at = 0;
+    if ffosolve_answers(alloc, &positions, 0, 64, &mut answers, &mut at) == NO_MEMORY {
+        let _ = ffosolve_answers(alloc, &positions, 0, 64, &mut answers, &mut at);
+    }
+    answers
+}
+
+#[test]
+fn answers_where_memory_is_at_hand(rt: HostRuntime) {
+    assert!(rt; answer(rt.alloc()) == FOUND);
+    assert!(rt; confirmed(rt.alloc(), FOUND) == FOUND);
+    assert!(rt; answers(rt.alloc()) == [FOUND; 2]);
+}

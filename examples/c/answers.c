@@ -1,0 +1,108 @@
+/* Reads positions, two hexadecimal masks a line, the mover's discs and the other side's. Prints the answer of each: the
+   score and the best moves, PS for a pass or -- at the end of the game. Then the first position is played to its end,
+   always by the first best move.
+
+       cc -IFOLDER -o answers answers.c FOLDER/libffosolve.a     FOLDER as bin/ffosolve-library made it
+       ./answers <../masks.txt */
+#include "ffosolve.h"
+
+#include <inttypes.h>
+#include <stdio.h>
+
+enum { MOST_POSITIONS = 1000, ENTRIES = 65536 };
+
+static struct ffosolve_position positions[MOST_POSITIONS];
+static struct ffosolve_answer answers[MOST_POSITIONS];
+
+static const char *reason_of(int32_t status) {
+    switch (status) {
+    case FFOSOLVE_SHARED_SQUARE: return "the masks share a square";
+    case FFOSOLVE_TOO_MANY_EMPTIES: return "more than 60 empty squares";
+    case FFOSOLVE_NO_MEMORY: return "out of memory";
+    default: return "refused";
+    }
+}
+
+static size_t read_positions(void) {
+    size_t count = 0;
+    while (count < MOST_POSITIONS
+           && scanf("%" SCNx64 " %" SCNx64, &positions[count].own, &positions[count].opp) == 2) {
+        count++;
+    }
+    return count;
+}
+
+static void print_square(int square) { printf("%c%c", 'A' + square % 8, '1' + square / 8); }
+
+static void print_squares(uint64_t mask) {
+    const char *between = "";
+    for (int square = 0; square < 64; square++) {
+        if (mask >> square & 1) {
+            printf("%s", between);
+            print_square(square);
+            between = ",";
+        }
+    }
+}
+
+static void print_answer(struct ffosolve_answer answer) {
+    printf("%+03d ", (int)answer.score);
+    switch (answer.kind) {
+    case FFOSOLVE_MOVES: print_squares(answer.best); break;
+    case FFOSOLVE_PASS: printf("PS"); break;
+    case FFOSOLVE_OVER: printf("--"); break;
+    }
+    printf("\n");
+}
+
+static int is_confirmed(struct ffosolve_position position, struct ffosolve_answer claim) {
+    struct ffosolve_answer answer;
+    return ffosolve_confirm(position, FFOSOLVE_WINNER, ENTRIES, claim, &answer) == FFOSOLVE_DONE
+           && answer.score == claim.score && answer.kind == claim.kind && answer.best == claim.best;
+}
+
+static int lowest(uint64_t mask) {
+    int square = 0;
+    while (!(mask >> square & 1)) square++;
+    return square;
+}
+
+/* Plays on to the end, and prints each move and the moves that there were. */
+static int32_t play_on(struct ffosolve_position position) {
+    for (;;) {
+        struct ffosolve_answer answer;
+        uint64_t moves;
+        int32_t status = ffosolve_answer(position, FFOSOLVE_WINNER, 0, &answer);
+        if (status != FFOSOLVE_DONE) return status;
+        if (answer.kind == FFOSOLVE_OVER) return FFOSOLVE_DONE;
+        if (answer.kind == FFOSOLVE_PASS) {
+            uint64_t own = position.own;
+            position.own = position.opp;
+            position.opp = own;
+            printf("PS\n");
+            continue;
+        }
+        status = ffosolve_moves(position, &moves);
+        if (status != FFOSOLVE_DONE) return status;
+        print_square(lowest(answer.best));
+        printf(" of ");
+        print_squares(moves);
+        printf("\n");
+        status = ffosolve_play(position, (uint8_t)lowest(answer.best), &position);
+        if (status != FFOSOLVE_DONE) return status;
+    }
+}
+
+int main(void) {
+    size_t count = read_positions(), at = 0;
+    int32_t status = ffosolve_answers(positions, count, FFOSOLVE_WINNER, ENTRIES, answers, count, &at);
+    if (status != FFOSOLVE_DONE) {
+        fprintf(stderr, "position %zu: %s\n", at + 1, reason_of(status));
+        return 1;
+    }
+    for (size_t i = 0; i < count; i++) {
+        print_answer(answers[i]);
+        if (!is_confirmed(positions[i], answers[i])) return 1;
+    }
+    return count > 0 && play_on(positions[0]) != FFOSOLVE_DONE;
+}
