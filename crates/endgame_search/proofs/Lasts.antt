@@ -86,7 +86,7 @@ module _ (p : Discs) (full : (q : ℕ) → IsFree p q → ⊥) where
   full_over : HasNoMove p × HasNoMove (pass_of p)
   full_over = (no_moves_from p (λ q m. full q (move_free p q m)), no_moves_from (pass_of p) (λ q m. full q (pass_free p q (move_free (pass_of p) q m))))
 
-module _ (g : Scoring) (p : Discs) (s : ℕ) (last : IsLast p s) where
+module _ (p : Discs) (s : ℕ) (last : IsLast p s) where
   pub full_after : (q : ℕ) → IsFree (play_of p s) q → ⊥
   full_after q h = let f = play_free p s q h in f.1 (last q f.0)
 
@@ -96,8 +96,8 @@ module _ (g : Scoring) (p : Discs) (s : ℕ) (last : IsLast p s) where
   pub last_pass : IsLast (pass_of p) s
   last_pass q h = last q (pass_free p q h)
 
-  pub last_worth : IsMove p s → value_of g p ≡ neg_ℤ (final_of g (play_of p s))
-  last_worth m =
+  pub last_worth : (g : Scoring) → IsMove p s → value_of g p ≡ neg_ℤ (final_of g (play_of p s))
+  last_worth g m =
       let r = value_reached g p (last_some p s m) in
       let e : r.0 ≡ s = last r.0 (move_free p r.0 r.1) in
       sym r.2 ∙ ap (λ q. neg_ℤ (value_of g (play_of p q))) e ∙ ap neg_ℤ (value-over g (play_of p s) (full_over (play_of p s) full_after))
@@ -112,15 +112,6 @@ pub swapped : (p : Discs) (a b : ℕ) → AreLast p a b → AreLast p b a
 swapped p a b last q h = elim (last q h) [ inl e ↦ inr e | inr e ↦ inl e ]
 
 module _ (g : Scoring) (p : Discs) (a b : ℕ) (last : AreLast p a b) where
-  -- a is the only move
-  pub sole_worth : IsMove p a → (IsMove p b → ⊥) → value_of g p ≡ neg_ℤ (value_of g (play_of p a))
-  sole_worth m none =
-      let r = value_reached g p (last_some p a m) in
-      elim (last r.0 (move_free p r.0 r.1)) [
-        | inl e ↦ sym r.2 ∙ ap (λ q. neg_ℤ (value_of g (play_of p q))) e
-        | inr e ↦ absurd (none (subst (IsMove p) e r.1))
-      ]
-
   pub both_worth : IsMove p a → IsMove p b → value_of g p ≡ int_max (neg_ℤ (value_of g (play_of p a))) (neg_ℤ (value_of g (play_of p b)))
   both_worth m n =
       let r = value_reached g p (last_some p a m) in
@@ -131,11 +122,24 @@ module _ (g : Scoring) (p : Discs) (a b : ℕ) (last : AreLast p a b) where
         | inr e ↦ let z : value_of g p ≡ neg_ℤ (value_of g (play_of p b)) = sym r.2 ∙ ap (λ q. neg_ℤ (value_of g (play_of p q))) e in omega (arith, ints, clamps)
       ]
 
-  -- where one is no move, the other is
-  pub other_moves : moves_of p ≢ 0 → (IsMove p a → ⊥) → IsMove p b
-  other_moves some none =
-      let r = value_reached g p some in
-      elim (last r.0 (move_free p r.0 r.1)) [
-        | inl e ↦ absurd (none (subst (IsMove p) e r.1))
-        | inr e ↦ subst (IsMove p) e r.1
-      ]
+-- a is the only move
+pub sole_worth : (g : Scoring) (p : Discs) (a : ℕ) → IsMove p a → ((q : ℕ) → IsMove p q → q ≡ a) → value_of g p ≡ neg_ℤ (value_of g (play_of p a))
+sole_worth g p a m only =
+    let r = value_reached g p (last_some p a m) in
+    sym r.2 ∙ ap (λ q. neg_ℤ (value_of g (play_of p q))) (only r.0 r.1)
+
+-- two moves are the two empty squares
+pub both_moves : (p : Discs) (a b q r : ℕ) → AreLast p a b → IsMove p q → IsMove p r → q ≢ r → IsMove p a × IsMove p b
+both_moves p a b q r last m n apart =
+    elim (last q (move_free p q m)) [
+      | inl e ↦
+          elim (last r (move_free p r n)) [
+            | inl f ↦ absurd (apart (e ∙ sym f))
+            | inr f ↦ (subst (IsMove p) e m, subst (IsMove p) f n)
+          ]
+      | inr e ↦
+          elim (last r (move_free p r n)) [
+            | inl f ↦ (subst (IsMove p) f n, subst (IsMove p) e m)
+            | inr f ↦ absurd (apart (e ∙ sym f))
+          ]
+    ]

@@ -1,163 +1,209 @@
 //! The last two empty squares: without a list of moves, a sort, or a look at the moves of the positions after them.
 
-ghost use Rattle.std.specs.Prelude.{◌≡◌, ◌≢◌, ℕ, ◌↔◌, neg_ℤ, true, IsSome, IfSome};
+ghost use Rattle.std.specs.Prelude.{◌≡◌, ◌≢◌, ◌<◌, ℕ, ℤ, ◌↔◌, ◌<ℤ◌, neg_ℤ, true, count_ones, IfSome};
+ghost use Rattle.std.specs.Int.{int_max};
 ghost use Rattle.othello_rules.specs.Masks.{in_mask};
-ghost use Rattle.othello_bits.specs.Discs.{play_of, pass_of, value_of, final_of, moves_of, IsMove};
+ghost use Rattle.othello_bits.specs.Discs.{play_of, flips_of, value_of, moves_of, IsMove};
 ghost use Rattle.endgame_search.specs.Windows.{IsWindow, Places};
-ghost use Rattle.endgame_search.specs.Endings.{IsEnding, IsGreaterOf};
+ghost use Rattle.endgame_search.specs.Endings.{IsEnding};
 ghost use Rattle.endgame_search.specs.Lasts.{IsFree, IsLast, AreLast};
 
 use crate::ranges::decided;
 use bound_table::Bounds;
 use othello_bits::Pos;
 use othello_bits::masks::{lowest, without};
-use othello_rules::Square;
+use othello_rules::{Scoring, Square};
 
-// A score that places the position's value in the window, where a move to the last empty square ends the game.
+// How many discs a disc on the square turns: none where that is no move.
 #[inline]
-fn search_end<T: Bounds>(table: &T, position: Pos, end: Pos, low: i8, high: i8) -> i8
-    requires worth { let g = T.scoring table.now in value_of g position ≡ neg_ℤ (final_of g end) }
-    requires window { IsWindow low high }
-    ensures { Places low high (value_of (T.scoring table.now) position) result }
+fn turned_count(position: Pos, square: Square) -> u8
+    ensures value { result ≡ count_ones (flips_of position square) }
+    ensures legal { IsMove position square ↔ (0 < result) }
 {
-    if let Some(score) = decided(table, position, low, high) {
-        return score;
-    }
-    -end.final_score(table.scoring())
+    position.flips(square).count_ones() as u8
 }
 
-// The same where the mover has no move on the last empty square.
-#[inline]
-fn search_last_pass<T: Bounds>(table: &T, position: Pos, square: Square, low: i8, high: i8) -> i8
-    requires last { IsLast position square }
-    requires none { IsMove position square → ⊥ }
-    requires window { IsWindow low high }
-    ensures { Places low high (value_of (T.scoring table.now) position) result }
-{
-    let passed = position.pass();
-    if let Some(end) = passed.play(square) {
-        if let Some(score) = decided(table, position, low, high) {
-            return score;
-        }
-        return -search_end(table, passed, end, -high, -low);
-    }
-    position.final_score(table.scoring())
-}
-
-// The same with one empty square, from the position after a move there, if there is one.
-#[inline]
-fn search_last<T: Bounds>(
-    table: &T,
-    position: Pos,
-    square: Square,
-    end: Option<Pos>,
-    low: i8,
-    high: i8,
-) -> i8
-    requires last { IsLast position square }
-    requires some { IsSome end ↔ IsMove position square }
-    requires end { IfSome end (λ p. p ≡ play_of position square) }
-    requires window { IsWindow low high }
-    ensures { Places low high (value_of (T.scoring table.now) position) result }
-{
-    match end {
-        Some(end) => search_end(table, position, end, low, high),
-        None => search_last_pass(table, position, square, low, high),
-    }
-}
-
-// The same with two empty squares, where the only move leads to this position with one.
-#[inline]
-fn search_sole<T: Bounds>(
-    table: &T,
-    position: Pos,
-    after: Pos,
-    left: Square,
-    low: i8,
-    high: i8,
-) -> i8
-    requires value { let g = T.scoring table.now in value_of g position ≡ neg_ℤ (value_of g after) }
-    requires last { IsLast after left }
-    requires window { IsWindow low high }
-    ensures { Places low high (value_of (T.scoring table.now) position) result }
-{
-    -search_last(table, after, left, after.play(left), -high, -low)
-}
-
-// The same where each of the two is a move: first the one to this position and then the one to that.
-#[inline]
-fn search_both<T: Bounds>(
-    table: &T,
-    position: Pos,
-    this: Ending,
-    that: Ending,
-    low: i8,
-    high: i8,
-) -> i8
-    requires value { IsGreaterOf (T.scoring table.now) position this.position that.position }
-    requires this { IsEnding this }
-    requires that { IsEnding that }
-    requires window { IsWindow low high }
-    ensures { Places low high (value_of (T.scoring table.now) position) result }
-{
-    let score = -search_last(table, this.position, this.square, this.end, -high, -low);
-    if score >= high {
-        return score;
-    }
-    let floor = low.max(score);
-    let other = -search_last(table, that.position, that.square, that.end, -high, -floor);
-    score.max(other)
-}
-
-// A position with one empty square, and the position after a move there, if there is one.
+// A position with one empty square, and how many discs its mover turns there.
 #[derive(Clone, Copy)]
 struct Ending {
     position: Pos,
     square: Square,
-    end: Option<Pos>,
+    turned: u8,
 }
 
-#[inline]
-fn left_after(position: Pos, square: Square) -> Ending
-    requires { IsLast position square }
-    ensures position { result.position ≡ position }
-    ensures ending { IsEnding result }
-{
-    Ending {
-        position,
-        square,
-        end: position.play(square),
+impl Ending {
+    #[inline]
+    fn new(position: Pos, square: Square) -> Ending
+        requires { IsLast position square }
+        ensures position { result.position ≡ position }
+        ensures square { result.square ≡ square }
+        ensures ending { IsEnding result }
+    {
+        Ending {
+            position,
+            square,
+            turned: turned_count(position, square),
+        }
+    }
+
+    // What a move to one of two empty squares leaves.
+    #[inline]
+    fn after(position: Pos, square: Square, left: Square) -> Ending
+        requires legal { IsMove position square }
+        requires last { AreLast position square left }
+        ensures position { result.position ≡ play_of position square }
+        ensures ending { IsEnding result }
+    {
+        Ending::new(position.after(square, position.flips(square)), left)
+    }
+
+    // The value where the mover has a move: its discs, the one put on the square and those turned against the rest.
+    #[inline]
+    fn score(self, scoring: Scoring) -> i8
+        requires ending { IsEnding self }
+        requires some { 0 < self.turned }
+        ensures { result ≡ value_of scoring self.position }
+    {
+        let own = self.position.own().count_ones() as u8 + self.turned + 1;
+        scoring.score(own, 64 - own, 0)
     }
 }
 
-// The same with two empty squares: of two moves the one with fewer replies comes first, then the one to the lower
-// square.
+// A score that places the position's value in the window, where the mover has a move.
+#[inline]
+fn search_last_move<T: Bounds>(table: &T, ending: Ending, low: i8, high: i8) -> i8
+    requires ending { IsEnding ending }
+    requires some { 0 < ending.turned }
+    requires window { IsWindow low high }
+    ensures { Places low high (value_of (T.scoring table.now) ending.position) result }
+{
+    if let Some(score) = decided(table, ending.position, low, high) {
+        return score;
+    }
+    ending.score(table.scoring())
+}
+
+// The same where the mover has none.
+#[inline]
+fn search_last_pass<T: Bounds>(table: &T, ending: Ending, low: i8, high: i8) -> i8
+    requires ending { IsEnding ending }
+    requires none { ending.turned ≡ 0 }
+    requires window { IsWindow low high }
+    ensures { Places low high (value_of (T.scoring table.now) ending.position) result }
+{
+    let passed = Ending::new(ending.position.pass(), ending.square);
+    if passed.turned == 0 {
+        return ending.position.final_score(table.scoring());
+    }
+    if let Some(score) = decided(table, ending.position, low, high) {
+        return score;
+    }
+    -search_last_move(table, passed, -high, -low)
+}
+
+// The same with one empty square.
+#[inline]
+fn search_last<T: Bounds>(table: &T, ending: Ending, low: i8, high: i8) -> i8
+    requires ending { IsEnding ending }
+    requires window { IsWindow low high }
+    ensures { Places low high (value_of (T.scoring table.now) ending.position) result }
+{
+    if ending.turned == 0 {
+        search_last_pass(table, ending, low, high)
+    } else {
+        search_last_move(table, ending, low, high)
+    }
+}
+
+// The score of two moves, from the score of the first, which leaves a part of the window to the second.
+#[inline]
+fn search_second<T: Bounds>(table: &T, score: i8, ending: Ending, low: i8, high: i8) -> i8
+    requires ending { IsEnding ending }
+    requires window { IsWindow low high }
+    requires open { score <ℤ high }
+    ensures { (v : ℤ) → Places low high v score → Places low high (int_max v (neg_ℤ (value_of (T.scoring table.now) ending.position))) result }
+{
+    let floor = low.max(score);
+    score.max(-search_last(table, ending, -high, -floor))
+}
+
+// The score of two moves, to this position and then to that.
+#[inline]
+fn search_in_order<T: Bounds>(table: &T, this: Ending, that: Ending, low: i8, high: i8) -> i8
+    requires this { IsEnding this }
+    requires that { IsEnding that }
+    requires window { IsWindow low high }
+    ensures { Places low high (int_max (neg_ℤ (value_of (T.scoring table.now) this.position)) (neg_ℤ (value_of (T.scoring table.now) that.position))) result }
+{
+    let score = -search_last(table, this, -high, -low);
+    if score >= high {
+        return score;
+    }
+    search_second(table, score, that, low, high)
+}
+
+// A score that places the position's value in the window, where each of two empty squares is a move: the one that
+// leaves no reply comes first, else the lower square. The second position is made only where it is needed.
+#[inline]
+fn search_both<T: Bounds>(table: &T, position: Pos, first: Square, second: Square, low: i8, high: i8) -> i8
+    requires last { AreLast position first second }
+    requires first { IsMove position first }
+    requires second { IsMove position second }
+    requires window { IsWindow low high }
+    ensures { Places low high (value_of (T.scoring table.now) position) result }
+{
+    let this = Ending::after(position, first, second);
+    if this.turned == 0 {
+        let score = -search_last_pass(table, this, -high, -low);
+        if score >= high {
+            return score;
+        }
+        let that = Ending::after(position, second, first);
+        return search_second(table, score, that, low, high);
+    }
+    let that = Ending::after(position, second, first);
+    if that.turned == 0 {
+        return search_in_order(table, that, this, low, high);
+    }
+    search_in_order(table, this, that, low, high)
+}
+
+// The same with one move to one of two empty squares.
+#[inline]
+fn search_sole<T: Bounds>(table: &T, position: Pos, square: Square, left: Square, low: i8, high: i8) -> i8
+    requires last { AreLast position square left }
+    requires legal { IsMove position square }
+    requires only { (q : ℕ) → IsMove position q → q ≡ square }
+    requires window { IsWindow low high }
+    ensures { Places low high (value_of (T.scoring table.now) position) result }
+{
+    -search_last(table, Ending::after(position, square, left), -high, -low)
+}
+
+// The same with two empty squares, where the mover has a move.
 pub(crate) fn search_two<T: Bounds>(
     table: &T,
     position: Pos,
+    moves: u64,
     first: Square,
     second: Square,
     low: i8,
     high: i8,
 ) -> i8
     requires last { AreLast position first second }
-    requires some { moves_of position ≢ 0 }
+    requires moves { moves ≡ moves_of position }
+    requires some { moves ≢ 0 }
     requires window { IsWindow low high }
     ensures { Places low high (value_of (T.scoring table.now) position) result }
 {
-    if let Some(after_second) = position.play(second) {
-        if let Some(after_first) = position.play(first) {
-            let this = left_after(after_first, second);
-            let that = left_after(after_second, first);
-            if this.end.is_some() && that.end.is_none() {
-                return search_both(table, position, that, this, low, high);
-            }
-            return search_both(table, position, this, that, low, high);
-        }
-        return search_sole(table, position, after_second, first, low, high);
+    let square = lowest(moves);
+    if without(moves, square) != 0 {
+        return search_both(table, position, first, second, low, high);
     }
-    let after = position.after(first, position.flips(first));
-    search_sole(table, position, after, second, low, high)
+    if square == first {
+        return search_sole(table, position, first, second, low, high);
+    }
+    search_sole(table, position, second, first, low, high)
 }
 
 // The empty squares.
