@@ -2,7 +2,7 @@
 //! score and the best moves, PS for a pass or -- at the end of the game. Then the first position is played to its end,
 //! always by the first best move.
 //!
-//!     rustc -L FOLDER answers.rs     FOLDER as bin/ffosolve-library made it
+//!     rustc --edition 2021 -L FOLDER answers.rs     FOLDER as bin/ffosolve-library made it
 //!     ./answers <../masks.txt
 mod ffosolve;
 
