@@ -1,10 +1,12 @@
 -- From the bytes of standard input to those of standard output.
-use Rattle.std.proofs.Common.{◌≡◌, ◌≤◌, ◌<◌, ◌+◌, ℕ, List, [], ◌∷◌, length, take, refl, sym, ◌∙◌, ap, arith, inl, inr, Bool, true, false}
-use Rattle.std.specs.Prelude.{◌↔◌, Option, Some, None, Ok, IfSome, IsErrOf}
+use Rattle.std.proofs.Common.{◌≡◌, ◌≤◌, ◌<◌, ◌+◌, ℕ, List, [], ◌∷◌, length, min, take, refl, sym, ◌∙◌, ap, arith, inl, inr, Bool, true, false}
+use Rattle.std.specs.Prelude.{◌↔◌, Option, Some, None, Result, Ok, Err, IfErr, IfSome, IsErrOf, OnOk}
 use Rattle.std.proofs.lemmas.List.{length-take, take_all}
 use Rattle.std.proofs.lemmas.Bool.{cases_lt}
+use Rattle.std.proofs.Math.Nat.{min_comm, min-eq_left}
 use borrow.Author.Tests.{ltb-false}
-use Rattle.suite_solver.specs.Programs.{AreFrontsOf, AreTextsOf}
+use Rattle.suite_solver.specs.Programs.{AreFrontsOf, AreTextsOf, IsSilent, status_of}
+use Rattle.suite_solver.specs.declared.stops.Stop.{Stop}
 use Rattle.suite_solver.specs.Runs.{first_large, is_large}
 use Rattle.suite_solver.specs.declared.faults.RunFault.{RunFault}
 use Rattle.suite_solver.specs.declared.faults.RunFault.TheVariants.{FileTooLarge, TooManyFiles}
@@ -50,7 +52,32 @@ whole_input (Some all) texts read small =
     let short = ltb-false _ _ (small_one (take 1048577 all) (is_large (take 1048577 all)) refl one) in
     read ∙ ap (λ t. t ∷ []) (whole_front 1048576 1048577 all refl short)
 
+-- of no more than 64 texts none is left out
+all_named : (n m : ℕ) → n ≡ min 65 m → n ≤ 64 → n ≡ m
+all_named n m e few = elim (cases_lt 64 m) [
+  | inl many ↦ let whole = e ∙ min-eq_left {n = 65} {m = m} (omega (arith, many)) in absurd (omega (arith, whole, few))
+  | inr le ↦ e ∙ min_comm 65 m ∙ min-eq_left {n = m} {m = 65} (omega (arith, le))
+]
+
 -- what was read is the whole, where it is no larger than a file may be
-pub whole_texts : (names : List (List ℕ)) (given : Option (List ℕ)) (texts : List (List ℕ)) → AreFrontsOf names given texts → first_large texts ≡ None → AreTextsOf names given texts
-whole_texts [] given texts read small = whole_input given texts read small
-whole_texts (name ∷ names) given texts read small = read
+pub whole_texts : (names : List (List ℕ)) (given : Option (List ℕ)) (texts : List (List ℕ)) → AreFrontsOf names given texts → first_large texts ≡ None → length texts ≤ 64 → AreTextsOf names given texts
+whole_texts [] given texts read small few = whole_input given texts read small
+whole_texts (name ∷ names) given texts read small few = all_named (length texts) (length (name ∷ names)) read few
+
+-- ---- how a call ended
+
+pub on_ok : (r : Result (Unit {0}) Stop) (P : Type 0) → P → OnOk r P
+on_ok (Ok nothing) P p = p
+on_ok (Err stop) P p = tt
+
+-- what was told behind the reports was not told before anything was printed
+pub told_late : (r : Result (Unit {0}) Stop) (P : Type 0) → IfErr r (λ stop. IsSilent stop → ⊥) → IfErr r (λ stop. IsSilent stop → P)
+told_late (Ok nothing) P h = tt
+told_late (Err stop) P h = λ silent. absurd (h silent)
+
+three_not_one : (stop : Stop) → status_of stop ≡ 3 → status_of stop ≡ 1 → ⊥
+three_not_one stop three one = let e = sym three ∙ one in omega (arith, e)
+
+pub not_refused : (r : Result (Unit {0}) Stop) (P : Type 0) → IfErr r (λ stop. status_of stop ≡ 3) → IfErr r (λ stop. status_of stop ≡ 1 → P)
+not_refused (Ok nothing) P h = tt
+not_refused (Err stop) P h = λ one. absurd (three_not_one stop h one)

@@ -1,5 +1,5 @@
 -- The command line, as clap's contracts see it.
-use Rattle.std.specs.Prelude.{◌≡◌, ◌≢◌, ◌⊎◌, ℕ, pos, true, List, [], ◌∷◌, map, Some, String, codes, string_bytes, unwrap_or}
+use Rattle.std.specs.Prelude.{◌≡◌, ◌≢◌, ◌⊎◌, ℕ, pos, true, List, [], ◌∷◌, map, Option, Some, String, codes, option_map, string_bytes, unwrap_or}
 use Rattle.std.specs.Borrow.{Bor}
 use Rattle.std.specs.Str.Parse.{IsNumeral, digits_value, without_leading_plus}
 use Rattle.std.specs.declared.alloc.Global.{Global}
@@ -12,9 +12,10 @@ use Rattle.clap.specs.declared.builder.value_parser.ValueParser.TheVariants as p
 use Rattle.clap.specs.declared.error.Error.{Error}
 use Rattle.clap.specs.declared.error.kind.ErrorKind.{ErrorKind}
 use Rattle.clap.specs.declared.error.kind.ErrorKind.TheVariants.{OutOfMemory}
-use Rattle.othello_rules.specs.declared.scorings.Scoring.{Scoring}
+use Rattle.othello_rules.specs.Scores.{scoring_name}
 use Rattle.othello_rules.specs.declared.scorings.Scoring.TheVariants.{Winner, Discs, Sign}
 use Rattle.suite_solver.specs.Limits.{Configuration}
+use Rattle.suite_solver.specs.declared.requests.Options.{Options}
 use Rattle.suite_solver.specs.declared.requests.OptionFault.{OptionFault}
 use Rattle.suite_solver.specs.declared.requests.OptionFault.TheVariants.{Memory, Refused}
 
@@ -28,11 +29,6 @@ number_rule name most default = record (new_rule name) {
   defaults = default ∷ [];
   parser = Some (parser.Signed (pos 0) (pos most));
 }
-
-abbrev pub scoring_name : Scoring → Text
-scoring_name Winner = codes "winner"
-scoring_name Discs = codes "discs"
-scoring_name Sign = codes "sign"
 
 -- clap holds a list of names where it stands in memory
 abbrev pub NameList : Type 0
@@ -51,6 +47,10 @@ scoring_rule names = record (new_rule (codes "scoring")) {
   parser = Some (parser.Names names);
 }
 
+-- an option with the name of a book's file
+abbrev pub book_rule : Text → Rule
+book_rule name = record (new_rule name) { long = Some name; value_names = 1 }
+
 -- any number of words
 abbrev pub files_rule : Rule
 files_rule = record (new_rule (codes "FILES")) {
@@ -58,11 +58,19 @@ files_rule = record (new_rule (codes "FILES")) {
   range = Some (record { start_inclusive = 0; end_inclusive = usize_max });
 }
 
-abbrev pub ffosolve : NameList → App
-ffosolve names = with_rule (with_rule (with_rule (with_rule (new_app (codes "ffosolve"))
+-- the command with the options of a run
+abbrev pub run_options : NameList → App
+run_options names = with_rule (with_rule (with_rule (with_rule (new_app (codes "ffosolve"))
     (number_rule (codes "max-empties") 60 (codes "20")))
+    (number_rule (codes "workers") 64 (codes "2")))
     (number_rule (codes "table") 4194304 (codes "65536")))
-    (scoring_rule names))
+    (scoring_rule names)
+
+-- the whole command
+abbrev pub ffosolve : NameList → App
+ffosolve names = with_rule (with_rule (with_rule (run_options names)
+    (book_rule (codes "book-in")))
+    (book_rule (codes "book-out")))
     files_rule
 
 -- ---- what stands in its matches
@@ -74,23 +82,40 @@ pub record HasNumber (name : Text) (rows : List Row) (n : ℕ) : Type 0 where
   pub numeral : IsNumeral 10 (without_leading_plus text)
   pub value : n ≡ digits_value 10 (without_leading_plus text)
 
--- no option sets the number of workers
 pub record HasSettings (c : Configuration) (rows : List Row) : Type 0 where
   pub max_empties : HasNumber (codes "max-empties") rows c.max_empties
-  pub workers : c.workers ≡ 2
+  pub workers : HasNumber (codes "workers") rows c.workers
   pub table : HasNumber (codes "table") rows c.table
   pub scoring : first_of (codes "scoring") rows ≡ Some (scoring_name c.scoring)
 
 abbrev pub names_of : List (String Global) → List Text
 names_of names = map string_bytes names
 
--- The words ask for these settings and files: they stand in the matches that clap defines for the words and the
--- command.
-pub record Asks (words : List Text) (c : Configuration) (files : List Text) : Type 0 where
+-- settings, the names of a book to read and of one to write, where they are given, and the names of files
+pub record Request : Type 0 where
+  pub settings : Configuration
+  pub book_in : Option Text
+  pub book_out : Option Text
+  pub files : List Text
+
+abbrev pub request_of : Options → Request
+request_of o = record {
+  settings = o.settings;
+  book_in = option_map string_bytes o.book_in;
+  book_out = option_map string_bytes o.book_out;
+  files = names_of o.files.items;
+}
+
+-- The words ask for this: clap finds no fault in them, and it stands in the matches that clap defines for the words and
+-- the command.
+pub record Asks (words : List Text) (r : Request) : Type 0 where
   pub names : NameList
   pub named : NamesScorings names
-  pub settings : HasSettings c (matches_of (ffosolve names) words)
-  pub listed : files ≡ unwrap_or (all_of (codes "FILES") (matches_of (ffosolve names) words)) []
+  pub faultless : fault_of (ffosolve names) words ≡ []
+  pub settings : HasSettings r.settings (matches_of (ffosolve names) words)
+  pub book_in : r.book_in ≡ first_of (codes "book-in") (matches_of (ffosolve names) words)
+  pub book_out : r.book_out ≡ first_of (codes "book-out") (matches_of (ffosolve names) words)
+  pub listed : r.files ≡ unwrap_or (all_of (codes "FILES") (matches_of (ffosolve names) words)) []
 
 -- ---- when it is refused
 

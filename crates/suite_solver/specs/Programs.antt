@@ -1,16 +1,20 @@
 -- What the program prints, and the status it ends with.
-use Rattle.std.specs.Prelude.{◌≡◌, ℕ, ◌+◌, ◌≤◌, List, [], ◌∷◌, ◌++◌, length, codes, Option, None, IfSome, take}
+use Rattle.std.specs.Prelude.{◌≡◌, ℕ, ◌+◌, ◌≤◌, List, [], ◌∷◌, ◌++◌, length, codes, min, Option, None, IfSome, take}
 use Rattle.std.specs.Fmt.{decimal}
 use Rattle.std.specs.Io.KnownBytes.{Appends}
 use Rattle.std.specs.List.{concat}
-use Rattle.suite_solver.specs.CommandLine.{Asks}
+use Rattle.obf_text.specs.declared.faults.LineFault.{LineFault}
+use Rattle.obf_text.specs.declared.faults.LineFault.TheVariants as line
+use Rattle.solved_book.specs.declared.faults.BookFault.{BookFault}
+use Rattle.solved_book.specs.declared.faults.BookFault.TheVariants as book
+use Rattle.suite_solver.specs.CommandLine.{Asks, Request}
 use Rattle.suite_solver.specs.Limits.{Configuration}
 use Rattle.suite_solver.specs.Reports.{reports}
 use Rattle.suite_solver.specs.Runs.{first_large}
 use Rattle.suite_solver.specs.declared.faults.RunFault.{RunFault}
 use Rattle.suite_solver.specs.declared.faults.RunFault.TheVariants.{Memory, Mixed, TooManyFiles, FileTooLarge}
 use Rattle.suite_solver.specs.declared.stops.Stop.{Stop}
-use Rattle.suite_solver.specs.declared.stops.Stop.TheVariants.{Run, BadWords, CannotRead, CannotWrite}
+use Rattle.suite_solver.specs.declared.stops.Stop.TheVariants.{Run, BadWords, BadBook, CannotRead, CannotWrite}
 
 -- The texts of a run: what standard input gives, where that is known, if no file is named; else one for each name.
 -- What a file holds is not known.
@@ -18,10 +22,11 @@ abbrev pub AreTextsOf : List (List ℕ) → Option (List ℕ) → List (List ℕ
 AreTextsOf [] given texts = IfSome given (λ text. texts ≡ text ∷ [])
 AreTextsOf (name ∷ names) given texts = length texts ≡ length (name ∷ names)
 
--- the same of the bytes that are read: one more than a file may have, where there are so many
+-- the same of the bytes that are read: one more than a file may have, where there are so many, and of one file more than
+-- there may be
 abbrev pub AreFrontsOf : List (List ℕ) → Option (List ℕ) → List (List ℕ) → Type 0
 AreFrontsOf [] given fronts = IfSome given (λ text. fronts ≡ take 1048577 text ∷ [])
-AreFrontsOf (name ∷ names) given fronts = length fronts ≡ length (name ∷ names)
+AreFrontsOf (name ∷ names) given fronts = length fronts ≡ min 65 (length (name ∷ names))
 
 -- A run refuses none of the texts, and their reports were written to standard output, one after the other: it held
 -- `old` before and holds `new` now.
@@ -36,12 +41,11 @@ pub record Prints (c : Configuration) (names : List (List ℕ)) (given old new :
   pub read : AreTextsOf names given texts
   pub printed : PrintsReports c texts old new
 
--- the words ask for settings and files, and their reports were printed
+-- the words ask for settings and files, and their reports were printed, whatever a read book claims
 pub record IsAnswered (words : List (List ℕ)) (given old new : Option (List ℕ)) : Type 0 where
-  pub settings : Configuration
-  pub names : List (List ℕ)
-  pub asked : Asks words settings names
-  pub printed : Prints settings names given old new
+  pub request : Request
+  pub asked : Asks words request
+  pub printed : Prints request.settings request.files given old new
 
 unfoldable pub run_fault_text : RunFault → List ℕ
 run_fault_text Memory = codes "out of memory"
@@ -50,9 +54,30 @@ run_fault_text TooManyFiles = codes "more than 64 files"
 run_fault_text (FileTooLarge sender) =
     codes "file " ++ (decimal (sender + 1) ++ codes " is larger than 1048576 bytes")
 
+-- the reason of a line that is no line of OBF text
+unfoldable pub line_fault_text : LineFault → List ℕ
+line_fault_text (line.Short found) = codes "board has " ++ (decimal found ++ codes " of 64 squares")
+line_fault_text (line.BadCell column) = codes "bad square at column " ++ decimal column
+line_fault_text (line.BadSide column) = codes "bad side at column " ++ decimal column
+line_fault_text line.Memory = codes "out of memory"
+
+unfoldable pub book_fault_text : BookFault → List ℕ
+book_fault_text (book.Line n fault) = codes "book line " ++ (decimal n ++ (codes ": " ++ line_fault_text fault))
+book_fault_text (book.NoMoves n) = codes "book line " ++ (decimal n ++ codes ": no moves")
+book_fault_text (book.Unsorted n) = codes "book line " ++ (decimal n ++ codes ": not in order")
+book_fault_text (book.NotCanonical n) = codes "book line " ++ (decimal n ++ codes ": not canonical")
+book_fault_text book.Memory = codes "out of memory"
+book_fault_text book.Header = codes "book line 1: unknown header"
+
+-- what a fault of a book is to the program
+abbrev pub book_stop : BookFault → Stop
+book_stop book.Memory = Run Memory
+book_stop fault = BadBook fault
+
 -- one line for standard error
 unfoldable pub stop_reason : Stop → List ℕ
 stop_reason (Run fault) = run_fault_text fault
+stop_reason (BadBook fault) = book_fault_text fault
 stop_reason BadWords = codes "cannot read the command line"
 stop_reason (CannotRead name) = codes "cannot read " ++ name.now
 stop_reason (CannotWrite name) = codes "cannot write " ++ name.now
@@ -63,5 +88,11 @@ stop_text stop = codes "ffosolve: " ++ (stop_reason stop ++ 10 ∷ [])
 abbrev pub status_of : Stop → ℕ
 status_of (Run fault) = 1
 status_of BadWords = 2
+status_of (BadBook fault) = 3
 status_of (CannotRead name) = 3
 status_of (CannotWrite name) = 3
+
+-- what ends the program before it prints anything: all but what can't be written
+abbrev pub IsSilent : Stop → Type 0
+IsSilent (CannotWrite name) = ⊥
+IsSilent _ = Unit {0}

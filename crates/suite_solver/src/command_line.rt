@@ -1,12 +1,12 @@
 //! Reads the command line, by `clap`.
 
 ghost use Rattle.std.specs.Prelude.{◌≡◌, ◌≤◌, ℕ, false, IfOk, IfErr, IfSome, [], codes, map, option_map, string_bytes, unwrap_or};
-ghost use Rattle.clap.specs.Words.{app_of, found_of, matched_of, raw_values, rows_of, rule_of};
+ghost use Rattle.clap.specs.Words.{app_of, first_value, found_of, matched_of, raw_values, rows_of, rule_of};
 ghost use Rattle.suite_solver.specs.CommandLine.{Asks, HasNumber, HasSettings, IsFaultOf, IsTaken};
-ghost use Rattle.suite_solver.specs.CommandLine.{ffosolve, files_rule, names_of, number_rule, scoring_name, scoring_rule};
+ghost use Rattle.suite_solver.specs.CommandLine.{book_rule, ffosolve, files_rule, names_of, number_rule, request_of, run_options, scoring_rule};
 ghost use Rattle.suite_solver.specs.declared.requests.OptionFault.TheVariants.{Memory};
 
-use crate::limits::{DEFAULT_WORKERS, Settings};
+use crate::limits::Settings;
 use crate::requests::{OptionFault, Options};
 use clap::builder::ValueParser;
 use clap::{Arg, ArgAction, ArgMatches, Command};
@@ -53,6 +53,17 @@ fn scoring_arg<'a>(alloc: Global, names: &'a [&'a str]) -> Arg<'a>
         )
 }
 
+// A book by the name of its file.
+fn book_arg<'a>(alloc: Global, name: &'a str, help: &'a str) -> Arg<'a>
+    ensures rule { rule_of result ≡ book_rule name.entry.now }
+    ensures local { result.global ≡ false }
+{
+    Arg::new(alloc, name)
+        .long(name)
+        .value_name("FILE")
+        .help(help)
+}
+
 // The names of the files.
 fn files_arg<'a>(alloc: Global) -> Arg<'a>
     ensures rule { rule_of result ≡ files_rule }
@@ -64,8 +75,9 @@ fn files_arg<'a>(alloc: Global) -> Arg<'a>
         .help("OBF files, at most 64, each of at most 1048576 bytes [default: standard input]")
 }
 
-fn command<'a>(alloc: Global, names: &'a [&'a str]) -> Result<Command<'a>, AllocError>
-    ensures { IfOk result (λ c. app_of c ≡ ffosolve names.entry) }
+// The command with the options of a run.
+fn run_options<'a>(alloc: Global, names: &'a [&'a str]) -> Result<Command<'a>, AllocError>
+    ensures { IfOk result (λ c. app_of c ≡ run_options names.entry) }
 {
     let bare = Command::new(alloc, "ffosolve").about(ABOUT);
     let max_empties = number_arg(
@@ -76,6 +88,14 @@ fn command<'a>(alloc: Global, names: &'a [&'a str]) -> Result<Command<'a>, Alloc
         "Solve positions with at most N empty squares, 0 to 60",
     );
     let c1 = bare.arg(max_empties)?;
+    let workers = number_arg(
+        alloc,
+        "workers",
+        64,
+        "2",
+        "Solve on N threads beside one for each file, 0 to 64; it changes no report",
+    );
+    let c2 = c1.arg(workers)?;
     let table = number_arg(
         alloc,
         "table",
@@ -83,8 +103,22 @@ fn command<'a>(alloc: Global, names: &'a [&'a str]) -> Result<Command<'a>, Alloc
         "65536",
         "Keep the bounds of at most N positions, 0 to 4194304",
     );
-    let c2 = c1.arg(table)?;
-    let c3 = c2.arg(scoring_arg(alloc, names))?;
+    let c3 = c2.arg(table)?;
+    c3.arg(scoring_arg(alloc, names))
+}
+
+fn command<'a>(alloc: Global, names: &'a [&'a str]) -> Result<Command<'a>, AllocError>
+    ensures { IfOk result (λ c. app_of c ≡ ffosolve names.entry) }
+{
+    let c1 = run_options(alloc, names)?;
+    let book_in = book_arg(
+        alloc,
+        "book-in",
+        "Read a book of solved positions, whose claims are confirmed; it changes no report",
+    );
+    let c2 = c1.arg(book_in)?;
+    let book_out = book_arg(alloc, "book-out", "Write a book of all solved positions");
+    let c3 = c2.arg(book_out)?;
     c3.arg(files_arg(alloc))
 }
 
@@ -100,25 +134,15 @@ fn word_of(matches: &ArgMatches<'_>, id: &str) -> Option<u32>
     matches.get_one::<u32>(id)
 }
 
-fn scoring_of(name: &str) -> Option<Scoring>
-    ensures { IfSome result (λ scoring. name.now ≡ scoring_name scoring) }
-{
-    match name {
-        "winner" => Some(Scoring::Winner),
-        "discs" => Some(Scoring::Discs),
-        "sign" => Some(Scoring::Sign),
-        _ => None,
-    }
-}
-
 // The settings that the matches hold. Each of them has a default, and clap keeps each in its range.
 fn settings_of(matches: &ArgMatches<'_>) -> Option<Settings>
     ensures { IfSome result (λ settings. HasSettings settings (rows_of (found_of matches.now))) }
 {
     let max_empties = byte_of(matches, "max-empties")?;
+    let workers = byte_of(matches, "workers")?;
     let table = word_of(matches, "table")?;
-    let scoring = scoring_of(matches.get_str("scoring")?)?;
-    Settings::new(max_empties, DEFAULT_WORKERS, table, scoring)
+    let scoring = Scoring::from_name(matches.get_str("scoring")?.as_bytes())?;
+    Settings::new(max_empties, workers, table, scoring)
 }
 
 fn owned(alloc: Global, names: &[&str]) -> Result<Vec<String>, AllocError>
@@ -129,6 +153,17 @@ fn owned(alloc: Global, names: &[&str]) -> Result<Vec<String>, AllocError>
         all.push(String::from_str(alloc, name)?)?;
     }
     Ok(all)
+}
+
+// The name of a book, where it is given.
+fn book_of(alloc: Global, matches: &ArgMatches<'_>, id: &str) -> Result<Option<String>, AllocError>
+    ensures { IfOk result (λ name. option_map string_bytes name
+        ≡ first_value (found_of matches.now) id.now) }
+{
+    match matches.get_str(id) {
+        Some(name) => Ok(Some(String::from_str(alloc, name)?)),
+        None => Ok(None),
+    }
 }
 
 fn files_of(alloc: Global, matches: &ArgMatches<'_>) -> Result<Vec<String>, AllocError>
@@ -148,15 +183,21 @@ pub fn options(alloc: Global, words: &[&str]) -> Result<Options, OptionFault>
     ensures taken { IsTaken (map (λ word. word.now) words.now) → IfErr result (λ fault. fault ≡ Memory) }
     // What else is refused has a fault that clap defines for the words.
     ensures refused { IfErr result (IsFaultOf (map (λ word. word.now) words.now)) }
-    // The settings and names are those of the matches that clap defines.
-    ensures asked { IfOk result (λ found. Asks (map (λ word. word.now) words.now) found.settings
-        (names_of found.files.items)) }
+    // Clap takes the words, and the settings and names are those of the matches that it defines.
+    ensures asked { IfOk result (λ found. Asks (map (λ word. word.now) words.now) (request_of found)) }
 {
     let command = command(alloc, SCORINGS.as_slice())?;
     let matches = command.try_get_matches_from(words)?;
     let Some(settings) = settings_of(&matches) else {
         return Err(OptionFault::Memory);
     };
+    let book_in = book_of(alloc, &matches, "book-in")?;
+    let book_out = book_of(alloc, &matches, "book-out")?;
     let files = files_of(alloc, &matches)?;
-    Ok(Options { settings, files })
+    Ok(Options {
+        settings,
+        book_in,
+        book_out,
+        files,
+    })
 }

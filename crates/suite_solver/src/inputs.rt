@@ -1,6 +1,6 @@
 //! Reads what a run is given.
 
-ghost use Rattle.std.specs.Prelude.{◌≡◌, ◌≤◌, ◌⊎◌, [], ◌∷◌, IfOk, IfErr, IfSome, length, take, vec_len};
+ghost use Rattle.std.specs.Prelude.{◌≡◌, ◌≤◌, ◌⊎◌, [], ◌∷◌, IfOk, IfErr, IfSome, length, min, take, vec_len};
 ghost use Rattle.suite_solver.specs.CommandLine.{names_of};
 ghost use Rattle.suite_solver.specs.Programs.{AreFrontsOf, status_of};
 ghost use Rattle.suite_solver.specs.Runs.{texts_of};
@@ -13,6 +13,9 @@ use std::{fs, io};
 
 /// One byte more than a file may have: a file that is too large is told by it.
 pub(crate) const MOST_READ: usize = 1_048_577;
+
+/// One file more than a run may have: that there are too many is told by it.
+pub(crate) const MOST_KEPT: usize = 65;
 
 // The front of what a reader gives. A reader that tells nothing of its bytes is cut again.
 fn read_capped<R: Read>(alloc: Global, reader: &mut R) -> io::Result<Vec<u8>>
@@ -57,18 +60,32 @@ fn read_file<'a, T: Files>(rt: &T, alloc: Global, name: &'a str) -> Result<Vec<u
     }
 }
 
-// The files of these names, in their order.
+// Looks whether a file can be opened. Nothing of it is read.
+fn open_only<'a, T: Files>(rt: &T, name: &'a str) -> Result<(), Stop<'a>>
+    ensures { IfErr result (λ stop. (status_of stop ≡ 1) ⊎ (status_of stop ≡ 3)) }
+{
+    match fs::open(rt, name) {
+        Ok(_) => Ok(()),
+        Err(fault) => Err(unread(&fault, name)),
+    }
+}
+
+// The files of these names, in their order. From the 66th on none is read or kept.
 fn read_named<'a, T: Files>(
     rt: &T,
     alloc: Global,
     names: &'a [String],
 ) -> Result<Vec<Vec<u8>>, Stop<'a>>
-    ensures ok { IfOk result (λ files. length files.items ≡ length names.now) }
+    ensures ok { IfOk result (λ files. length files.items ≡ min 65 (length names.now)) }
     ensures err { IfErr result (λ stop. (status_of stop ≡ 1) ⊎ (status_of stop ≡ 3)) }
 {
     let mut files = Vec::new(alloc);
     for name in names {
-        files.push(read_file(rt, alloc, name.as_str())?)?;
+        if files.len() < MOST_KEPT {
+            files.push(read_file(rt, alloc, name.as_str())?)?;
+        } else {
+            open_only(rt, name.as_str())?;
+        }
     }
     Ok(files)
 }

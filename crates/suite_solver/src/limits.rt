@@ -10,8 +10,6 @@ use std::marker::Model;
 pub const MOST_EMPTIES: u8 = 60;
 /// The most workers.
 pub const MOST_WORKERS: u8 = 64;
-/// The workers of a run that is not told how many.
-pub const DEFAULT_WORKERS: u8 = 2;
 /// The most entries of a table.
 pub const MOST_ENTRIES: u32 = 4_194_304;
 /// The most files of a run.
@@ -96,7 +94,7 @@ impl Default for Settings {
     {
         Settings {
             max_empties: 20,
-            workers: DEFAULT_WORKERS,
+            workers: 2,
             table: 65_536,
             scoring: Scoring::Winner,
         }

@@ -13,6 +13,10 @@ use thiserror::Error;
 #[derive(Debug, Drop)]
 pub struct Options {
     pub settings: Settings,
+    /// The name of a book to read, as given.
+    pub book_in: Option<String>,
+    /// The name of a book to write, as given.
+    pub book_out: Option<String>,
     /// The names of the files as given, in their order. Without any, standard input is the one file.
     pub files: Vec<String>,
 }

@@ -1,15 +1,19 @@
 //! What ends the program early.
 
-ghost use Rattle.std.specs.Prelude.{◌≡◌, ◌⊎◌, OnOk};
+ghost use Rattle.std.specs.Prelude.{◌≡◌, ◌⊎◌, ◌++◌, OnOk, codes};
+ghost use Rattle.std.specs.Fmt.{decimal};
+ghost use Rattle.std.specs.IoError.{error_kind};
 ghost use Rattle.std.specs.Io.KnownBytes.{Appends};
-ghost use Rattle.suite_solver.specs.Programs.{run_fault_text, status_of, stop_reason, stop_text};
+ghost use Rattle.suite_solver.specs.Programs.{IsSilent, book_fault_text, book_stop, line_fault_text, run_fault_text, status_of, stop_reason, stop_text};
 ghost use Rattle.suite_solver.specs.declared.faults.RunFault.TheVariants.{Memory};
-ghost use Rattle.suite_solver.specs.declared.stops.Stop.TheVariants.{Run};
+ghost use Rattle.suite_solver.specs.declared.stops.Stop.TheVariants.{CannotRead, Run};
 
 use crate::faults::RunFault;
-use std::alloc::AllocFailed;
+use obf_text::LineFault;
+use solved_book::BookFault;
+use std::alloc::{AllocError, AllocFailed};
 use std::io;
-use std::io::Write;
+use std::io::{ErrorKind, Write};
 
 /// What ends the program early. Names are those of files as given, or of a standard stream.
 #[derive(Drop)]
@@ -17,6 +21,8 @@ pub(crate) enum Stop<'a> {
     Run(RunFault),
     /// A word of the command line is no text.
     BadWords,
+    /// The text that was read is no book. Want of memory is never told here.
+    BadBook(BookFault),
     CannotRead(&'a str),
     CannotWrite(&'a str),
 }
@@ -26,6 +32,25 @@ impl From<RunFault> for Stop<'_> {
 
     fn from(fault: RunFault) -> Self {
         Stop::Run(fault)
+    }
+}
+
+impl From<BookFault> for Stop<'_> {
+    ghost from_gives = { λ fault stop. stop ≡ book_stop fault };
+
+    fn from(fault: BookFault) -> Self {
+        match fault {
+            BookFault::Memory => Stop::Run(RunFault::Memory),
+            _ => Stop::BadBook(fault),
+        }
+    }
+}
+
+impl From<AllocError> for Stop<'_> {
+    ghost from_gives = { λ _ stop. stop ≡ Run Memory };
+
+    fn from(_error: AllocError) -> Self {
+        Stop::Run(RunFault::Memory)
     }
 }
 
@@ -53,6 +78,44 @@ fn write_run_fault<E: Write>(errors: &mut E, fault: RunFault) -> io::Result<()>
     }
 }
 
+#[tactic(auto, unfolding(crate::specs::Programs::line_fault_text))]
+fn write_line_fault<E: Write>(errors: &mut E, fault: LineFault) -> io::Result<()>
+    ensures { OnOk result
+        (Appends (E.contents errors.old) (E.contents errors.new) (line_fault_text fault)) }
+{
+    match fault {
+        LineFault::Short(found) => write!(errors, "board has {found} of 64 squares"),
+        LineFault::BadCell(column) => write!(errors, "bad square at column {column}"),
+        LineFault::BadSide(column) => write!(errors, "bad side at column {column}"),
+        LineFault::Memory => errors.write_all(b"out of memory"),
+    }
+}
+
+fn write_line_number<E: Write>(errors: &mut E, number: usize) -> io::Result<()>
+    ensures { OnOk result (Appends (E.contents errors.old) (E.contents errors.new)
+        (codes "book line " ++ (decimal number ++ codes ": "))) }
+{
+    write!(errors, "book line {number}: ")
+}
+
+#[tactic(auto, unfolding(crate::specs::Programs::book_fault_text))]
+fn write_book_fault<E: Write>(errors: &mut E, fault: BookFault) -> io::Result<()>
+    ensures { OnOk result
+        (Appends (E.contents errors.old) (E.contents errors.new) (book_fault_text fault)) }
+{
+    match fault {
+        BookFault::Line(number, fault) => {
+            write_line_number(errors, number)?;
+            write_line_fault(errors, fault)
+        }
+        BookFault::NoMoves(number) => write!(errors, "book line {number}: no moves"),
+        BookFault::Unsorted(number) => write!(errors, "book line {number}: not in order"),
+        BookFault::NotCanonical(number) => write!(errors, "book line {number}: not canonical"),
+        BookFault::Memory => errors.write_all(b"out of memory"),
+        BookFault::Header => errors.write_all(b"book line 1: unknown header"),
+    }
+}
+
 #[tactic(auto, unfolding(crate::specs::Programs::stop_reason))]
 fn write_reason<E: Write>(errors: &mut E, stop: &Stop<'_>) -> io::Result<()>
     ensures { OnOk result
@@ -61,6 +124,7 @@ fn write_reason<E: Write>(errors: &mut E, stop: &Stop<'_>) -> io::Result<()>
     match stop {
         Stop::Run(fault) => write_run_fault(errors, *fault),
         Stop::BadWords => errors.write_all(b"cannot read the command line"),
+        Stop::BadBook(fault) => write_book_fault(errors, *fault),
         Stop::CannotRead(name) => write!(errors, "cannot read {name}"),
         Stop::CannotWrite(name) => write!(errors, "cannot write {name}"),
     }
@@ -68,10 +132,13 @@ fn write_reason<E: Write>(errors: &mut E, stop: &Stop<'_>) -> io::Result<()>
 
 // Why standard input, or a file of this name, can't be read: it has failed, or there was no memory for its bytes.
 pub(crate) fn unread<'a>(fault: &io::Error, name: &'a str) -> Stop<'a>
-    ensures { (status_of result ≡ 1) ⊎ (status_of result ≡ 3) }
+    ensures memory { error_kind fault.now ≡ ErrorKind.OutOfMemory → result ≡ Run Memory }
+    ensures name { (error_kind fault.now ≡ ErrorKind.OutOfMemory → ⊥) → result ≡ CannotRead name.entry }
+    ensures status { (status_of result ≡ 1) ⊎ (status_of result ≡ 3) }
+    ensures silent { IsSilent result }
 {
     match fault.kind() {
-        io::ErrorKind::OutOfMemory => Stop::Run(RunFault::Memory),
+        ErrorKind::OutOfMemory => Stop::Run(RunFault::Memory),
         _ => Stop::CannotRead(name),
     }
 }
@@ -81,7 +148,7 @@ pub(crate) fn unread_words(fault: &io::Error) -> Stop<'static>
     ensures { (status_of result ≡ 1) ⊎ (status_of result ≡ 2) }
 {
     match fault.kind() {
-        io::ErrorKind::OutOfMemory => Stop::Run(RunFault::Memory),
+        ErrorKind::OutOfMemory => Stop::Run(RunFault::Memory),
         _ => Stop::BadWords,
     }
 }
@@ -105,7 +172,7 @@ impl Stop<'_> {
         match self {
             Stop::Run(_) => 1,
             Stop::BadWords => 2,
-            Stop::CannotRead(_) | Stop::CannotWrite(_) => 3,
+            Stop::BadBook(_) | Stop::CannotRead(_) | Stop::CannotWrite(_) => 3,
         }
     }
 }

@@ -1,17 +1,13 @@
-use Rattle.std.proofs.Common.{rules, ◌≡◌, ◌∙◌, ap₂, codes}
+use Rattle.std.proofs.Common.{◌≡◌, ◌∙◌, ap₂, codes}
 use Rattle.std.proofs.lemmas.Result.{IfOk-weaker}
-use Rattle.clap.specs.Words.{App, app_of, new_app, with_rule}
-use Rattle.suite_solver.specs.CommandLine.{number_rule, scoring_rule}
+use Rattle.clap.specs.Words.{App, app_of, with_rule}
+use Rattle.suite_solver.specs.CommandLine.{book_rule, run_options}
 use Rattle.suite_solver.proofs.command_line.command.Goals as goal
 
 pub returns : goal.returns
 returns c =
-    let s0 : App = new_app (codes "ffosolve") in
-    let s1 : App = with_rule s0 (number_rule (codes "max-empties") 60 (codes "20")) in
-    let s2 : App = with_rule s1 (number_rule (codes "table") 4194304 (codes "65536")) in
-    let s3 : App = with_rule s2 (scoring_rule c.args.names) in
-    let a0 : app_of c.about-bare.result ≡ s0 = search rules in
-    let a1 : app_of c.in_ok-c1.c1 ≡ s1 = c.in_ok-c1.ensures.shape c.number_arg-max_empties.ensures.local ∙ ap₂ with_rule a0 c.number_arg-max_empties.ensures.rule in
-    let a2 : app_of c.in_ok-c2.c2 ≡ s2 = c.in_ok-c2.ensures.shape c.number_arg-table.ensures.local ∙ ap₂ with_rule a1 c.number_arg-table.ensures.rule in
-    let a3 : app_of c.in_ok-c3.c3 ≡ s3 = c.in_ok-c3.ensures.shape c.scoring_arg.ensures.local ∙ ap₂ with_rule a2 c.scoring_arg.ensures.rule in
-    IfOk-weaker c.arg-4.result _ _ (λ r h. h.shape c.files_arg.ensures.local ∙ ap₂ with_rule a3 c.files_arg.ensures.rule) c.arg-4.ensures
+    let s2 : App = with_rule (run_options c.args.names) (book_rule (codes "book-in")) in
+    let s3 : App = with_rule s2 (book_rule (codes "book-out")) in
+    let a2 : app_of c.in_ok-c2.c2 ≡ s2 = c.in_ok-c2.ensures.shape c.book_arg-book_in.ensures.local ∙ ap₂ with_rule c.in_ok-c1.ensures c.book_arg-book_in.ensures.rule in
+    let a3 : app_of c.in_ok-c3.c3 ≡ s3 = c.in_ok-c3.ensures.shape c.book_arg-book_out.ensures.local ∙ ap₂ with_rule a2 c.book_arg-book_out.ensures.rule in
+    IfOk-weaker c.arg-3.result _ _ (λ r h. h.shape c.files_arg.ensures.local ∙ ap₂ with_rule a3 c.files_arg.ensures.rule) c.arg-3.ensures

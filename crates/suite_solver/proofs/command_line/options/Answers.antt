@@ -1,10 +1,10 @@
 use Rattle.std.proofs.Common.{rules, ◌≡◌, ◌∙◌, List, [], Option, ap, inl, inr, map, refl, subst, sym, true, codes}
 use Rattle.std.specs.Prelude.{unwrap_or}
 use Rattle.std.proofs.lemmas.Result.{err_from_is_err_and}
-use Rattle.clap.specs.Words.{App, Row, Text, all_of, found_of, fault_of, is_simple, is_simple_and_free, matches_of, rows_of, takes}
+use Rattle.clap.specs.Words.{App, Row, Text, all_of, first_of, found_of, fault_of, is_simple, is_simple_and_free, matches_of, rows_of, takes}
 use Rattle.clap.specs.Kinds.{HasKind}
 use Rattle.clap.proofs.OnLiterals.{clap_on_literals}
-use Rattle.clap.proofs.WalkLemmas.{raw_values-rows}
+use Rattle.clap.proofs.WalkLemmas.{first_value-rows, raw_values-rows}
 use Rattle.suite_solver.specs.CommandLine.{HasSettings, IsFaultOf, NameList, NamesScorings, ffosolve}
 use Rattle.suite_solver.specs.declared.requests.OptionFault.{OptionFault}
 use Rattle.suite_solver.proofs.command_line.options.Goals as goal
@@ -12,6 +12,10 @@ use Rattle.suite_solver.proofs.command_line.options.Goals as goal
 simple : (names : NameList) → is_simple (ffosolve names) ≡ true
 unfolding clap_on_literals
 simple names = refl
+
+free : (names : NameList) → is_simple_and_free (ffosolve names) ≡ true
+unfolding clap_on_literals
+free names = refl
 
 pub returns-clause-asked : goal.returns-clause-asked
 returns-clause-asked c =
@@ -24,13 +28,12 @@ returns-clause-asked c =
     record {
       names = names;
       named = search rules;
+      faultless = ap (λ (a : App). fault_of a words) (sym app) ∙ c.in_ok-matches.ensures.kinds (ap is_simple_and_free app ∙ free names);
       settings = subst (λ (r : List Row). HasSettings c.in-Some.settings r) rows c.in-Some.ensures;
+      book_in = c.in_ok-book_in.ensures ∙ first_value-rows found (codes "book-in") ∙ ap (first_of (codes "book-in")) rows;
+      book_out = c.in_ok-book_out.ensures ∙ first_value-rows found (codes "book-out") ∙ ap (first_of (codes "book-out")) rows;
       listed = c.in_ok-files.ensures ∙ ap (λ (o : Option (List Text)). unwrap_or o []) (raw_values-rows found (codes "FILES") ∙ ap (all_of (codes "FILES")) rows);
     }
-
-free : (names : NameList) → is_simple_and_free (ffosolve names) ≡ true
-unfolding clap_on_literals
-free names = refl
 
 pub returns-in_err-matches-clause-taken : goal.returns-in_err-matches-clause-taken
 returns-in_err-matches-clause-taken c = λ h.

@@ -2,7 +2,8 @@ use Rattle.std.proofs.Common.{rules, ◌≡◌, ◌∙◌, Some, ap, codes, opti
 use Rattle.std.proofs.lemmas.Option.{IfSome_then}
 use Rattle.clap.specs.Words.{first_of, found_of, rows_of}
 use Rattle.clap.proofs.WalkLemmas.{first_value-rows}
-use Rattle.suite_solver.specs.CommandLine.{HasSettings, scoring_name}
+use Rattle.othello_rules.specs.Scores.{scoring_name}
+use Rattle.suite_solver.specs.CommandLine.{HasSettings}
 use Rattle.suite_solver.specs.Limits.{Configuration}
 use Rattle.suite_solver.proofs.command_line.settings_of.Goals as goal
 
@@ -10,13 +11,13 @@ pub returns : goal.returns
 returns c =
     let found = found_of c.args.matches.now in
     let got : c.get_str.result ≡ Some c.in_ok-get_str.field-0 = search rules in
-    let named = c.in_ok-scoring.ensures in
+    let named = sym c.as_bytes.ensures.value ∙ c.in_ok-scoring.ensures.named in
     let scoring : first_of (codes "scoring") (rows_of found) ≡ Some (scoring_name c.in_ok-scoring.scoring) =
     sym (first_value-rows found (codes "scoring")) ∙ sym c.get_str.ensures ∙ ap (option_map (λ s. s.now)) got ∙ ap Some named in
     IfSome_then c.new.result c.new.ensures.value
     (λ s e. subst (λ (x : Configuration). HasSettings x (rows_of found)) (sym e) (record {
       max_empties = c.in_ok-max_empties.ensures;
-      workers = refl;
+      workers = c.in_ok-workers.ensures;
       table = c.in_ok-table.ensures;
       scoring = scoring;
     }))
