@@ -23,7 +23,7 @@ use Rattle.job_board.specs.declared.faults.JobFault.{JobFault}
 use Rattle.job_board.specs.Queues.{names, times}
 use Rattle.job_board.specs.Contents.{State, Content, change, put_state, stage_in, stage_at, task_in, is_waiting, is_taken, is_finished, with_stage, with_task, hand_one, empty_state, empty_content}
 use Rattle.job_board.specs.Boards.{IsState, IsContent, bit, Lists, taken_in, taken_count, IsBoard, AllDone}
-use Rattle.job_board.specs.Replies.{Submits, SubmitAs, submit_refusal, task_count, FinishAs, Finishes, give_back_by, deliver_stage, deliver_state, deliver_in, deliver_reply, after_handed, after_deliver}
+use Rattle.job_board.specs.Replies.{Submits, SubmitAs, submit_refusal, task_count, FinishAs, Finishes, give_back_by, deliver_stage, deliver_state, after_handed, after_deliver}
 
 pub slice_get-set_same : {X : Type 0} (xs : List X) (i : ℕ) (y : X) → i < length xs → slice_get (set xs i y) i ≡ Some y
 slice_get-set_same xs i y h =
@@ -449,9 +449,3 @@ next_facts state d (Some Taken) e = absurd (not_next_if d (state.closed && (stat
 next_facts state d (Some (Finished a)) e =
     let same : d ≡ record { number = state.handed; solved = a } = cc in
     (ap (λ (x : Delivery). x.number) same, ap (λ (x : Delivery). Some (Finished x.solved)) (sym same))
-
--- the next answer has a number that a job may have
-pub deliver_few : (c : Content) (s : ℕ) (state : State) (d : Delivery) → IsState state → slice_get c s ≡ Some state → deliver_reply c s ≡ handed.Next d → d.number < 65535
-deliver_few c s state d h at e =
-    let facts = next_facts state d (slice_get state.stages state.handed) (sym e ∙ ap deliver_in at) in
-    omega (arith, h.stages, h.most, facts.0, slice_get_within state.stages state.handed (Finished d.solved) facts.1)

@@ -11,15 +11,15 @@ use Rattle.job_board.specs.declared.steps.Step.TheVariants as step
 use Rattle.job_board.specs.declared.steps.Reply.{Reply}
 use Rattle.job_board.specs.declared.steps.Reply.TheVariants as reply
 use Rattle.job_board.specs.declared.faults.SubmitFault.TheVariants as fault
-use Rattle.job_board.specs.Contents.{State, Content, with_task, with_stage, hand_one, closed, empty_state, empty_content}
+use Rattle.job_board.specs.Contents.{State, Content, with_task, with_stage, hand_one, closed_state, empty_state, empty_content}
 use Rattle.job_board.specs.Boards.{IsState}
 use Rattle.job_board.specs.Replies.{SubmitAs, submit_refusal, task_count, deliver_stage, deliver_in, deliver_reply}
 use Rattle.job_board.specs.Steps.{IsLawful, after, AreLawful, after_all}
-use Rattle.job_board.specs.Histories.{accepted_by, accepted, handed_by, handed_to, InOrder}
+use Rattle.job_board.specs.Histories.{accepted_by, accepted_tasks, handed_by, handed_to, InOrder}
 use Rattle.job_board.proofs.BoardFacts.{next_facts}
 use Rattle.job_board.proofs.StateSteps.{state_step, state_after, state_kept, cond_same, tasks_step, handed_step, slice_get-replicate, empty_is_state}
 
-slice_get-append : {X : Type 0} (xs ys : List X) (k : ℕ) (x : X) → slice_get xs k ≡ Some x → slice_get (xs ++ ys) k ≡ Some x
+pub slice_get-append : {X : Type 0} (xs ys : List X) (k : ℕ) (x : X) → slice_get xs k ≡ Some x → slice_get (xs ++ ys) k ≡ Some x
 slice_get-append [] ys k x e = cc
 slice_get-append (y ∷ xs) ys zero x e = e
 slice_get-append (y ∷ xs) ys (suc k) x e = slice_get-append xs ys k x e
@@ -43,22 +43,22 @@ InOrder-append tasks first (d ∷ ds) es h more = (h.0, h.1, InOrder-append task
 
 -- from any content on, what is delivered to a sender is in order
 pub in_order : (c : Content) (s : ℕ) (state : State) (ss : List Step) (rs : List Reply) → slice_get c s ≡ Some state → IsState state → AreLawful c ss rs
-    → InOrder (state.tasks ++ accepted s ss rs) state.handed (handed_to s ss rs)
+    → InOrder (state.tasks ++ accepted_tasks s ss rs) state.handed (handed_to s ss rs)
 in_order c s state [] [] at h law = tt
 in_order c s state [] (r ∷ rs) at h law = absurd law
 in_order c s state (st ∷ ss) [] at h law = absurd law
 in_order c s state (st ∷ ss) (r ∷ rs) at h law =
     let new : State = state_step s state st r in
-    let rest : InOrder (new.tasks ++ accepted s ss rs) new.handed (handed_to s ss rs) = in_order (after c st r) s new ss rs (state_after c s state st r at) (state_kept c s state st r at h law.0) law.1 in
-    let tasks : new.tasks ++ accepted s ss rs ≡ state.tasks ++ (accepted_by s st r ++ accepted s ss rs) = ap (λ l. l ++ accepted s ss rs) (tasks_step s state st r) ∙ append_assoc state.tasks (accepted_by s st r) (accepted s ss rs) in
+    let rest : InOrder (new.tasks ++ accepted_tasks s ss rs) new.handed (handed_to s ss rs) = in_order (after c st r) s new ss rs (state_after c s state st r at) (state_kept c s state st r at h law.0) law.1 in
+    let tasks : new.tasks ++ accepted_tasks s ss rs ≡ state.tasks ++ (accepted_by s st r ++ accepted_tasks s ss rs) = ap (λ l. l ++ accepted_tasks s ss rs) (tasks_step s state st r) ∙ append_assoc state.tasks (accepted_by s st r) (accepted_tasks s ss rs) in
     let P : List Problem → Type 0 = λ l. InOrder l new.handed (handed_to s ss rs) in
-    let Q : ℕ → Type 0 = λ n. InOrder (state.tasks ++ (accepted_by s st r ++ accepted s ss rs)) n (handed_to s ss rs) in
-    InOrder-append (state.tasks ++ (accepted_by s st r ++ accepted s ss rs)) state.handed (handed_by s st r) (handed_to s ss rs)
-    (one_in_order c s state st r (accepted_by s st r ++ accepted s ss rs) at h law.0)
+    let Q : ℕ → Type 0 = λ n. InOrder (state.tasks ++ (accepted_by s st r ++ accepted_tasks s ss rs)) n (handed_to s ss rs) in
+    InOrder-append (state.tasks ++ (accepted_by s st r ++ accepted_tasks s ss rs)) state.handed (handed_by s st r) (handed_to s ss rs)
+    (one_in_order c s state st r (accepted_by s st r ++ accepted_tasks s ss rs) at h law.0)
     (subst Q (handed_step s state st r) (subst P tasks rest))
 
 -- the same of a history from its beginning
-pub all_in_order : (n s : ℕ) (ss : List Step) (rs : List Reply) → s < n → AreLawful (empty_content n) ss rs → InOrder (accepted s ss rs) 0 (handed_to s ss rs)
+pub all_in_order : (n s : ℕ) (ss : List Step) (rs : List Reply) → s < n → AreLawful (empty_content n) ss rs → InOrder (accepted_tasks s ss rs) 0 (handed_to s ss rs)
 all_in_order n s ss rs lt law = in_order (empty_content n) s empty_state ss rs (slice_get-replicate n s empty_state lt) empty_is_state law
 
 abbrev pub state_all : ℕ → State → List Step → List Reply → State
@@ -71,11 +71,11 @@ state_after_all c s state [] (r ∷ rs) at = at
 state_after_all c s state (st ∷ ss) [] at = at
 state_after_all c s state (st ∷ ss) (r ∷ rs) at = state_after_all (after c st r) s (state_step s state st r) ss rs (state_after c s state st r at)
 
-pub tasks_all : (s : ℕ) (state : State) (ss : List Step) (rs : List Reply) → (state_all s state ss rs).tasks ≡ state.tasks ++ accepted s ss rs
+pub tasks_all : (s : ℕ) (state : State) (ss : List Step) (rs : List Reply) → (state_all s state ss rs).tasks ≡ state.tasks ++ accepted_tasks s ss rs
 tasks_all s state [] [] = sym (append-nil state.tasks)
 tasks_all s state [] (r ∷ rs) = sym (append-nil state.tasks)
 tasks_all s state (st ∷ ss) [] = sym (append-nil state.tasks)
-tasks_all s state (st ∷ ss) (r ∷ rs) = tasks_all s (state_step s state st r) ss rs ∙ (ap (λ l. l ++ accepted s ss rs) (tasks_step s state st r) ∙ append_assoc state.tasks (accepted_by s st r) (accepted s ss rs))
+tasks_all s state (st ∷ ss) (r ∷ rs) = tasks_all s (state_step s state st r) ss rs ∙ (ap (λ l. l ++ accepted_tasks s ss rs) (tasks_step s state st r) ∙ append_assoc state.tasks (accepted_by s st r) (accepted_tasks s ss rs))
 
 pub handed_all : (s : ℕ) (state : State) (ss : List Step) (rs : List Reply) → (state_all s state ss rs).handed ≡ state.handed + length (handed_to s ss rs)
 handed_all s state [] [] = omega arith
@@ -95,7 +95,7 @@ drained_stage state (Some Taken) e = drained_if state state.closed (state.handed
 drained_stage state (Some (Finished a)) e = cc
 
 -- where a sender is drained, as many answers were handed over as tasks were accepted
-pub drained_all : (n s : ℕ) (ss : List Step) (rs : List Reply) → s < n → handed.Drained ≡ deliver_reply (after_all (empty_content n) ss rs) s → length (handed_to s ss rs) ≡ length (accepted s ss rs)
+pub drained_all : (n s : ℕ) (ss : List Step) (rs : List Reply) → s < n → handed.Drained ≡ deliver_reply (after_all (empty_content n) ss rs) s → length (handed_to s ss rs) ≡ length (accepted_tasks s ss rs)
 drained_all n s ss rs lt e =
     let state : State = state_all s empty_state ss rs in
     let at : slice_get (after_all (empty_content n) ss rs) s ≡ Some state = state_after_all (empty_content n) s empty_state ss rs (slice_get-replicate n s empty_state lt) in
@@ -128,14 +128,14 @@ closed_step c s state step.Take (reply.Took (Some job)) at e law = (refl, still 
 closed_step c s state (step.Finish id a) (reply.Finished (Ok u)) at e law = (refl, still id.sender s state (with_stage id.number (Finished a) state) e refl)
 closed_step c s state (step.GiveBack id) (reply.GaveBack (Ok u)) at e law = (refl, still id.sender s state (with_stage id.number Waiting state) e refl)
 closed_step c s state (step.Deliver s') (reply.Handed (handed.Next d)) at e law = (refl, still s' s state (hand_one state) e refl)
-closed_step c s state (step.Close s') (reply.Closed r) at e law = (refl, still s' s state (closed state) e (sym e))
+closed_step c s state (step.Close s') (reply.Closed r) at e law = (refl, still s' s state (closed_state state) e (sym e))
 closed_step c s state _ _ at e law = (refl, e)
 
 -- nothing is accepted after a close
-pub accepted_closed : (c : Content) (s : ℕ) (state : State) (ss : List Step) (rs : List Reply) → slice_get c s ≡ Some state → state.closed ≡ true → AreLawful c ss rs → accepted s ss rs ≡ []
+pub accepted_closed : (c : Content) (s : ℕ) (state : State) (ss : List Step) (rs : List Reply) → slice_get c s ≡ Some state → state.closed ≡ true → AreLawful c ss rs → accepted_tasks s ss rs ≡ []
 accepted_closed c s state [] [] at e law = refl
 accepted_closed c s state [] (r ∷ rs) at e law = refl
 accepted_closed c s state (st ∷ ss) [] at e law = refl
 accepted_closed c s state (st ∷ ss) (r ∷ rs) at e law =
     let one = closed_step c s state st r at e law.0 in
-    ap (λ l. l ++ accepted s ss rs) one.0 ∙ accepted_closed (after c st r) s (state_step s state st r) ss rs (state_after c s state st r at) one.1 law.1
+    ap (λ l. l ++ accepted_tasks s ss rs) one.0 ∙ accepted_closed (after c st r) s (state_step s state st r) ss rs (state_after c s state st r at) one.1 law.1

@@ -14,12 +14,12 @@ use Rattle.job_board.specs.declared.steps.Step.{Step}
 use Rattle.job_board.specs.declared.steps.Step.TheVariants as step
 use Rattle.job_board.specs.declared.steps.Reply.{Reply}
 use Rattle.job_board.specs.declared.steps.Reply.TheVariants as reply
-use Rattle.job_board.specs.Contents.{State, Content, put_state, with_task, with_stage, hand_one, closed, stage_in, empty_state, empty_content}
-use Rattle.job_board.specs.Boards.{IsState}
+use Rattle.job_board.specs.Contents.{State, Content, put_state, with_task, with_stage, hand_one, closed_state, stage_in, empty_state, empty_content}
+use Rattle.job_board.specs.Boards.{IsState, IsContent}
 use Rattle.job_board.specs.Replies.{deliver_in, deliver_reply, close_in, give_back_by}
 use Rattle.job_board.specs.Steps.{IsLawful, after, AreLawful, after_all}
 use Rattle.job_board.specs.Queues.{names}
-use Rattle.job_board.specs.Histories.{accepted, handed_to, closed_by, is_closed, staged_by, stage_after, IsStateOf, InOrder}
+use Rattle.job_board.specs.Histories.{accepted_tasks, handed_to, closed_by, is_closed, staged_by, stage_after, IsStateOf, InOrder}
 use Rattle.job_board.proofs.BoardFacts.{slice_get-set_same, slice_get-set_other, finish_ok, finish_from, give_back_ok}
 use Rattle.job_board.proofs.StateSteps.{state_step, state_after, state_kept, cond_same, slice_get-replicate, empty_is_state}
 use Rattle.job_board.proofs.Deliveries.{state_all, state_after_all, tasks_all, handed_all, in_order, accepted_closed, drained_stage}
@@ -34,7 +34,7 @@ length_after c step.Take (reply.Took (Some job)) = put_length c job.id.sender (w
 length_after c (step.Finish id a) (reply.Finished (Ok u)) = put_length c id.sender (with_stage id.number (Finished a)) (slice_get c id.sender)
 length_after c (step.GiveBack id) (reply.GaveBack (Ok u)) = put_length c id.sender (with_stage id.number Waiting) (slice_get c id.sender)
 length_after c (step.Deliver s) (reply.Handed (handed.Next d)) = put_length c s hand_one (slice_get c s)
-length_after c (step.Close s) (reply.Closed r) = put_length c s closed (slice_get c s)
+length_after c (step.Close s) (reply.Closed r) = put_length c s closed_state (slice_get c s)
 length_after c _ _ = refl
 
 length_all : (c : Content) (ss : List Step) (rs : List Reply) → length (after_all c ss rs) ≡ length c
@@ -65,7 +65,7 @@ or-assoc : (x y z : Bool) → ((x || y) || z) ≡ (x || (y || z))
 or-assoc true y z = refl
 or-assoc false y z = refl
 
-closes_if : (b : Bool) (state : State) → (cond b (closed state) state).closed ≡ (state.closed || b)
+closes_if : (b : Bool) (state : State) → (cond b (closed_state state) state).closed ≡ (state.closed || b)
 closes_if true state = sym (or-true state.closed)
 closes_if false state = sym (or-false state.closed)
 
@@ -85,13 +85,13 @@ closed_next c s state (step.Close s') (reply.Closed (Ok false)) at law =
     elim (cases_eq s' s) [
       | inl e ↦
           let was : state.closed ≡ true = was_closed state.closed (Ok false) refl (law ∙ ap close_in (ap (slice_get c) e ∙ at)) in
-          cond_same (λ l. l.closed) (s' == s) (closed state) state (sym was) ∙ sym (or-false state.closed)
-      | inr ne ↦ ap (λ b. (cond b (closed state) state).closed) (ne_eqb s' s ne) ∙ sym (or-false state.closed)
+          cond_same (λ l. l.closed) (s' == s) (closed_state state) state (sym was) ∙ sym (or-false state.closed)
+      | inr ne ↦ ap (λ b. (cond b (closed_state state) state).closed) (ne_eqb s' s ne) ∙ sym (or-false state.closed)
     ]
 closed_next c s state (step.Close s') (reply.Closed (Err e)) at law =
     elim (cases_eq s' s) [
       | inl same ↦ let no : Err e ≡ Ok (not state.closed) = law ∙ ap close_in (ap (slice_get c) same ∙ at) in cc
-      | inr ne ↦ ap (λ b. (cond b (closed state) state).closed) (ne_eqb s' s ne) ∙ sym (or-false state.closed)
+      | inr ne ↦ ap (λ b. (cond b (closed_state state) state).closed) (ne_eqb s' s ne) ∙ sym (or-false state.closed)
     ]
 closed_next c s state _ _ at law = sym (or-false state.closed)
 
@@ -148,7 +148,7 @@ stage_next c s k state (step.Finish id a) (reply.Finished (Ok u)) at law =
 stage_next c s k state (step.GiveBack id) (reply.GaveBack (Ok u)) at law =
     restaged_if id s k Waiting state (λ e. slice_get_within state.stages id.number Taken (give_back_ok (slice_get state.stages id.number) u (law ∙ ap (λ o. give_back_by (stage_in id.number o)) (ap (slice_get c) e ∙ at))))
 stage_next c s k state (step.Deliver s') (reply.Handed (handed.Next d)) at law = cond_same (λ l. or_waiting (slice_get l.stages k)) (s' == s) (hand_one state) state refl
-stage_next c s k state (step.Close s') (reply.Closed r) at law = cond_same (λ l. or_waiting (slice_get l.stages k)) (s' == s) (closed state) state refl
+stage_next c s k state (step.Close s') (reply.Closed r) at law = cond_same (λ l. or_waiting (slice_get l.stages k)) (s' == s) (closed_state state) state refl
 stage_next c s k state _ _ at law = refl
 
 stages_all : (c : Content) (s k : ℕ) (state : State) (ss : List Step) (rs : List Reply) → slice_get c s ≡ Some state → AreLawful c ss rs
@@ -169,9 +169,10 @@ state_of_all : (s : ℕ) (c : Content) (ss : List Step) (rs : List Reply) → sl
 state_of_all s c ss rs at law =
     let state : State = state_all s empty_state ss rs in
     let h : IsState state = kept_all c s empty_state ss rs at empty_is_state law in
-    let tasks : state.tasks ≡ accepted s ss rs = tasks_all s empty_state ss rs in
+    let tasks : state.tasks ≡ accepted_tasks s ss rs = tasks_all s empty_state ss rs in
     record {
       tasks = tasks;
+      each_staged = omega (arith, h.stages, ap length tasks);
       stages = λ k lt. some_stage state.stages k (omega (arith, h.stages, ap length tasks)) ∙ ap Some (stages_all c s k empty_state ss rs at law);
       handed = handed_all s empty_state ss rs ∙ omega arith;
       closed = closed_all c s empty_state ss rs at law;
@@ -184,6 +185,15 @@ content_of n s ss rs state law at =
     let first : slice_get (empty_content n) s ≡ Some empty_state = slice_get-replicate n s empty_state lt in
     let P : State → Type 0 = IsStateOf s ss rs in
     subst P (same_Some (state_all s empty_state ss rs) state (sym (state_after_all (empty_content n) s empty_state ss rs first) ∙ at)) (state_of_all s (empty_content n) ss rs first law)
+
+-- a history leaves a content that a board may have
+pub content_kept : (n : ℕ) (ss : List Step) (rs : List Reply) → AreLawful (empty_content n) ss rs → IsContent (after_all (empty_content n) ss rs)
+content_kept n ss rs law s state at =
+    let lt : s < n = omega (arith, slice_get_within (after_all (empty_content n) ss rs) s state at, senders_all n ss rs) in
+    let first : slice_get (empty_content n) s ≡ Some empty_state = slice_get-replicate n s empty_state lt in
+    let P : State → Type 0 = IsState in
+    subst P (same_Some (state_all s empty_state ss rs) state (sym (state_after_all (empty_content n) s empty_state ss rs first) ∙ at))
+    (kept_all (empty_content n) s empty_state ss rs first empty_is_state law)
 
 no_more : (tasks more : List Problem) (ds : List Delivery) → more ≡ [] → InOrder (tasks ++ more) (length tasks) ds → ds ≡ []
 no_more tasks more [] e h = refl
@@ -198,20 +208,20 @@ state_there n s ss rs lt = state_after_all (empty_content n) s empty_state ss rs
 
 -- a sender that is drained stays so
 pub drained_stays : (n s : ℕ) (ss ss' : List Step) (rs rs' : List Reply) → s < n → AreLawful (empty_content n) ss rs → handed.Drained ≡ deliver_reply (after_all (empty_content n) ss rs) s
-    → AreLawful (after_all (empty_content n) ss rs) ss' rs' → (accepted s ss' rs' ≡ []) × (handed_to s ss' rs' ≡ [])
+    → AreLawful (after_all (empty_content n) ss rs) ss' rs' → (accepted_tasks s ss' rs' ≡ []) × (handed_to s ss' rs' ≡ [])
 drained_stays n s ss ss' rs rs' lt law e more =
     let c : Content = after_all (empty_content n) ss rs in
     let state : State = state_all s empty_state ss rs in
     let at : slice_get c s ≡ Some state = state_there n s ss rs lt in
     let h : IsState state = kept_all (empty_content n) s empty_state ss rs (slice_get-replicate n s empty_state lt) empty_is_state law in
     let facts = drained_stage state (slice_get state.stages state.handed) (e ∙ ap deliver_in at) in
-    let none : accepted s ss' rs' ≡ [] = accepted_closed c s state ss' rs' at facts.0 more in
-    let P : ℕ → Type 0 = λ first. InOrder (state.tasks ++ accepted s ss' rs') first (handed_to s ss' rs') in
-    (none, no_more state.tasks (accepted s ss' rs') (handed_to s ss' rs') none (subst P (eqb-true state.handed (length state.tasks) facts.1) (in_order c s state ss' rs' at h more)))
+    let none : accepted_tasks s ss' rs' ≡ [] = accepted_closed c s state ss' rs' at facts.0 more in
+    let P : ℕ → Type 0 = λ first. InOrder (state.tasks ++ accepted_tasks s ss' rs') first (handed_to s ss' rs') in
+    (none, no_more state.tasks (accepted_tasks s ss' rs') (handed_to s ss' rs') none (subst P (eqb-true state.handed (length state.tasks) facts.1) (in_order c s state ss' rs' at h more)))
 
 -- nothing is accepted after a close
 pub closed_stays : (n s : ℕ) (ss ss' : List Step) (rs rs' : List Reply) → s < n → AreLawful (empty_content n) ss rs → is_closed s ss rs ≡ true
-    → AreLawful (after_all (empty_content n) ss rs) ss' rs' → accepted s ss' rs' ≡ []
+    → AreLawful (after_all (empty_content n) ss rs) ss' rs' → accepted_tasks s ss' rs' ≡ []
 closed_stays n s ss ss' rs rs' lt law e more =
     let at = state_there n s ss rs lt in
     accepted_closed (after_all (empty_content n) ss rs) s (state_all s empty_state ss rs) ss' rs' at (closed_all (empty_content n) s empty_state ss rs (slice_get-replicate n s empty_state lt) law ∙ e) more

@@ -11,7 +11,7 @@ use Rattle.job_board.specs.declared.steps.Step.TheVariants as step
 use Rattle.job_board.specs.declared.steps.Reply.{Reply}
 use Rattle.job_board.specs.declared.steps.Reply.TheVariants as reply
 use Rattle.job_board.specs.declared.faults.SubmitFault.TheVariants as fault
-use Rattle.job_board.specs.Contents.{State, Content, change, put_state, with_task, with_stage, hand_one, closed, stage_in, empty_state}
+use Rattle.job_board.specs.Contents.{State, Content, change, put_state, with_task, with_stage, hand_one, closed_state, stage_in, empty_state}
 use Rattle.job_board.specs.Boards.{IsState}
 use Rattle.job_board.specs.Replies.{SubmitAs, submit_refusal, task_count, deliver_in, give_back_by}
 use Rattle.job_board.specs.Steps.{IsLawful, after}
@@ -25,7 +25,7 @@ state_step s state step.Take (reply.Took (Some job)) = cond (job.id.sender == s)
 state_step s state (step.Finish id a) (reply.Finished (Ok u)) = cond (id.sender == s) (with_stage id.number (Finished a) state) state
 state_step s state (step.GiveBack id) (reply.GaveBack (Ok u)) = cond (id.sender == s) (with_stage id.number Waiting state) state
 state_step s state (step.Deliver s') (reply.Handed (handed.Next d)) = cond (s' == s) (hand_one state) state
-state_step s state (step.Close s') (reply.Closed r) = cond (s' == s) (closed state) state
+state_step s state (step.Close s') (reply.Closed r) = cond (s' == s) (closed_state state) state
 state_step s state _ _ = state
 
 change_other : (c : Content) (s' s : ℕ) (f : State → State) (o : Option State) → slice_get c s' ≡ o → s ≢ s' → slice_get (put_state c s' f o) s ≡ slice_get c s
@@ -47,7 +47,7 @@ state_after c s state step.Take (reply.Took (Some job)) at = change_state c job.
 state_after c s state (step.Finish id a) (reply.Finished (Ok u)) at = change_state c id.sender s (with_stage id.number (Finished a)) state at
 state_after c s state (step.GiveBack id) (reply.GaveBack (Ok u)) at = change_state c id.sender s (with_stage id.number Waiting) state at
 state_after c s state (step.Deliver s') (reply.Handed (handed.Next d)) at = change_state c s' s hand_one state at
-state_after c s state (step.Close s') (reply.Closed r) at = change_state c s' s closed state at
+state_after c s state (step.Close s') (reply.Closed r) at = change_state c s' s closed_state state at
 state_after c s state _ _ at = at
 
 -- either another state, or this one
@@ -88,7 +88,7 @@ state_kept c s state (step.Deliver s') (reply.Handed (handed.Next d)) at h law =
     both s' s state (hand_one state) h
     (λ e. state_handed state d h (law ∙ ap deliver_in (ap (slice_get c) e ∙ at)))
 state_kept c s state (step.Close s') (reply.Closed r) at h law =
-    both s' s state (closed state) h (λ e. record { stages = h.stages; most = h.most; handed = h.handed; finished = h.finished; solved = h.solved })
+    both s' s state (closed_state state) h (λ e. record { stages = h.stages; most = h.most; handed = h.handed; finished = h.finished; solved = h.solved })
 state_kept c s state _ _ at h law = h
 
 pub cond_same : {A : Type 0} (f : State → A) (b : Bool) (x y : State) → f x ≡ f y → f (cond b x y) ≡ f y
@@ -118,7 +118,7 @@ tasks_step s state step.Take (reply.Took (Some job)) = cond_same (λ l. l.tasks)
 tasks_step s state (step.Finish id a) (reply.Finished (Ok u)) = cond_same (λ l. l.tasks) (id.sender == s) (with_stage id.number (Finished a) state) state refl ∙ sym (append-nil state.tasks)
 tasks_step s state (step.GiveBack id) (reply.GaveBack (Ok u)) = cond_same (λ l. l.tasks) (id.sender == s) (with_stage id.number Waiting state) state refl ∙ sym (append-nil state.tasks)
 tasks_step s state (step.Deliver s') (reply.Handed (handed.Next d)) = cond_same (λ l. l.tasks) (s' == s) (hand_one state) state refl ∙ sym (append-nil state.tasks)
-tasks_step s state (step.Close s') (reply.Closed r) = cond_same (λ l. l.tasks) (s' == s) (closed state) state refl ∙ sym (append-nil state.tasks)
+tasks_step s state (step.Close s') (reply.Closed r) = cond_same (λ l. l.tasks) (s' == s) (closed_state state) state refl ∙ sym (append-nil state.tasks)
 tasks_step s state _ _ = sym (append-nil state.tasks)
 
 -- what a step adds to the count of a state's deliveries
@@ -128,5 +128,5 @@ handed_step s state step.Take (reply.Took (Some job)) = cond_same (λ l. l.hande
 handed_step s state (step.Finish id a) (reply.Finished (Ok u)) = cond_same (λ l. l.handed) (id.sender == s) (with_stage id.number (Finished a) state) state refl ∙ omega arith
 handed_step s state (step.GiveBack id) (reply.GaveBack (Ok u)) = cond_same (λ l. l.handed) (id.sender == s) (with_stage id.number Waiting state) state refl ∙ omega arith
 handed_step s state (step.Deliver s') (reply.Handed (handed.Next d)) = handed_if (s' == s) state d
-handed_step s state (step.Close s') (reply.Closed r) = cond_same (λ l. l.handed) (s' == s) (closed state) state refl ∙ omega arith
+handed_step s state (step.Close s') (reply.Closed r) = cond_same (λ l. l.handed) (s' == s) (closed_state state) state refl ∙ omega arith
 handed_step s state _ _ = omega arith

@@ -11,7 +11,7 @@ use Rattle.job_board.specs.declared.steps.Step.{Step}
 use Rattle.job_board.specs.declared.steps.Step.TheVariants as step
 use Rattle.job_board.specs.declared.steps.Reply.{Reply}
 use Rattle.job_board.specs.declared.steps.Reply.TheVariants as reply
-use Rattle.job_board.specs.Contents.{State, Content, change, with_task, with_stage, hand_one, closed, stage_in, task_in, is_finished, empty_state, empty_content}
+use Rattle.job_board.specs.Contents.{State, Content, change, with_task, with_stage, hand_one, closed_state, stage_in, task_in, is_finished, empty_state, empty_content}
 use Rattle.job_board.specs.Boards.{IsState, IsContent}
 use Rattle.job_board.specs.Replies.{FinishAs, deliver_in, deliver_stage, close_in, give_back_by}
 use Rattle.job_board.specs.Steps.{IsLawful, after, AreLawful, after_all}
@@ -42,7 +42,7 @@ ends c d d' ss rs h e = record { lawful = h.lawful; leaves = h.leaves ∙ e }
 abbrev state_of : List Problem → List Stage → ℕ → Bool → State
 state_of tasks stages handed closed = record { tasks = tasks; stages = stages; handed = handed; closed = closed }
 
-slice_get-mid : {X : Type 0} (p : List X) (y : X) (ys : List X) (n : ℕ) → length p ≡ n → slice_get (p ++ y ∷ ys) n ≡ Some y
+pub slice_get-mid : {X : Type 0} (p : List X) (y : X) (ys : List X) (n : ℕ) → length p ≡ n → slice_get (p ++ y ∷ ys) n ≡ Some y
 slice_get-mid [] y ys zero e = refl
 slice_get-mid [] y ys (suc n) e = absurd (omega arith)
 slice_get-mid (x ∷ p) y ys zero e = absurd (omega arith)
@@ -138,7 +138,7 @@ deliver_run c s T S Sp (Finished a ∷ sts) k (suc n) at split pk done =
 close_run : (c : Content) (s : ℕ) (T : List Problem) (S : List Stage) (h : ℕ) (b : Bool) → slice_get c s ≡ Some (state_of T S h false)
     → Runs c (close_steps s b) (close_replies b) (set c s (state_of T S h b))
 close_run c s T S h false at = none c _ (sym (set_same c s (state_of T S h false) at))
-close_run c s T S h true at = one c _ (step.Close s) (reply.Closed (Ok true)) (sym (ap close_in at)) (change_at c s (state_of T S h false) closed at)
+close_run c s T S h true at = one c _ (step.Close s) (reply.Closed (Ok true)) (sym (ap close_in at)) (change_at c s (state_of T S h false) closed_state at)
 
 -- the steps of one sender bring its state from nothing to what it is
 pub state_run : (c : Content) (s : ℕ) (state : State) → slice_get c s ≡ Some empty_state → IsState state → Runs c (state_steps s state) (state_replies s state) (set c s state)

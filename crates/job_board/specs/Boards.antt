@@ -14,7 +14,8 @@ pub record IsState (state : State) : Type 0 where
   pub most : length state.tasks ≤ 65535
   pub handed : state.handed ≤ length state.tasks
   pub finished : (k : ℕ) → k < state.handed → is_finished (slice_get state.stages k) ≡ true
-  pub solved : (k : ℕ) (a : Problem) → slice_get state.stages k ≡ Some (Finished a) → slice_get state.tasks k ≡ Some a
+  pub solved : (k : ℕ) (a : Problem)
+      → slice_get state.stages k ≡ Some (Finished a) → slice_get state.tasks k ≡ Some a
 
 abbrev pub IsContent : Content → Type 0
 IsContent c = (s : ℕ) (state : State) → slice_get c s ≡ Some state → IsState state
@@ -43,4 +44,7 @@ pub record IsBoard (c : Content) (ids : List JobId) (taken room : ℕ) : Type 0 
 
 -- each sender is closed, and each of its jobs finished
 abbrev pub AllDone : Content → Type 0
-AllDone c = (s : ℕ) (state : State) → slice_get c s ≡ Some state → (state.closed ≡ true) × ((k : ℕ) (stage : Stage) → slice_get state.stages k ≡ Some stage → is_finished (Some stage) ≡ true)
+AllDone c = (s : ℕ) (state : State) → slice_get c s ≡ Some state
+    → (state.closed ≡ true)
+    × ((k : ℕ) (stage : Stage)
+    → slice_get state.stages k ≡ Some stage → is_finished (Some stage) ≡ true)

@@ -60,7 +60,8 @@ is_finished _ = false
 
 -- one more task is accepted, and waits
 abbrev pub with_task : Problem → State → State
-with_task t state = record state { tasks = state.tasks ++ t ∷ []; stages = state.stages ++ Waiting ∷ [] }
+with_task t state =
+    record state { tasks = state.tasks ++ t ∷ []; stages = state.stages ++ Waiting ∷ [] }
 
 -- job k comes to this stage
 abbrev pub with_stage : ℕ → Stage → State → State
@@ -70,5 +71,5 @@ with_stage k stage state = record state { stages = slice_set state.stages k stag
 abbrev pub hand_one : State → State
 hand_one state = record state { handed = state.handed + 1 }
 
-abbrev pub closed : State → State
-closed state = record state { closed = true }
+abbrev pub closed_state : State → State
+closed_state state = record state { closed = true }

@@ -17,9 +17,9 @@ accepted_by s (step.Submit s' t) (reply.Submitted (Ok n)) = if s' == s then t �
 accepted_by s _ _ = []
 
 -- the tasks of the submits of s that were answered with a number
-abbrev pub accepted : ℕ → List Step → List Reply → List Problem
-accepted s (st ∷ ss) (r ∷ rs) = accepted_by s st r ++ accepted s ss rs
-accepted s _ _ = []
+abbrev pub accepted_tasks : ℕ → List Step → List Reply → List Problem
+accepted_tasks s (st ∷ ss) (r ∷ rs) = accepted_by s st r ++ accepted_tasks s ss rs
+accepted_tasks s _ _ = []
 
 abbrev pub handed_by : ℕ → Step → Reply → List Delivery
 handed_by s (step.Deliver s') (reply.Handed (handed.Next d)) = if s' == s then d ∷ [] else []
@@ -41,9 +41,12 @@ is_closed s _ _ = false
 
 -- the stage to which a step brings job k of s, from another
 abbrev pub staged_by : ℕ → ℕ → Stage → Step → Reply → Stage
-staged_by s k stage step.Take (reply.Took (Some job)) = if names s k job.id then Taken else stage
-staged_by s k stage (step.Finish id a) (reply.Finished (Ok u)) = if names s k id then Finished a else stage
-staged_by s k stage (step.GiveBack id) (reply.GaveBack (Ok u)) = if names s k id then Waiting else stage
+staged_by s k stage step.Take (reply.Took (Some job)) =
+    if names s k job.id then Taken else stage
+staged_by s k stage (step.Finish id a) (reply.Finished (Ok u)) =
+    if names s k id then Finished a else stage
+staged_by s k stage (step.GiveBack id) (reply.GaveBack (Ok u)) =
+    if names s k id then Waiting else stage
 staged_by s k stage _ _ = stage
 
 -- how far job k of s has come: as the last accepted take, finish or give back of it says, else as before
@@ -53,12 +56,15 @@ stage_after s k stage _ _ = stage
 
 -- the state of s says what the steps and replies say
 pub record IsStateOf (s : ℕ) (ss : List Step) (rs : List Reply) (state : State) : Type 0 where
-  pub tasks : state.tasks ≡ accepted s ss rs
-  pub stages : (k : ℕ) → k < length (accepted s ss rs) → slice_get state.stages k ≡ Some (stage_after s k Waiting ss rs)
+  pub tasks : state.tasks ≡ accepted_tasks s ss rs
+  pub each_staged : length state.stages ≡ length (accepted_tasks s ss rs)
+  pub stages : (k : ℕ) → k < length (accepted_tasks s ss rs)
+      → slice_get state.stages k ≡ Some (stage_after s k Waiting ss rs)
   pub handed : state.handed ≡ length (handed_to s ss rs)
   pub closed : state.closed ≡ is_closed s ss rs
 
 -- the deliveries have the numbers from first on, one after the other, and solve the tasks of these numbers
 abbrev pub InOrder : List Problem → ℕ → List Delivery → Type 0
 InOrder tasks first [] = Unit {0}
-InOrder tasks first (d ∷ ds) = (d.number ≡ first) × (slice_get tasks first ≡ Some d.solved) × InOrder tasks (first + 1) ds
+InOrder tasks first (d ∷ ds) =
+    (d.number ≡ first) × (slice_get tasks first ≡ Some d.solved) × InOrder tasks (first + 1) ds

@@ -4,6 +4,7 @@ pub mod Contents
 pub mod Histories
 pub mod Queues
 pub mod Replies
+pub mod Services
 pub mod Steps
 pub mod Traces
 pub mod Turns

@@ -12,13 +12,14 @@ use Rattle.job_board.specs.declared.faults.SubmitFault.TheVariants as fault
 use Rattle.job_board.specs.declared.faults.JobFault.{JobFault}
 use Rattle.job_board.specs.declared.faults.JobFault.TheVariants.{NotTaken, OtherPosition}
 use Rattle.job_board.specs.declared.faults.NoSender.{NoSender}
-use Rattle.job_board.specs.Contents.{State, Content, change, stage_at, task_at, with_stage, with_task, hand_one, closed, is_waiting}
+use Rattle.job_board.specs.Contents.{State, Content, change, stage_at, task_at, with_stage, with_task, hand_one, closed_state, is_waiting}
 
 -- why a submit is refused, but for want of memory
 abbrev pub submit_refusal : Option State → Option SubmitFault
 submit_refusal None = Some fault.NoSender
 submit_refusal (Some state) =
-    if state.closed then Some fault.Closed else (if nat_lt 65534 (length state.tasks) then Some fault.Full else None)
+    if state.closed then Some fault.Closed
+    else (if nat_lt 65534 (length state.tasks) then Some fault.Full else None)
 
 abbrev pub task_count : Option State → ℕ
 task_count None = 0
@@ -38,7 +39,9 @@ after_submit c s t (Err e) = c
 
 -- a take: any job that waits, with its own task; None only where none waits
 abbrev pub Takes : Content → Option Job → Type 0
-Takes c (Some job) = (stage_at c job.id.sender job.id.number ≡ Some Waiting) × (task_at c job.id.sender job.id.number ≡ Some job.task)
+Takes c (Some job) =
+    (stage_at c job.id.sender job.id.number ≡ Some Waiting)
+    × (task_at c job.id.sender job.id.number ≡ Some job.task)
 Takes c None = (s k : ℕ) → is_waiting (stage_at c s k) ≡ false
 
 abbrev pub after_take : Content → Option Job → Content
@@ -79,7 +82,8 @@ answer_of _ = None
 
 abbrev pub deliver_stage : State → Option Stage → Handed
 deliver_stage state (Some (Finished a)) = handed.Next (record { number = state.handed; solved = a })
-deliver_stage state _ = if state.closed && (state.handed == length state.tasks) then handed.Drained else handed.Waiting
+deliver_stage state _ =
+    if state.closed && (state.handed == length state.tasks) then handed.Drained else handed.Waiting
 
 -- of one sender: where k answers were handed over and job k is finished, its answer; else, where it is closed and was
 -- handed all, that it is drained
@@ -110,4 +114,4 @@ abbrev pub close_reply : Content → ℕ → Result Bool NoSender
 close_reply c s = close_in (slice_get c s)
 
 abbrev pub after_close : Content → ℕ → Result Bool NoSender → Content
-after_close c s r = change c s closed
+after_close c s r = change c s closed_state

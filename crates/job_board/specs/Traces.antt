@@ -36,11 +36,14 @@ settle_replies (Finished a) = reply.Finished (Ok tt) ∷ []
 
 -- each job is taken, and then brought to its stage
 abbrev pub job_steps : ℕ → ℕ → List Problem → List Stage → List Step
-job_steps s k (t ∷ ts) (st ∷ sts) = step.Take ∷ (settle_steps (job s k) st ++ job_steps s (k + 1) ts sts)
+job_steps s k (t ∷ ts) (st ∷ sts) =
+    step.Take ∷ (settle_steps (job s k) st ++ job_steps s (k + 1) ts sts)
 job_steps s k _ _ = []
 
 abbrev pub job_replies : ℕ → ℕ → List Problem → List Stage → List Reply
-job_replies s k (t ∷ ts) (st ∷ sts) = reply.Took (Some (record { id = job s k; task = t })) ∷ (settle_replies st ++ job_replies s (k + 1) ts sts)
+job_replies s k (t ∷ ts) (st ∷ sts) =
+    reply.Took (Some (record { id = job s k; task = t }))
+    ∷ (settle_replies st ++ job_replies s (k + 1) ts sts)
 job_replies s k _ _ = []
 
 -- n answers are handed over, from number k on
@@ -49,7 +52,8 @@ deliver_steps s zero = []
 deliver_steps s (suc n) = step.Deliver s ∷ deliver_steps s n
 
 abbrev pub deliver_replies : ℕ → ℕ → List Stage → List Reply
-deliver_replies k (suc n) (Finished a ∷ sts) = reply.Handed (handed.Next (record { number = k; solved = a })) ∷ deliver_replies (k + 1) n sts
+deliver_replies k (suc n) (Finished a ∷ sts) =
+    reply.Handed (handed.Next (record { number = k; solved = a })) ∷ deliver_replies (k + 1) n sts
 deliver_replies k _ _ = []
 
 -- a closed sender is closed
@@ -63,10 +67,16 @@ close_replies false = []
 
 -- what brings a sender from nothing to its state
 abbrev pub state_steps : ℕ → State → List Step
-state_steps s state = submit_steps s state.tasks ++ (job_steps s 0 state.tasks state.stages ++ (deliver_steps s state.handed ++ close_steps s state.closed))
+state_steps s state =
+    submit_steps s state.tasks
+    ++ (job_steps s 0 state.tasks state.stages
+    ++ (deliver_steps s state.handed ++ close_steps s state.closed))
 
 abbrev pub state_replies : ℕ → State → List Reply
-state_replies s state = submit_replies 0 state.tasks ++ (job_replies s 0 state.tasks state.stages ++ (deliver_replies 0 state.handed state.stages ++ close_replies state.closed))
+state_replies s state =
+    submit_replies 0 state.tasks
+    ++ (job_replies s 0 state.tasks state.stages
+    ++ (deliver_replies 0 state.handed state.stages ++ close_replies state.closed))
 
 -- a history that leaves the content: the steps of one sender after those of another
 abbrev pub trace_steps : ℕ → Content → List Step

@@ -28,11 +28,14 @@ TurnGives old new Drained = (new ≡ old) × IsServed old
 -- One hold of the lock in a turn, by what the board's deliver answers, at a board with content c. It finds nothing
 -- where the client has to wait.
 abbrev pub LooksAt : Content → ClientState → Handed → Option (Result Turn Mixed) → Content → Type 0
-LooksAt c me (handed.Next d) (Some (Ok turn)) new = (turn ≡ Next d) × IsNext me d × (new ≡ change c me.sender hand_one)
-LooksAt c me (handed.Next d) (Some (Err mixed)) new = (IsNext me d → ⊥) × (new ≡ change c me.sender hand_one)
+LooksAt c me (handed.Next d) (Some (Ok turn)) new =
+    (turn ≡ Next d) × IsNext me d × (new ≡ change c me.sender hand_one)
+LooksAt c me (handed.Next d) (Some (Err mixed)) new =
+    (IsNext me d → ⊥) × (new ≡ change c me.sender hand_one)
 LooksAt c me handed.Drained (Some (Ok turn)) new = (turn ≡ Drained) × IsServed me × (new ≡ c)
 LooksAt c me handed.Drained (Some (Err mixed)) new = (IsServed me → ⊥) × (new ≡ c)
 LooksAt c me handed.NoSender (Some (Err mixed)) new = new ≡ c
-LooksAt c me handed.Waiting (Some (Ok (Work job))) new = Takes c (Some job) × (new ≡ after_take c (Some job))
+LooksAt c me handed.Waiting (Some (Ok (Work job))) new =
+    Takes c (Some job) × (new ≡ after_take c (Some job))
 LooksAt c me handed.Waiting None new = Takes c None × (new ≡ c)
 LooksAt c me _ _ new = ⊥

@@ -2,8 +2,6 @@
 
 ghost use Rattle.std.specs.Prelude.{◌≡◌, ◌<◌, ◌≤◌, ◌↔◌, length, true, IfOk, IsOk, IsTrue, All};
 ghost use Rattle.job_board.specs.declared.faults.BoardFault.TheVariants as fault;
-ghost use Rattle.job_board.specs.declared.jobs.Delivery.{Delivery};
-ghost use Rattle.job_board.specs.declared.jobs.Handed.TheVariants as handed;
 
 use crate::faults::{BoardFault, JobFault, NoSender, SubmitFault};
 use crate::jobs::{Handed, Job, JobId, Stage};
@@ -17,7 +15,7 @@ use std::marker::Model;
 /// It doesn't record who took a job: any caller may finish one that is taken, or give it back.
 #[derive(Drop)]
 pub struct Board {
-    senders: Vec<Sender>,
+    pub(crate) senders: Vec<Sender>,
     waiting: JobQueue,
     taken: usize,
 }
@@ -42,7 +40,7 @@ fn are_closed(senders: &[Sender]) -> bool
 
 impl Board {
     ghost use Rattle.job_board.specs.Contents.{empty_content};
-    ghost use Rattle.job_board.specs.Boards.{AllDone, IsContent};
+    ghost use Rattle.job_board.specs.Boards.{AllDone};
     ghost use Rattle.job_board.specs.Replies.{Submits, after_submit, Takes, after_take, Finishes, after_finish, give_back_reply, after_give_back, deliver_reply, after_deliver, close_reply, after_close};
 
     /// The most senders.
@@ -79,11 +77,9 @@ impl Board {
         ensures lawful { Submits self.old sender result }
         ensures content { self.new ≡ after_submit self.old sender task result }
     {
-        let at = sender as usize;
-        if at >= self.senders.len() {
+        let Some(jobs) = self.senders.get_mut(sender as usize) else {
             return Err(SubmitFault::NoSender);
-        }
-        let jobs = &self.senders[at];
+        };
         if let Some(fault) = jobs.refusal() {
             return Err(fault);
         }
@@ -91,7 +87,6 @@ impl Board {
         let Ok(()) = self.waiting.reserve(self.taken + 1) else {
             return Err(SubmitFault::Memory);
         };
-        let jobs = &mut self.senders[at];
         let Ok(()) = jobs.push(task) else {
             return Err(SubmitFault::Memory);
         };
@@ -120,11 +115,9 @@ impl Board {
         ensures lawful { Finishes self.old id solved result }
         ensures content { self.new ≡ after_finish self.old id solved result }
     {
-        let at = id.sender as usize;
-        if at >= self.senders.len() {
+        let Some(jobs) = self.senders.get_mut(id.sender as usize) else {
             return Err(JobFault::NotTaken);
-        }
-        let jobs = &mut self.senders[at];
+        };
         jobs.finish(id.number, solved)?;
         self.taken -= 1;
         Ok(())
@@ -135,11 +128,9 @@ impl Board {
         ensures lawful { result ≡ give_back_reply self.old id }
         ensures content { self.new ≡ after_give_back self.old id result }
     {
-        let at = id.sender as usize;
-        if at >= self.senders.len() {
+        let Some(jobs) = self.senders.get_mut(id.sender as usize) else {
             return Err(JobFault::NotTaken);
-        }
-        let jobs = &mut self.senders[at];
+        };
         let Some(task) = jobs.task(id.number) else {
             return Err(JobFault::NotTaken);
         };
@@ -153,14 +144,11 @@ impl Board {
     /// was handed all answers.
     pub fn deliver(&mut self, sender: u32) -> Handed
         ensures lawful { result ≡ deliver_reply self.old sender }
-        ensures few { (d : Delivery) → result ≡ handed.Next d → d.number < 65535 }
         ensures content { self.new ≡ after_deliver self.old sender result }
     {
-        let at = sender as usize;
-        if at >= self.senders.len() {
+        let Some(jobs) = self.senders.get_mut(sender as usize) else {
             return Handed::NoSender;
-        }
-        let jobs = &mut self.senders[at];
+        };
         jobs.deliver()
     }
 
@@ -169,11 +157,9 @@ impl Board {
         ensures lawful { result ≡ close_reply self.old sender }
         ensures content { self.new ≡ after_close self.old sender result }
     {
-        let at = sender as usize;
-        if at >= self.senders.len() {
+        let Some(jobs) = self.senders.get_mut(sender as usize) else {
             return Err(NoSender);
-        }
-        let jobs = &mut self.senders[at];
+        };
         Ok(jobs.close())
     }
 
@@ -188,13 +174,5 @@ impl Board {
             return false;
         }
         are_closed(self.senders.as_slice())
-    }
-
-    /// A law of boards: what a board holds meets the premise of `laws::contents_have_histories`.
-    pub fn has_history(&self)
-        ensures content { IsContent self.now }
-        ensures few { length self.now ≤ Self.MOST_SENDERS }
-    {
-        let _ = &self.senders;
     }
 }

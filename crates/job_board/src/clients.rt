@@ -1,12 +1,13 @@
 //! What the thread of one sender knows: what it sent, and how much of it came back.
 
-ghost use Rattle.std.specs.Prelude.{◌≡◌, ◌≢◌, ◌<◌, ◌+◌, length, IfOk, IfSome, IfNone, OnOk, OnErr, Err};
+ghost use Rattle.std.specs.Prelude.{◌≡◌, ◌≢◌, ◌<◌, ◌+◌, length, IfOk, IfErr, IfSome, IfNone, OnOk, OnErr, Err};
 ghost use Rattle.job_board.specs.declared.faults.SubmitFault.TheVariants as fault;
 ghost use Rattle.job_board.specs.declared.clients.Turn.TheVariants.{Next, Drained};
 
 use crate::boards::Board;
 use crate::faults::{Mixed, SubmitFault};
 use crate::jobs::{Delivery, Handed, Job, is_answer_of};
+use crate::laws::boards_have_contents;
 use endgame_search::Task;
 use std::alloc::Global;
 use std::marker::Model;
@@ -77,6 +78,17 @@ impl Client {
         self.sender
     }
 
+    /// Makes room for one more task, so that `send` grows nothing of the client.
+    pub(crate) fn make_room(&mut self) -> Result<(), SubmitFault>
+        ensures client { self.new ≡ self.old }
+        ensures fault { IfErr result (λ e. e ≡ fault.Memory) }
+    {
+        match self.sent.reserve(1) {
+            Ok(()) => Ok(()),
+            Err(_) => Err(SubmitFault::Memory),
+        }
+    }
+
     /// Submits a task to the board, and keeps it. The client's own want of memory comes before all other refusals.
     pub(crate) fn send(&mut self, board: &mut Board, task: Task) -> Result<u32, SubmitFault>
         ensures ok { OnOk result (self.new ≡ with_sent task self.old) }
@@ -98,8 +110,11 @@ impl Client {
         ensures ok { IfSome result (λ found. IfOk found (TurnGives self.old self.new)) }
         ensures err { IfSome result (λ found. OnErr found (self.new ≡ self.old)) }
         ensures waits { IfNone result (self.new ≡ self.old) }
-        ensures hold { LooksAt board.old self.old (deliver_reply board.old self.old.sender) result board.new }
+        ensures hold { LooksAt
+            board.old self.old (deliver_reply board.old self.old.sender) result board.new }
     {
+        // So a number that the board hands over is small enough to be counted.
+        boards_have_contents(board);
         match board.deliver(self.sender) {
             Handed::Next(delivery) => Some(self.accept(delivery)),
             Handed::Drained => Some(self.settle()),
@@ -114,7 +129,8 @@ impl Client {
     // Counts a delivery, if it is the next.
     fn accept(&mut self, delivery: Delivery) -> Result<Turn, Mixed>
         requires { delivery.number < 65535 }
-        ensures ok { IfOk result (λ turn. (turn ≡ Next delivery) × TurnGives self.old self.new turn) }
+        ensures ok { IfOk result (λ turn.
+            (turn ≡ Next delivery) × TurnGives self.old self.new turn) }
         ensures err { OnErr result ((IsNext self.old delivery → ⊥) × (self.new ≡ self.old)) }
     {
         let Some(task) = self.sent.get(self.received as usize).copied() else {

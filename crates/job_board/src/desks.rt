@@ -1,5 +1,10 @@
 //! A board that threads share under a lock. What one hold of the lock does is a call of `Board` or of `Client`; a desk
 //! takes the lock, makes the call, and wakes those who wait.
+//!
+//! A worker waits for a job or for the end; a client waits for its next answer, for a job or for its end. One more
+//! waiting job is of use to one of them, whichever it is, so a submit and a give back wake one. What a finish or a close
+//! changes may be of use to any, so they wake all. A client that was woken for a job may find its answer there and leave
+//! the job; but the finish of that answer wakes all others, who look for the job.
 
 ghost use Rattle.std.specs.Prelude.{◌≡◌, ◌<◌, ◌↔◌, IfOk, OnOk, OnErr};
 ghost use Rattle.job_board.specs.declared.faults.BoardFault.TheVariants as fault;
@@ -45,11 +50,12 @@ impl Desk {
         ensures ok { OnOk result (client.new ≡ with_sent task client.old) }
         ensures err { OnErr result (client.new ≡ client.old) }
     {
+        client.make_room()?;
         let number = {
             let mut board = self.board.lock(rt);
             client.send(&mut board, task)?
         };
-        self.changed.notify_all();
+        self.changed.notify_one();
         Ok(number)
     }
 
@@ -79,7 +85,7 @@ impl Desk {
     /// `Board::give_back`.
     pub fn give_back<R: Wait>(&self, rt: &R, id: JobId) -> Result<(), JobFault> {
         self.board.lock(rt).give_back(id)?;
-        self.changed.notify_all();
+        self.changed.notify_one();
         Ok(())
     }
 

@@ -31,7 +31,10 @@ impl Model for JobQueue {
 
     ghost Value = { Queue };
 
-    ghost view = { λ q. record { jobs = map (λ entry. entry.id.0) (heap_items q.heap); room = heap_capacity q.heap } };
+    ghost view = { λ q. record {
+      jobs = map (λ entry. entry.id.0) (heap_items q.heap);
+      room = heap_capacity q.heap;
+    } };
 }
 
 impl JobQueue {

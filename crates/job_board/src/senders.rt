@@ -26,11 +26,16 @@ impl Model for Sender {
 
     ghost Value = { State };
 
-    ghost view = { λ s. record { tasks = s.tasks.items; stages = s.stages.items; handed = s.handed; closed = s.closed } };
+    ghost view = { λ s. record {
+      tasks = s.tasks.items;
+      stages = s.stages.items;
+      handed = s.handed;
+      closed = s.closed;
+    } };
 }
 
 impl Sender {
-    ghost use Rattle.job_board.specs.Contents.{empty_state, with_stage, with_task, closed};
+    ghost use Rattle.job_board.specs.Contents.{empty_state, with_stage, with_task, closed_state};
     ghost use Rattle.job_board.specs.Replies.{submit_refusal, FinishAs, give_back_by, deliver_state, after_handed, answer_of};
 
     pub(crate) fn new(alloc: Global) -> Sender
@@ -106,7 +111,8 @@ impl Sender {
 
     /// Ends a job that was taken, by the answer of its own task.
     pub(crate) fn finish(&mut self, number: u32, solved: Solved) -> Result<(), JobFault>
-        ensures reply { FinishAs (slice_get self.old.stages number) (slice_get self.old.tasks number) solved result }
+        ensures reply { FinishAs
+            (slice_get self.old.stages number) (slice_get self.old.tasks number) solved result }
         ensures ok { OnOk result (self.new ≡ with_stage number (Finished solved) self.old) }
         ensures err { OnErr result (self.new ≡ self.old) }
     {
@@ -166,7 +172,7 @@ impl Sender {
     /// True where it was open.
     pub(crate) fn close(&mut self) -> bool
         ensures was { result ≡ not self.old.closed }
-        ensures state { self.new ≡ closed self.old }
+        ensures state { self.new ≡ closed_state self.old }
     {
         let was_open = !self.closed;
         self.closed = true;

@@ -36,7 +36,8 @@ pub enum Reply {
 pub fn run_steps(alloc: Global, board: &mut Board, steps: &[Step]) -> Result<Vec<Reply>, AllocError>
     ensures one_each { IfOk result (λ replies. length replies.items ≡ length steps.now) }
     ensures lawful { IfOk result (λ replies. AreLawful board.old steps.now replies.items) }
-    ensures content { IfOk result (λ replies. board.new ≡ after_all board.old steps.now replies.items) }
+    ensures content { IfOk result (λ replies.
+        board.new ≡ after_all board.old steps.now replies.items) }
     ensures memory { OnErr result (board.new ≡ board.old) }
 {
     let mut replies = Vec::with_capacity(alloc, steps.len())?;

@@ -7,8 +7,8 @@ use Rattle.job_board.proofs.steps.run_steps.Goals as goal
 use Rattle.job_board.proofs.steps.run_steps.Goals.{in-Submit, in-Take, in-Finish, in-GiveBack, in-Deliver, in-Close}
 
 -- the reply of the step is lawful, and the board is as the step leaves it
-pub stepped : (c : goal.After-push_reserved) → IsLawful c.loop-step.board c.step-item.result c.match-step.reply × (c.match-step.board ≡ after c.loop-step.board c.step-item.result c.match-step.reply)
-stepped c = elim c.match-step.branch [
+pub step_holds : (c : goal.After-push_reserved) → IsLawful c.loop-step.board c.step-item.result c.match-step.reply × (c.match-step.board ≡ after c.loop-step.board c.step-item.result c.match-step.reply)
+step_holds c = elim c.match-step.branch [
   | in-Submit w ↦ rw (w.in-Submit.is, w.board-is, w.reply-is) (w.submit.ensures.lawful, w.submit.ensures.content)
   | in-Take w ↦ rw (w.in-Take.is, w.board-is, w.reply-is) (w.take.ensures.lawful, w.take.ensures.content)
   | in-Finish w ↦ rw (w.in-Finish.is, w.board-is, w.reply-is) (w.finish.ensures.lawful, w.finish.ensures.content)
@@ -23,7 +23,7 @@ loop-step-preserved c =
     let ss = take c.loop-step.step-index c.args.steps.now in
     let e : take (c.loop-step.step-index + 1) c.args.steps.now ≡ ss ++ c.step-item.result ∷ [] = take_more c.args.steps.now c.loop-step.step-index c.step-item.result c.loop-step-test.true ∙ ap (λ x. ss ++ x ∷ []) (sym c.step-item.is) in
     let P : Content → Type 0 = λ b. IsLawful b c.step-item.result c.match-step.reply in
-    let one = stepped c in
+    let one = step_holds c in
     record {
       room = omega (arith, inv.room, c.push_reserved.ensures.capacity);
       count = omega (arith, inv.count, c.push_reserved.ensures.len);

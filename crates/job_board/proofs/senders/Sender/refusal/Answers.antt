@@ -1,0 +1,5 @@
+use Rattle.std.proofs.Common.{rules}
+use Rattle.job_board.proofs.senders.Sender.refusal.Goals as goal
+
+pub returns-then-len-ge-MOST_JOBS : goal.returns-then-len-ge-MOST_JOBS
+returns-then-len-ge-MOST_JOBS c = search rules
