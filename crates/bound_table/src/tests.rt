@@ -40,6 +40,11 @@ impl Exact {
     }
 }
 
+// Whether the table shows that the position has this value.
+fn shows(table: &BoundTable, position: Pos, value: i8) -> bool {
+    table.probe(&position) == Range::new(value, value)
+}
+
 #[test]
 fn a_store_is_shown_to_every_image(rt: HostRuntime) -> Result<(), Fail> {
     let table = BoundTable::new(rt.alloc(), 1, Scoring::Winner)?;
@@ -49,13 +54,13 @@ fn a_store_is_shown_to_every_image(rt: HostRuntime) -> Result<(), Fail> {
         assert_eq!(rt; (shown.low(), shown.high()), (-64, 64));
     }
     table.store(&unequal.position, unequal.range);
-    for sym in Sym::all() {
-        let shown = table.probe(&unequal.position.image(sym));
-        assert_eq!(rt; shown, Range::new(62, 62), "{sym:?}");
-    }
+    assert!(rt;
+        Sym::all()
+            .iter()
+            .all(|sym| shows(&table, unequal.position.image(*sym), 62))
+    );
     table.store(&equal.position, equal.range);
-    assert_eq!(rt; table.probe(&equal.position), Range::new(64, 64));
-    assert_eq!(rt; table.probe(&unequal.position), None);
+    assert!(rt; shows(&table, equal.position, 64) && table.probe(&unequal.position).is_none());
     Ok(())
 }
 
@@ -71,17 +76,13 @@ fn keeps_nothing<T: Bounds>(table: &T, exact: &Exact) -> bool
 fn tables_of_each_size(rt: HostRuntime) -> Result<(), Fail> {
     let exact = Exact::of_equal_corners(&rt);
     let no_table = NoTable::new(Scoring::Winner);
-    assert_eq!(rt; no_table.scoring(), Scoring::Winner);
-    assert!(rt; keeps_nothing(&no_table, &exact));
+    assert!(rt; no_table.scoring() == Scoring::Winner && keeps_nothing(&no_table, &exact));
     let empty = BoundTable::new(rt.alloc(), 0, Scoring::Winner)?;
     assert!(rt; keeps_nothing(&empty, &exact));
     let table = BoundTable::new(rt.alloc(), 16, Scoring::Winner)?;
-    assert_eq!(rt; table.scoring(), Scoring::Winner);
-    assert!(rt; !keeps_nothing(&table, &exact));
-    assert_eq!(rt;
-        BoundTable::new(rt.alloc(), 4_194_305, Scoring::Winner).err(),
-        Some(TableFault::TooMany)
-    );
+    assert!(rt; table.scoring() == Scoring::Winner && !keeps_nothing(&table, &exact));
+    let too_many = BoundTable::new(rt.alloc(), 4_194_305, Scoring::Winner).err();
+    assert!(rt; too_many == Some(TableFault::TooMany));
     Ok(())
 }
 
@@ -136,7 +137,34 @@ fn what_threads_are_shown_is_true(rt: HostRuntime) -> Result<(), Fail> {
     let table = BoundTable::new(rt.alloc(), 1, Scoring::Winner)?;
     let unequal = Exact::of_unequal_corners(&rt);
     let equal = Exact::of_equal_corners(&rt);
-    assert_eq!(rt; (unequal.range.low(), equal.range.low()), (62, 64));
-    assert_eq!(rt; run_three(&rt, &table, &unequal, &equal), (true, true));
+    assert!(rt; unequal.range.low() == 62 && equal.range.low() == 64);
+    assert!(rt; run_three(&rt, &table, &unequal, &equal) == (true, true));
+    // The first store found the entry free, so it holds one of the two.
+    assert!(rt; table.probe(&unequal.position).is_some() || table.probe(&equal.position).is_some());
+    Ok(())
+}
+
+// The positions where the opponent has some of the squares A2 to E2, and A1 and H1 are empty.
+fn with_row_2(rt: &impl Abort, discs: u64) -> Exact {
+    Exact::of(rt, (discs & 0x1f) << 8)
+}
+
+// How many of 31 positions a table shows once all were stored.
+fn count_shown(rt: &impl Abort, table: &BoundTable) -> usize
+    requires { table.now.scoring ≡ Winner }
+{
+    for discs in 1..32u64 {
+        let exact = with_row_2(rt, discs);
+        table.store(&exact.position, exact.range);
+    }
+    (1..32u64)
+        .filter(|discs| table.probe(&with_row_2(rt, *discs).position).is_some())
+        .count()
+}
+
+#[test]
+fn positions_have_entries_of_their_own(rt: HostRuntime) -> Result<(), Fail> {
+    let table = BoundTable::new(rt.alloc(), 16, Scoring::Winner)?;
+    assert!(rt; count_shown(&rt, &table) >= 8);
     Ok(())
 }

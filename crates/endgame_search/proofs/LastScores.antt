@@ -1,10 +1,10 @@
 -- The value where one square is empty and the mover moves there, from the count of discs that the move turns.
-use Rattle.std.proofs.Common.{◌≡◌, ℕ, zero, suc, ◌+◌, ◌-◌, ◌<◌, ◌≤◌, ◌^◌, Bool, true, false, cond, not, ◌&&◌, ◌||◌, eqb, nat_eq, List, [], ◌∷◌, length, get_or, Option, Some, None, refl, sym, ap, ◌∙◌, subst, inl, inr, arith, ℤ, pos, negsuc, neg_ℤ, ◌-ℤ◌, ◌+ℤ◌}
+use Rattle.std.proofs.Common.{◌≡◌, ℕ, zero, suc, ◌+◌, ◌-◌, ◌<◌, ◌≤◌, ◌^◌, Bool, true, false, cond, not, ◌&&◌, ◌||◌, eqb, nat_eq, List, [], ◌∷◌, length, get_or, Option, Some, None, refl, sym, ap, ◌∙◌, subst, inl, inr, arith, ℤ, pos, negsuc, neg_ℤ, ◌-ℤ◌}
 use Rattle.std.specs.Prelude.{slice_get, nat_lt}
-use Rattle.std.specs.List.{list_any, count_by, Contains}
+use Rattle.std.specs.List.{list_any, count_by}
 use Rattle.std.specs.Int.{int_signum}
 use Rattle.std.specs.Int.Count.{ones}
-use Rattle.std.proofs.lemmas.Bool.{agree_below_at, cases_Bool, cases_lt, eqb-true, eq-eqb, false≢true, false_from_ne_true, and_parts, or_cases, both_ways, ltb-true, ltb-false}
+use Rattle.std.proofs.lemmas.Bool.{agree_below_at, cases_Bool, cases_lt, eqb-true, eq-eqb, false≢true, false_from_ne_true, and_parts, or_cases, both_ways, ltb-true}
 use Rattle.std.proofs.lemmas.Int.{ints}
 use Rattle.std.proofs.lemmas.Nat.{ones-le, zero_from_ones}
 use Rattle.std.proofs.Math.Bool.{or-true, or-false}
@@ -16,13 +16,13 @@ use Rattle.othello_rules.specs.declared.discs.Cell.{Cell}
 use Rattle.othello_rules.specs.declared.discs.Cell.TheVariants as cell
 use Rattle.othello_rules.specs.declared.discs.Side.TheVariants.{Black}
 use Rattle.othello_rules.specs.Board.{squares}
-use Rattle.othello_rules.specs.Scores.{score_of, final}
+use Rattle.othello_rules.specs.Scores.{score_of}
 use Rattle.othello_rules.specs.Rules as rules
 use Rattle.othello_rules.specs.Rules.{Position, has, own, opposing, same_cell, is_some_cell}
 use Rattle.othello_rules.specs.Masks.{in_mask}
 use Rattle.othello_rules.proofs.CountLaws as counts
 use Rattle.othello_rules.proofs.MoveLaws.{move_empty, opposing_in_flips}
-use Rattle.othello_rules.proofs.PaintLaws.{length-painted, get_or-painted}
+use Rattle.othello_rules.proofs.PaintLaws.{get_or-painted}
 use Rattle.othello_bits.specs.Discs.{Discs, mem, mask_where, cell_at, position_of, discs_of, flips_of, play_of, final_of, value_of, IsMove}
 use Rattle.othello_bits.proofs.Bits.{in_mask-above, eqb_sym, some_square, none_from_zero}
 use Rattle.othello_bits.proofs.Numbers.{count_below, is_number, ones_number}
@@ -31,7 +31,7 @@ use Rattle.othello_bits.proofs.TurnedMasks.{ones_count, partition}
 use Rattle.othello_bits.proofs.CellLaws.{AreApart, length-cells_of, get_or-cells_of, same-own_cell, has_empty}
 use Rattle.othello_bits.proofs.CountMeaning.{final-meaning}
 use Rattle.othello_bits.proofs.MaskMeaning.{is_move-from_IsMove, IsMove-from, IsMove-on_board}
-use Rattle.endgame_search.specs.Lasts.{IsFree, IsLast}
+use Rattle.endgame_search.specs.Lasts.{IsLast}
 use Rattle.endgame_search.proofs.Lasts.{move_free, free_mask, last_worth, full_after}
 
 -- counts of sets of squares

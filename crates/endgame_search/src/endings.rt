@@ -145,7 +145,14 @@ fn search_in_order<T: Bounds>(table: &T, this: Ending, that: Ending, low: i8, hi
 // A score that places the position's value in the window, where each of two empty squares is a move: the one that
 // leaves no reply comes first, else the lower square. The second position is made only where it is needed.
 #[inline]
-fn search_both<T: Bounds>(table: &T, position: Pos, first: Square, second: Square, low: i8, high: i8) -> i8
+fn search_both<T: Bounds>(
+    table: &T,
+    position: Pos,
+    first: Square,
+    second: Square,
+    low: i8,
+    high: i8,
+) -> i8
     requires last { AreLast position first second }
     requires first { IsMove position first }
     requires second { IsMove position second }
@@ -170,7 +177,14 @@ fn search_both<T: Bounds>(table: &T, position: Pos, first: Square, second: Squar
 
 // The same with one move to one of two empty squares.
 #[inline]
-fn search_sole<T: Bounds>(table: &T, position: Pos, square: Square, left: Square, low: i8, high: i8) -> i8
+fn search_sole<T: Bounds>(
+    table: &T,
+    position: Pos,
+    square: Square,
+    left: Square,
+    low: i8,
+    high: i8,
+) -> i8
     requires last { AreLast position square left }
     requires legal { IsMove position square }
     requires only { (q : ℕ) → IsMove position q → q ≡ square }

@@ -1,8 +1,11 @@
 //! Positions whose answers are known, and which positions a search asks its table for.
 
 ghost use Rattle.std.specs.Prelude.{◌≡◌};
+ghost use Rattle.endgame_search.specs.Windows.{IsWindow};
 
+use crate::children::{Child, order_children};
 use crate::{Claim, Task, TooMany, confirm, solve, value_in};
+use arrayvec::ArrayVec;
 use bound_table::{BoundTable, Bounds, NoTable, Range};
 use othello_bits::{Pos, Sym};
 use othello_rules::{Best, Scoring, Side, Square};
@@ -31,6 +34,9 @@ const CORNER_LEFT_OVER: Discs = (!0x7f, 0x7c);
 // -OOXXOO- and seven rows XXXXXXXX
 const EQUAL_CORNERS: Discs = (!0xe7, 0x66);
 
+// -XXOXXX- XOXXXXOX and six rows XXXXXXXX
+const OPEN_CORNERS: Discs = (!0x4289, 0x4208);
+
 // -OXXXXX- XXXXXXXO XXXXXXXX XXXXXXXX XXXOXXXX and three rows XXXXXXXX
 const UNEQUAL_CORNERS: Discs = (!0x8_0000_8083, 0x8_0000_8002);
 
@@ -40,19 +46,22 @@ const FFO_40: Discs = (0x80_80c0_c48c_8080, 0x10_783f_3b73_7e79);
 // the same without its disc on H7
 const FFO_40_WITHOUT_H7: Discs = (0x80c0_c48c_8080, 0x10_783f_3b73_7e79);
 
-// OOOOOOOX OXXXXXXX OOXXOXOX OOOXXOXX OXOOXOXX OOXXOXXX OOOXXXXX --------
-const EMPTY_LAST_ROW: Discs = (0xf8_ecd2_d8ac_fe80, 0x7_132d_2753_017f);
+// OOOOOOOX OXXXXXXX OOXXOXOX OOOXXOXX OXOOXOXX OOXXOXXX --OXXXXX --------
+const TEN_EMPTY_SQUARES: Discs = (0xf8_ecd2_d8ac_fe80, 0x4_132d_2753_017f);
+
+// a ring of X around the four squares of the centre and those four, within a ring of O, within the empty edge
+const RINGS: Discs = (0x3c3c_3c3c_0000, 0x7e_4242_4242_7e00);
 
 // XXX----- and seven empty rows
 const THREE_DISCS: Discs = (0x7, 0);
-
-const SCORINGS: [Scoring; 3] = [Scoring::Winner, Scoring::Discs, Scoring::Sign];
 
 const A1: u64 = 0x1;
 
 const B1: u64 = 0x2;
 
 const H1: u64 = 0x80;
+
+const CORNERS: u64 = A1 | H1;
 
 fn pos_of(rt: &impl Abort, (black, white): Discs, side: Side) -> Pos {
     let (own, opp) = match side {
@@ -68,65 +77,109 @@ fn task_of(rt: &impl Abort, position: Pos, scoring: Scoring) -> Task
     Task::new(position, 20, scoring).expect(rt, "at most 20 empty squares")
 }
 
+// A position, its mover, and its answers as Winner, Discs and Sign score it.
+struct Row {
+    discs: Discs,
+    side: Side,
+    answers: [(i8, Best); 3],
+}
+
+const ROWS: [Row; 9] = [
+    Row {
+        discs: BLACK_BOARD,
+        side: Side::White,
+        answers: [(-64, Best::Over), (-64, Best::Over), (-1, Best::Over)],
+    },
+    Row {
+        discs: LEVEL_HALVES,
+        side: Side::Black,
+        answers: [(0, Best::Over), (0, Best::Over), (0, Best::Over)],
+    },
+    Row {
+        discs: UNEQUAL_HALVES,
+        side: Side::Black,
+        answers: [(32, Best::Over), (16, Best::Over), (1, Best::Over)],
+    },
+    Row {
+        discs: LAST_CORNER,
+        side: Side::Black,
+        answers: [
+            (64, Best::Moves(A1)),
+            (64, Best::Moves(A1)),
+            (1, Best::Moves(A1)),
+        ],
+    },
+    Row {
+        discs: LAST_CORNER,
+        side: Side::White,
+        answers: [(-64, Best::Pass), (-64, Best::Pass), (-1, Best::Pass)],
+    },
+    Row {
+        discs: CORNER_LEFT_OVER,
+        side: Side::Black,
+        answers: [
+            (64, Best::Moves(B1)),
+            (63, Best::Moves(B1)),
+            (1, Best::Moves(B1)),
+        ],
+    },
+    Row {
+        discs: EQUAL_CORNERS,
+        side: Side::Black,
+        answers: [
+            (64, Best::Moves(CORNERS)),
+            (64, Best::Moves(CORNERS)),
+            (1, Best::Moves(CORNERS)),
+        ],
+    },
+    Row {
+        discs: UNEQUAL_CORNERS,
+        side: Side::Black,
+        answers: [
+            (62, Best::Moves(H1)),
+            (62, Best::Moves(H1)),
+            (1, Best::Moves(CORNERS)),
+        ],
+    },
+    Row {
+        discs: UNEQUAL_CORNERS,
+        side: Side::White,
+        answers: [
+            (-40, Best::Moves(H1)),
+            (-39, Best::Moves(H1)),
+            (-1, Best::Moves(H1)),
+        ],
+    },
+];
+
+// Whether the position is answered so under the scoring, with this outcome.
+fn is_answered(
+    rt: &impl Abort,
+    position: Pos,
+    scoring: Scoring,
+    (score, best): (i8, Best),
+    outcome: i8,
+) -> bool {
+    let task = task_of(rt, position, scoring);
+    let solved = solve(&NoTable::new(task.scoring()), task);
+    solved.pos() == position
+        && solved.scoring() == scoring
+        && solved.answer().score == score
+        && solved.answer().best == best
+        && solved.outcome() == outcome
+}
+
+fn has_answers(rt: &impl Abort, row: &Row) -> bool {
+    let position = pos_of(rt, row.discs, row.side);
+    let [winner, discs, sign] = row.answers;
+    is_answered(rt, position, Scoring::Winner, winner, sign.0)
+        && is_answered(rt, position, Scoring::Discs, discs, sign.0)
+        && is_answered(rt, position, Scoring::Sign, sign, sign.0)
+}
+
 #[test]
 fn answers_under_each_scoring(rt: HostRuntime) {
-    let corners = Best::Moves(A1 | H1);
-    let a1 = Best::Moves(A1);
-    let b1 = Best::Moves(B1);
-    let h1 = Best::Moves(H1);
-    // The position, its mover, and the answers as Winner, Discs and Sign score it.
-    let table = [
-        (
-            BLACK_BOARD,
-            Side::White,
-            [(-64, Best::Over), (-64, Best::Over), (-1, Best::Over)],
-        ),
-        (
-            LEVEL_HALVES,
-            Side::Black,
-            [(0, Best::Over), (0, Best::Over), (0, Best::Over)],
-        ),
-        (
-            UNEQUAL_HALVES,
-            Side::Black,
-            [(32, Best::Over), (16, Best::Over), (1, Best::Over)],
-        ),
-        (LAST_CORNER, Side::Black, [(64, a1), (64, a1), (1, a1)]),
-        (
-            LAST_CORNER,
-            Side::White,
-            [(-64, Best::Pass), (-64, Best::Pass), (-1, Best::Pass)],
-        ),
-        (CORNER_LEFT_OVER, Side::Black, [(64, b1), (63, b1), (1, b1)]),
-        (
-            EQUAL_CORNERS,
-            Side::Black,
-            [(64, corners), (64, corners), (1, corners)],
-        ),
-        (
-            UNEQUAL_CORNERS,
-            Side::Black,
-            [(62, h1), (62, h1), (1, corners)],
-        ),
-        (
-            UNEQUAL_CORNERS,
-            Side::White,
-            [(-40, h1), (-39, h1), (-1, h1)],
-        ),
-    ];
-    for (discs, side, answers) in table {
-        let position = pos_of(&rt, discs, side);
-        let outcome = answers[2].0;
-        for (scoring, (score, best)) in SCORINGS.into_iter().zip(answers) {
-            let task = task_of(&rt, position, scoring);
-            let solved = solve(&NoTable::new(task.scoring()), task);
-            assert_eq!(rt; solved.pos(), position);
-            assert_eq!(rt; solved.scoring(), scoring);
-            assert_eq!(rt; solved.answer().score, score, "{position:?} {scoring:?}");
-            assert_eq!(rt; solved.answer().best, best, "{position:?} {scoring:?}");
-            assert_eq!(rt; solved.outcome(), outcome, "{position:?} {scoring:?}");
-        }
-    }
+    assert!(rt; ROWS.iter().all(|row| has_answers(&rt, row)));
 }
 
 #[test]
@@ -274,7 +327,7 @@ fn probes_and_cut_offs(rt: HostRuntime) {
 
 #[test]
 fn values_are_stored(rt: HostRuntime) {
-    let position = pos_of(&rt, EMPTY_LAST_ROW, Side::White);
+    let position = pos_of(&rt, TEN_EMPTY_SQUARES, Side::White);
     let table = BoundTable::new(rt.alloc(), 1, Scoring::Winner).expect(&rt, "memory");
     let counter = count_probes(table, [position, position.pass()]);
     let score = value_in(&counter, position, -65, 65);
@@ -283,4 +336,84 @@ fn values_are_stored(rt: HostRuntime) {
     assert!(rt; probes > 1);
     assert_eq!(rt; value_in(&counter, position, -65, 65), score);
     assert_eq!(rt; counter.probes.get(), 1);
+}
+
+// Whether one probe ends the search of the window.
+fn ends_at_once(counter: &ProbeCounter, position: Pos, low: i8, high: i8) -> bool
+    requires { IsWindow low high }
+{
+    counter.probes.set(0);
+    let _ = value_in(counter, position, low, high);
+    counter.probes.get() == 1
+}
+
+#[test]
+fn ranges_beyond_the_window_end_a_search(rt: HostRuntime) {
+    let position = pos_of(&rt, UNEQUAL_CORNERS, Side::Black);
+    let table = BoundTable::new(rt.alloc(), 1, Scoring::Winner).expect(&rt, "memory");
+    let counter = count_probes(table, [position, position]);
+    // The value is 62.
+    let value = value_in(&counter, position, -65, 65);
+    counter
+        .table
+        .store(&position, Range::new(value, 64).unwrap());
+    assert!(rt; ends_at_once(&counter, position, 0, 62) && ends_at_once(&counter, position, 0, 60));
+    counter
+        .table
+        .store(&position, Range::new(-64, value).unwrap());
+    assert!(rt;
+        ends_at_once(&counter, position, 62, 64) && ends_at_once(&counter, position, 63, 65)
+    );
+}
+
+// Whether a search of the window is stored: the same search then ends at its first probe.
+fn is_stored(counter: &ProbeCounter, position: Pos, low: i8, high: i8) -> bool
+    requires { IsWindow low high }
+{
+    let _ = value_in(counter, position, low, high);
+    ends_at_once(counter, position, low, high)
+}
+
+#[test]
+fn cut_offs_are_stored(rt: HostRuntime) {
+    let position = pos_of(&rt, TEN_EMPTY_SQUARES, Side::Black);
+    let value = value_in(&NoTable::new(Scoring::Winner), position, -65, 65);
+    let table = BoundTable::new(rt.alloc(), 1, Scoring::Winner).expect(&rt, "memory");
+    let counter = count_probes(table, [position, position]);
+    assert!(rt; is_stored(&counter, position, value - 1, value));
+    assert!(rt; is_stored(&counter, position, value, value + 1));
+}
+
+// Whether each comes before the next, by the number of replies and then by the square.
+fn are_in_order(children: &[Child]) -> bool {
+    children.iter().zip(children.iter().skip(1)).all(|(one, next)| (
+        one.replies.count_ones(),
+        one.square,
+    ) < (next.replies.count_ones(), next.square))
+}
+
+#[test]
+fn children_come_in_order(rt: HostRuntime) {
+    let position = pos_of(&rt, RINGS, Side::Black);
+    let mut children = ArrayVec::<Child, 64>::new();
+    order_children(position, position.moves(), &mut children);
+    assert!(rt; children.len() == 28 && are_in_order(&children));
+}
+
+// Whether of the moves A1 and H1 the first is enough for a window from 0 to 1, and the second is not looked at.
+fn is_a1_enough(rt: &impl Abort, discs: Discs, table: BoundTable) -> bool {
+    let position = pos_of(rt, discs, Side::Black);
+    let after_a1 = position.play(Square::at(0)).expect(rt, "a move");
+    let after_h1 = position.play(Square::at(7)).expect(rt, "a move");
+    let counter = count_probes(table, [after_a1, after_h1]);
+    value_in(&counter, position, 0, 1) >= 1 && counter.seen[0].get() && !counter.seen[1].get()
+}
+
+#[test]
+fn the_lower_of_the_last_two_squares_comes_first(rt: HostRuntime) {
+    // Neither move leaves a reply; each leaves one.
+    for discs in [EQUAL_CORNERS, OPEN_CORNERS] {
+        let table = BoundTable::new(rt.alloc(), 0, Scoring::Winner).expect(&rt, "memory");
+        assert!(rt; is_a1_enough(&rt, discs, table));
+    }
 }

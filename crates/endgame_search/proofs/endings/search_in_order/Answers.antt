@@ -1,5 +1,4 @@
-use Rattle.std.proofs.Common.{◌≡◌, ◌∙◌, pos, ◌-ℤ◌, neg_ℤ, sym, subst, arith}
-use Rattle.std.proofs.lemmas.Int.{ints}
+use Rattle.std.proofs.Common.{pos, ◌-ℤ◌, neg_ℤ}
 use Rattle.othello_bits.specs.Discs.{value_of}
 use Rattle.endgame_search.proofs.Windows.{shown, shown_second, turned_whole, first_places}
 use Rattle.endgame_search.proofs.endings.search_in_order.Goals as goal

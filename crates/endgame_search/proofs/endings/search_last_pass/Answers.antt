@@ -1,6 +1,6 @@
-use Rattle.std.proofs.Common.{◌≡◌, ◌∙◌, ◌≢◌, pos, ◌-ℤ◌, neg_ℤ, ap, sym, subst, refl, arith}
+use Rattle.std.proofs.Common.{◌≡◌, ◌∙◌, ◌≢◌, pos, ◌-ℤ◌, ap, sym, subst, refl, arith}
 use Rattle.std.proofs.lemmas.Int.{ints}
-use Rattle.othello_bits.specs.Discs.{final_of, value_of, moves_of, pass_of, IsMove, HasNoMove}
+use Rattle.othello_bits.specs.Discs.{final_of, moves_of, pass_of, HasNoMove}
 use Rattle.othello_bits.proofs.GameLaws.{value_score, value-over}
 use Rattle.endgame_search.specs.Lasts.{IsLast}
 use Rattle.endgame_search.specs.Endings.{IsEnding}
