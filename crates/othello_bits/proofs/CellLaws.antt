@@ -34,7 +34,7 @@ slice_get-cells_of s p i h =
     let l : i < length (cells_of s p) = rw length-cells_of h in
     slice_get-get_or (cells_of s p) i Empty l ∙ ap Some (get_or-cells_of s p i Empty h)
 
-slice_get_off_board : (s : Side) (p : Discs) (i : ℕ) → 64 ≤ i → slice_get (cells_of s p) i ≡ None
+pub slice_get_off_board : (s : Side) (p : Discs) (i : ℕ) → 64 ≤ i → slice_get (cells_of s p) i ≡ None
 slice_get_off_board s p i h =
     let l : length (cells_of s p) ≤ i = rw length-cells_of h in
     slice_get_past (cells_of s p) i l

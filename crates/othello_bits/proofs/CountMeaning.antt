@@ -1,5 +1,8 @@
 -- The counts of the rules are counts of squares.
-use Rattle.std.proofs.Common.{◌≡◌, ℕ, ◌+◌, Bool, cond, not, ◌||◌, List, [], ◌∷◌, map, refl, ap, sym, ◌∙◌}
+use Rattle.std.proofs.Common.{◌≡◌, ℕ, ◌+◌, Bool, cond, not, ◌||◌, List, [], ◌∷◌, map, refl, ap, sym, ◌∙◌, ◌<◌, ◌^◌, bit_or}
+use Rattle.std.specs.Int.{bit_not, w64}
+use Rattle.std.specs.Int.Count.{ones}
+use Rattle.othello_bits.proofs.TurnedMasks.{free_count}
 use Rattle.std.specs.List.{count_by}
 use Rattle.std.proofs.lemmas.List.Sums.{sum_by-cons}
 use Rattle.othello_rules.specs.declared.discs.Side.{Side}
@@ -11,7 +14,7 @@ use Rattle.othello_rules.specs.Rules as rules
 use Rattle.othello_rules.specs.Scores as scores
 use Rattle.othello_rules.specs.Rules.{disc, other, same_cell}
 use Rattle.othello_rules.specs.Masks.{in_mask}
-use Rattle.othello_bits.specs.Discs.{Discs, cell_at, cells_of, position_of}
+use Rattle.othello_bits.specs.Discs.{Discs, cell_at, cells_of, position_of, discs}
 use Rattle.othello_bits.proofs.CellLaws.{AreApart, same-own_cell, same-opposing_cell, same-empty_cell}
 
 count-map : (p : Cell → Bool) (g : ℕ → Cell) (xs : List ℕ) → count_by p (map g xs) ≡ count_by (λ i. p (g i)) xs
@@ -35,6 +38,9 @@ count-opposing s p fine = count-cells (disc (other s)) s p (in_mask p.opp) (λ i
 
 pub count-empty : (s : Side) (p : Discs) → rules.count_of (position_of s p) Empty ≡ count_by (λ i. not (in_mask p.own i || in_mask p.opp i)) squares
 count-empty s p = count-cells Empty s p (λ i. not (in_mask p.own i || in_mask p.opp i)) (same-empty_cell s p)
+
+pub free-meaning : (s : Side) (own opp : ℕ) → own < 2 ^ 64 → opp < 2 ^ 64 → ones (bit_not w64 (bit_or own opp)) ≡ rules.count_of (position_of s (discs own opp)) Empty
+free-meaning s own opp hown hopp = free_count own opp hown hopp ∙ sym (count-empty s (discs own opp))
 
 pub final-meaning : (g : Scoring) (s : Side) (p : Discs) → AreApart p
     → scores.final g (position_of s p) ≡ scores.score_of g (count_by (in_mask p.own) squares) (count_by (in_mask p.opp) squares) (count_by (λ i. not (in_mask p.own i || in_mask p.opp i)) squares)

@@ -9,7 +9,7 @@ use Rattle.othello_bits.specs.declared.images.Image.{Image}
 use Rattle.othello_bits.specs.declared.symmetries.Sym.{Sym}
 use Rattle.othello_bits.specs.declared.symmetries.Sym.TheVariants.{Identity}
 use Rattle.othello_bits.proofs.CellLaws.{AreApart}
-use Rattle.othello_bits.proofs.PlayMeaning.{apart-from, discs_of-position_of}
+use Rattle.othello_bits.proofs.PlayMeaning.{AreMasks, apart-from, discs_of-position_of}
 use Rattle.othello_bits.proofs.SymmetryPlaces.{at_place}
 use Rattle.othello_bits.proofs.MaskImages.{both_images, image-position_of, meet_image, mask_image_lt}
 use Rattle.othello_bits.proofs.CanonicalLaws.{is_first_symmetry}
@@ -89,8 +89,12 @@ module _ (m : Side) (p : Discs) (fine : AreApart p) (x : Image)
         ∙ sym (image-position_of x.sym m p)
         ∙ ap (λ s. image s (position_of m p)) first-is
 
-    pub masks_meet : bit_and x.own x.opp ≡ 0
-    masks_meet = (λ k. bit_and ((leads k).own) ((leads k).opp)) ∙ meet_image x.sym p fine
+    pub masks_meet : AreMasks x.own x.opp
+    masks_meet = (
+      (λ k. bit_and ((leads k).own) ((leads k).opp)) ∙ meet_image x.sym p fine,
+      subst (λ m. m < 2 ^ 64) (sym (λ k. (leads k).own)) (mask_image_lt x.sym p.own),
+      subst (λ m. m < 2 ^ 64) (sym (λ k. (leads k).opp)) (mask_image_lt x.sym p.opp),
+    )
 
     pub canonical_masks : discs x.own x.opp ≡ discs_of (canonical (position_of m p))
     canonical_masks =

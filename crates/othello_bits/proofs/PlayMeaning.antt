@@ -10,6 +10,7 @@ use Rattle.othello_rules.specs.declared.discs.Side.TheVariants as side
 use Rattle.othello_rules.specs.declared.discs.Cell.{Cell}
 use Rattle.othello_rules.specs.declared.discs.Cell.TheVariants as cell
 use Rattle.othello_rules.specs.Board.{squares}
+use Rattle.std.proofs.lemmas.Nat.{and_comm}
 use Rattle.othello_rules.specs.Rules as rules
 use Rattle.othello_rules.specs.Rules.{Position, disc, other, same_cell, is_some_cell}
 use Rattle.othello_rules.proofs.PaintLaws.{length-painted, get_or-painted}
@@ -24,6 +25,16 @@ use Rattle.othello_bits.proofs.MoveMeaning.{is_turned-meaning}
 
 pub apart-from : (own opp : ℕ) → own < 2 ^ 64 → opp < 2 ^ 64 → bit_and own opp ≡ 0 → AreApart (discs own opp)
 apart-from own opp h k e = record { own_fits = h; opp_fits = k; apart = empty_meet own opp e }
+
+-- the invariant of two masks, and that of the two exchanged
+abbrev pub AreMasks : ℕ → ℕ → Type 0
+AreMasks own opp = (bit_and own opp ≡ 0) × (own < 2 ^ 64) × (opp < 2 ^ 64)
+
+pub apart-masks : (own opp : ℕ) → AreMasks own opp → AreApart (discs own opp)
+apart-masks own opp i = apart-from own opp i.1 i.2 i.0
+
+pub swapped : (own opp : ℕ) → AreMasks own opp → AreMasks opp own
+swapped own opp i = (and_comm opp own ∙ i.0, i.2, i.1)
 
 other-other : (s : Side) → other (other s) ≡ s
 other-other side.Black = refl

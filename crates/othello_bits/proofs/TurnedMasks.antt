@@ -1,10 +1,10 @@
 -- Masks that are zero, and positions after a move.
-use Rattle.std.proofs.Common.{◌≡◌, ℕ, zero, suc, cond, ◌+◌, ◌*◌, ◌%◌, ◌^◌, ◌<◌, Bool, true, false, not, ◌&&◌, ◌||◌, eqb, List, [], ◌∷◌, refl, ap, sym, ◌∙◌, arith, inl, inr, bit_and, bit_or}
+use Rattle.std.proofs.Common.{◌≡◌, ℕ, zero, suc, cond, ◌+◌, ◌*◌, ◌%◌, ◌^◌, ◌<◌, Bool, true, false, not, ◌&&◌, ◌||◌, eqb, List, [], ◌∷◌, refl, ap, sym, ◌∙◌, arith, bit_and, bit_or}
 use Rattle.std.specs.Prelude.{◌==◌}
 use Rattle.std.specs.List.{list_any, count_by}
 use Rattle.std.specs.Int.{bit_not, w64}
 use Rattle.std.specs.Int.Count.{ones}
-use Rattle.std.proofs.lemmas.Bool.{false≢true, and_parts, and_from, or_cases, or_left, or_right, eq-eqb, eqb-true}
+use Rattle.std.proofs.lemmas.Bool.{false≢true, and_parts, eq-eqb, eqb-true}
 use Rattle.std.proofs.lemmas.Nat.{or_lt, and_le_l, one_shl}
 use Rattle.othello_rules.specs.Masks.{in_mask}
 use Rattle.othello_bits.proofs.Numbers.{count_below, same_mask, is_number, ones_number}
@@ -24,40 +24,13 @@ opp_after own opp q i = own i || ((i == q) || is_turned own opp q i)
 pub zero_from_none : (m : ℕ) → m < 2 ^ 64 → ((q : ℕ) → q < 64 → in_mask m q ≡ false) → m ≡ 0
 zero_from_none m h f = same_mask m 0 h (omega arith) (λ q l. f q l ∙ sym (in_mask-zero q))
 
-some_of : (xs : List ℕ) → is_nonempty xs ≡ true → (i : ℕ) × (mem i xs ≡ true)
+pub some_of : (xs : List ℕ) → is_nonempty xs ≡ true → (i : ℕ) × (mem i xs ≡ true)
 some_of [] e = absurd (false≢true e)
 some_of (x ∷ xs) e = (x, ap (λ b. b || mem x xs) (eq-eqb x x refl))
 
-some_in : {X : Type 0} (f : X → List ℕ) (ds : List X) → list_any (λ d. is_nonempty (f d)) ds ≡ true → (i : ℕ) × (list_any (λ d. mem i (f d)) ds ≡ true)
-some_in f [] e = absurd (false≢true e)
-some_in f (d ∷ ds) e =
-    elim (or_cases (is_nonempty (f d)) (list_any (λ d. is_nonempty (f d)) ds) e) [
-      | inl a ↦ let s = some_of (f d) a in (s.0, or_left (mem s.0 (f d)) _ s.1)
-      | inr b ↦ let s = some_in f ds b in (s.0, or_right (mem s.0 (f d)) _ s.1)
-    ]
-
-not_empty : (xs : List ℕ) (i : ℕ) → mem i xs ≡ true → is_nonempty xs ≡ true
+pub not_empty : (xs : List ℕ) (i : ℕ) → mem i xs ≡ true → is_nonempty xs ≡ true
 not_empty [] i e = absurd (false≢true e)
 not_empty (x ∷ xs) i e = refl
-
-from_some : {X : Type 0} (f : X → List ℕ) (ds : List X) (i : ℕ) → list_any (λ d. mem i (f d)) ds ≡ true → list_any (λ d. is_nonempty (f d)) ds ≡ true
-from_some f [] i e = absurd (false≢true e)
-from_some f (d ∷ ds) i e =
-    elim (or_cases (mem i (f d)) (list_any (λ d. mem i (f d)) ds) e) [
-      | inl a ↦ or_left (is_nonempty (f d)) _ (not_empty (f d) i a)
-      | inr b ↦ or_right (is_nonempty (f d)) _ (from_some f ds i b)
-    ]
-
-pub move_turns : (own opp : ℕ → Bool) (q : ℕ) → is_move own opp q ≡ true → (i : ℕ) × (is_turned own opp q i ≡ true)
-move_turns own opp q e =
-    let parts = and_parts (not (own q || opp q)) (list_any (λ met. is_nonempty (turned_on own opp met)) (lines q)) e in
-    let s = some_in (λ met. turned_on own opp met) (lines q) parts.1 in
-    (s.0, and_from (not (own q || opp q)) (list_any (λ met. mem s.0 (turned_on own opp met)) (lines q)) parts.0 s.1)
-
-pub turns_move : (own opp : ℕ → Bool) (q i : ℕ) → is_turned own opp q i ≡ true → is_move own opp q ≡ true
-turns_move own opp q i e =
-    let parts = and_parts (not (own q || opp q)) (list_any (λ met. mem i (turned_on own opp met)) (lines q)) e in
-    and_from (not (own q || opp q)) (list_any (λ met. is_nonempty (turned_on own opp met)) (lines q)) parts.0 (from_some (λ met. turned_on own opp met) (lines q) i parts.1)
 
 not_or : (a b : Bool) → not (a || b) ≡ true → b ≡ false
 not_or false false e = refl
@@ -66,9 +39,6 @@ not_or true b e = absurd (false≢true e)
 
 pub move_free : (own opp : ℕ → Bool) (q : ℕ) → is_move own opp q ≡ true → opp q ≡ false
 move_free own opp q e = not_or (own q) (opp q) (and_parts (not (own q || opp q)) (list_any (λ met. is_nonempty (turned_on own opp met)) (lines q)) e).0
-
-pub turns_free : (own opp : ℕ → Bool) (q i : ℕ) → is_turned own opp q i ≡ true → opp q ≡ false
-turns_free own opp q i e = not_or (own q) (opp q) (and_parts (not (own q || opp q)) (list_any (λ met. mem i (turned_on own opp met)) (lines q)) e).0
 
 module _ (own opp flips q : ℕ) (hown : own < 2 ^ 64) (hopp : opp < 2 ^ 64) (hflips : flips < 2 ^ 64) (on_board : q < 64) where
   pub after_own : (i : ℕ) → i < 64 → in_mask (bit_and opp (bit_not w64 flips)) i ≡ (in_mask opp i && not (in_mask flips i))

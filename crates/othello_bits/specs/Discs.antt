@@ -1,5 +1,5 @@
 -- What two masks mean (bitboards): a position of the rules, for either side to move.
-use Rattle.std.specs.Prelude.{◌≡◌, ℕ, Bool, true, cond, ◌&&◌, nat_eq, ◌==◌, List, map, ℤ, neg_ℤ}
+use Rattle.std.specs.Prelude.{◌≡◌, ℕ, Bool, true, cond, ◌&&◌, nat_eq, ◌==◌, List, map, ℤ, neg_ℤ, if◌then◌else◌}
 use Rattle.std.specs.List.{filter, list_any}
 use Rattle.std.specs.Ordering.{int_eq}
 use Rattle.othello_rules.specs.declared.answers.Best.{Best}
@@ -46,7 +46,10 @@ mask_where test = mask_of (filter test squares)
 
 -- the masks of a position of the rules
 unfoldable pub discs_of : Position → Discs
-discs_of P = discs (mask_where (rules.has P (rules.own P))) (mask_where (rules.has P (rules.opposing P)))
+discs_of P = record {
+  own = mask_where (rules.has P (rules.own P));
+  opp = mask_where (rules.has P (rules.opposing P));
+}
 
 -- From here on Black is the mover; with White to move all of it is the same.
 -- The masks of the moves and of what a move turns, and the masks after a move and after a pass:
@@ -90,4 +93,7 @@ abbrev pub is_best : Scoring → Discs → ℕ → Bool
 is_best g p q = in_mask (moves_of p) q && int_eq (neg_ℤ (value_of g (play_of p q))) (value_of g p)
 
 unfoldable pub best_of : Scoring → Discs → Best
-best_of g p = cond (nat_eq (moves_of p) 0) (cond (nat_eq (moves_of (pass_of p)) 0) Over Pass) (Moves (mask_where (is_best g p)))
+best_of g p =
+    if nat_eq (moves_of p) 0
+    then (if nat_eq (moves_of (pass_of p)) 0 then Over else Pass)
+    else Moves (mask_where (is_best g p))

@@ -1,5 +1,5 @@
 -- Where a step of a permutation of bits takes bit i from.
-use Rattle.std.specs.Prelude.{ℕ, ◌+◌, ◌-◌, Bool, cond, not, ◌&&◌, nat_le}
+use Rattle.std.specs.Prelude.{ℕ, ◌+◌, ◌-◌, Bool, cond, not, ◌&&◌, nat_le, if◌then◌else◌}
 use Rattle.std.specs.Bool.{beq}
 use Rattle.othello_rules.specs.Masks.{in_mask}
 
@@ -12,7 +12,10 @@ exchanges mask k i = beq (in_mask mask i) (not (nat_le k i && in_mask mask (i - 
 
 -- the squares of `mask` and those k above them change places, and the others stay
 unfoldable pub swapped : ℕ → ℕ → ℕ → ℕ
-swapped mask k i = cond (in_mask mask i) (i + k) (cond (nat_le k i && in_mask mask (i - k)) (i - k) i)
+swapped mask k i =
+    if in_mask mask i
+    then i + k
+    else (if nat_le k i && in_mask mask (i - k) then i - k else i)
 
 unfoldable pub swaps : ℕ → ℕ → ℕ → Bool
 swaps mask k i = not (in_mask mask i && (nat_le k i && in_mask mask (i - k)))

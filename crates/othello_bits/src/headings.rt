@@ -1,10 +1,9 @@
 //! Runs of discs in one direction, from all squares at once, by shifts of masks.
 
-ghost use Rattle.std.specs.Prelude.{◌≡◌, ℕ, ◌<◌, ◌&&◌, not, bit_and};
+ghost use Rattle.std.specs.Prelude.{◌≡◌, ℕ, ◌<◌, ◌&&◌, bit_and};
 ghost use Rattle.othello_rules.specs.Rules.{turned_on, is_nonempty};
 ghost use Rattle.othello_rules.specs.Masks.{in_mask};
 ghost use Rattle.othello_bits.specs.Shifts.{back, can, chain, inside, line, opposite};
-ghost use Rattle.othello_bits.specs.Discs.{mem};
 
 /// One of the eight directions.
 #[derive(Clone, Copy, PartialEq, Eq)]
@@ -51,7 +50,8 @@ impl Heading {
     // The runs of at most six squares of `within` that begin beside `from`, in three doubling steps.
     #[inline(always)]
     fn fill(self, from: u64, within: u64) -> u64
-        ensures { (i : ℕ) → in_mask result i ≡ chain 6 (can self) (back self) (in_mask from) (in_mask within) i }
+        ensures { (i : ℕ) → in_mask result i
+            ≡ chain 6 (can self) (back self) (in_mask from) (in_mask within) i }
     {
         let one = within & self.shifted(from);
         let two = one | within & self.shifted(one);
@@ -80,20 +80,10 @@ impl Heading {
     #[inline(always)]
     pub fn reached(self, own: u64, opp: u64) -> u64
         requires { bit_and own opp ≡ 0 }
-        ensures { (q : ℕ) → q < 64 → in_mask result q ≡ is_nonempty (turned_on (in_mask own) (in_mask opp) (line self q)) }
+        ensures { (q : ℕ) → q < 64 → in_mask result q
+            ≡ is_nonempty (turned_on (in_mask own) (in_mask opp) (line self q)) }
     {
         let back = self.opposite();
         back.shifted(back.fill(own, back.inner(opp)))
-    }
-
-    // The discs that a disc on the square turns in this direction.
-    #[inline(always)]
-    pub fn turned(self, own: u64, opp: u64, square: u8) -> u64
-        requires apart { bit_and own opp ≡ 0 }
-        requires on_board { square < 64 }
-        ensures { (i : ℕ) → in_mask result i ≡ mem i (turned_on (in_mask own) (in_mask opp) (line self square)) }
-    {
-        let run = self.fill(1u64 << square, self.inner(opp));
-        if own & self.shifted(run) != 0 { run } else { 0 }
     }
 }

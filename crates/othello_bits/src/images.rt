@@ -42,7 +42,8 @@ impl Image {
     // The lesser of two images, the first where they are equal.
     #[inline(always)]
     fn lesser(own: u64, opp: u64, first: Sym, second: Sym) -> Image
-        ensures { result ≡ cond (is_less (image_by own opp second) (image_by own opp first)) (image_by own opp second) (image_by own opp first) }
+        ensures { let one = image_by own opp first in let other = image_by own opp second in
+            result ≡ cond (is_less other one) other one }
     {
         Image::new(own, opp, first).least(Image::new(own, opp, second))
     }
@@ -53,7 +54,8 @@ impl Image {
     pub(crate) fn canonical(own: u64, opp: u64) -> Image
         ensures leads { result ≡ image_by own opp result.sym }
         ensures least { (s : Sym) → key result ≤ key (image_by own opp s) }
-        ensures first { (s : Sym) → place s < place result.sym → key result < key (image_by own opp s) }
+        ensures first { (s : Sym) → place s < place result.sym
+            → key result < key (image_by own opp s) }
     {
         let straight = Image::lesser(own, opp, Sym::Identity, Sym::FlipColumns);
         let turned = Image::lesser(own, opp, Sym::FlipRows, Sym::HalfTurn);

@@ -1,17 +1,18 @@
 //! A position as two masks.
 
-ghost use Rattle.std.specs.Prelude.{◌≡◌, ℕ, ◌<◌, ◌≤◌, ◌↔◌, bit_and, true, false, IsSome, IfSome, IsTrue, ◌+◌, not, ◌||◌};
-ghost use Rattle.std.specs.List.{count_by};
+ghost use Rattle.std.specs.Prelude.{◌≡◌, ◌<◌, ◌≤◌, ◌↔◌, ◌||◌, ℕ, bit_and, true};
+ghost use Rattle.std.specs.Prelude.{IsSome, IfSome, IsTrue};
 ghost use Rattle.othello_rules.specs.declared.discs.Side.{Side};
 ghost use Rattle.othello_rules.specs.declared.discs.Cell.TheVariants as cell;
-ghost use Rattle.othello_rules.specs.Board.{squares};
 ghost use Rattle.othello_rules.specs.Rules as rules;
 ghost use Rattle.othello_rules.specs.Scores.{final};
 ghost use Rattle.othello_rules.specs.Solution.{IsScore};
 ghost use Rattle.othello_rules.specs.Masks.{in_mask};
-ghost use Rattle.othello_bits.specs.Shifts.{is_turned};
-ghost use Rattle.othello_bits.specs.Discs.{mem, discs, position_of, moves_of, flips_of, play_of, pass_of, empties_of, final_of, discs_of, IsMove, IsOver};
-ghost use Rattle.othello_bits.specs.Symmetries.{image, image_of, first_symmetry, canonical, canonical_of};
+ghost use Rattle.othello_bits.specs.Discs.{IsMove, IsOver, mem, discs, position_of, discs_of};
+ghost use Rattle.othello_bits.specs.Discs.{moves_of, flips_of, play_of, pass_of};
+ghost use Rattle.othello_bits.specs.Discs.{empties_of, final_of};
+ghost use Rattle.othello_bits.specs.Symmetries.{image, image_of};
+ghost use Rattle.othello_bits.specs.Symmetries.{first_symmetry, canonical, canonical_of};
 
 use crate::cells::{cells_of_masks, mask_of_cell};
 use crate::images::Image;
@@ -29,14 +30,14 @@ pub struct Pos {
 }
 
 impl Model for Pos {
-    ghost use Rattle.std.specs.Prelude.{◌≡◌, bit_and};
+    ghost use Rattle.std.specs.Prelude.{◌≡◌, ◌<◌, ◌^◌, bit_and};
     ghost use Rattle.othello_bits.specs.Discs.{Discs};
 
     ghost Value = { Discs };
 
     ghost view = { λ p. record { own = p.own; opp = p.opp } };
 
-    ghost invariant = { λ p. bit_and p.own p.opp ≡ 0 };
+    ghost invariant = { λ p. (bit_and p.own p.opp ≡ 0) × (p.own < 2 ^ 64) × (p.opp < 2 ^ 64) };
 
     ghost inverse = { λ d. record { own = d.own; opp = d.opp } };
 }
@@ -92,35 +93,40 @@ impl Pos {
     /// The squares on which the mover may move.
     #[inline]
     pub fn moves(self) -> u64
-        ensures squares { (s : Side) → (q : ℕ) → q < 64 → in_mask result q ≡ rules.is_move (position_of s self) q }
+        ensures squares { (s : Side) → (q : ℕ) → q < 64
+            → in_mask result q ≡ rules.is_move (position_of s self) q }
         ensures value { result ≡ moves_of self }
     {
-        legal(self.own, self.opp)
+        lines::moves(self.own, self.opp)
     }
 
     /// The discs that a move on the square turns: none if it is occupied.
     #[inline]
     pub fn flips(self, square: Square) -> u64
-        ensures squares { (s : Side) → (i : ℕ) → in_mask result i ≡ mem i (rules.flips (position_of s self) square) }
+        ensures squares { (s : Side) → (i : ℕ)
+            → in_mask result i ≡ mem i (rules.flips (position_of s self) square) }
         ensures value { result ≡ flips_of self square }
-        ensures occupied { (in_mask self.own square || in_mask self.opp square) ≡ true → result ≡ 0 }
+        ensures occupied { (in_mask self.own square || in_mask self.opp square) ≡ true
+            → result ≡ 0 }
     {
-        turned(self.own, self.opp, square)
+        lines::flips(self.own, self.opp, square.number())
     }
 
     /// The position after a move; None where the square is occupied or nothing is turned.
     #[inline]
     pub fn play(self, square: Square) -> Option<Pos>
-        ensures legal { (s : Side) → IsSome result ↔ IsTrue (rules.is_move (position_of s self) square) }
+        ensures legal { (s : Side)
+            → IsSome result ↔ IsTrue (rules.is_move (position_of s self) square) }
         ensures when { IsSome result ↔ IsMove self square }
-        ensures meaning { IfSome result (λ p. (s : Side) → position_of (rules.other s) p ≡ rules.play (position_of s self) square) }
+        ensures meaning { IfSome result (λ p. (s : Side)
+            → position_of (rules.other s) p ≡ rules.play (position_of s self) square) }
         ensures value { IfSome result (λ p. p ≡ play_of self square) }
     {
-        let flips = turned_only(self.own, self.opp, square);
+        let flips = self.flips(square);
         if flips == 0 {
             return None;
         }
-        Some(placed(self.own, self.opp, flips, square))
+        Some(self.after(square, flips))
     }
 
     /// The position after a move that is known to be one, from the discs that it turns.
@@ -128,20 +134,28 @@ impl Pos {
     pub fn after(self, square: Square, flips: u64) -> Pos
         requires legal { IsMove self square }
         requires turned { flips ≡ flips_of self square }
-        ensures meaning { (s : Side) → position_of (rules.other s) result ≡ rules.play (position_of s self) square }
+        ensures meaning { (s : Side)
+            → position_of (rules.other s) result ≡ rules.play (position_of s self) square }
         ensures value { result ≡ play_of self square }
     {
-        known(self.own, self.opp, flips, square)
+        Pos {
+            own: self.opp & !flips,
+            opp: self.own | ((1u64 << square.number()) | flips),
+        }
     }
 
     /// The same discs with the other side to move; no test is made.
     #[inline]
     pub fn pass(self) -> Pos
         ensures discs { result ≡ discs self.opp self.own }
-        ensures meaning { (s : Side) → position_of (rules.other s) result ≡ rules.pass (position_of s self) }
+        ensures meaning { (s : Side)
+            → position_of (rules.other s) result ≡ rules.pass (position_of s self) }
         ensures value { result ≡ pass_of self }
     {
-        passed(self.own, self.opp)
+        Pos {
+            own: self.opp,
+            opp: self.own,
+        }
     }
 
     /// The position under a symmetry of the board.
@@ -149,7 +163,10 @@ impl Pos {
         ensures meaning { (s : Side) → position_of s result ≡ image sym (position_of s self) }
         ensures value { result ≡ image_of sym self }
     {
-        imaged(self.own, self.opp, sym)
+        Pos {
+            own: sym.mask(self.own),
+            opp: sym.mask(self.opp),
+        }
     }
 
     /// The image with the least pair (own, opp), compared as numbers, own first; and of the symmetries that lead to it
@@ -159,7 +176,12 @@ impl Pos {
         ensures symmetry { (s : Side) → result.1 ≡ first_symmetry (position_of s self) }
         ensures value { result.0 ≡ canonical_of self }
     {
-        least_of(self.own, self.opp)
+        let least = Image::canonical(self.own, self.opp);
+        let pos = Pos {
+            own: least.own,
+            opp: least.opp,
+        };
+        (pos, least.sym)
     }
 
     /// The position of `canonical` alone.
@@ -168,7 +190,7 @@ impl Pos {
         ensures meaning { (s : Side) → position_of s result ≡ canonical (position_of s self) }
         ensures value { result ≡ canonical_of self }
     {
-        least_of(self.own, self.opp).0
+        self.canonical().0
     }
 
     /// How many squares are empty.
@@ -178,7 +200,7 @@ impl Pos {
         ensures value { result ≡ empties_of self }
         ensures at_most { result ≤ 64 }
     {
-        free_squares(self.own, self.opp)
+        (!(self.own | self.opp)).count_ones() as u8
     }
 
     /// Whether neither side has an allowed move.
@@ -187,7 +209,7 @@ impl Pos {
         ensures meaning { (s : Side) → IsTrue result ↔ rules.IsOver (position_of s self) }
         ensures value { IsTrue result ↔ IsOver self }
     {
-        neither_moves(self.own, self.opp)
+        self.moves() == 0 && self.pass().moves() == 0
     }
 
     /// The score as the mover sees it, by discs and empty squares as they stand, over or not.
@@ -196,141 +218,8 @@ impl Pos {
         ensures value { result ≡ final_of scoring self }
         ensures in_range { IsScore result }
     {
-        score_of(self.own, self.opp, scoring)
+        let mine = self.own.count_ones() as u8;
+        let theirs = self.opp.count_ones() as u8;
+        scoring.score(mine, theirs, self.empties())
     }
-}
-
-// The same calls on two masks: of an argument the check knows that it is below 2^64, of a field it does not.
-
-#[inline]
-fn legal(own: u64, opp: u64) -> u64
-    requires { bit_and own opp ≡ 0 }
-    ensures squares { (s : Side) → (q : ℕ) → q < 64 → in_mask result q ≡ rules.is_move (position_of s (discs own opp)) q }
-    ensures value { result ≡ moves_of (discs own opp) }
-{
-    lines::moves(own, opp)
-}
-
-#[inline]
-fn turned(own: u64, opp: u64, square: Square) -> u64
-    requires { bit_and own opp ≡ 0 }
-    ensures squares { (s : Side) → (i : ℕ) → in_mask result i ≡ mem i (rules.flips (position_of s (discs own opp)) square) }
-    ensures value { result ≡ flips_of (discs own opp) square }
-    ensures occupied { (in_mask own square || in_mask opp square) ≡ true → result ≡ 0 }
-{
-    lines::flips(own, opp, square.number())
-}
-
-// What a disc on the square turns, and that it is a move exactly if that is something.
-#[inline]
-fn turned_only(own: u64, opp: u64, square: Square) -> u64
-    requires { bit_and own opp ≡ 0 }
-    ensures turned { (i : ℕ) → in_mask result i ≡ is_turned (in_mask own) (in_mask opp) square i }
-    ensures none { (s : Side) → (result ≡ 0) ↔ (rules.is_move (position_of s (discs own opp)) square ≡ false) }
-    ensures none_mask { result ≡ 0 → IsMove (discs own opp) square → ⊥ }
-    ensures some_mask { (result ≡ 0 → ⊥) → IsMove (discs own opp) square }
-    ensures free { (result ≡ 0 → ⊥) → in_mask opp square ≡ false }
-{
-    lines::flips(own, opp, square.number())
-}
-
-// The masks after a disc was put on the square and some discs were turned.
-#[inline]
-fn placed(own: u64, opp: u64, flips: u64, square: Square) -> Pos
-    requires apart { bit_and own opp ≡ 0 }
-    requires turned { (i : ℕ) → i < 64 → in_mask flips i ≡ is_turned (in_mask own) (in_mask opp) square i }
-    requires free { in_mask opp square ≡ false }
-    ensures meaning { (s : Side) → position_of (rules.other s) result ≡ rules.play (position_of s (discs own opp)) square }
-    ensures value { result ≡ play_of (discs own opp) square }
-{
-    Pos {
-        own: opp & !flips,
-        opp: own | ((1u64 << square.number()) | flips),
-    }
-}
-
-#[inline]
-fn known(own: u64, opp: u64, flips: u64, square: Square) -> Pos
-    requires apart { bit_and own opp ≡ 0 }
-    requires legal { IsMove (discs own opp) square }
-    requires turned { flips ≡ flips_of (discs own opp) square }
-    ensures meaning { (s : Side) → position_of (rules.other s) result ≡ rules.play (position_of s (discs own opp)) square }
-    ensures value { result ≡ play_of (discs own opp) square }
-{
-    placed(own, opp, flips, square)
-}
-
-#[inline]
-fn passed(own: u64, opp: u64) -> Pos
-    requires { bit_and own opp ≡ 0 }
-    ensures discs { result ≡ discs opp own }
-    ensures meaning { (s : Side) → position_of (rules.other s) result ≡ rules.pass (position_of s (discs own opp)) }
-    ensures value { result ≡ pass_of (discs own opp) }
-{
-    Pos { own: opp, opp: own }
-}
-
-#[inline]
-fn imaged(own: u64, opp: u64, sym: Sym) -> Pos
-    requires { bit_and own opp ≡ 0 }
-    ensures meaning { (s : Side) → position_of s result ≡ image sym (position_of s (discs own opp)) }
-    ensures value { result ≡ image_of sym (discs own opp) }
-{
-    Pos {
-        own: sym.mask(own),
-        opp: sym.mask(opp),
-    }
-}
-
-#[inline]
-fn least_of(own: u64, opp: u64) -> (Pos, Sym)
-    requires { bit_and own opp ≡ 0 }
-    ensures meaning { (s : Side) → position_of s result.0 ≡ canonical (position_of s (discs own opp)) }
-    ensures symmetry { (s : Side) → result.1 ≡ first_symmetry (position_of s (discs own opp)) }
-    ensures value { result.0 ≡ canonical_of (discs own opp) }
-{
-    let least = Image::canonical(own, opp);
-    let pos = Pos {
-        own: least.own,
-        opp: least.opp,
-    };
-    (pos, least.sym)
-}
-
-#[inline]
-fn disc_count(discs: u64) -> u8
-    ensures { result ≡ count_by (in_mask discs) squares }
-{
-    discs.count_ones() as u8
-}
-
-#[inline]
-fn free_squares(own: u64, opp: u64) -> u8
-    ensures squares { (s : Side) → result ≡ rules.count_of (position_of s (discs own opp)) cell.Empty }
-    ensures value { result ≡ empties_of (discs own opp) }
-    ensures counted { result ≡ count_by (λ i. not (in_mask own i || in_mask opp i)) squares }
-    ensures at_most { result ≤ 64 }
-{
-    (!(own | opp)).count_ones() as u8
-}
-
-#[inline]
-fn neither_moves(own: u64, opp: u64) -> bool
-    requires { bit_and own opp ≡ 0 }
-    ensures meaning { (s : Side) → IsTrue result ↔ rules.IsOver (position_of s (discs own opp)) }
-    ensures value { IsTrue result ↔ IsOver (discs own opp) }
-{
-    legal(own, opp) == 0 && legal(opp, own) == 0
-}
-
-fn score_of(own: u64, opp: u64, scoring: Scoring) -> i8
-    requires { bit_and own opp ≡ 0 }
-    ensures meaning { (s : Side) → result ≡ final scoring (position_of s (discs own opp)) }
-    ensures value { result ≡ final_of scoring (discs own opp) }
-    ensures in_range { IsScore result }
-{
-    let mine = disc_count(own);
-    let theirs = disc_count(opp);
-    let free = free_squares(own, opp);
-    scoring.score(mine, theirs, free)
 }

@@ -12,7 +12,7 @@ invariant_of-result c =
     let theirs : c.disc-2.result ≡ rules.opposing P = c.disc-2.ensures ∙ ap rules.disc (c.other.ensures ∙ ap rules.other c.side-side.ensures.value) in
     let a : c.mask_of_cell.result ≡ mask_where (rules.has P (rules.own P)) = c.mask_of_cell.ensures ∙ ap (λ x. mask_where (rules.has P x)) mine in
     let b : c.mask_of_cell-2.result ≡ mask_where (rules.has P (rules.opposing P)) = c.mask_of_cell-2.ensures ∙ ap (λ x. mask_where (rules.has P x)) theirs in
-    (λ k. bit_and (a k) (b k)) ∙ discs-apart P
+    ((λ k. bit_and (a k) (b k)) ∙ discs-apart P, c.mask_of_cell.type_inv, c.mask_of_cell-2.type_inv)
 
 pub returns-clause-value : goal.returns-clause-value
 unfolding discs_of
