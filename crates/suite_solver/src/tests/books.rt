@@ -1,0 +1,252 @@
+//! The program with books: what it writes, what it reads, and what it refuses.
+
+use super::{ONE, Run, TWO, TWO_BY_WINNER, assert_run, run};
+use std::alloc::Global;
+use std::fs;
+use std::process::Abort;
+use std::rt::Files;
+use std::sync::Wait;
+use std::test::Fail;
+use std::thread::Threads;
+
+// The canonical positions of -OOOOOOX, --OOOOOX and -OOXXOO- above seven rows of black discs, in the order of a book.
+const BOOK: &[u8] = b"% ffobook 2 winner\n\
+XXXXXXXXXXXXXXXXXXXXXXXXXXXXXXXXXXXXXXXXXXXXXXXXXXXXXXXXXOOOOO-- X; G8:+64;\n\
+XXXXXXXXXXXXXXXXXXXXXXXXXXXXXXXXXXXXXXXXXXXXXXXXXXXXXXXXXOOOOOO- X; H8:+64;\n\
+XXXXXXXXXXXXXXXXXXXXXXXXXXXXXXXXXXXXXXXXXXXXXXXXXXXXXXXX-OOXXOO- X; A8:+64; H8:+64;\n";
+
+const BOOK_BY_DISCS: &[u8] = b"% ffobook 2 discs\n\
+XXXXXXXXXXXXXXXXXXXXXXXXXXXXXXXXXXXXXXXXXXXXXXXXXXXXXXXXXOOOOO-- X; G8:+63;\n\
+XXXXXXXXXXXXXXXXXXXXXXXXXXXXXXXXXXXXXXXXXXXXXXXXXXXXXXXXXOOOOOO- X; H8:+64;\n\
+XXXXXXXXXXXXXXXXXXXXXXXXXXXXXXXXXXXXXXXXXXXXXXXXXXXXXXXX-OOXXOO- X; A8:+64; H8:+64;\n";
+
+const BOOK_BY_SIGN: &[u8] = b"% ffobook 2 sign\n\
+XXXXXXXXXXXXXXXXXXXXXXXXXXXXXXXXXXXXXXXXXXXXXXXXXXXXXXXXXOOOOO-- X; G8:+01;\n\
+XXXXXXXXXXXXXXXXXXXXXXXXXXXXXXXXXXXXXXXXXXXXXXXXXXXXXXXXXOOOOOO- X; H8:+01;\n\
+XXXXXXXXXXXXXXXXXXXXXXXXXXXXXXXXXXXXXXXXXXXXXXXXXXXXXXXX-OOXXOO- X; A8:+01; H8:+01;\n";
+
+const ONE_REPORT: &[u8] = b"[1]
+1 +64 A1 unlisted
+2 +64 B1 unlisted
+3 +64 A1,H1 unlisted
+solved 3 refused 0
+";
+
+const ONE_BY_DISCS: &[u8] = b"[1]
+1 +64 A1 unlisted
+2 +63 B1 unlisted
+3 +64 A1,H1 unlisted
+solved 3 refused 0
+";
+
+const ONE_BY_SIGN: &[u8] = b"[1]
+1 +01 A1 unlisted
+2 +01 B1 unlisted
+3 +01 A1,H1 unlisted
+solved 3 refused 0
+";
+
+// The words, the report of ONE that they ask for, and the book.
+const WRITTEN: [(&str, &[u8], &[u8]); 4] = [
+    ("ffosolve --book-out out.book", ONE_REPORT, BOOK),
+    (
+        "ffosolve --book-in out.book --workers 0 --book-out out.book",
+        ONE_REPORT,
+        BOOK,
+    ),
+    (
+        "ffosolve --book-in out.book --scoring discs --workers 64 --book-out out.book",
+        ONE_BY_DISCS,
+        BOOK_BY_DISCS,
+    ),
+    (
+        "ffosolve --book-in out.book --scoring sign --book-out out.book",
+        ONE_BY_SIGN,
+        BOOK_BY_SIGN,
+    ),
+];
+
+// A book takes the place of the one that was read, and nothing is left beside it.
+#[test]
+fn writes_and_reads_books(rt: HostRuntime) -> Result<(), Fail> {
+    for (line, report, book) in &WRITTEN {
+        assert_run(&rt, rt.alloc(), &(*line, ONE, 0, *report, b""))?;
+        let written = fs::read(&rt, "out.book")?;
+        assert!(rt; written.as_slice() == *book, "{line}");
+        assert!(rt; !fs::exists(&rt, "out.book.0.part")?);
+    }
+    fs::remove_file(&rt, "out.book")?;
+    Ok(())
+}
+
+// What claims the greatest score of a move that is worse, and one of a square that is none.
+const LIES: &[u8] = b"\
+XXXXXXXXXXXXXXXXXXXXXXXXXXXXXXXXXXXXXXXXXXXXXXXXXXXXXXXX-OOXXOO- X; A8:+64;\n\
+XXXXXXXXXXXXXXXXXXXXXXXXXXXXOXXXXXXXXXXXXXXXXXXXOXXXXXXX-XXXXXO- X; H8:+64; D4:+10;\n";
+
+// The bytes of a book, and the words of the line on standard error; none where it is read.
+const TEXTS: [(&[u8], &[u8]); 15] = [
+    (b"", b""),
+    (LIES, b""),
+    (b"% ffobook 2 sign\n% ffobook 3 winner\n", b""),
+    (b"?\n", b"ffosolve: book line 1: bad square at column 1\n"),
+    (
+        b"\xef\xbb\xbf",
+        b"ffosolve: book line 1: bad square at column 1\n",
+    ),
+    (
+        b"% old\n\nX",
+        b"ffosolve: book line 3: board has 1 of 64 squares\n",
+    ),
+    (
+        b"XXXXXXXXXXXXXXXXXXXXXXXXXXXXXXXXXXXXXXXXXXXXXXXXXXXXXXXXXOOOOO-- X",
+        b"ffosolve: book line 1: no moves\n",
+    ),
+    (
+        b"XXXXXXXXXXXXXXXXXXXXXXXXXXXXXXXXXXXXXXXXXXXXXXXXXXXXXXXXXOOOOO-- -",
+        b"ffosolve: book line 1: bad side at column 66\n",
+    ),
+    (
+        b"% ffobook 2 winner\n\
+XXXXXXXXXXXXXXXXXXXXXXXXXXXXXXXXXXXXXXXXXXXXXXXXXXXXXXXXXOOOOOO- X; H8:+64;\n\
+XXXXXXXXXXXXXXXXXXXXXXXXXXXXXXXXXXXXXXXXXXXXXXXXXXXXXXXXXOOOOO-- X; G8:+64;\n",
+        b"ffosolve: book line 3: not in order\n",
+    ),
+    (
+        b"-OXXXXX-XXXXXXXOXXXXXXXXXXXXXXXXXXXOXXXXXXXXXXXXXXXXXXXXXXXXXXXX X; H1:+62;",
+        b"ffosolve: book line 1: not canonical\n",
+    ),
+    (
+        b"OXXXXXX-OOOOOOOOOOOOOOOOOOOOOOOOOOOOOOOOOOOOOOOOOOOOOOOOOOOOOOOO O; PS:-64;",
+        b"ffosolve: book line 1: not canonical\n",
+    ),
+    (
+        b"% ffobook 3 winner\n?",
+        b"ffosolve: book line 1: unknown header\n",
+    ),
+    (
+        b"% ffobook 2 winner \n",
+        b"ffosolve: book line 1: unknown header\n",
+    ),
+    (
+        b"% ffobook 2 best\n",
+        b"ffosolve: book line 1: unknown header\n",
+    ),
+    (
+        b"XXXXXXXXXXXXXXXXXXXXXXXXXXXXXXXXXXXXXXXXXXXXXXXXXXXXXXXXXOOOOO-- X; G8:+64;\nX",
+        b"ffosolve: book line 2: board has 1 of 64 squares\n",
+    ),
+];
+
+// A book is read before the files, and what it claims changes no report.
+fn assert_text<T: Abort + Files + Threads + Wait + Sync>(
+    rt: &T,
+    alloc: Global,
+    text: &[u8],
+    told: &[u8],
+) -> Result<(), Fail> {
+    fs::write(rt, "in.book", text)?;
+    if told.is_empty() {
+        assert_run(
+            rt,
+            alloc,
+            &("ffosolve --book-in in.book", ONE, 0, ONE_REPORT, b""),
+        )?;
+        return assert_run(
+            rt,
+            alloc,
+            &("ffosolve --book-in in.book", TWO, 0, TWO_BY_WINNER, b""),
+        );
+    }
+    assert_run(
+        rt,
+        alloc,
+        &("ffosolve --book-in in.book no-such.obf", ONE, 3, b"", told),
+    )
+}
+
+#[test]
+fn refuses_books(rt: HostRuntime) -> Result<(), Fail> {
+    for (text, told) in &TEXTS {
+        assert_text(&rt, rt.alloc(), text, told)?;
+    }
+    fs::remove_file(&rt, "in.book")?;
+    Ok(())
+}
+
+// The first front of the book's entries by their bytes, and whether it is read.
+const FRONTS: [(usize, bool); 8] = [
+    (1, false),
+    (64, false),
+    (72, false),
+    (73, true),
+    (76, true),
+    (77, false),
+    (233, true),
+    (236, true),
+];
+
+// A book that was cut off is refused, or what is left of it changes no report.
+#[test]
+fn reads_cut_off_books(rt: HostRuntime) -> Result<(), Fail> {
+    for (count, is_read) in FRONTS {
+        fs::write(&rt, "cut.book", &BOOK[19..19 + count])?;
+        let mut input = ONE;
+        let words = ["ffosolve", "--book-in", "cut.book"];
+        let ended = run(&rt, rt.alloc(), &words, &mut input);
+        assert!(rt;
+            (ended.status == 0) == is_read && (ended.output.as_slice() == ONE_REPORT) == is_read,
+            "{count}"
+        );
+    }
+    fs::remove_file(&rt, "cut.book")?;
+    Ok(())
+}
+
+// Books that can't be read, and ones that can't be written, which is told behind the reports.
+const PLACES: [Run; 6] = [
+    (
+        "ffosolve --book-in no.book",
+        ONE,
+        3,
+        b"",
+        b"ffosolve: cannot read no.book\n",
+    ),
+    (
+        "ffosolve --book-in .",
+        ONE,
+        3,
+        b"",
+        b"ffosolve: cannot read .\n",
+    ),
+    (
+        "ffosolve --book-out .",
+        ONE,
+        3,
+        ONE_REPORT,
+        b"ffosolve: cannot write .\n",
+    ),
+    (
+        "ffosolve --book-out no/a.book",
+        ONE,
+        3,
+        ONE_REPORT,
+        b"ffosolve: cannot write no/a.book\n",
+    ),
+    (
+        "ffosolve --book-out /dev/full",
+        ONE,
+        3,
+        ONE_REPORT,
+        b"ffosolve: cannot write /dev/full\n",
+    ),
+    ("ffosolve --book-out /dev/null", ONE, 0, ONE_REPORT, b""),
+];
+
+#[test]
+fn tells_places_of_books(rt: HostRuntime) -> Result<(), Fail> {
+    for place in &PLACES {
+        assert_run(&rt, rt.alloc(), place)?;
+    }
+    Ok(())
+}

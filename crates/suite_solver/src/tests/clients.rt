@@ -1,0 +1,176 @@
+//! Clients and gates.
+
+ghost use Rattle.std.specs.Prelude.{◌≤◌, length};
+
+use super::{BOTH, CountingGate, ONE, TWO, TWO_JOBS};
+use crate::laws::client_part;
+use crate::{Gate, NoGate, Part, RunFault, write_report};
+use arrayvec::ArrayVec;
+use bound_table::{BoundTable, NoTable};
+use endgame_search::Task;
+use job_board::{Client, Desk, JobId, SubmitFault};
+use othello_bits::Pos;
+use othello_rules::Scoring;
+use std::alloc::{AllocError, Global};
+use std::process::Abort;
+use std::sync::atomic::{AtomicU32, Ordering};
+use std::sync::{Mutex, Wait};
+use std::test::Fail;
+
+// Writes the report of one client's part.
+fn report_part<R: Wait + Abort, G: Gate>(
+    rt: &R,
+    alloc: Global,
+    output: &mut Vec<u8>,
+    desk: &Desk,
+    gate: &G,
+    sender: u32,
+    text: &[u8],
+) -> Result<(), Fail>
+    requires { length text.now ≤ 1048576 }
+{
+    let table = BoundTable::new(alloc, 16, Scoring::Winner)?;
+    let part = client_part(rt, alloc, text, sender, 20, desk, &table, None, gate)?;
+    assert_eq!(rt; part.solved.len(), part.rows.len());
+    write_report(output, sender, &part.rows)?;
+    Ok(())
+}
+
+#[test]
+fn clients_serve_themselves(rt: HostRuntime) -> Result<(), Fail> {
+    let desk = Desk::new(rt.alloc(), 2)?;
+    let gate = CountingGate::new();
+    let mut output = Vec::new(rt.alloc());
+    report_part(&rt, rt.alloc(), &mut output, &desk, &gate, 0, ONE)?;
+    report_part(&rt, rt.alloc(), &mut output, &desk, &gate, 1, TWO)?;
+    assert_eq!(rt; output.as_slice(), BOTH);
+    assert_eq!(rt; gate.counts(), (6, 6));
+    assert!(rt; desk.take_or_wait(&rt).is_none());
+    Ok(())
+}
+
+// Whether a client's part ended for another cause than memory.
+fn is_mixed(part: &Result<Part, RunFault>) -> Result<bool, AllocError> {
+    match part {
+        Err(RunFault::Memory) => Err(AllocError),
+        Err(fault) => Ok(*fault == RunFault::Mixed),
+        Ok(_) => Ok(false),
+    }
+}
+
+// A job of another scoring is given back, and a sender that is not the desk's is refused.
+#[test]
+fn clients_are_refused(rt: HostRuntime) -> Result<(), Fail> {
+    let alloc = rt.alloc();
+    let desk = Desk::new(alloc, 2)?;
+    let table = NoTable::new(Scoring::Winner);
+    let position = Pos::new(!0xff, 0x7e).expect(&rt, "no square is taken twice");
+    let mut other = Client::new(alloc, 0);
+    desk.submit(&rt, &mut other, Task::new(position, 20, Scoring::Discs)?)?;
+    for sender in [1, 2] {
+        let part = client_part(&rt, alloc, ONE, sender, 20, &desk, &table, None, &NoGate);
+        assert!(rt; is_mixed(&part)?);
+    }
+    let job = desk.take_or_wait(&rt).expect(&rt, "the job waits again");
+    assert_eq!(rt;
+        job.id,
+        JobId {
+            sender: 0,
+            number: 0
+        }
+    );
+    Ok(())
+}
+
+// A sender and a job's number, and whether the job was found finished.
+type Told = (u32, u32, bool);
+
+// Keeps what it is told. Whether a job that is left was finished, the desk tells: one that is still taken is given back.
+#[derive(Drop)]
+struct NotingGate<'a> {
+    desk: &'a Desk,
+    told: Mutex<ArrayVec<Told, 8>>,
+}
+
+impl NotingGate<'_> {
+    fn note<R: Wait>(&self, rt: &R, told: Told) {
+        let _ = self.told.lock(rt).try_push(told);
+    }
+}
+
+impl Gate for NotingGate<'_> {
+    fn enter<R: Wait>(&self, rt: &R, sender: u32, number: u32) {
+        self.note(rt, (sender, number, false));
+    }
+
+    fn leave<R: Wait>(&self, rt: &R, sender: u32, number: u32) {
+        let is_finished = self.desk.give_back(rt, JobId { sender, number }).is_err();
+        self.note(rt, (sender, number, is_finished));
+    }
+}
+
+const TOLD: [Told; 4] = [(1, 0, false), (1, 0, true), (1, 1, false), (1, 1, true)];
+
+// A gate is told of the client's own jobs, and that one is left after its finish was answered.
+#[test]
+fn gates_are_told_of_each_job(rt: HostRuntime) -> Result<(), Fail> {
+    let alloc = rt.alloc();
+    let desk = Desk::new(alloc, 2)?;
+    let table = NoTable::new(Scoring::Winner);
+    let gate = NotingGate {
+        desk: &desk,
+        told: Mutex::new(ArrayVec::new()),
+    };
+    let part = client_part(&rt, alloc, TWO_JOBS, 1, 20, &desk, &table, None, &gate)?;
+    assert!(rt; part.solved.len() == 2 && gate.told.into_inner().as_slice() == TOLD.as_slice());
+    Ok(())
+}
+
+// Gives the first job back that it is told of, so that its finish is refused.
+#[derive(Drop)]
+struct MeddlingGate<'a> {
+    desk: &'a Desk,
+    entered: AtomicU32,
+}
+
+impl Gate for MeddlingGate<'_> {
+    fn enter<R: Wait>(&self, rt: &R, sender: u32, number: u32) {
+        if self.entered.fetch_add(1, Ordering::SeqCst) == 0 {
+            let _ = self.desk.give_back(rt, JobId { sender, number });
+        }
+    }
+
+    fn leave<R: Wait>(&self, _rt: &R, _sender: u32, _number: u32) {}
+}
+
+#[test]
+fn a_refused_finish_ends_the_part(rt: HostRuntime) -> Result<(), Fail> {
+    let alloc = rt.alloc();
+    let desk = Desk::new(alloc, 1)?;
+    let table = NoTable::new(Scoring::Winner);
+    let gate = MeddlingGate {
+        desk: &desk,
+        entered: AtomicU32::new(0),
+    };
+    let part = client_part(&rt, alloc, TWO_JOBS, 0, 20, &desk, &table, None, &gate);
+    assert!(rt; is_mixed(&part)? && gate.entered.into_inner() == 1);
+    Ok(())
+}
+
+// A sender that has all jobs that it may have but one: the part's second task is refused, and the sender is closed.
+#[test]
+fn a_refused_submit_closes_the_sender(rt: HostRuntime) -> Result<(), Fail> {
+    let alloc = rt.alloc();
+    let desk = Desk::new(alloc, 1)?;
+    let table = NoTable::new(Scoring::Winner);
+    let position = Pos::new(!0, 0).expect(&rt, "no square is taken twice");
+    let task = Task::new(position, 20, Scoring::Winner)?;
+    let mut other = Client::new(alloc, 0);
+    for _ in 0..65_534u32 {
+        desk.submit(&rt, &mut other, task)?;
+    }
+    let part = client_part(&rt, alloc, TWO_JOBS, 0, 20, &desk, &table, None, &NoGate);
+    assert!(rt; is_mixed(&part)?);
+    assert!(rt; desk.submit(&rt, &mut other, task) == Err(SubmitFault::Closed));
+    Ok(())
+}
