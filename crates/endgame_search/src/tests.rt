@@ -182,76 +182,84 @@ fn answers_under_each_scoring(rt: HostRuntime) {
     assert!(rt; ROWS.iter().all(|row| has_answers(&rt, row)));
 }
 
+// Whether the image of the position has the value 62, by a move to this square alone.
+fn is_best_of_image(rt: &impl Abort, sym: Sym, name: &[u8; 2]) -> bool {
+    let position = pos_of(rt, UNEQUAL_CORNERS, Side::Black).image(sym);
+    let square = Square::from_name(name).expect(rt, "a name");
+    let answer = solve(
+        &NoTable::new(Scoring::Winner),
+        task_of(rt, position, Scoring::Winner),
+    )
+    .answer();
+    answer.score == 62 && answer.best == Best::Moves(1 << square.number())
+}
+
+const BEST_OF_IMAGES: [&[u8; 2]; 8] = [b"H1", b"A1", b"H8", b"A8", b"A8", b"H8", b"A1", b"H1"];
+
 #[test]
 fn windows_and_images(rt: HostRuntime) {
     let position = pos_of(&rt, UNEQUAL_CORNERS, Side::Black);
     let table = NoTable::new(Scoring::Winner);
-    assert_eq!(rt; value_in(&table, position, -65, 65), 62);
-    assert_eq!(rt; value_in(&table, position, 61, 63), 62);
-    assert_eq!(rt; value_in(&table, position, 62, 65), 62);
-    let best_moves: [&[u8; 2]; 8] = [b"H1", b"A1", b"H8", b"A8", b"A8", b"H8", b"A1", b"H1"];
-    for (sym, name) in Sym::all().into_iter().zip(best_moves) {
-        let task = task_of(&rt, position.image(sym), Scoring::Winner);
-        let answer = solve(&table, task).answer();
-        let square = Square::from_name(name).expect(&rt, "a name");
-        assert_eq!(rt; answer.score, 62);
-        assert_eq!(rt; answer.best, Best::Moves(1 << square.number()));
-    }
+    assert!(rt; value_in(&table, position, -65, 65) == 62);
+    assert!(rt;
+        value_in(&table, position, 61, 63) == 62 && value_in(&table, position, 62, 65) == 62
+    );
+    let syms = Sym::all();
+    assert!(rt;
+        syms.iter()
+            .zip(BEST_OF_IMAGES)
+            .all(|(sym, name)| is_best_of_image(&rt, *sym, name))
+    );
+}
+
+const CLAIMED: [Best; 6] = [
+    Best::Moves(0),
+    Best::Moves(A1),
+    Best::Moves(H1),
+    Best::Moves(CORNERS),
+    Best::Pass,
+    Best::Over,
+];
+
+// Whether the position is answered so, whatever the claim says.
+fn is_told(rt: &impl Abort, discs: Discs, claim: Claim, score: i8, best: u64) -> bool {
+    let task = task_of(rt, pos_of(rt, discs, Side::Black), Scoring::Winner);
+    let answer = confirm(&NoTable::new(Scoring::Winner), task, claim).answer();
+    answer.score == score && answer.best == Best::Moves(best)
+}
+
+fn are_tested(rt: &impl Abort, score: i8) -> bool {
+    CLAIMED.iter().all(|best| is_told(rt, UNEQUAL_CORNERS, Claim { score, best: *best }, 62, H1))
 }
 
 #[test]
 fn claims_are_tested(rt: HostRuntime) {
-    let bests = [
-        Best::Moves(0),
-        Best::Moves(A1),
-        Best::Moves(H1),
-        Best::Moves(A1 | H1),
-        Best::Pass,
-        Best::Over,
-    ];
-    let table = NoTable::new(Scoring::Winner);
-    let unequal = pos_of(&rt, UNEQUAL_CORNERS, Side::Black);
-    let unequal = task_of(&rt, unequal, Scoring::Winner);
-    for score in [-128, 52, 62, 64, 100] {
-        for best in bests {
-            let solved = confirm(&table, unequal, Claim { score, best });
-            assert_eq!(rt; solved.answer().score, 62, "{score} {best:?}");
-            assert_eq!(rt; solved.answer().best, Best::Moves(H1), "{score} {best:?}");
-        }
-    }
-    let equal = task_of(
-        &rt,
-        pos_of(&rt, EQUAL_CORNERS, Side::Black),
-        Scoring::Winner,
+    assert!(rt;
+        [-128, 52, 62, 64, 100]
+            .iter()
+            .all(|score| are_tested(&rt, *score))
     );
     let one_of_two = Claim {
         score: 64,
         best: Best::Moves(A1),
     };
-    let solved = confirm(&table, equal, one_of_two);
-    assert_eq!(rt; solved, solve(&table, equal));
-    assert_eq!(rt; solved.answer().best, Best::Moves(A1 | H1));
+    assert!(rt; is_told(&rt, EQUAL_CORNERS, one_of_two, 64, CORNERS));
+}
+
+// Whether a position is a task at this limit, or is refused for having so many empty squares.
+fn is_limited(rt: &impl Abort, discs: Discs, limit: u8, refused: Option<u8>) -> bool {
+    let position = pos_of(rt, discs, Side::Black);
+    match Task::new(position, limit, Scoring::Winner) {
+        Ok(task) => task.pos() == position && refused.is_none(),
+        Err(TooMany(empties)) => refused == Some(empties),
+    }
 }
 
 #[test]
 fn limits_of_empty_squares(rt: HostRuntime) {
-    // The position, the limit, and how many empty squares are too many.
-    let table = [
-        (FFO_40_WITHOUT_H7, 20, Some(21)),
-        (FFO_40, 19, Some(20)),
-        (FFO_40, 20, None),
-        (THREE_DISCS, 255, Some(61)),
-    ];
-    for (discs, limit, refused) in table {
-        let position = pos_of(&rt, discs, Side::Black);
-        match Task::new(position, limit, Scoring::Winner) {
-            Ok(task) => {
-                assert_eq!(rt; task.pos(), position);
-                assert_eq!(rt; refused, None);
-            }
-            Err(TooMany(empties)) => assert_eq!(rt; refused, Some(empties)),
-        }
-    }
+    assert!(rt; is_limited(&rt, FFO_40_WITHOUT_H7, 20, Some(21)));
+    assert!(rt; is_limited(&rt, FFO_40, 19, Some(20)) && is_limited(&rt, FFO_40, 20, None));
+    assert!(rt; is_limited(&rt, THREE_DISCS, 255, Some(61)));
 }
 
 // A table that counts its probes, and notes whether either of two positions was probed.
