@@ -145,14 +145,14 @@ impl<'a> ReadyBook<'a> {
         }
     }
 
-    // Writes the file beside, gives it the permissions of the one that stood there, and renames it. A file that may not be
-    // written is not replaced.
+    // Makes a file beside, gives it the permissions of the one that stood there, and renames it. A file that may not be
+    // written is not replaced. Where another program made the file beside meanwhile, it is left alone.
     fn replace<T: Files>(&self, rt: &T, permissions: Option<fs::Permissions>) -> io::Result<()> {
         if permissions.is_some() {
             OpenOptions::new().write(true).open(rt, self.name)?;
         }
-        let written = self.write_beside(rt, permissions);
-        let placed = match written {
+        let mut beside = fs::File::create_new(rt, self.beside.as_str())?;
+        let placed = match self.fill::<T>(&mut beside, permissions) {
             Ok(()) => fs::rename(rt, self.beside.as_str(), self.name),
             Err(fault) => Err(fault),
         };
@@ -162,13 +162,12 @@ impl<'a> ReadyBook<'a> {
         placed
     }
 
-    fn write_beside<T: Files>(
+    fn fill<T: Files>(
         &self,
-        rt: &T,
+        file: &mut T::File,
         permissions: Option<fs::Permissions>,
     ) -> io::Result<()> {
-        let mut file = fs::File::create_new(rt, self.beside.as_str())?;
-        write_all(&mut file, &self.text)?;
+        write_all(file, &self.text)?;
         if let Some(permissions) = permissions {
             file.set_permissions(permissions)?;
         }
