@@ -1,4 +1,4 @@
-//! `ffosolve`: solves the positions on standard input, and writes their report to standard output.
+//! The program `ffosolve`: hands arguments, streams and allocator to `suite_solver`.
 #![tactic(auto)]
 
 use std::env::Env;

@@ -3,7 +3,7 @@ use Rattle.std.specs.Prelude.{◌≡◌, ℕ, List, [], ◌∷◌, ◌++◌, map
 use Rattle.std.specs.List.{flat_map}
 use Rattle.othello_rules.specs.declared.discs.Side.TheVariants.{Black}
 use Rattle.othello_rules.specs.declared.scorings.Scoring.{Scoring}
-use Rattle.othello_rules.specs.declared.scorings.Scoring.TheVariants.{Winner, Discs, Sign}
+use Rattle.othello_rules.specs.Scores.{scoring_name}
 use Rattle.othello_rules.specs.Solution.{Solution}
 use Rattle.othello_bits.specs.Discs as bits
 use Rattle.othello_bits.specs.Discs.{discs, position_of, answer_of}
@@ -14,11 +14,6 @@ use Rattle.solved_book.specs.Order.{IsCanonical}
 pub record Contents : Type 0 where
   pub scoring : Scoring
   pub positions : List bits.Discs
-
-abbrev pub scoring_name : Scoring → List ℕ
-scoring_name Winner = codes "winner"
-scoring_name Discs = codes "discs"
-scoring_name Sign = codes "sign"
 
 -- the first line of a book
 unfoldable pub header : Scoring → List ℕ

@@ -19,6 +19,17 @@ const ABOUT: &str = "\
 Solves Othello endgames exactly. For each position of OBF files it prints the score in discs, as
 the side to move sees it, every best move, and how the scores that the line lists compare.";
 
+const AFTER_HELP: &str = "\
+Exit status:
+  0  all reports were printed, or this help
+  1  more than 64 files, a file of more than 1048576 bytes, or memory ran out
+  2  the command line is refused
+  3  a file or a stream can't be read or written, or the book of --book-in is refused
+  4  bin/ffosolve could not build the program
+
+Example: the lines of a suite whose listed scores are wrong
+  ffosolve --workers 4 suite.obf | grep differ";
+
 // A number from 0 to `most`.
 fn number_arg<'a>(
     alloc: Global,
@@ -79,7 +90,9 @@ fn files_arg<'a>(alloc: Global) -> Arg<'a>
 fn run_options<'a>(alloc: Global, names: &'a [&'a str]) -> Result<Command<'a>, AllocError>
     ensures { IfOk result (λ c. app_of c ≡ run_options names.entry) }
 {
-    let bare = Command::new(alloc, "ffosolve").about(ABOUT);
+    let bare = Command::new(alloc, "ffosolve")
+        .about(ABOUT)
+        .after_help(AFTER_HELP);
     let max_empties = number_arg(
         alloc,
         "max-empties",

@@ -145,7 +145,7 @@ fn run_files(
 /// nothing else. Both are the same for every table size and whatever is claimed.
 ///
 /// More than 64 files are `TooManyFiles`, else the first of more than 1,048,576 bytes is `FileTooLarge`, before anything
-/// is read; `Memory` comes where a growth was refused. It is never `Mixed`.
+/// is solved; `Memory` comes where a growth was refused. It is never `Mixed`.
 pub fn run_serial(
     alloc: Global,
     files: &[Vec<u8>],

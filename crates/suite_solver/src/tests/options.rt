@@ -47,6 +47,8 @@ For more information, try '--help'.
 
 const HELP: &[u8] = b"Solves Othello endgames";
 
+const HELP_END: &[u8] = b"\n  ffosolve --workers 4 suite.obf | grep differ\n";
+
 const NO_WORDS: &[u8] = b"ffosolve: cannot read the command line\n";
 
 const BAD_WORKERS: &[u8] = b"\
@@ -140,7 +142,7 @@ fn reads_words(rt: HostRuntime) -> Result<(), Fail> {
         words.push(String::from_str(alloc, word)?)?;
     }
     let ended = run_words(&rt, alloc, Ok(words));
-    if !ended.output.starts_with(HELP) {
+    if !ended.output.starts_with(HELP) || !ended.output.ends_with(HELP_END) {
         return assert_ended(&rt, &ended, (0, HELP, b""), "ffosolve --help");
     }
     assert_eq!(rt; (ended.status, ended.errors.len()), (0, 0));
