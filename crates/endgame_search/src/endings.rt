@@ -15,7 +15,7 @@ use othello_bits::masks::{lowest, without};
 use othello_rules::{Scoring, Square};
 
 // How many discs a disc on the square turns: none where that is no move.
-#[inline]
+#[inline(always)]
 fn turned_count(position: Pos, square: Square) -> u8
     ensures value { result ≡ count_ones (flips_of position square) }
     ensures legal { IsMove position square ↔ (0 < result) }
@@ -32,7 +32,7 @@ struct Ending {
 }
 
 impl Ending {
-    #[inline]
+    #[inline(always)]
     fn new(position: Pos, square: Square) -> Ending
         requires { IsLast position square }
         ensures position { result.position ≡ position }
@@ -47,7 +47,7 @@ impl Ending {
     }
 
     // What a move to one of two empty squares leaves.
-    #[inline]
+    #[inline(always)]
     fn after(position: Pos, square: Square, left: Square) -> Ending
         requires legal { IsMove position square }
         requires last { AreLast position square left }
@@ -58,7 +58,7 @@ impl Ending {
     }
 
     // The value where the mover has a move: its discs, the one put on the square and those turned against the rest.
-    #[inline]
+    #[inline(always)]
     fn score(self, scoring: Scoring) -> i8
         requires ending { IsEnding self }
         requires some { 0 < self.turned }
@@ -70,7 +70,7 @@ impl Ending {
 }
 
 // A score that places the position's value in the window, where the mover has a move.
-#[inline]
+#[inline(always)]
 fn search_last_move<T: Bounds>(table: &T, ending: Ending, low: i8, high: i8) -> i8
     requires ending { IsEnding ending }
     requires some { 0 < ending.turned }
@@ -84,7 +84,7 @@ fn search_last_move<T: Bounds>(table: &T, ending: Ending, low: i8, high: i8) -> 
 }
 
 // The same where the mover has none.
-#[inline]
+#[inline(always)]
 fn search_last_pass<T: Bounds>(table: &T, ending: Ending, low: i8, high: i8) -> i8
     requires ending { IsEnding ending }
     requires none { ending.turned ≡ 0 }
@@ -102,7 +102,7 @@ fn search_last_pass<T: Bounds>(table: &T, ending: Ending, low: i8, high: i8) -> 
 }
 
 // The same with one empty square.
-#[inline]
+#[inline(always)]
 fn search_last<T: Bounds>(table: &T, ending: Ending, low: i8, high: i8) -> i8
     requires ending { IsEnding ending }
     requires window { IsWindow low high }
@@ -116,7 +116,7 @@ fn search_last<T: Bounds>(table: &T, ending: Ending, low: i8, high: i8) -> i8
 }
 
 // The score of two moves, from the score of the first, which leaves a part of the window to the second.
-#[inline]
+#[inline(always)]
 fn search_second<T: Bounds>(table: &T, score: i8, ending: Ending, low: i8, high: i8) -> i8
     requires ending { IsEnding ending }
     requires window { IsWindow low high }
@@ -128,7 +128,7 @@ fn search_second<T: Bounds>(table: &T, score: i8, ending: Ending, low: i8, high:
 }
 
 // The score of two moves, to this position and then to that.
-#[inline]
+#[inline(always)]
 fn search_in_order<T: Bounds>(table: &T, this: Ending, that: Ending, low: i8, high: i8) -> i8
     requires this { IsEnding this }
     requires that { IsEnding that }
@@ -144,7 +144,7 @@ fn search_in_order<T: Bounds>(table: &T, this: Ending, that: Ending, low: i8, hi
 
 // A score that places the position's value in the window, where each of two empty squares is a move: the one that
 // leaves no reply comes first, else the lower square. The second position is made only where it is needed.
-#[inline]
+#[inline(always)]
 fn search_both<T: Bounds>(
     table: &T,
     position: Pos,
@@ -176,7 +176,7 @@ fn search_both<T: Bounds>(
 }
 
 // The same with one move to one of two empty squares.
-#[inline]
+#[inline(always)]
 fn search_sole<T: Bounds>(
     table: &T,
     position: Pos,
@@ -221,7 +221,7 @@ pub(crate) fn search_two<T: Bounds>(
 }
 
 // The empty squares.
-#[inline]
+#[inline(always)]
 fn free_of(position: Pos) -> u64
     ensures { (q : ℕ) → IsFree position q → in_mask result q ≡ true }
 {
@@ -229,7 +229,7 @@ fn free_of(position: Pos) -> u64
 }
 
 // The two empty squares of a position that has two, the lower first.
-#[inline]
+#[inline(always)]
 pub(crate) fn last_two(position: Pos) -> Option<(Square, Square)>
     ensures { IfSome result (λ squares. AreLast position squares.0 squares.1) }
 {

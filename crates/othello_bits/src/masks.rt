@@ -6,7 +6,7 @@ ghost use Rattle.othello_rules.specs.Masks.{in_mask};
 use othello_rules::Square;
 
 /// The lowest square of a mask that has one.
-#[inline]
+#[inline(always)]
 pub fn lowest(mask: u64) -> Square
     requires { 0 < mask }
     ensures member { in_mask mask result ≡ true }
@@ -16,7 +16,7 @@ pub fn lowest(mask: u64) -> Square
 }
 
 /// The mask without a square.
-#[inline]
+#[inline(always)]
 pub fn without(mask: u64, square: Square) -> u64
     ensures { (i : ℕ) → in_mask result i ≡ (in_mask mask i && not (square == i)) }
 {
@@ -24,7 +24,7 @@ pub fn without(mask: u64, square: Square) -> u64
 }
 
 /// The mask with a square.
-#[inline]
+#[inline(always)]
 pub fn including(mask: u64, square: Square) -> u64
     ensures { (i : ℕ) → in_mask result i ≡ (in_mask mask i || square == i) }
 {

@@ -75,7 +75,7 @@ impl Pos {
     }
 
     /// The mover's discs.
-    #[inline]
+    #[inline(always)]
     pub fn own(self) -> u64
         ensures { result ≡ self.own }
     {
@@ -83,7 +83,7 @@ impl Pos {
     }
 
     /// The opponent's discs.
-    #[inline]
+    #[inline(always)]
     pub fn opp(self) -> u64
         ensures { result ≡ self.opp }
     {
@@ -91,7 +91,7 @@ impl Pos {
     }
 
     /// The squares on which the mover may move.
-    #[inline]
+    #[inline(always)]
     pub fn moves(self) -> u64
         ensures squares { (s : Side) → (q : ℕ) → q < 64
             → in_mask result q ≡ rules.is_move (position_of s self) q }
@@ -101,7 +101,7 @@ impl Pos {
     }
 
     /// The discs that a move on the square turns: none if it is occupied.
-    #[inline]
+    #[inline(always)]
     pub fn flips(self, square: Square) -> u64
         ensures squares { (s : Side) → (i : ℕ)
             → in_mask result i ≡ mem i (rules.flips (position_of s self) square) }
@@ -130,7 +130,7 @@ impl Pos {
     }
 
     /// The position after a move that is known to be one, from the discs that it turns.
-    #[inline]
+    #[inline(always)]
     pub fn after(self, square: Square, flips: u64) -> Pos
         requires legal { IsMove self square }
         requires turned { flips ≡ flips_of self square }
@@ -145,7 +145,7 @@ impl Pos {
     }
 
     /// The same discs with the other side to move; no test is made.
-    #[inline]
+    #[inline(always)]
     pub fn pass(self) -> Pos
         ensures discs { result ≡ discs self.opp self.own }
         ensures meaning { (s : Side)
@@ -194,7 +194,7 @@ impl Pos {
     }
 
     /// How many squares are empty.
-    #[inline]
+    #[inline(always)]
     pub fn empties(self) -> u8
         ensures squares { (s : Side) → result ≡ rules.count_of (position_of s self) cell.Empty }
         ensures value { result ≡ empties_of self }
