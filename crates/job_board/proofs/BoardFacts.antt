@@ -20,10 +20,10 @@ use Rattle.job_board.specs.declared.jobs.Delivery.{Delivery}
 use Rattle.job_board.specs.declared.faults.SubmitFault.{SubmitFault}
 use Rattle.job_board.specs.declared.faults.SubmitFault.TheVariants as fault
 use Rattle.job_board.specs.declared.faults.JobFault.{JobFault}
-use Rattle.job_board.specs.Queues.{names, times}
-use Rattle.job_board.specs.Contents.{State, Content, change, put_state, stage_in, stage_at, task_in, is_waiting, is_taken, is_finished, with_stage, with_task, hand_one, empty_state, empty_content}
+use Rattle.job_board.specs.Queues.{is_id_of, id_count}
+use Rattle.job_board.specs.Contents.{State, Content, content_with, content_by, stage_in, stage_at, task_in, is_waiting, is_taken, is_finished, with_stage, with_task, with_one_handed, empty_state, empty_content}
 use Rattle.job_board.specs.Boards.{IsState, IsContent, bit, Lists, taken_in, taken_count, IsBoard, AllDone}
-use Rattle.job_board.specs.Replies.{Submits, SubmitAs, submit_refusal, task_count, FinishAs, Finishes, give_back_by, deliver_stage, deliver_state, after_handed, after_deliver}
+use Rattle.job_board.specs.Replies.{Submits, SubmitAs, submit_refusal, task_count, FinishAs, Finishes, give_back_reply_at, deliver_reply_at, deliver_reply_of, state_after_handed, after_deliver}
 
 pub slice_get-set_same : {X : Type 0} (xs : List X) (i : ℕ) (y : X) → i < length xs → slice_get (set xs i y) i ≡ Some y
 slice_get-set_same xs i y h =
@@ -48,14 +48,14 @@ slice_get-push_other [] y (suc i) ne = refl
 slice_get-push_other (x ∷ xs) y zero ne = refl
 slice_get-push_other (x ∷ xs) y (suc i) ne = slice_get-push_other xs y i (λ e. ne (omega arith))
 
-pub change_at : (c : Content) (s : ℕ) (state : State) (f : State → State) → slice_get c s ≡ Some state → change c s f ≡ set c s (f state)
-change_at c s state f h = ap (put_state c s f) h
+pub change_at : (c : Content) (s : ℕ) (state : State) (f : State → State) → slice_get c s ≡ Some state → content_with c s f ≡ set c s (f state)
+change_at c s state f h = ap (content_by c s f) h
 
-pub times-pushed : (s k : ℕ) (id : JobId) (ids ids' : List JobId) → IsPermutation (id ∷ ids) ids' → times s k ids' ≡ bit (names s k id) + times s k ids
-times-pushed s k id ids ids' h = sum_by_pushed (λ x. cond (names s k x) 1 0) id ids ids' h
+pub id_count-pushed : (s k : ℕ) (id : JobId) (ids ids' : List JobId) → IsPermutation (id ∷ ids) ids' → id_count s k ids' ≡ bit (is_id_of s k id) + id_count s k ids
+id_count-pushed s k id ids ids' h = sum_by_pushed (λ x. cond (is_id_of s k x) 1 0) id ids ids' h
 
-pub times-popped : (s k : ℕ) (id : JobId) (ids ids' : List JobId) → IsPermutation ids (id ∷ ids') → times s k ids' + bit (names s k id) ≡ times s k ids
-times-popped s k id ids ids' h = sum_by_popped (λ x. cond (names s k x) 1 0) id ids ids' h
+pub id_count-popped : (s k : ℕ) (id : JobId) (ids ids' : List JobId) → IsPermutation ids (id ∷ ids') → id_count s k ids' + bit (is_id_of s k id) ≡ id_count s k ids
+id_count-popped s k id ids ids' h = sum_by_popped (λ x. cond (is_id_of s k x) 1 0) id ids ids' h
 
 -- the states of the others stay, and this state keeps its facts
 pub content_set : (c : Content) (s : ℕ) (state : State) → s < length c → IsContent c → IsState state → IsContent (set c s state)
@@ -68,8 +68,8 @@ content_set c s state h kept new s' state' at =
 -- the list of waiting jobs and one state change together
 pub lists_set : (c : Content) (s : ℕ) (state new : State) (ids ids' : List JobId) → slice_get c s ≡ Some state
     → Lists ids c
-    → ((k : ℕ) → times s k ids' + bit (is_waiting (slice_get state.stages k)) ≡ times s k ids + bit (is_waiting (slice_get new.stages k)))
-    → ((s' k : ℕ) → s' ≢ s → times s' k ids' ≡ times s' k ids)
+    → ((k : ℕ) → id_count s k ids' + bit (is_waiting (slice_get state.stages k)) ≡ id_count s k ids + bit (is_waiting (slice_get new.stages k)))
+    → ((s' k : ℕ) → s' ≢ s → id_count s' k ids' ≡ id_count s' k ids)
     → Lists ids' (set c s new)
 lists_set c s state new ids ids' at kept here there s' k =
     elim (cases_eq s' s) [
@@ -78,7 +78,7 @@ lists_set c s state new ids ids' at kept here there s' k =
           let before : stage_at c s k ≡ slice_get state.stages k = ap (stage_in k) at in
           let old = kept s k in
           let step = here k in
-          let same : times s' k ids' ≡ times s k ids' = ap (λ n. times n k ids') e in
+          let same : id_count s' k ids' ≡ id_count s k ids' = ap (λ n. id_count n k ids') e in
           omega (arith, ap (λ o. bit (is_waiting o)) now, ap (λ o. bit (is_waiting o)) before, old, step, same)
       | inr ne ↦
           let now : stage_at (set c s new) s' k ≡ stage_at c s' k = ap (stage_in k) (slice_get-set_other c s s' new ne) in
@@ -100,10 +100,10 @@ taken-stage stages k old new at =
 pub set_same : {X : Type 0} (xs : List X) (s : ℕ) (x : X) → slice_get xs s ≡ Some x → set xs s x ≡ xs
 set_same xs s x at = ap (set xs s) (sym (get_or_from_slice_get xs s x x at)) ∙ set-get_or xs s x
 
-pub bit_same : (id : JobId) → bit (names id.sender id.number id) ≡ 1
+pub bit_same : (id : JobId) → bit (is_id_of id.sender id.number id) ≡ 1
 bit_same id = grind (arith, nat_tests)
 
-pub bit_other : (id : JobId) (s k : ℕ) → (s ≢ id.sender) ⊎ (k ≢ id.number) → bit (names s k id) ≡ 0
+pub bit_other : (id : JobId) (s k : ℕ) → (s ≢ id.sender) ⊎ (k ≢ id.number) → bit (is_id_of s k id) ≡ 0
 bit_other id s k (inl ne) = grind (arith, nat_tests)
 bit_other id s k (inr ne) = grind (arith, nat_tests)
 
@@ -113,7 +113,7 @@ pub keeps : (c : Content) (ids : List JobId) (taken room s : ℕ) (state new : S
 keeps c ids taken room s state new b at same is_state = record {
   few = omega (arith, b.few, length-set c s new);
   content = content_set c s new (slice_get_within c s state at) b.content is_state;
-  lists = lists_set c s state new ids ids at b.lists (λ k. ap (λ (l : List Stage). times s k ids + bit (is_waiting (slice_get l k))) (sym same)) (λ s' k ne. refl);
+  lists = lists_set c s state new ids ids at b.lists (λ k. ap (λ (l : List Stage). id_count s k ids + bit (is_waiting (slice_get l k))) (sym same)) (λ s' k ne. refl);
   counts = omega (arith, b.counts, taken-set c s state new at, ap (λ (l : List Stage). count_by is_taken l) same);
   has_room = b.has_room;
 }
@@ -121,8 +121,8 @@ keeps c ids taken room s state new b at same is_state = record {
 -- one stage changes, and the list of waiting jobs with it
 pub lists_restaged : (c : Content) (s k : ℕ) (state : State) (old new : Stage) (ids ids' : List JobId) → slice_get c s ≡ Some state → slice_get state.stages k ≡ Some old
     → Lists ids c
-    → times s k ids' + bit (is_waiting (Some old)) ≡ times s k ids + bit (is_waiting (Some new))
-    → ((s' k' : ℕ) → (s' ≢ s) ⊎ (k' ≢ k) → times s' k' ids' ≡ times s' k' ids)
+    → id_count s k ids' + bit (is_waiting (Some old)) ≡ id_count s k ids + bit (is_waiting (Some new))
+    → ((s' k' : ℕ) → (s' ≢ s) ⊎ (k' ≢ k) → id_count s' k' ids' ≡ id_count s' k' ids)
     → Lists ids' (set c s (with_stage k new state))
 lists_restaged c s k state old new ids ids' at was kept here there =
     lists_set c s state (with_stage k new state) ids ids' at kept
@@ -130,7 +130,7 @@ lists_restaged c s k state old new ids ids' at was kept here there =
       | inl e ↦
           let before : slice_get state.stages k' ≡ Some old = ap (slice_get state.stages) e ∙ was in
           let now : slice_get (set state.stages k new) k' ≡ Some new = ap (slice_get (set state.stages k new)) e ∙ slice_get-set_same state.stages k new (slice_get_within state.stages k old was) in
-          omega (arith, here, ap (λ o. bit (is_waiting o)) before, ap (λ o. bit (is_waiting o)) now, ap (λ n. times s n ids) e, ap (λ n. times s n ids') e)
+          omega (arith, here, ap (λ o. bit (is_waiting o)) before, ap (λ o. bit (is_waiting o)) now, ap (λ n. id_count s n ids) e, ap (λ n. id_count s n ids') e)
       | inr ne ↦ omega (arith, there s k' (inr ne), ap (λ o. bit (is_waiting o)) (slice_get-set_other state.stages k k' new ne))
     ])
     (λ s' k' ne. there s' k' (inl ne))
@@ -169,7 +169,7 @@ pub takes : (c : Content) (id : JobId) (ids ids' : List JobId) (taken room : ℕ
 takes c id ids ids' taken room state b moved at was = record {
   few = omega (arith, b.few, length-set c id.sender (with_stage id.number Taken state));
   content = content_set c id.sender (with_stage id.number Taken state) (slice_get_within c id.sender state at) b.content (state_restaged state id.number Waiting Taken (b.content id.sender state at) was refl (λ a e. cc));
-  lists = lists_restaged c id.sender id.number state Waiting Taken ids ids' at was b.lists (omega (arith, bit_same id, times-popped id.sender id.number id ids ids' moved)) (λ s k ne. omega (arith, bit_other id s k ne, times-popped s k id ids ids' moved));
+  lists = lists_restaged c id.sender id.number state Waiting Taken ids ids' at was b.lists (omega (arith, bit_same id, id_count-popped id.sender id.number id ids ids' moved)) (λ s k ne. omega (arith, bit_other id s k ne, id_count-popped s k id ids ids' moved));
   counts = omega (arith, b.counts, taken_restaged c id.sender id.number state Waiting Taken at was);
   has_room = omega (arith, b.has_room, length_permutation ids (id ∷ ids') moved);
 }
@@ -182,7 +182,7 @@ gives_back c id ids ids' taken room room' state b moved more at was =
     record {
       few = omega (arith, b.few, length-set c id.sender (with_stage id.number Waiting state));
       content = content_set c id.sender (with_stage id.number Waiting state) (slice_get_within c id.sender state at) b.content (state_restaged state id.number Taken Waiting (b.content id.sender state at) was refl (λ a e. cc));
-      lists = lists_restaged c id.sender id.number state Taken Waiting ids ids' at was b.lists (omega (arith, bit_same id, times-pushed id.sender id.number id ids ids' moved)) (λ s k ne. omega (arith, bit_other id s k ne, times-pushed s k id ids ids' moved));
+      lists = lists_restaged c id.sender id.number state Taken Waiting ids ids' at was b.lists (omega (arith, bit_same id, id_count-pushed id.sender id.number id ids ids' moved)) (λ s k ne. omega (arith, bit_other id s k ne, id_count-pushed s k id ids ids' moved));
       counts = omega (arith, b.counts, taken_restaged c id.sender id.number state Taken Waiting at was);
       has_room = omega (arith, b.has_room, some, more, length_permutation (id ∷ ids) ids' moved);
     }
@@ -203,12 +203,12 @@ finishes c s k a ids taken room state b at was fits =
       has_room = omega (arith, b.has_room);
     }
 
-not_next : (state : State) (b : Bool) → after_handed state (cond b handed.Drained handed.Waiting) ≡ state
+not_next : (state : State) (b : Bool) → state_after_handed state (cond b handed.Drained handed.Waiting) ≡ state
 not_next state true = refl
 not_next state false = refl
 
 -- a state after a deliver
-pub handed_is_state : (state : State) (o : Option Stage) → slice_get state.stages state.handed ≡ o → IsState state → IsState (after_handed state (deliver_stage state o))
+pub handed_is_state : (state : State) (o : Option Stage) → slice_get state.stages state.handed ≡ o → IsState state → IsState (state_after_handed state (deliver_reply_at state o))
 handed_is_state state None at h = let P : State → Type 0 = IsState in subst P (sym (not_next state (state.closed && (state.handed == length state.tasks)))) h
 handed_is_state state (Some Waiting) at h = let P : State → Type 0 = IsState in subst P (sym (not_next state (state.closed && (state.handed == length state.tasks)))) h
 handed_is_state state (Some Taken) at h = let P : State → Type 0 = IsState in subst P (sym (not_next state (state.closed && (state.handed == length state.tasks)))) h
@@ -220,19 +220,19 @@ handed_is_state state (Some (Finished a)) at h = record {
   solved = h.solved;
 }
 
-pub handed_same_stages : (state : State) (r : Handed) → (after_handed state r).stages ≡ state.stages
+pub handed_same_stages : (state : State) (r : Handed) → (state_after_handed state r).stages ≡ state.stages
 handed_same_stages state (handed.Next d) = refl
 handed_same_stages state handed.Waiting = refl
 handed_same_stages state handed.Drained = refl
 handed_same_stages state handed.NoSender = refl
 
 pub delivers : (c : Content) (ids : List JobId) (taken room s : ℕ) (state : State) → IsBoard c ids taken room → slice_get c s ≡ Some state
-    → IsBoard (set c s (after_handed state (deliver_state state))) ids taken room
+    → IsBoard (set c s (state_after_handed state (deliver_reply_of state))) ids taken room
 delivers c ids taken room s state b at =
-    keeps c ids taken room s state (after_handed state (deliver_state state)) b at (handed_same_stages state (deliver_state state)) (handed_is_state state (slice_get state.stages state.handed) refl (b.content s state at))
+    keeps c ids taken room s state (state_after_handed state (deliver_reply_of state)) b at (handed_same_stages state (deliver_reply_of state)) (handed_is_state state (slice_get state.stages state.handed) refl (b.content s state at))
 
-pub delivered : (c : Content) (s : ℕ) (state : State) (r : Handed) → slice_get c s ≡ Some state → set c s (after_handed state r) ≡ after_deliver c s r
-delivered c s state (handed.Next d) at = sym (change_at c s state hand_one at)
+pub delivered : (c : Content) (s : ℕ) (state : State) (r : Handed) → slice_get c s ≡ Some state → set c s (state_after_handed state r) ≡ after_deliver c s r
+delivered c s state (handed.Next d) at = sym (change_at c s state with_one_handed at)
 delivered c s state handed.Waiting at = set_same c s state at
 delivered c s state handed.Drained at = set_same c s state at
 delivered c s state handed.NoSender at = set_same c s state at
@@ -255,7 +255,7 @@ pub finish_from : (c : Content) (id : JobId) (a : Problem) (r : Result (Unit {0}
 finish_from c id a r state at h = let P : Option State → Type 0 = λ o. FinishAs (stage_in id.number o) (task_in id.number o) a r in subst P at h
 
 -- what an accepted give back shows
-pub give_back_ok : (o : Option Stage) (u : Unit {0}) → Ok u ≡ give_back_by o → o ≡ Some Taken
+pub give_back_ok : (o : Option Stage) (u : Unit {0}) → Ok u ≡ give_back_reply_at o → o ≡ Some Taken
 give_back_ok None u e = cc
 give_back_ok (Some Waiting) u e = cc
 give_back_ok (Some Taken) u e = refl
@@ -273,7 +273,7 @@ state_from k (Some state) e = (state, refl, e)
 
 -- a job that the queue gave waits
 pub first_waits : (c : Content) (id : JobId) (ids ids' : List JobId) (taken room : ℕ) → IsBoard c ids taken room → IsPermutation ids (id ∷ ids') → stage_at c id.sender id.number ≡ Some Waiting
-first_waits c id ids ids' taken room b moved = waiting_from (stage_at c id.sender id.number) (omega (arith, b.lists id.sender id.number, bit_same id, times-popped id.sender id.number id ids ids' moved))
+first_waits c id ids ids' taken room b moved = waiting_from (stage_at c id.sender id.number) (omega (arith, b.lists id.sender id.number, bit_same id, id_count-popped id.sender id.number id ids ids' moved))
 
 pub first_state : (c : Content) (id : JobId) (ids ids' : List JobId) (taken room : ℕ) → IsBoard c ids taken room → IsPermutation ids (id ∷ ids') → (state : State) × (slice_get c id.sender ≡ Some state) × (slice_get state.stages id.number ≡ Some Waiting)
 first_state c id ids ids' taken room b moved = state_from id.number (slice_get c id.sender) (first_waits c id ids ids' taken room b moved)
@@ -312,8 +312,8 @@ state_with_task state t h few = record {
 }
 
 -- a state whose answer was delivered
-pub state_handed : (state : State) (d : Delivery) → IsState state → handed.Next d ≡ deliver_state state → IsState (hand_one state)
-state_handed state d h e = let P : Handed → Type 0 = λ r. IsState (after_handed state r) in subst P (sym e) (handed_is_state state (slice_get state.stages state.handed) refl h)
+pub state_handed : (state : State) (d : Delivery) → IsState state → handed.Next d ≡ deliver_reply_of state → IsState (with_one_handed state)
+state_handed state d h e = let P : Handed → Type 0 = λ r. IsState (state_after_handed state r) in subst P (sym e) (handed_is_state state (slice_get state.stages state.handed) refl h)
 
 pub submits : (c : Content) (s : ℕ) (t : Problem) (ids ids' : List JobId) (taken room room' : ℕ) (state : State) → IsBoard c ids taken room
     → slice_get c s ≡ Some state → length state.tasks < 65535 → IsPermutation (record { sender = s; number = length state.tasks } ∷ ids) ids' → length ids + (taken + 1) ≤ room'
@@ -330,12 +330,12 @@ submits c s t ids ids' taken room room' state b at few moved enough =
             | inl e ↦
                 let before : slice_get state.stages k ≡ None = ap (slice_get state.stages) e ∙ none in
                 let now : slice_get (state.stages ++ Waiting ∷ []) k ≡ Some Waiting = slice_get-push_same state.stages Waiting k (e ∙ sym h.stages) in
-                omega (arith, times-pushed s k id ids ids' moved, bit_same id, ap (λ n. bit (names s n id)) e, ap (λ o. bit (is_waiting o)) before, ap (λ o. bit (is_waiting o)) now)
+                omega (arith, id_count-pushed s k id ids ids' moved, bit_same id, ap (λ n. bit (is_id_of s n id)) e, ap (λ o. bit (is_waiting o)) before, ap (λ o. bit (is_waiting o)) now)
             | inr ne ↦
                 let now : slice_get (state.stages ++ Waiting ∷ []) k ≡ slice_get state.stages k = slice_get-push_other state.stages Waiting k (λ e. ne (e ∙ h.stages)) in
-                omega (arith, times-pushed s k id ids ids' moved, bit_other id s k (inr ne), ap (λ o. bit (is_waiting o)) now)
+                omega (arith, id_count-pushed s k id ids ids' moved, bit_other id s k (inr ne), ap (λ o. bit (is_waiting o)) now)
           ])
-          (λ s' k ne. omega (arith, times-pushed s' k id ids ids' moved, bit_other id s' k (inl ne)));
+          (λ s' k ne. omega (arith, id_count-pushed s' k id ids ids' moved, bit_other id s' k (inl ne)));
       counts = omega (arith, b.counts, taken-set c s state (with_task t state) at, taken-push state.stages);
       has_room = omega (arith, enough, length_permutation (id ∷ ids) ids' moved);
     }
@@ -442,7 +442,7 @@ not_next_if d true e = cc
 not_next_if d false e = cc
 
 -- what the next answer shows
-pub next_facts : (state : State) (d : Delivery) (o : Option Stage) → handed.Next d ≡ deliver_stage state o → (d.number ≡ state.handed) × (o ≡ Some (Finished d.solved))
+pub next_facts : (state : State) (d : Delivery) (o : Option Stage) → handed.Next d ≡ deliver_reply_at state o → (d.number ≡ state.handed) × (o ≡ Some (Finished d.solved))
 next_facts state d None e = absurd (not_next_if d (state.closed && (state.handed == length state.tasks)) e)
 next_facts state d (Some Waiting) e = absurd (not_next_if d (state.closed && (state.handed == length state.tasks)) e)
 next_facts state d (Some Taken) e = absurd (not_next_if d (state.closed && (state.handed == length state.tasks)) e)

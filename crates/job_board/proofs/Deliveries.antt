@@ -11,11 +11,11 @@ use Rattle.job_board.specs.declared.steps.Step.TheVariants as step
 use Rattle.job_board.specs.declared.steps.Reply.{Reply}
 use Rattle.job_board.specs.declared.steps.Reply.TheVariants as reply
 use Rattle.job_board.specs.declared.faults.SubmitFault.TheVariants as fault
-use Rattle.job_board.specs.Contents.{State, Content, with_task, with_stage, hand_one, closed_state, empty_state, empty_content}
+use Rattle.job_board.specs.Contents.{State, Content, with_task, with_stage, with_one_handed, closed_state, empty_state, empty_content}
 use Rattle.job_board.specs.Boards.{IsState}
-use Rattle.job_board.specs.Replies.{SubmitAs, submit_refusal, task_count, deliver_stage, deliver_in, deliver_reply}
+use Rattle.job_board.specs.Replies.{SubmitAs, submit_refusal, task_count, deliver_reply_at, deliver_reply_in, deliver_reply}
 use Rattle.job_board.specs.Steps.{IsLawful, after, AreLawful, after_all}
-use Rattle.job_board.specs.Histories.{accepted_by, accepted_tasks, handed_by, handed_to, InOrder}
+use Rattle.job_board.specs.Histories.{tasks_by, accepted_tasks, deliveries_by, deliveries_to, InOrder}
 use Rattle.job_board.proofs.BoardFacts.{next_facts}
 use Rattle.job_board.proofs.StateSteps.{state_step, state_after, state_kept, cond_same, tasks_step, handed_step, slice_get-replicate, empty_is_state}
 
@@ -29,10 +29,10 @@ one_if true tasks first d h = let p = h refl in (p.0, p.1, tt)
 one_if false tasks first d h = tt
 
 -- what one step delivers is the next of its state
-one_in_order : (c : Content) (s : ℕ) (state : State) (st : Step) (r : Reply) (more : List Problem) → slice_get c s ≡ Some state → IsState state → IsLawful c st r → InOrder (state.tasks ++ more) state.handed (handed_by s st r)
+one_in_order : (c : Content) (s : ℕ) (state : State) (st : Step) (r : Reply) (more : List Problem) → slice_get c s ≡ Some state → IsState state → IsLawful c st r → InOrder (state.tasks ++ more) state.handed (deliveries_by s st r)
 one_in_order c s state (step.Deliver s') (reply.Handed (handed.Next d)) more at h law =
     one_if (s' == s) (state.tasks ++ more) state.handed d (λ is.
-    let e : handed.Next d ≡ deliver_stage state (slice_get state.stages state.handed) = law ∙ ap deliver_in (ap (slice_get c) (eqb-true s' s is) ∙ at) in
+    let e : handed.Next d ≡ deliver_reply_at state (slice_get state.stages state.handed) = law ∙ ap deliver_reply_in (ap (slice_get c) (eqb-true s' s is) ∙ at) in
     let facts = next_facts state d (slice_get state.stages state.handed) e in
     (facts.0, slice_get-append state.tasks more state.handed d.solved (h.solved state.handed d.solved facts.1)))
 one_in_order c s state _ _ more at h law = tt
@@ -43,22 +43,22 @@ InOrder-append tasks first (d ∷ ds) es h more = (h.0, h.1, InOrder-append task
 
 -- from any content on, what is delivered to a sender is in order
 pub in_order : (c : Content) (s : ℕ) (state : State) (ss : List Step) (rs : List Reply) → slice_get c s ≡ Some state → IsState state → AreLawful c ss rs
-    → InOrder (state.tasks ++ accepted_tasks s ss rs) state.handed (handed_to s ss rs)
+    → InOrder (state.tasks ++ accepted_tasks s ss rs) state.handed (deliveries_to s ss rs)
 in_order c s state [] [] at h law = tt
 in_order c s state [] (r ∷ rs) at h law = absurd law
 in_order c s state (st ∷ ss) [] at h law = absurd law
 in_order c s state (st ∷ ss) (r ∷ rs) at h law =
     let new : State = state_step s state st r in
-    let rest : InOrder (new.tasks ++ accepted_tasks s ss rs) new.handed (handed_to s ss rs) = in_order (after c st r) s new ss rs (state_after c s state st r at) (state_kept c s state st r at h law.0) law.1 in
-    let tasks : new.tasks ++ accepted_tasks s ss rs ≡ state.tasks ++ (accepted_by s st r ++ accepted_tasks s ss rs) = ap (λ l. l ++ accepted_tasks s ss rs) (tasks_step s state st r) ∙ append_assoc state.tasks (accepted_by s st r) (accepted_tasks s ss rs) in
-    let P : List Problem → Type 0 = λ l. InOrder l new.handed (handed_to s ss rs) in
-    let Q : ℕ → Type 0 = λ n. InOrder (state.tasks ++ (accepted_by s st r ++ accepted_tasks s ss rs)) n (handed_to s ss rs) in
-    InOrder-append (state.tasks ++ (accepted_by s st r ++ accepted_tasks s ss rs)) state.handed (handed_by s st r) (handed_to s ss rs)
-    (one_in_order c s state st r (accepted_by s st r ++ accepted_tasks s ss rs) at h law.0)
+    let rest : InOrder (new.tasks ++ accepted_tasks s ss rs) new.handed (deliveries_to s ss rs) = in_order (after c st r) s new ss rs (state_after c s state st r at) (state_kept c s state st r at h law.0) law.1 in
+    let tasks : new.tasks ++ accepted_tasks s ss rs ≡ state.tasks ++ (tasks_by s st r ++ accepted_tasks s ss rs) = ap (λ l. l ++ accepted_tasks s ss rs) (tasks_step s state st r) ∙ append_assoc state.tasks (tasks_by s st r) (accepted_tasks s ss rs) in
+    let P : List Problem → Type 0 = λ l. InOrder l new.handed (deliveries_to s ss rs) in
+    let Q : ℕ → Type 0 = λ n. InOrder (state.tasks ++ (tasks_by s st r ++ accepted_tasks s ss rs)) n (deliveries_to s ss rs) in
+    InOrder-append (state.tasks ++ (tasks_by s st r ++ accepted_tasks s ss rs)) state.handed (deliveries_by s st r) (deliveries_to s ss rs)
+    (one_in_order c s state st r (tasks_by s st r ++ accepted_tasks s ss rs) at h law.0)
     (subst Q (handed_step s state st r) (subst P tasks rest))
 
 -- the same of a history from its beginning
-pub all_in_order : (n s : ℕ) (ss : List Step) (rs : List Reply) → s < n → AreLawful (empty_content n) ss rs → InOrder (accepted_tasks s ss rs) 0 (handed_to s ss rs)
+pub all_in_order : (n s : ℕ) (ss : List Step) (rs : List Reply) → s < n → AreLawful (empty_content n) ss rs → InOrder (accepted_tasks s ss rs) 0 (deliveries_to s ss rs)
 all_in_order n s ss rs lt law = in_order (empty_content n) s empty_state ss rs (slice_get-replicate n s empty_state lt) empty_is_state law
 
 abbrev pub state_all : ℕ → State → List Step → List Reply → State
@@ -75,31 +75,31 @@ pub tasks_all : (s : ℕ) (state : State) (ss : List Step) (rs : List Reply) →
 tasks_all s state [] [] = sym (append-nil state.tasks)
 tasks_all s state [] (r ∷ rs) = sym (append-nil state.tasks)
 tasks_all s state (st ∷ ss) [] = sym (append-nil state.tasks)
-tasks_all s state (st ∷ ss) (r ∷ rs) = tasks_all s (state_step s state st r) ss rs ∙ (ap (λ l. l ++ accepted_tasks s ss rs) (tasks_step s state st r) ∙ append_assoc state.tasks (accepted_by s st r) (accepted_tasks s ss rs))
+tasks_all s state (st ∷ ss) (r ∷ rs) = tasks_all s (state_step s state st r) ss rs ∙ (ap (λ l. l ++ accepted_tasks s ss rs) (tasks_step s state st r) ∙ append_assoc state.tasks (tasks_by s st r) (accepted_tasks s ss rs))
 
-pub handed_all : (s : ℕ) (state : State) (ss : List Step) (rs : List Reply) → (state_all s state ss rs).handed ≡ state.handed + length (handed_to s ss rs)
+pub handed_all : (s : ℕ) (state : State) (ss : List Step) (rs : List Reply) → (state_all s state ss rs).handed ≡ state.handed + length (deliveries_to s ss rs)
 handed_all s state [] [] = omega arith
 handed_all s state [] (r ∷ rs) = omega arith
 handed_all s state (st ∷ ss) [] = omega arith
-handed_all s state (st ∷ ss) (r ∷ rs) = omega (arith, handed_all s (state_step s state st r) ss rs, handed_step s state st r, length-append (handed_by s st r) (handed_to s ss rs))
+handed_all s state (st ∷ ss) (r ∷ rs) = omega (arith, handed_all s (state_step s state st r) ss rs, handed_step s state st r, length-append (deliveries_by s st r) (deliveries_to s ss rs))
 
 drained_if : (state : State) (b e : Bool) → handed.Drained ≡ cond (b && e) handed.Drained handed.Waiting → (b ≡ true) × (e ≡ true)
 drained_if state true true h = (refl, refl)
 drained_if state true false h = cc
 drained_if state false e h = cc
 
-pub drained_stage : (state : State) (o : Option Stage) → handed.Drained ≡ deliver_stage state o → (state.closed ≡ true) × ((state.handed == length state.tasks) ≡ true)
+pub drained_stage : (state : State) (o : Option Stage) → handed.Drained ≡ deliver_reply_at state o → (state.closed ≡ true) × ((state.handed == length state.tasks) ≡ true)
 drained_stage state None e = drained_if state state.closed (state.handed == length state.tasks) e
 drained_stage state (Some Waiting) e = drained_if state state.closed (state.handed == length state.tasks) e
 drained_stage state (Some Taken) e = drained_if state state.closed (state.handed == length state.tasks) e
 drained_stage state (Some (Finished a)) e = cc
 
 -- where a sender is drained, as many answers were handed over as tasks were accepted
-pub drained_all : (n s : ℕ) (ss : List Step) (rs : List Reply) → s < n → handed.Drained ≡ deliver_reply (after_all (empty_content n) ss rs) s → length (handed_to s ss rs) ≡ length (accepted_tasks s ss rs)
+pub drained_all : (n s : ℕ) (ss : List Step) (rs : List Reply) → s < n → handed.Drained ≡ deliver_reply (after_all (empty_content n) ss rs) s → length (deliveries_to s ss rs) ≡ length (accepted_tasks s ss rs)
 drained_all n s ss rs lt e =
     let state : State = state_all s empty_state ss rs in
     let at : slice_get (after_all (empty_content n) ss rs) s ≡ Some state = state_after_all (empty_content n) s empty_state ss rs (slice_get-replicate n s empty_state lt) in
-    let facts = drained_stage state (slice_get state.stages state.handed) (e ∙ ap deliver_in at) in
+    let facts = drained_stage state (slice_get state.stages state.handed) (e ∙ ap deliver_reply_in at) in
     omega (arith, eqb-true state.handed (length state.tasks) facts.1, handed_all s empty_state ss rs, ap length (tasks_all s empty_state ss rs))
 
 closed_refuses : (state : State) (n : ℕ) (b full : Bool) → b ≡ true → SubmitAs (cond b (Some fault.Closed) (cond full (Some fault.Full) None)) (length state.tasks) (Ok n) → ⊥
@@ -114,7 +114,7 @@ still s' s state new e same = cond_same (λ l. l.closed) (s' == s) new state sam
 
 -- a lawful step of a closed state accepts nothing, and leaves it closed
 closed_step : (c : Content) (s : ℕ) (state : State) (st : Step) (r : Reply) → slice_get c s ≡ Some state → state.closed ≡ true → IsLawful c st r
-    → (accepted_by s st r ≡ []) × ((state_step s state st r).closed ≡ true)
+    → (tasks_by s st r ≡ []) × ((state_step s state st r).closed ≡ true)
 closed_step c s state (step.Submit s' t) (reply.Submitted (Ok n)) at e law = (
   elim (cases_eq s' s) [
     | inl is ↦
@@ -127,7 +127,7 @@ closed_step c s state (step.Submit s' t) (reply.Submitted (Ok n)) at e law = (
 closed_step c s state step.Take (reply.Took (Some job)) at e law = (refl, still job.id.sender s state (with_stage job.id.number Taken state) e refl)
 closed_step c s state (step.Finish id a) (reply.Finished (Ok u)) at e law = (refl, still id.sender s state (with_stage id.number (Finished a) state) e refl)
 closed_step c s state (step.GiveBack id) (reply.GaveBack (Ok u)) at e law = (refl, still id.sender s state (with_stage id.number Waiting state) e refl)
-closed_step c s state (step.Deliver s') (reply.Handed (handed.Next d)) at e law = (refl, still s' s state (hand_one state) e refl)
+closed_step c s state (step.Deliver s') (reply.Handed (handed.Next d)) at e law = (refl, still s' s state (with_one_handed state) e refl)
 closed_step c s state (step.Close s') (reply.Closed r) at e law = (refl, still s' s state (closed_state state) e (sym e))
 closed_step c s state _ _ at e law = (refl, e)
 

@@ -14,17 +14,17 @@ use Rattle.job_board.specs.declared.steps.Step.{Step}
 use Rattle.job_board.specs.declared.steps.Step.TheVariants as step
 use Rattle.job_board.specs.declared.steps.Reply.{Reply}
 use Rattle.job_board.specs.declared.steps.Reply.TheVariants as reply
-use Rattle.job_board.specs.Contents.{State, Content, put_state, with_task, with_stage, hand_one, closed_state, stage_in, empty_state, empty_content}
+use Rattle.job_board.specs.Contents.{State, Content, content_by, with_task, with_stage, with_one_handed, closed_state, stage_in, empty_state, empty_content}
 use Rattle.job_board.specs.Boards.{IsState, IsContent}
-use Rattle.job_board.specs.Replies.{deliver_in, deliver_reply, close_in, give_back_by}
+use Rattle.job_board.specs.Replies.{deliver_reply_in, deliver_reply, close_reply_in, give_back_reply_at}
 use Rattle.job_board.specs.Steps.{IsLawful, after, AreLawful, after_all}
-use Rattle.job_board.specs.Queues.{names}
-use Rattle.job_board.specs.Histories.{accepted_tasks, handed_to, closed_by, is_closed, staged_by, stage_after, IsStateOf, InOrder}
+use Rattle.job_board.specs.Queues.{is_id_of}
+use Rattle.job_board.specs.Histories.{accepted_tasks, deliveries_to, is_closed_by, is_closed, stage_by, stage_after, IsStateOf, InOrder}
 use Rattle.job_board.proofs.BoardFacts.{slice_get-set_same, slice_get-set_other, finish_ok, finish_from, give_back_ok}
 use Rattle.job_board.proofs.StateSteps.{state_step, state_after, state_kept, cond_same, slice_get-replicate, empty_is_state}
 use Rattle.job_board.proofs.Deliveries.{state_all, state_after_all, tasks_all, handed_all, in_order, accepted_closed, drained_stage}
 
-put_length : (c : Content) (s : ℕ) (f : State → State) (o : Option State) → length (put_state c s f o) ≡ length c
+put_length : (c : Content) (s : ℕ) (f : State → State) (o : Option State) → length (content_by c s f o) ≡ length c
 put_length c s f None = refl
 put_length c s f (Some state) = length-set c s (f state)
 
@@ -33,7 +33,7 @@ length_after c (step.Submit s t) (reply.Submitted (Ok n)) = put_length c s (with
 length_after c step.Take (reply.Took (Some job)) = put_length c job.id.sender (with_stage job.id.number Taken) (slice_get c job.id.sender)
 length_after c (step.Finish id a) (reply.Finished (Ok u)) = put_length c id.sender (with_stage id.number (Finished a)) (slice_get c id.sender)
 length_after c (step.GiveBack id) (reply.GaveBack (Ok u)) = put_length c id.sender (with_stage id.number Waiting) (slice_get c id.sender)
-length_after c (step.Deliver s) (reply.Handed (handed.Next d)) = put_length c s hand_one (slice_get c s)
+length_after c (step.Deliver s) (reply.Handed (handed.Next d)) = put_length c s with_one_handed (slice_get c s)
 length_after c (step.Close s) (reply.Closed r) = put_length c s closed_state (slice_get c s)
 length_after c _ _ = refl
 
@@ -74,23 +74,23 @@ was_closed true r is e = refl
 was_closed false r is e = cc
 
 -- what a lawful step adds to whether a state is closed
-closed_next : (c : Content) (s : ℕ) (state : State) (st : Step) (r : Reply) → slice_get c s ≡ Some state → IsLawful c st r → (state_step s state st r).closed ≡ (state.closed || closed_by s st r)
+closed_next : (c : Content) (s : ℕ) (state : State) (st : Step) (r : Reply) → slice_get c s ≡ Some state → IsLawful c st r → (state_step s state st r).closed ≡ (state.closed || is_closed_by s st r)
 closed_next c s state (step.Submit s' t) (reply.Submitted (Ok n)) at law = cond_same (λ l. l.closed) (s' == s) (with_task t state) state refl ∙ sym (or-false state.closed)
 closed_next c s state step.Take (reply.Took (Some job)) at law = cond_same (λ l. l.closed) (job.id.sender == s) (with_stage job.id.number Taken state) state refl ∙ sym (or-false state.closed)
 closed_next c s state (step.Finish id a) (reply.Finished (Ok u)) at law = cond_same (λ l. l.closed) (id.sender == s) (with_stage id.number (Finished a) state) state refl ∙ sym (or-false state.closed)
 closed_next c s state (step.GiveBack id) (reply.GaveBack (Ok u)) at law = cond_same (λ l. l.closed) (id.sender == s) (with_stage id.number Waiting state) state refl ∙ sym (or-false state.closed)
-closed_next c s state (step.Deliver s') (reply.Handed (handed.Next d)) at law = cond_same (λ l. l.closed) (s' == s) (hand_one state) state refl ∙ sym (or-false state.closed)
+closed_next c s state (step.Deliver s') (reply.Handed (handed.Next d)) at law = cond_same (λ l. l.closed) (s' == s) (with_one_handed state) state refl ∙ sym (or-false state.closed)
 closed_next c s state (step.Close s') (reply.Closed (Ok true)) at law = closes_if (s' == s) state
 closed_next c s state (step.Close s') (reply.Closed (Ok false)) at law =
     elim (cases_eq s' s) [
       | inl e ↦
-          let was : state.closed ≡ true = was_closed state.closed (Ok false) refl (law ∙ ap close_in (ap (slice_get c) e ∙ at)) in
+          let was : state.closed ≡ true = was_closed state.closed (Ok false) refl (law ∙ ap close_reply_in (ap (slice_get c) e ∙ at)) in
           cond_same (λ l. l.closed) (s' == s) (closed_state state) state (sym was) ∙ sym (or-false state.closed)
       | inr ne ↦ ap (λ b. (cond b (closed_state state) state).closed) (ne_eqb s' s ne) ∙ sym (or-false state.closed)
     ]
 closed_next c s state (step.Close s') (reply.Closed (Err e)) at law =
     elim (cases_eq s' s) [
-      | inl same ↦ let no : Err e ≡ Ok (not state.closed) = law ∙ ap close_in (ap (slice_get c) same ∙ at) in cc
+      | inl same ↦ let no : Err e ≡ Ok (not state.closed) = law ∙ ap close_reply_in (ap (slice_get c) same ∙ at) in cc
       | inr ne ↦ ap (λ b. (cond b (closed_state state) state).closed) (ne_eqb s' s ne) ∙ sym (or-false state.closed)
     ]
 closed_next c s state _ _ at law = sym (or-false state.closed)
@@ -101,7 +101,7 @@ closed_all c s state [] (r ∷ rs) at law = absurd law
 closed_all c s state (st ∷ ss) [] at law = absurd law
 closed_all c s state (st ∷ ss) (r ∷ rs) at law =
     closed_all (after c st r) s (state_step s state st r) ss rs (state_after c s state st r at) law.1
-    ∙ (ap (λ b. b || is_closed s ss rs) (closed_next c s state st r at law.0) ∙ or-assoc state.closed (closed_by s st r) (is_closed s ss rs))
+    ∙ (ap (λ b. b || is_closed s ss rs) (closed_next c s state st r at law.0) ∙ or-assoc state.closed (is_closed_by s st r) (is_closed s ss rs))
 
 -- a job's stage, and that of a job to come
 abbrev or_waiting : Option Stage → Stage
@@ -119,7 +119,7 @@ push_if true t state k = push_waiting state.stages k
 push_if false t state k = refl
 
 restaged_if : (id : JobId) (s k : ℕ) (new : Stage) (state : State) → (id.sender ≡ s → id.number < length state.stages)
-    → or_waiting (slice_get (cond (id.sender == s) (with_stage id.number new state) state).stages k) ≡ cond (names s k id) new (or_waiting (slice_get state.stages k))
+    → or_waiting (slice_get (cond (id.sender == s) (with_stage id.number new state) state).stages k) ≡ cond (is_id_of s k id) new (or_waiting (slice_get state.stages k))
 restaged_if id s k new state within =
     elim (cases_eq id.sender s) [
       | inl e ↦
@@ -139,15 +139,15 @@ restaged_if id s k new state within =
 
 -- the stage to which a lawful step brings a job
 stage_next : (c : Content) (s k : ℕ) (state : State) (st : Step) (r : Reply) → slice_get c s ≡ Some state → IsLawful c st r
-    → or_waiting (slice_get (state_step s state st r).stages k) ≡ staged_by s k (or_waiting (slice_get state.stages k)) st r
+    → or_waiting (slice_get (state_step s state st r).stages k) ≡ stage_by s k (or_waiting (slice_get state.stages k)) st r
 stage_next c s k state (step.Submit s' t) (reply.Submitted (Ok n)) at law = push_if (s' == s) t state k
 stage_next c s k state step.Take (reply.Took (Some job)) at law =
     restaged_if job.id s k Taken state (λ e. slice_get_within state.stages job.id.number Waiting (sym (ap (stage_in job.id.number) (ap (slice_get c) e ∙ at)) ∙ law.0))
 stage_next c s k state (step.Finish id a) (reply.Finished (Ok u)) at law =
     restaged_if id s k (Finished a) state (λ e. slice_get_within state.stages id.number Taken (finish_ok (slice_get state.stages id.number) (slice_get state.tasks id.number) a u (finish_from c id a (Ok u) state (ap (slice_get c) e ∙ at) law)).0)
 stage_next c s k state (step.GiveBack id) (reply.GaveBack (Ok u)) at law =
-    restaged_if id s k Waiting state (λ e. slice_get_within state.stages id.number Taken (give_back_ok (slice_get state.stages id.number) u (law ∙ ap (λ o. give_back_by (stage_in id.number o)) (ap (slice_get c) e ∙ at))))
-stage_next c s k state (step.Deliver s') (reply.Handed (handed.Next d)) at law = cond_same (λ l. or_waiting (slice_get l.stages k)) (s' == s) (hand_one state) state refl
+    restaged_if id s k Waiting state (λ e. slice_get_within state.stages id.number Taken (give_back_ok (slice_get state.stages id.number) u (law ∙ ap (λ o. give_back_reply_at (stage_in id.number o)) (ap (slice_get c) e ∙ at))))
+stage_next c s k state (step.Deliver s') (reply.Handed (handed.Next d)) at law = cond_same (λ l. or_waiting (slice_get l.stages k)) (s' == s) (with_one_handed state) state refl
 stage_next c s k state (step.Close s') (reply.Closed r) at law = cond_same (λ l. or_waiting (slice_get l.stages k)) (s' == s) (closed_state state) state refl
 stage_next c s k state _ _ at law = refl
 
@@ -208,16 +208,16 @@ state_there n s ss rs lt = state_after_all (empty_content n) s empty_state ss rs
 
 -- a sender that is drained stays so
 pub drained_stays : (n s : ℕ) (ss ss' : List Step) (rs rs' : List Reply) → s < n → AreLawful (empty_content n) ss rs → handed.Drained ≡ deliver_reply (after_all (empty_content n) ss rs) s
-    → AreLawful (after_all (empty_content n) ss rs) ss' rs' → (accepted_tasks s ss' rs' ≡ []) × (handed_to s ss' rs' ≡ [])
+    → AreLawful (after_all (empty_content n) ss rs) ss' rs' → (accepted_tasks s ss' rs' ≡ []) × (deliveries_to s ss' rs' ≡ [])
 drained_stays n s ss ss' rs rs' lt law e more =
     let c : Content = after_all (empty_content n) ss rs in
     let state : State = state_all s empty_state ss rs in
     let at : slice_get c s ≡ Some state = state_there n s ss rs lt in
     let h : IsState state = kept_all (empty_content n) s empty_state ss rs (slice_get-replicate n s empty_state lt) empty_is_state law in
-    let facts = drained_stage state (slice_get state.stages state.handed) (e ∙ ap deliver_in at) in
+    let facts = drained_stage state (slice_get state.stages state.handed) (e ∙ ap deliver_reply_in at) in
     let none : accepted_tasks s ss' rs' ≡ [] = accepted_closed c s state ss' rs' at facts.0 more in
-    let P : ℕ → Type 0 = λ first. InOrder (state.tasks ++ accepted_tasks s ss' rs') first (handed_to s ss' rs') in
-    (none, no_more state.tasks (accepted_tasks s ss' rs') (handed_to s ss' rs') none (subst P (eqb-true state.handed (length state.tasks) facts.1) (in_order c s state ss' rs' at h more)))
+    let P : ℕ → Type 0 = λ first. InOrder (state.tasks ++ accepted_tasks s ss' rs') first (deliveries_to s ss' rs') in
+    (none, no_more state.tasks (accepted_tasks s ss' rs') (deliveries_to s ss' rs') none (subst P (eqb-true state.handed (length state.tasks) facts.1) (in_order c s state ss' rs' at h more)))
 
 -- nothing is accepted after a close
 pub closed_stays : (n s : ℕ) (ss ss' : List Step) (rs rs' : List Reply) → s < n → AreLawful (empty_content n) ss rs → is_closed s ss rs ≡ true

@@ -11,11 +11,11 @@ use Rattle.job_board.specs.declared.steps.Step.TheVariants as step
 use Rattle.job_board.specs.declared.steps.Reply.{Reply}
 use Rattle.job_board.specs.declared.steps.Reply.TheVariants as reply
 use Rattle.job_board.specs.declared.faults.SubmitFault.TheVariants as fault
-use Rattle.job_board.specs.Contents.{State, Content, change, put_state, with_task, with_stage, hand_one, closed_state, stage_in, empty_state}
+use Rattle.job_board.specs.Contents.{State, Content, content_with, content_by, with_task, with_stage, with_one_handed, closed_state, stage_in, empty_state}
 use Rattle.job_board.specs.Boards.{IsState}
-use Rattle.job_board.specs.Replies.{SubmitAs, submit_refusal, task_count, deliver_in, give_back_by}
+use Rattle.job_board.specs.Replies.{SubmitAs, submit_refusal, task_count, deliver_reply_in, give_back_reply_at}
 use Rattle.job_board.specs.Steps.{IsLawful, after}
-use Rattle.job_board.specs.Histories.{accepted_by, handed_by}
+use Rattle.job_board.specs.Histories.{tasks_by, deliveries_by}
 use Rattle.job_board.proofs.BoardFacts.{slice_get-set_same, slice_get-set_other, change_at, state_restaged, state_with_task, state_handed, finish_ok, finish_from, give_back_ok, same_finished}
 
 -- what a step does to the state of s
@@ -24,15 +24,15 @@ state_step s state (step.Submit s' t) (reply.Submitted (Ok n)) = cond (s' == s) 
 state_step s state step.Take (reply.Took (Some job)) = cond (job.id.sender == s) (with_stage job.id.number Taken state) state
 state_step s state (step.Finish id a) (reply.Finished (Ok u)) = cond (id.sender == s) (with_stage id.number (Finished a) state) state
 state_step s state (step.GiveBack id) (reply.GaveBack (Ok u)) = cond (id.sender == s) (with_stage id.number Waiting state) state
-state_step s state (step.Deliver s') (reply.Handed (handed.Next d)) = cond (s' == s) (hand_one state) state
+state_step s state (step.Deliver s') (reply.Handed (handed.Next d)) = cond (s' == s) (with_one_handed state) state
 state_step s state (step.Close s') (reply.Closed r) = cond (s' == s) (closed_state state) state
 state_step s state _ _ = state
 
-change_other : (c : Content) (s' s : ℕ) (f : State → State) (o : Option State) → slice_get c s' ≡ o → s ≢ s' → slice_get (put_state c s' f o) s ≡ slice_get c s
+change_other : (c : Content) (s' s : ℕ) (f : State → State) (o : Option State) → slice_get c s' ≡ o → s ≢ s' → slice_get (content_by c s' f o) s ≡ slice_get c s
 change_other c s' s f None e ne = refl
 change_other c s' s f (Some state) e ne = slice_get-set_other c s' s (f state) ne
 
-pub change_state : (c : Content) (s' s : ℕ) (f : State → State) (state : State) → slice_get c s ≡ Some state → slice_get (change c s' f) s ≡ Some (cond (s' == s) (f state) state)
+pub change_state : (c : Content) (s' s : ℕ) (f : State → State) (state : State) → slice_get c s ≡ Some state → slice_get (content_with c s' f) s ≡ Some (cond (s' == s) (f state) state)
 change_state c s' s f state at =
     elim (cases_eq s' s) [
       | inl e ↦
@@ -46,7 +46,7 @@ state_after c s state (step.Submit s' t) (reply.Submitted (Ok n)) at = change_st
 state_after c s state step.Take (reply.Took (Some job)) at = change_state c job.id.sender s (with_stage job.id.number Taken) state at
 state_after c s state (step.Finish id a) (reply.Finished (Ok u)) at = change_state c id.sender s (with_stage id.number (Finished a)) state at
 state_after c s state (step.GiveBack id) (reply.GaveBack (Ok u)) at = change_state c id.sender s (with_stage id.number Waiting) state at
-state_after c s state (step.Deliver s') (reply.Handed (handed.Next d)) at = change_state c s' s hand_one state at
+state_after c s state (step.Deliver s') (reply.Handed (handed.Next d)) at = change_state c s' s with_one_handed state at
 state_after c s state (step.Close s') (reply.Closed r) at = change_state c s' s closed_state state at
 state_after c s state _ _ at = at
 
@@ -83,10 +83,10 @@ state_kept c s state (step.Finish id a) (reply.Finished (Ok u)) at h law =
     state_restaged state id.number Taken (Finished a) h ok.0 refl (λ a' e'. ok.1 ∙ ap Some (same_finished a a' e')))
 state_kept c s state (step.GiveBack id) (reply.GaveBack (Ok u)) at h law =
     both id.sender s state (with_stage id.number Waiting state) h
-    (λ e. state_restaged state id.number Taken Waiting h (give_back_ok (slice_get state.stages id.number) u (law ∙ ap (λ o. give_back_by (stage_in id.number o)) (ap (slice_get c) e ∙ at))) refl (λ a e. cc))
+    (λ e. state_restaged state id.number Taken Waiting h (give_back_ok (slice_get state.stages id.number) u (law ∙ ap (λ o. give_back_reply_at (stage_in id.number o)) (ap (slice_get c) e ∙ at))) refl (λ a e. cc))
 state_kept c s state (step.Deliver s') (reply.Handed (handed.Next d)) at h law =
-    both s' s state (hand_one state) h
-    (λ e. state_handed state d h (law ∙ ap deliver_in (ap (slice_get c) e ∙ at)))
+    both s' s state (with_one_handed state) h
+    (λ e. state_handed state d h (law ∙ ap deliver_reply_in (ap (slice_get c) e ∙ at)))
 state_kept c s state (step.Close s') (reply.Closed r) at h law =
     both s' s state (closed_state state) h (λ e. record { stages = h.stages; most = h.most; handed = h.handed; finished = h.finished; solved = h.solved })
 state_kept c s state _ _ at h law = h
@@ -99,7 +99,7 @@ tasks_if : (b : Bool) (state : State) (t : Problem) → (cond b (with_task t sta
 tasks_if true state t = refl
 tasks_if false state t = sym (append-nil state.tasks)
 
-handed_if : (b : Bool) (state : State) (d : Delivery) → (cond b (hand_one state) state).handed ≡ state.handed + length (cond b (d ∷ []) [])
+handed_if : (b : Bool) (state : State) (d : Delivery) → (cond b (with_one_handed state) state).handed ≡ state.handed + length (cond b (d ∷ []) [])
 handed_if true state d = omega arith
 handed_if false state d = omega arith
 
@@ -112,17 +112,17 @@ pub empty_is_state : IsState empty_state
 empty_is_state = record { stages = refl; most = omega arith; handed = omega arith; finished = λ k lt. absurd (omega arith); solved = λ k a e. cc }
 
 -- what a step adds to the tasks of a state
-pub tasks_step : (s : ℕ) (state : State) (st : Step) (r : Reply) → (state_step s state st r).tasks ≡ state.tasks ++ accepted_by s st r
+pub tasks_step : (s : ℕ) (state : State) (st : Step) (r : Reply) → (state_step s state st r).tasks ≡ state.tasks ++ tasks_by s st r
 tasks_step s state (step.Submit s' t) (reply.Submitted (Ok n)) = tasks_if (s' == s) state t
 tasks_step s state step.Take (reply.Took (Some job)) = cond_same (λ l. l.tasks) (job.id.sender == s) (with_stage job.id.number Taken state) state refl ∙ sym (append-nil state.tasks)
 tasks_step s state (step.Finish id a) (reply.Finished (Ok u)) = cond_same (λ l. l.tasks) (id.sender == s) (with_stage id.number (Finished a) state) state refl ∙ sym (append-nil state.tasks)
 tasks_step s state (step.GiveBack id) (reply.GaveBack (Ok u)) = cond_same (λ l. l.tasks) (id.sender == s) (with_stage id.number Waiting state) state refl ∙ sym (append-nil state.tasks)
-tasks_step s state (step.Deliver s') (reply.Handed (handed.Next d)) = cond_same (λ l. l.tasks) (s' == s) (hand_one state) state refl ∙ sym (append-nil state.tasks)
+tasks_step s state (step.Deliver s') (reply.Handed (handed.Next d)) = cond_same (λ l. l.tasks) (s' == s) (with_one_handed state) state refl ∙ sym (append-nil state.tasks)
 tasks_step s state (step.Close s') (reply.Closed r) = cond_same (λ l. l.tasks) (s' == s) (closed_state state) state refl ∙ sym (append-nil state.tasks)
 tasks_step s state _ _ = sym (append-nil state.tasks)
 
 -- what a step adds to the count of a state's deliveries
-pub handed_step : (s : ℕ) (state : State) (st : Step) (r : Reply) → (state_step s state st r).handed ≡ state.handed + length (handed_by s st r)
+pub handed_step : (s : ℕ) (state : State) (st : Step) (r : Reply) → (state_step s state st r).handed ≡ state.handed + length (deliveries_by s st r)
 handed_step s state (step.Submit s' t) (reply.Submitted (Ok n)) = cond_same (λ l. l.handed) (s' == s) (with_task t state) state refl ∙ omega arith
 handed_step s state step.Take (reply.Took (Some job)) = cond_same (λ l. l.handed) (job.id.sender == s) (with_stage job.id.number Taken state) state refl ∙ omega arith
 handed_step s state (step.Finish id a) (reply.Finished (Ok u)) = cond_same (λ l. l.handed) (id.sender == s) (with_stage id.number (Finished a) state) state refl ∙ omega arith

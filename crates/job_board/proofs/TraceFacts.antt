@@ -11,11 +11,11 @@ use Rattle.job_board.specs.declared.steps.Step.{Step}
 use Rattle.job_board.specs.declared.steps.Step.TheVariants as step
 use Rattle.job_board.specs.declared.steps.Reply.{Reply}
 use Rattle.job_board.specs.declared.steps.Reply.TheVariants as reply
-use Rattle.job_board.specs.Contents.{State, Content, change, with_task, with_stage, hand_one, closed_state, stage_in, task_in, is_finished, empty_state, empty_content}
+use Rattle.job_board.specs.Contents.{State, Content, content_with, with_task, with_stage, with_one_handed, closed_state, stage_in, task_in, is_finished, empty_state, empty_content}
 use Rattle.job_board.specs.Boards.{IsState, IsContent}
-use Rattle.job_board.specs.Replies.{FinishAs, deliver_in, deliver_stage, close_in, give_back_by}
+use Rattle.job_board.specs.Replies.{FinishAs, deliver_reply_in, deliver_reply_at, close_reply_in, give_back_reply_at}
 use Rattle.job_board.specs.Steps.{IsLawful, after, AreLawful, after_all}
-use Rattle.job_board.specs.Traces.{submit_steps, submit_replies, job, settle_steps, settle_replies, job_steps, job_replies, deliver_steps, deliver_replies, close_steps, close_replies, state_steps, state_replies, trace_steps, trace_replies}
+use Rattle.job_board.specs.Traces.{submit_steps, submit_replies, job_id, stage_steps, stage_replies, job_steps, job_replies, deliver_steps, deliver_replies, close_steps, close_replies, state_steps, state_replies, trace_steps, trace_replies}
 use Rattle.job_board.proofs.BoardFacts.{slice_get-set_same, change_at, set_same, submit_lawful, not_refused, finish_at}
 use Rattle.job_board.proofs.Joins.{AreLawful-append, after_all-append}
 
@@ -65,23 +65,23 @@ submits_run c s T S h k (t ∷ ts) at is few =
 
 -- one step that changes one stage in the middle
 restage : (c : Content) (s : ℕ) (T : List Problem) (P R : List Stage) (h k : ℕ) (old new : Stage) → slice_get c s ≡ Some (state_of T (P ++ old ∷ R) h false) → length P ≡ k
-    → change c s (with_stage k new) ≡ set c s (state_of T (P ++ new ∷ R) h false)
+    → content_with c s (with_stage k new) ≡ set c s (state_of T (P ++ new ∷ R) h false)
 restage c s T P R h k old new at is =
     change_at c s (state_of T (P ++ old ∷ R) h false) (with_stage k new) at ∙ ap (λ (l : List Stage). set c s (state_of T l h false)) (set_at P old R new k is)
 
 -- a taken job is brought to its stage
-settle_run : (c : Content) (s : ℕ) (T : List Problem) (P R : List Stage) (h k : ℕ) (st : Stage) → slice_get c s ≡ Some (state_of T (P ++ Taken ∷ R) h false) → length P ≡ k
+stage_run : (c : Content) (s : ℕ) (T : List Problem) (P R : List Stage) (h k : ℕ) (st : Stage) → slice_get c s ≡ Some (state_of T (P ++ Taken ∷ R) h false) → length P ≡ k
     → ((a : Problem) → st ≡ Finished a → slice_get T k ≡ Some a)
-    → Runs c (settle_steps (job s k) st) (settle_replies st) (set c s (state_of T (P ++ st ∷ R) h false))
-settle_run c s T P R h k Waiting at is fits =
+    → Runs c (stage_steps (job_id s k) st) (stage_replies st) (set c s (state_of T (P ++ st ∷ R) h false))
+stage_run c s T P R h k Waiting at is fits =
     let taken : slice_get (P ++ Taken ∷ R) k ≡ Some Taken = slice_get-mid P Taken R k is in
-    one c _ (step.GiveBack (job s k)) (reply.GaveBack (Ok tt)) (sym (ap (λ o. give_back_by (stage_in k o)) at ∙ ap give_back_by taken)) (restage c s T P R h k Taken Waiting at is)
-settle_run c s T P R h k Taken at is fits = none c _ (sym (set_same c s (state_of T (P ++ Taken ∷ R) h false) at))
-settle_run c s T P' R h k (Finished a) at is fits =
+    one c _ (step.GiveBack (job_id s k)) (reply.GaveBack (Ok tt)) (sym (ap (λ o. give_back_reply_at (stage_in k o)) at ∙ ap give_back_reply_at taken)) (restage c s T P R h k Taken Waiting at is)
+stage_run c s T P R h k Taken at is fits = none c _ (sym (set_same c s (state_of T (P ++ Taken ∷ R) h false) at))
+stage_run c s T P' R h k (Finished a) at is fits =
     let taken : slice_get (P' ++ Taken ∷ R) k ≡ Some Taken = slice_get-mid P' Taken R k is in
     let P : Option Stage → Type 0 = λ o. FinishAs o (slice_get T k) a (Ok tt) in
-    one c _ (step.Finish (job s k) a) (reply.Finished (Ok tt))
-    (finish_at c (job s k) a (Ok tt) (state_of T (P' ++ Taken ∷ R) h false) at (subst P (sym taken) (fits a refl)))
+    one c _ (step.Finish (job_id s k) a) (reply.Finished (Ok tt))
+    (finish_at c (job_id s k) a (Ok tt) (state_of T (P' ++ Taken ∷ R) h false) at (subst P (sym taken) (fits a refl)))
     (restage c s T P' R h k Taken (Finished a) at is)
 
 -- the jobs from number k on
@@ -98,19 +98,19 @@ jobs_run c s T Tp (t ∷ ts) P (st ∷ sts) h k at split tk pk same fits =
     let c1 : Content = set c s (state_of T (P ++ Taken ∷ R) h false) in
     let c2 : Content = set c s (state_of T (P ++ st ∷ R) h false) in
     let lt : s < length c = slice_get_within c s (state_of T (P ++ Waiting ∷ R) h false) at in
-    let take : Runs c (step.Take ∷ []) (reply.Took (Some (record { id = job s k; task = t })) ∷ []) c1 =
-    one c c1 step.Take (reply.Took (Some (record { id = job s k; task = t })))
+    let take : Runs c (step.Take ∷ []) (reply.Took (Some (record { id = job_id s k; task = t })) ∷ []) c1 =
+    one c c1 step.Take (reply.Took (Some (record { id = job_id s k; task = t })))
     (ap (stage_in k) at ∙ slice_get-mid P Waiting R k pk, ap (task_in k) at ∙ here)
     (restage c s T P R h k Waiting Taken at pk) in
-    let settle : Runs c1 (settle_steps (job s k) st) (settle_replies st) c2 =
-    ends c1 _ c2 (settle_steps (job s k) st) (settle_replies st)
-    (settle_run c1 s T P R h k st (slice_get-set_same c s (state_of T (P ++ Taken ∷ R) h false) lt) pk (λ a e. here ∙ fits 0 a (ap Some e)))
+    let settle : Runs c1 (stage_steps (job_id s k) st) (stage_replies st) c2 =
+    ends c1 _ c2 (stage_steps (job_id s k) st) (stage_replies st)
+    (stage_run c1 s T P R h k st (slice_get-set_same c s (state_of T (P ++ Taken ∷ R) h false) lt) pk (λ a e. here ∙ fits 0 a (ap Some e)))
     (set-set c s (state_of T (P ++ Taken ∷ R) h false) (state_of T (P ++ st ∷ R) h false)) in
     let at2 : slice_get c2 s ≡ Some (state_of T ((P ++ st ∷ []) ++ R) h false) = slice_get-set_same c s (state_of T (P ++ st ∷ R) h false) lt ∙ ap (λ (l : List Stage). Some (state_of T l h false)) (sym (append_assoc P (st ∷ []) R)) in
     let rest : Runs c2 (job_steps s (k + 1) ts sts) (job_replies s (k + 1) ts sts) (set c2 s (state_of T ((P ++ st ∷ []) ++ sts) h false)) =
     jobs_run c2 s T (Tp ++ t ∷ []) ts (P ++ st ∷ []) sts h (k + 1) at2 (split ∙ sym (append_assoc Tp (t ∷ []) ts)) (omega (arith, length_push Tp t)) (omega (arith, length_push P st)) (omega arith) (λ i a e. fits (suc i) a e) in
     ends c _ _ (job_steps s k (t ∷ ts) (st ∷ sts)) (job_replies s k (t ∷ ts) (st ∷ sts))
-    (runs-append c c1 _ (step.Take ∷ []) _ _ _ take (runs-append c1 c2 _ (settle_steps (job s k) st) _ (settle_replies st) _ settle rest))
+    (runs-append c c1 _ (step.Take ∷ []) _ _ _ take (runs-append c1 c2 _ (stage_steps (job_id s k) st) _ (stage_replies st) _ settle rest))
     (set-set c s (state_of T (P ++ st ∷ R) h false) _ ∙ ap (λ (l : List Stage). set c s (state_of T l h false)) (append_assoc P (st ∷ []) sts))
 
 -- the deliveries
@@ -127,7 +127,7 @@ deliver_run c s T S Sp (Finished a ∷ sts) k (suc n) at split pk done =
     let d : Content = set c s new in
     let there : slice_get S k ≡ Some (Finished a) = ap (λ (l : List Stage). slice_get l k) split ∙ slice_get-mid Sp (Finished a) sts k pk in
     let first : Runs c (step.Deliver s ∷ []) (reply.Handed (handed.Next (record { number = k; solved = a })) ∷ []) d =
-    one c d (step.Deliver s) (reply.Handed (handed.Next (record { number = k; solved = a }))) (sym (ap deliver_in at ∙ ap (deliver_stage state) there)) (change_at c s state hand_one at) in
+    one c d (step.Deliver s) (reply.Handed (handed.Next (record { number = k; solved = a }))) (sym (ap deliver_reply_in at ∙ ap (deliver_reply_at state) there)) (change_at c s state with_one_handed at) in
     let rest : Runs d (deliver_steps s n) (deliver_replies (k + 1) n sts) (set d s (state_of T S (k + 1 + n) false)) =
     deliver_run d s T S (Sp ++ Finished a ∷ []) sts (k + 1) n (slice_get-set_same c s new (slice_get_within c s state at)) (split ∙ sym (append_assoc Sp (Finished a ∷ []) sts)) (omega (arith, length_push Sp (Finished a))) (λ i lt. done (suc i) (omega arith)) in
     let count : k + 1 + n ≡ k + suc n = omega arith in
@@ -138,7 +138,7 @@ deliver_run c s T S Sp (Finished a ∷ sts) k (suc n) at split pk done =
 close_run : (c : Content) (s : ℕ) (T : List Problem) (S : List Stage) (h : ℕ) (b : Bool) → slice_get c s ≡ Some (state_of T S h false)
     → Runs c (close_steps s b) (close_replies b) (set c s (state_of T S h b))
 close_run c s T S h false at = none c _ (sym (set_same c s (state_of T S h false) at))
-close_run c s T S h true at = one c _ (step.Close s) (reply.Closed (Ok true)) (sym (ap close_in at)) (change_at c s (state_of T S h false) closed_state at)
+close_run c s T S h true at = one c _ (step.Close s) (reply.Closed (Ok true)) (sym (ap close_reply_in at)) (change_at c s (state_of T S h false) closed_state at)
 
 -- the steps of one sender bring its state from nothing to what it is
 pub state_run : (c : Content) (s : ℕ) (state : State) → slice_get c s ≡ Some empty_state → IsState state → Runs c (state_steps s state) (state_replies s state) (set c s state)

@@ -4,11 +4,11 @@ use Rattle.endgame_search.specs.Problems.{Problem}
 use Rattle.job_board.specs.declared.jobs.JobId.{JobId}
 use Rattle.job_board.specs.declared.jobs.Stage.{Stage}
 use Rattle.job_board.specs.declared.jobs.Stage.TheVariants.{Finished}
-use Rattle.job_board.specs.Queues.{times}
+use Rattle.job_board.specs.Queues.{id_count}
 use Rattle.job_board.specs.Contents.{State, Content, stage_at, is_waiting, is_taken, is_finished}
 
--- of one sender: each job has a stage, a finished one the answer of its own task, and the jobs handed over are the
--- first ones, all of them finished
+-- of one sender: each job has a stage, a finished one the answer of its own task, and the jobs
+-- handed over are the first ones, all of them finished
 pub record IsState (state : State) : Type 0 where
   pub stages : length state.stages ≡ length state.tasks
   pub most : length state.tasks ≤ 65535
@@ -25,7 +25,7 @@ bit b = if b then 1 else 0
 
 -- the queue names just the waiting jobs, each once
 abbrev pub Lists : List JobId → Content → Type 0
-Lists ids c = (s k : ℕ) → times s k ids ≡ bit (is_waiting (stage_at c s k))
+Lists ids c = (s k : ℕ) → id_count s k ids ≡ bit (is_waiting (stage_at c s k))
 
 abbrev pub taken_in : State → ℕ
 taken_in state = count_by is_taken state.stages
@@ -34,7 +34,8 @@ taken_in state = count_by is_taken state.stages
 abbrev pub taken_count : Content → ℕ
 taken_count c = sum_by taken_in c
 
--- what a board keeps: its content, the jobs that wait, how many are taken, and that all of these have room to wait
+-- what a board keeps: its content, the jobs that wait, how many are taken, and that all of these
+-- have room to wait
 pub record IsBoard (c : Content) (ids : List JobId) (taken room : ℕ) : Type 0 where
   pub few : length c ≤ 64
   pub content : IsContent c

@@ -1,10 +1,11 @@
--- What a board holds (a queue of work for each sender, as a state machine): the jobs of each sender.
+-- What a board holds: the jobs of each sender (queues of work, as a state machine).
 use Rattle.std.specs.Prelude.{ℕ, ◌+◌, Bool, true, false, List, [], ◌∷◌, ◌++◌, Option, Some, None, slice_get, slice_set, replicate}
 use Rattle.endgame_search.specs.Problems.{Problem}
 use Rattle.job_board.specs.declared.jobs.Stage.{Stage}
 use Rattle.job_board.specs.declared.jobs.Stage.TheVariants.{Waiting, Taken, Finished}
 
--- of one sender: its accepted tasks, how far each has come, how many answers it was handed, and whether it is closed
+-- of one sender: its accepted tasks, how far each has come, how many answers it was handed, and
+-- whether it is closed
 pub record State : Type 0 where
   pub tasks : List Problem
   pub stages : List Stage
@@ -22,13 +23,13 @@ empty_state = record { tasks = []; stages = []; handed = 0; closed = false }
 abbrev pub empty_content : ℕ → Content
 empty_content n = replicate n empty_state
 
-abbrev pub put_state : Content → ℕ → (State → State) → Option State → Content
-put_state c s f None = c
-put_state c s f (Some state) = slice_set c s (f state)
+abbrev pub content_by : Content → ℕ → (State → State) → Option State → Content
+content_by c s f None = c
+content_by c s f (Some state) = slice_set c s (f state)
 
--- the content with the state of s changed, if there is such a sender
-abbrev pub change : Content → ℕ → (State → State) → Content
-change c s f = put_state c s f (slice_get c s)
+-- the content with f of the state of s in its place, if there is such a sender
+abbrev pub content_with : Content → ℕ → (State → State) → Content
+content_with c s f = content_by c s f (slice_get c s)
 
 abbrev pub stage_in : ℕ → Option State → Option Stage
 stage_in k None = None
@@ -68,8 +69,8 @@ abbrev pub with_stage : ℕ → Stage → State → State
 with_stage k stage state = record state { stages = slice_set state.stages k stage }
 
 -- one more answer is handed over
-abbrev pub hand_one : State → State
-hand_one state = record state { handed = state.handed + 1 }
+abbrev pub with_one_handed : State → State
+with_one_handed state = record state { handed = state.handed + 1 }
 
 abbrev pub closed_state : State → State
 closed_state state = record state { closed = true }

@@ -10,48 +10,49 @@ use Rattle.job_board.specs.declared.steps.Step.TheVariants as step
 use Rattle.job_board.specs.declared.steps.Reply.{Reply}
 use Rattle.job_board.specs.declared.steps.Reply.TheVariants as reply
 use Rattle.job_board.specs.Contents.{State}
-use Rattle.job_board.specs.Queues.{names}
+use Rattle.job_board.specs.Queues.{is_id_of}
 
-abbrev pub accepted_by : ℕ → Step → Reply → List Problem
-accepted_by s (step.Submit s' t) (reply.Submitted (Ok n)) = if s' == s then t ∷ [] else []
-accepted_by s _ _ = []
+abbrev pub tasks_by : ℕ → Step → Reply → List Problem
+tasks_by s (step.Submit s' t) (reply.Submitted (Ok n)) = if s' == s then t ∷ [] else []
+tasks_by s _ _ = []
 
 -- the tasks of the submits of s that were answered with a number
 abbrev pub accepted_tasks : ℕ → List Step → List Reply → List Problem
-accepted_tasks s (st ∷ ss) (r ∷ rs) = accepted_by s st r ++ accepted_tasks s ss rs
+accepted_tasks s (st ∷ ss) (r ∷ rs) = tasks_by s st r ++ accepted_tasks s ss rs
 accepted_tasks s _ _ = []
 
-abbrev pub handed_by : ℕ → Step → Reply → List Delivery
-handed_by s (step.Deliver s') (reply.Handed (handed.Next d)) = if s' == s then d ∷ [] else []
-handed_by s _ _ = []
+abbrev pub deliveries_by : ℕ → Step → Reply → List Delivery
+deliveries_by s (step.Deliver s') (reply.Handed (handed.Next d)) = if s' == s then d ∷ [] else []
+deliveries_by s _ _ = []
 
 -- what the delivers of s handed over
-abbrev pub handed_to : ℕ → List Step → List Reply → List Delivery
-handed_to s (st ∷ ss) (r ∷ rs) = handed_by s st r ++ handed_to s ss rs
-handed_to s _ _ = []
+abbrev pub deliveries_to : ℕ → List Step → List Reply → List Delivery
+deliveries_to s (st ∷ ss) (r ∷ rs) = deliveries_by s st r ++ deliveries_to s ss rs
+deliveries_to s _ _ = []
 
-abbrev pub closed_by : ℕ → Step → Reply → Bool
-closed_by s (step.Close s') (reply.Closed (Ok true)) = s' == s
-closed_by s _ _ = false
+abbrev pub is_closed_by : ℕ → Step → Reply → Bool
+is_closed_by s (step.Close s') (reply.Closed (Ok true)) = s' == s
+is_closed_by s _ _ = false
 
 -- whether a close of s was answered true
 abbrev pub is_closed : ℕ → List Step → List Reply → Bool
-is_closed s (st ∷ ss) (r ∷ rs) = closed_by s st r || is_closed s ss rs
+is_closed s (st ∷ ss) (r ∷ rs) = is_closed_by s st r || is_closed s ss rs
 is_closed s _ _ = false
 
 -- the stage to which a step brings job k of s, from another
-abbrev pub staged_by : ℕ → ℕ → Stage → Step → Reply → Stage
-staged_by s k stage step.Take (reply.Took (Some job)) =
-    if names s k job.id then Taken else stage
-staged_by s k stage (step.Finish id a) (reply.Finished (Ok u)) =
-    if names s k id then Finished a else stage
-staged_by s k stage (step.GiveBack id) (reply.GaveBack (Ok u)) =
-    if names s k id then Waiting else stage
-staged_by s k stage _ _ = stage
+abbrev pub stage_by : ℕ → ℕ → Stage → Step → Reply → Stage
+stage_by s k stage step.Take (reply.Took (Some job)) =
+    if is_id_of s k job.id then Taken else stage
+stage_by s k stage (step.Finish id a) (reply.Finished (Ok u)) =
+    if is_id_of s k id then Finished a else stage
+stage_by s k stage (step.GiveBack id) (reply.GaveBack (Ok u)) =
+    if is_id_of s k id then Waiting else stage
+stage_by s k stage _ _ = stage
 
--- how far job k of s has come: as the last accepted take, finish or give back of it says, else as before
+-- how far job k of s has come: as the last accepted take, finish or give back of it says, else as
+-- before
 abbrev pub stage_after : ℕ → ℕ → Stage → List Step → List Reply → Stage
-stage_after s k stage (st ∷ ss) (r ∷ rs) = stage_after s k (staged_by s k stage st r) ss rs
+stage_after s k stage (st ∷ ss) (r ∷ rs) = stage_after s k (stage_by s k stage st r) ss rs
 stage_after s k stage _ _ = stage
 
 -- the state of s says what the steps and replies say
@@ -60,10 +61,11 @@ pub record IsStateOf (s : ℕ) (ss : List Step) (rs : List Reply) (state : State
   pub each_staged : length state.stages ≡ length (accepted_tasks s ss rs)
   pub stages : (k : ℕ) → k < length (accepted_tasks s ss rs)
       → slice_get state.stages k ≡ Some (stage_after s k Waiting ss rs)
-  pub handed : state.handed ≡ length (handed_to s ss rs)
+  pub handed : state.handed ≡ length (deliveries_to s ss rs)
   pub closed : state.closed ≡ is_closed s ss rs
 
--- the deliveries have the numbers from first on, one after the other, and solve the tasks of these numbers
+-- the deliveries have the numbers from first on, one after the other, and solve the tasks of these
+-- numbers
 abbrev pub InOrder : List Problem → ℕ → List Delivery → Type 0
 InOrder tasks first [] = Unit {0}
 InOrder tasks first (d ∷ ds) =

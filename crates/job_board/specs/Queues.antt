@@ -8,9 +8,9 @@ pub record Queue : Type 0 where
   pub room : ℕ
 
 -- id names job k of sender s
-abbrev pub names : ℕ → ℕ → JobId → Bool
-names s k id = (id.sender == s) && (id.number == k)
+abbrev pub is_id_of : ℕ → ℕ → JobId → Bool
+is_id_of s k id = (id.sender == s) && (id.number == k)
 
 -- how often a list names job k of sender s
-abbrev pub times : ℕ → ℕ → List JobId → ℕ
-times s k ids = count_by (names s k) ids
+abbrev pub id_count : ℕ → ℕ → List JobId → ℕ
+id_count s k ids = count_by (is_id_of s k) ids

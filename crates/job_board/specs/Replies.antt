@@ -1,4 +1,5 @@
--- The lawful replies of each step at a board with content c, and the content after it (the steps of the state machine).
+-- The lawful replies of each step at a board with content c, and the content after it (the steps of
+-- the state machine).
 use Rattle.std.specs.Prelude.{ℕ, ◌≡◌, ◌≢◌, ◌==◌, ◌&&◌, Bool, false, length, Option, Some, None, Result, Ok, Err, slice_get, if◌then◌else◌, ◌⊎◌, nat_lt, not}
 use Rattle.endgame_search.specs.Problems.{Problem}
 use Rattle.job_board.specs.declared.jobs.JobId.{JobId}
@@ -12,7 +13,7 @@ use Rattle.job_board.specs.declared.faults.SubmitFault.TheVariants as fault
 use Rattle.job_board.specs.declared.faults.JobFault.{JobFault}
 use Rattle.job_board.specs.declared.faults.JobFault.TheVariants.{NotTaken, OtherPosition}
 use Rattle.job_board.specs.declared.faults.NoSender.{NoSender}
-use Rattle.job_board.specs.Contents.{State, Content, change, stage_at, task_at, with_stage, with_task, hand_one, closed_state, is_waiting}
+use Rattle.job_board.specs.Contents.{State, Content, content_with, stage_at, task_at, with_stage, with_task, with_one_handed, closed_state, is_waiting}
 
 -- why a submit is refused, but for want of memory
 abbrev pub submit_refusal : Option State → Option SubmitFault
@@ -34,7 +35,7 @@ abbrev pub Submits : Content → ℕ → Result ℕ SubmitFault → Type 0
 Submits c s r = SubmitAs (submit_refusal (slice_get c s)) (task_count (slice_get c s)) r
 
 abbrev pub after_submit : Content → ℕ → Problem → Result ℕ SubmitFault → Content
-after_submit c s t (Ok n) = change c s (with_task t)
+after_submit c s t (Ok n) = content_with c s (with_task t)
 after_submit c s t (Err e) = c
 
 -- a take: any job that waits, with its own task; None only where none waits
@@ -45,7 +46,7 @@ Takes c (Some job) =
 Takes c None = (s k : ℕ) → is_waiting (stage_at c s k) ≡ false
 
 abbrev pub after_take : Content → Option Job → Content
-after_take c (Some job) = change c job.id.sender (with_stage job.id.number Taken)
+after_take c (Some job) = content_with c job.id.sender (with_stage job.id.number Taken)
 after_take c None = c
 
 -- by the job's stage and its task
@@ -60,58 +61,59 @@ abbrev pub Finishes : Content → JobId → Problem → Result (Unit {0}) JobFau
 Finishes c id a r = FinishAs (stage_at c id.sender id.number) (task_at c id.sender id.number) a r
 
 abbrev pub after_finish : Content → JobId → Problem → Result (Unit {0}) JobFault → Content
-after_finish c id a (Ok u) = change c id.sender (with_stage id.number (Finished a))
+after_finish c id a (Ok u) = content_with c id.sender (with_stage id.number (Finished a))
 after_finish c id a (Err e) = c
 
-abbrev pub give_back_by : Option Stage → Result (Unit {0}) JobFault
-give_back_by (Some Taken) = Ok tt
-give_back_by _ = Err NotTaken
+abbrev pub give_back_reply_at : Option Stage → Result (Unit {0}) JobFault
+give_back_reply_at (Some Taken) = Ok tt
+give_back_reply_at _ = Err NotTaken
 
 -- a give back: a taken job
 abbrev pub give_back_reply : Content → JobId → Result (Unit {0}) JobFault
-give_back_reply c id = give_back_by (stage_at c id.sender id.number)
+give_back_reply c id = give_back_reply_at (stage_at c id.sender id.number)
 
 abbrev pub after_give_back : Content → JobId → Result (Unit {0}) JobFault → Content
-after_give_back c id (Ok u) = change c id.sender (with_stage id.number Waiting)
+after_give_back c id (Ok u) = content_with c id.sender (with_stage id.number Waiting)
 after_give_back c id (Err e) = c
 
 -- the answer of a job at this stage
-abbrev pub answer_of : Option Stage → Option Problem
-answer_of (Some (Finished a)) = Some a
-answer_of _ = None
+abbrev pub answer_in : Option Stage → Option Problem
+answer_in (Some (Finished a)) = Some a
+answer_in _ = None
 
-abbrev pub deliver_stage : State → Option Stage → Handed
-deliver_stage state (Some (Finished a)) = handed.Next (record { number = state.handed; solved = a })
-deliver_stage state _ =
+abbrev pub deliver_reply_at : State → Option Stage → Handed
+deliver_reply_at state (Some (Finished a)) =
+    handed.Next (record { number = state.handed; solved = a })
+deliver_reply_at state _ =
     if state.closed && (state.handed == length state.tasks) then handed.Drained else handed.Waiting
 
--- of one sender: where k answers were handed over and job k is finished, its answer; else, where it is closed and was
--- handed all, that it is drained
-abbrev pub deliver_state : State → Handed
-deliver_state state = deliver_stage state (slice_get state.stages state.handed)
+-- of one sender: where k answers were handed over and job k is finished, its answer; else, where it
+-- is closed and was handed all, that it is drained
+abbrev pub deliver_reply_of : State → Handed
+deliver_reply_of state = deliver_reply_at state (slice_get state.stages state.handed)
 
-abbrev pub deliver_in : Option State → Handed
-deliver_in None = handed.NoSender
-deliver_in (Some state) = deliver_state state
+abbrev pub deliver_reply_in : Option State → Handed
+deliver_reply_in None = handed.NoSender
+deliver_reply_in (Some state) = deliver_reply_of state
 
 abbrev pub deliver_reply : Content → ℕ → Handed
-deliver_reply c s = deliver_in (slice_get c s)
+deliver_reply c s = deliver_reply_in (slice_get c s)
 
-abbrev pub after_handed : State → Handed → State
-after_handed state (handed.Next d) = hand_one state
-after_handed state _ = state
+abbrev pub state_after_handed : State → Handed → State
+state_after_handed state (handed.Next d) = with_one_handed state
+state_after_handed state _ = state
 
 abbrev pub after_deliver : Content → ℕ → Handed → Content
-after_deliver c s (handed.Next d) = change c s hand_one
+after_deliver c s (handed.Next d) = content_with c s with_one_handed
 after_deliver c s _ = c
 
-abbrev pub close_in : Option State → Result Bool NoSender
-close_in None = Err (record {})
-close_in (Some state) = Ok (not state.closed)
+abbrev pub close_reply_in : Option State → Result Bool NoSender
+close_reply_in None = Err (record {})
+close_reply_in (Some state) = Ok (not state.closed)
 
 -- a close: whether it was open
 abbrev pub close_reply : Content → ℕ → Result Bool NoSender
-close_reply c s = close_in (slice_get c s)
+close_reply c s = close_reply_in (slice_get c s)
 
 abbrev pub after_close : Content → ℕ → Result Bool NoSender → Content
-after_close c s r = change c s closed_state
+after_close c s r = content_with c s closed_state

@@ -39,7 +39,8 @@ AreLawful c [] [] = Unit {0}
 AreLawful c (s ∷ ss) (r ∷ rs) = IsLawful c s r × AreLawful (after c s r) ss rs
 AreLawful c _ _ = ⊥
 
--- A history of n senders is a list of steps with their replies. It is legal if each reply is lawful after those before.
+-- A history of n senders is a list of steps with their replies. It is legal if each reply is lawful
+-- after those before.
 abbrev pub IsLegal : ℕ → List Step → List Reply → Type 0
 IsLegal n ss rs = AreLawful (empty_content n) ss rs
 

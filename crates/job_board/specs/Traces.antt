@@ -1,4 +1,4 @@
--- For each content that a board may have, a history that leaves it: a list of steps with their replies.
+-- For each content that a board may have, a history that leaves it.
 use Rattle.std.specs.Prelude.{ℕ, zero, suc, ◌+◌, Bool, true, false, List, [], ◌∷◌, ◌++◌, Some, Ok}
 use Rattle.endgame_search.specs.Problems.{Problem}
 use Rattle.job_board.specs.declared.jobs.JobId.{JobId}
@@ -20,30 +20,30 @@ abbrev pub submit_replies : ℕ → List Problem → List Reply
 submit_replies k [] = []
 submit_replies k (t ∷ ts) = reply.Submitted (Ok k) ∷ submit_replies (k + 1) ts
 
-abbrev pub job : ℕ → ℕ → JobId
-job s k = record { sender = s; number = k }
+abbrev pub job_id : ℕ → ℕ → JobId
+job_id s k = record { sender = s; number = k }
 
 -- what brings a taken job to its stage
-abbrev pub settle_steps : JobId → Stage → List Step
-settle_steps id Waiting = step.GiveBack id ∷ []
-settle_steps id Taken = []
-settle_steps id (Finished a) = step.Finish id a ∷ []
+abbrev pub stage_steps : JobId → Stage → List Step
+stage_steps id Waiting = step.GiveBack id ∷ []
+stage_steps id Taken = []
+stage_steps id (Finished a) = step.Finish id a ∷ []
 
-abbrev pub settle_replies : Stage → List Reply
-settle_replies Waiting = reply.GaveBack (Ok tt) ∷ []
-settle_replies Taken = []
-settle_replies (Finished a) = reply.Finished (Ok tt) ∷ []
+abbrev pub stage_replies : Stage → List Reply
+stage_replies Waiting = reply.GaveBack (Ok tt) ∷ []
+stage_replies Taken = []
+stage_replies (Finished a) = reply.Finished (Ok tt) ∷ []
 
 -- each job is taken, and then brought to its stage
 abbrev pub job_steps : ℕ → ℕ → List Problem → List Stage → List Step
 job_steps s k (t ∷ ts) (st ∷ sts) =
-    step.Take ∷ (settle_steps (job s k) st ++ job_steps s (k + 1) ts sts)
+    step.Take ∷ (stage_steps (job_id s k) st ++ job_steps s (k + 1) ts sts)
 job_steps s k _ _ = []
 
 abbrev pub job_replies : ℕ → ℕ → List Problem → List Stage → List Reply
 job_replies s k (t ∷ ts) (st ∷ sts) =
-    reply.Took (Some (record { id = job s k; task = t }))
-    ∷ (settle_replies st ++ job_replies s (k + 1) ts sts)
+    reply.Took (Some (record { id = job_id s k; task = t }))
+    ∷ (stage_replies st ++ job_replies s (k + 1) ts sts)
 job_replies s k _ _ = []
 
 -- n answers are handed over, from number k on

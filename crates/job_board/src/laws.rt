@@ -9,7 +9,7 @@ ghost use Rattle.job_board.specs.Contents.{State, Content};
 ghost use Rattle.job_board.specs.Boards.{IsContent};
 ghost use Rattle.job_board.specs.Clients.{ClientState, new_client};
 ghost use Rattle.job_board.specs.Steps.{AreLawful, after_all, IsLegal, IsDrained, content};
-ghost use Rattle.job_board.specs.Histories.{InOrder, IsStateOf, accepted_tasks, handed_to, is_closed};
+ghost use Rattle.job_board.specs.Histories.{InOrder, IsStateOf, accepted_tasks, deliveries_to, is_closed};
 ghost use Rattle.job_board.specs.Services.{Event, Told, Leads, sent_tasks, received_answers};
 ghost use Rattle.job_board.specs.Traces.{trace_steps, trace_replies};
 
@@ -21,14 +21,14 @@ use crate::boards::Board;
 pub fn deliveries_are_in_order()
     ensures in_order { (n s : ℕ) (ss : List Step) (rs : List Reply)
         → s < n → IsLegal n ss rs
-        → InOrder (accepted_tasks s ss rs) 0 (handed_to s ss rs) }
+        → InOrder (accepted_tasks s ss rs) 0 (deliveries_to s ss rs) }
     ensures drained { (n s : ℕ) (ss : List Step) (rs : List Reply)
         → s < n → IsDrained n s ss rs
-        → length (handed_to s ss rs) ≡ length (accepted_tasks s ss rs) }
+        → length (deliveries_to s ss rs) ≡ length (accepted_tasks s ss rs) }
     ensures stays { (n s : ℕ) (ss later : List Step) (rs replies : List Reply)
         → s < n → IsLegal n ss rs → IsDrained n s ss rs
         → AreLawful (content n ss rs) later replies
-        → (accepted_tasks s later replies ≡ []) × (handed_to s later replies ≡ []) }
+        → (accepted_tasks s later replies ≡ []) × (deliveries_to s later replies ≡ []) }
     ensures closed { (n s : ℕ) (ss later : List Step) (rs replies : List Reply)
         → s < n → IsLegal n ss rs → is_closed s ss rs ≡ true
         → AreLawful (content n ss rs) later replies

@@ -12,15 +12,15 @@
 //! and a `Client` is one sender's part at a desk.
 #![tactic(auto)]
 
-pub mod boards;
-pub mod clients;
-pub mod desks;
-pub mod faults;
-pub mod jobs;
+mod boards;
+mod clients;
+mod desks;
+mod faults;
+mod jobs;
 pub mod laws;
 mod queues;
 mod senders;
-pub mod steps;
+mod steps;
 #[cfg(test)]
 mod tests;
 

@@ -36,7 +36,7 @@ impl Model for Sender {
 
 impl Sender {
     ghost use Rattle.job_board.specs.Contents.{empty_state, with_stage, with_task, closed_state};
-    ghost use Rattle.job_board.specs.Replies.{submit_refusal, FinishAs, give_back_by, deliver_state, after_handed, answer_of};
+    ghost use Rattle.job_board.specs.Replies.{submit_refusal, FinishAs, give_back_reply_at, deliver_reply_of, state_after_handed, answer_in};
 
     pub(crate) fn new(alloc: Global) -> Sender
         ensures { result ≡ empty_state }
@@ -130,7 +130,7 @@ impl Sender {
 
     /// Lets a job that was taken wait again.
     pub(crate) fn give_back(&mut self, number: u32) -> Result<(), JobFault>
-        ensures reply { result ≡ give_back_by (slice_get self.old.stages number) }
+        ensures reply { result ≡ give_back_reply_at (slice_get self.old.stages number) }
         ensures ok { OnOk result (self.new ≡ with_stage number Waiting self.old) }
         ensures err { OnErr result (self.new ≡ self.old) }
     {
@@ -143,7 +143,7 @@ impl Sender {
 
     /// The answer of a job that is finished.
     fn answer(&self, number: u32) -> Option<Solved>
-        ensures { result ≡ answer_of (slice_get self.now.stages number) }
+        ensures { result ≡ answer_in (slice_get self.now.stages number) }
     {
         match self.stages.get(number as usize) {
             Some(Stage::Finished(solved)) => Some(*solved),
@@ -154,8 +154,8 @@ impl Sender {
     /// Hands over the next answer, if it is there.
     pub(crate) fn deliver(&mut self) -> Handed
         requires { self.old.handed ≤ 65535 }
-        ensures reply { result ≡ deliver_state self.old }
-        ensures state { self.new ≡ after_handed self.old result }
+        ensures reply { result ≡ deliver_reply_of self.old }
+        ensures state { self.new ≡ state_after_handed self.old result }
     {
         let number = self.handed;
         if let Some(solved) = self.answer(number) {

@@ -1,5 +1,5 @@
-//! Worked lists of steps, the order of `take`, limits, and a desk on one thread and on many. Each test also passes
-//! where one request for memory is refused.
+//! Worked lists of steps, the order of `take`, limits, and a desk on one thread and on many. Each test
+//! also passes where one request for memory is refused: what was refused is done again.
 
 mod boards;
 mod crowds;
@@ -8,12 +8,11 @@ mod steps;
 mod texts;
 mod waits;
 
-use crate::{BoardFault, Client, Desk, Job, JobId, SubmitFault};
+use crate::{Client, Desk, JobId, SubmitFault};
 use bound_table::NoTable;
 use endgame_search::{Solved, Task, solve};
 use othello_bits::Pos;
 use othello_rules::Scoring;
-use std::alloc::Global;
 use std::process::Abort;
 use std::sync::Wait;
 
@@ -60,31 +59,11 @@ fn solved(task: Task) -> Solved {
     solve(&NoTable::new(task.scoring()), task)
 }
 
-fn job_of(id: JobId, task: Task) -> Job {
-    Job { id, task }
-}
-
-// A desk, for which memory may be refused once.
-fn desk_of(alloc: Global, senders: u32) -> Result<Desk, BoardFault> {
-    match Desk::new(alloc, senders) {
-        Err(BoardFault::Memory) => Desk::new(alloc, senders),
-        made => made,
+// Whether a submit gets this number. Where it is refused memory, the next one gets it.
+fn sends<R: Wait>(rt: &R, desk: &Desk, client: &mut Client, task: Task, number: u32) -> bool {
+    let mut sent = desk.submit(rt, client, task);
+    if sent == Err(SubmitFault::Memory) {
+        sent = desk.submit(rt, client, task);
     }
-}
-
-// A submit that may be refused memory once: the client is as before, and the next one gets the number.
-fn send<R: Wait + Abort>(
-    rt: &R,
-    desk: &Desk,
-    client: &mut Client,
-    task: Task,
-) -> Result<u32, SubmitFault> {
-    let sent = client.sent().len();
-    match desk.submit(rt, client, task) {
-        Err(SubmitFault::Memory) => {
-            assert!(rt; client.sent().len() == sent);
-            desk.submit(rt, client, task)
-        }
-        answered => answered,
-    }
+    sent == Ok(number)
 }

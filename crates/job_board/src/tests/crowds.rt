@@ -1,37 +1,47 @@
-//! Many threads at one desk: half of them send jobs and receive the answers, the others solve jobs, and each thread
-//! gives some jobs back. All are served, in order.
+//! Many threads at one desk: some send jobs and receive the answers, others solve jobs, and one leaves
+//! with its first job given back. All are served, in order.
 
 use super::{
-    CORNER_LEFT_OVER, EQUAL_CORNERS, LAST_CORNER, SECOND, UNEQUAL_CORNERS, desk_of, solved, task_of,
+    CORNER_LEFT_OVER, EQUAL_CORNERS, LAST_CORNER, SECOND, UNEQUAL_CORNERS, sends, solved, task_of,
 };
-use crate::{Client, Desk, Job, JobId, SubmitFault, Turn};
+use crate::{Client, Desk, Job, JobId, Turn};
 use endgame_search::Task;
 use std::alloc::{AllocError, Global};
 use std::process::Abort;
 use std::sync::Wait;
-use std::test::Fail;
 use std::thread;
 use std::thread::Threads;
 
-// How many jobs each client sends.
-const JOBS: u32 = 500;
-
-// Every job whose number is a multiple of this is given back when a thread has it for the first time.
+// A job whose number is a multiple of this is given back when a thread has it for the first time.
 const GIVEN_BACK: u32 = 7;
 
-type Tasks = [Task; 4];
+// What each client sends in turn, and how many jobs in all.
+#[derive(Clone, Copy)]
+struct Load {
+    tasks: [Task; 4],
+    jobs: u32,
+}
 
-fn tasks_of(rt: &impl Abort) -> Tasks {
-    [
-        task_of(rt, LAST_CORNER),
+fn load_of(rt: &impl Abort, jobs: u32) -> Load {
+    let tasks = [
         task_of(rt, CORNER_LEFT_OVER),
         task_of(rt, EQUAL_CORNERS),
         task_of(rt, UNEQUAL_CORNERS),
-    ]
+        task_of(rt, LAST_CORNER),
+    ];
+    Load { tasks, jobs }
 }
 
-fn task_at(tasks: &Tasks, number: u32) -> Task {
-    tasks[number as usize % tasks.len()]
+fn task_at(load: &Load, number: u32) -> Task {
+    load.tasks[number as usize % 4]
+}
+
+// Takes a job, gives it back and leaves.
+fn leave<R: Wait>(rt: &R, desk: &Desk) -> bool {
+    match desk.take_or_wait(rt) {
+        Some(job) => desk.give_back(rt, job.id) == Ok(()),
+        None => true,
+    }
 }
 
 // Gives the job back, or finishes it. `last` is the job that the thread gave back last.
@@ -58,14 +68,9 @@ fn work<R: Wait>(rt: &R, desk: &Desk) -> bool {
 }
 
 // Sends the tasks in turn, and closes the sender.
-fn send_all<R: Wait>(rt: &R, desk: &Desk, client: &mut Client, tasks: &Tasks) -> bool {
-    for number in 0..JOBS {
-        let task = task_at(tasks, number);
-        let mut sent = desk.submit(rt, client, task);
-        if sent == Err(SubmitFault::Memory) {
-            sent = desk.submit(rt, client, task);
-        }
-        if sent != Ok(number) {
+fn send_all<R: Wait>(rt: &R, desk: &Desk, client: &mut Client, load: &Load) -> bool {
+    for number in 0..load.jobs {
+        if !sends(rt, desk, client, task_at(load, number), number) {
             return false;
         }
     }
@@ -73,19 +78,19 @@ fn send_all<R: Wait>(rt: &R, desk: &Desk, client: &mut Client, tasks: &Tasks) ->
 }
 
 // Whether the answers are those of the tasks, in their order, up to the end.
-fn receive_all<R: Wait>(rt: &R, desk: &Desk, client: &mut Client, tasks: &Tasks) -> bool {
+fn receive_all<R: Wait>(rt: &R, desk: &Desk, client: &mut Client, load: &Load) -> bool {
     let mut last = SECOND;
     let mut received = 0;
     for _ in rt.forever() {
         let goes_on = match desk.turn(rt, client) {
             Ok(Turn::Next(next)) => {
-                let wanted = solved(task_at(tasks, received));
+                let wanted = solved(task_at(load, received));
                 let found = next.number == received && next.solved == wanted;
                 received = received.wrapping_add(1);
                 found
             }
             Ok(Turn::Work(job)) => serve(rt, desk, job, &mut last),
-            Ok(Turn::Drained) => return received == JOBS,
+            Ok(Turn::Drained) => return received == load.jobs,
             Err(_) => false,
         };
         if !goes_on {
@@ -95,55 +100,63 @@ fn receive_all<R: Wait>(rt: &R, desk: &Desk, client: &mut Client, tasks: &Tasks)
     unreachable!()
 }
 
-// The part of a thread: that of a client, or of a worker.
-fn part<R: Wait>(rt: &R, alloc: Global, desk: &Desk, tasks: &Tasks, thread: usize) -> bool {
-    if thread % 2 == 1 {
+// The part of a thread: the second leaves; of the others the even ones work, and the first and the odd
+// ones are clients.
+fn play<R: Wait>(rt: &R, alloc: Global, desk: &Desk, load: &Load, thread: usize) -> bool {
+    if thread == 1 {
+        return leave(rt, desk);
+    }
+    if thread > 0 && thread % 2 == 0 {
         return work(rt, desk);
     }
     let Ok(sender) = u32::try_from(thread / 2) else {
         return false;
     };
     let mut client = Client::new(alloc, sender);
-    send_all(rt, desk, &mut client, tasks) && receive_all(rt, desk, &mut client, tasks)
+    send_all(rt, desk, &mut client, load) && receive_all(rt, desk, &mut client, load)
 }
 
-// Whether all threads are served, each of which has a part.
+// Whether all threads are served.
 fn are_served<R: Threads + Wait + Sync>(
     rt: &R,
     alloc: Global,
-    tasks: &Tasks,
+    load: &Load,
     threads: u32,
 ) -> Result<bool, AllocError> {
-    let Ok(desk) = desk_of(alloc, threads.div_ceil(2)) else {
+    let Ok(desk) = Desk::new(alloc, threads / 2) else {
         return Err(AllocError);
     };
     let served = thread::map_indices(
         rt,
         alloc,
         threads as usize,
-        &|i| part(rt, alloc, &desk, tasks, i),
+        &|i| play(rt, alloc, &desk, load, i),
     )?;
-    Ok(served.iter().all(|ended| *ended))
+    Ok(!served.contains(&false))
 }
 
 // The same, where memory may be refused once.
 fn are_served_at_last<R: Threads + Wait + Sync>(
     rt: &R,
     alloc: Global,
-    tasks: &Tasks,
+    load: Load,
     threads: u32,
-) -> Result<bool, AllocError> {
-    match are_served(rt, alloc, tasks, threads) {
-        Err(AllocError) => are_served(rt, alloc, tasks, threads),
+) -> bool {
+    let served = match are_served(rt, alloc, &load, threads) {
+        Err(AllocError) => are_served(rt, alloc, &load, threads),
         served => served,
-    }
+    };
+    matches!(served, Ok(true))
 }
 
 #[test]
-fn two_to_eight_threads(rt: HostRuntime) -> Result<(), Fail> {
-    let tasks = tasks_of(&rt);
+fn a_worker_leaves(rt: HostRuntime) {
+    assert!(rt; are_served_at_last(&rt, rt.alloc(), load_of(&rt, 3), 3));
+}
+
+#[test]
+fn two_to_eight_threads(rt: HostRuntime) {
     for threads in 2..=8 {
-        assert!(rt; are_served_at_last(&rt, rt.alloc(), &tasks, threads)?);
+        assert!(rt; are_served_at_last(&rt, rt.alloc(), load_of(&rt, 500), threads));
     }
-    Ok(())
 }

@@ -1,48 +1,34 @@
 //! Lists of steps with the replies that the definitions give.
 
 use super::{
-    CORNER_LEFT_OVER, EQUAL_CORNERS, FIRST, SECOND, UNEQUAL_CORNERS, job_of, solved, task_by,
-    task_of,
+    CORNER_LEFT_OVER, EQUAL_CORNERS, FIRST, SECOND, UNEQUAL_CORNERS, solved, task_by, task_of,
 };
 use crate::{
-    Board, Delivery, Handed, JobFault, JobId, NoSender, Reply, Step, SubmitFault, run_steps,
+    Board, Delivery, Handed, Job, JobFault, JobId, NoSender, Reply, Step, SubmitFault, run_steps,
 };
 use endgame_search::{Solved, Task};
 use othello_rules::Scoring;
-use std::alloc::{AllocError, Global};
-use std::process::Abort;
-use std::test::Fail;
+use std::alloc::Global;
 
-// A new board after these steps, and its replies.
-fn run(alloc: Global, steps: &[Step]) -> Result<(Board, Vec<Reply>), AllocError> {
+// Whether a new board of one sender gives these replies, and then is done, or is not.
+fn gives(alloc: Global, steps: &[Step], wanted: &[Reply], done: bool) -> bool {
     let Ok(mut board) = Board::new(alloc, 1) else {
-        return Err(AllocError);
+        return false;
     };
-    let replies = run_steps(alloc, &mut board, steps)?;
-    if replies.contains(&Reply::Submitted(Err(SubmitFault::Memory))) {
-        return Err(AllocError);
-    }
-    Ok((board, replies))
+    let Ok(replies) = run_steps(alloc, &mut board, steps) else {
+        return false;
+    };
+    replies.as_slice() == wanted && board.is_done() == done
 }
 
-// A new board after these steps, which have these replies. Memory may be refused once.
-fn board_after(
-    rt: &impl Abort,
-    alloc: Global,
-    steps: &[Step],
-    wanted: &[Reply],
-) -> Result<Board, AllocError> {
-    let (board, replies) = match run(alloc, steps) {
-        Ok(ran) => ran,
-        Err(AllocError) => run(alloc, steps)?,
-    };
-    assert!(rt; replies.as_slice() == wanted);
-    Ok(board)
+// The same, where memory may be refused once.
+fn gives_at_last(alloc: Global, steps: &[Step], wanted: &[Reply], done: bool) -> bool {
+    gives(alloc, steps, wanted, done) || gives(alloc, steps, wanted, done)
 }
 
 // The reply to a take that gives this job.
 fn took(id: JobId, task: Task) -> Reply {
-    Reply::Took(Some(job_of(id, task)))
+    Reply::Took(Some(Job { id, task }))
 }
 
 // The reply to a deliver that gives this answer.
@@ -51,7 +37,7 @@ fn next(number: u32, task: Task) -> Reply {
     Reply::Handed(Handed::Next(Delivery { number, solved }))
 }
 
-fn steps_of_two_jobs(first: Task, second: Task, by_discs: Solved) -> [Step; 13] {
+fn steps_of_two_jobs(first: Task, second: Task, by_discs: Solved) -> [Step; 15] {
     let answer = solved(second);
     [
         Step::Submit(0, first),
@@ -67,10 +53,12 @@ fn steps_of_two_jobs(first: Task, second: Task, by_discs: Solved) -> [Step; 13] 
         Step::Deliver(0),
         Step::Deliver(0),
         Step::Deliver(0),
+        Step::Close(0),
+        Step::Deliver(0),
     ]
 }
 
-fn replies_to_two_jobs(first: Task, second: Task) -> [Reply; 13] {
+fn replies_to_two_jobs(first: Task, second: Task) -> [Reply; 15] {
     [
         Reply::Submitted(Ok(0)),
         Reply::Submitted(Ok(1)),
@@ -85,28 +73,21 @@ fn replies_to_two_jobs(first: Task, second: Task) -> [Reply; 13] {
         next(0, first),
         next(1, second),
         Reply::Handed(Handed::Waiting),
+        Reply::Closed(Ok(true)),
+        Reply::Handed(Handed::Drained),
     ]
 }
 
-// Closes the one sender of a board, which was handed all.
-fn close_drained(rt: &impl Abort, board: &mut Board) {
-    let was_done = board.is_done();
-    let closed = board.close(0);
-    let handed = board.deliver(0);
-    let drained = closed == Ok(true) && handed == Handed::Drained;
-    assert!(rt; !was_done && drained && board.is_done());
-}
-
 #[test]
-fn two_jobs_of_one_sender(rt: HostRuntime) -> Result<(), Fail> {
+fn two_jobs_of_one_sender(rt: HostRuntime) {
     let first = task_of(&rt, CORNER_LEFT_OVER);
     let second = task_of(&rt, EQUAL_CORNERS);
     let by_discs = solved(task_by(&rt, CORNER_LEFT_OVER, Scoring::Discs));
     let steps = steps_of_two_jobs(first, second, by_discs);
     let wanted = replies_to_two_jobs(first, second);
-    let mut board = board_after(&rt, rt.alloc(), &steps, &wanted)?;
-    close_drained(&rt, &mut board);
-    Ok(())
+    // Before the close, and after it.
+    assert!(rt; gives_at_last(rt.alloc(), &steps[..13], &wanted[..13], false));
+    assert!(rt; gives_at_last(rt.alloc(), &steps, &wanted, true));
 }
 
 fn steps_round_a_close(task: Task) -> [Step; 17] {
@@ -154,19 +135,15 @@ fn replies_round_a_close(task: Task) -> [Reply; 17] {
     ]
 }
 
+const CLOSE: [Step; 2] = [Step::Close(0), Step::Deliver(0)];
+
+const CLOSED: [Reply; 2] = [Reply::Closed(Ok(true)), Reply::Handed(Handed::Drained)];
+
 #[test]
-fn a_job_given_back_after_the_close(rt: HostRuntime) -> Result<(), Fail> {
+fn a_close_before_any_job_and_after_one(rt: HostRuntime) {
     let task = task_of(&rt, UNEQUAL_CORNERS);
     let steps = steps_round_a_close(task);
     let wanted = replies_round_a_close(task);
-    assert!(rt; board_after(&rt, rt.alloc(), &steps, &wanted)?.is_done());
-    Ok(())
-}
-
-#[test]
-fn a_close_before_any_job(rt: HostRuntime) -> Result<(), Fail> {
-    let steps = [Step::Close(0), Step::Deliver(0)];
-    let wanted = [Reply::Closed(Ok(true)), Reply::Handed(Handed::Drained)];
-    assert!(rt; board_after(&rt, rt.alloc(), &steps, &wanted)?.is_done());
-    Ok(())
+    assert!(rt; gives_at_last(rt.alloc(), &steps, &wanted, true));
+    assert!(rt; gives_at_last(rt.alloc(), &CLOSE, &CLOSED, true));
 }

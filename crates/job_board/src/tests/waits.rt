@@ -1,14 +1,13 @@
-//! Who waits at a desk is woken. The thread that wakes it does so again by other calls if it sees no answer for some
-//! seconds, so that a test whose wake-up is lost ends all the same, and fails.
+//! Who waits at a desk is woken. The thread that wakes it does so again by other calls if it sees no
+//! answer for some seconds, so that a test whose wake-up is lost ends all the same, and fails.
 
-use super::{FIRST, UNEQUAL_CORNERS, desk_of, job_of, send, solved, task_of};
-use crate::{Client, Delivery, Desk, Turn};
+use super::{FIRST, UNEQUAL_CORNERS, sends, solved, task_of};
+use crate::{Client, Delivery, Desk, Job, Turn};
 use endgame_search::Task;
-use std::alloc::Global;
+use std::alloc::{AllocError, Global};
 use std::process::Abort;
-use std::sync::Wait;
 use std::sync::atomic::{AtomicBool, Ordering};
-use std::test::Fail;
+use std::sync::{Mutex, Wait};
 use std::thread;
 use std::thread::Threads;
 use std::time::{Clock, Duration};
@@ -29,35 +28,38 @@ enum Event {
 #[derive(Drop)]
 struct Scene {
     desk: Desk,
+    // Of the thread that waits.
+    client: Mutex<Client>,
     task: Task,
     event: Event,
     woken: AtomicBool,
 }
 
 // A desk of two senders. Where the event is about a job, the client has sent it, and it is taken.
-fn scene_of<R: Wait + Abort>(
+fn scene_of<R: Wait>(
     rt: &R,
     alloc: Global,
-    client: &mut Client,
+    task: Task,
     event: Event,
-) -> Result<Scene, Fail> {
-    let desk = desk_of(alloc, 2)?;
-    let task = task_of(rt, UNEQUAL_CORNERS);
+) -> Result<Scene, AllocError> {
+    let Ok(desk) = Desk::new(alloc, 2) else {
+        return Err(AllocError);
+    };
+    let mut client = Client::new(alloc, 0);
     if let Event::GiveBack | Event::Finish = event {
-        let _ = send(rt, &desk, client, task);
-        let _ = desk.take_or_wait(rt);
+        let _ = sends(rt, &desk, &mut client, task, 0) && desk.take_or_wait(rt).is_some();
     }
-    let woken = AtomicBool::new(false);
     Ok(Scene {
         desk,
+        client: Mutex::new(client),
         task,
         event,
-        woken,
+        woken: AtomicBool::new(false),
     })
 }
 
-// A worker that waits before the client does, and to which a finish and a close are of no use: they have to wake the
-// client too. It gets the job of the other sender at last.
+// A worker that waits before the client does, and to which a finish and a close are of no use: they
+// have to wake the client too. It gets the job of the other sender at last.
 fn stand_by<R: Wait>(rt: &R, scene: &Scene) -> bool {
     match scene.event {
         Event::Submit | Event::GiveBack => true,
@@ -65,27 +67,37 @@ fn stand_by<R: Wait>(rt: &R, scene: &Scene) -> bool {
     }
 }
 
+// Whether the turn of the waiting client gives this.
+fn is_told<R: Wait>(rt: &R, scene: &Scene, wanted: Turn) -> bool {
+    let mut client = scene.client.lock(rt);
+    scene.desk.turn(rt, &mut client) == Ok(wanted)
+}
+
 // Whether the waiting thread gets what the event lets it have.
-fn wait<R: Wait + Clock>(rt: &R, scene: &Scene, client: &mut Client) -> bool {
-    thread::sleep(rt, Duration::from_millis(50));
-    let solved = solved(scene.task);
-    let number = 0;
-    let next = Turn::Next(Delivery { number, solved });
-    let found = match scene.event {
-        Event::Submit | Event::GiveBack => {
-            scene.desk.take_or_wait(rt) == Some(job_of(FIRST, scene.task))
-        }
-        Event::Finish => scene.desk.turn(rt, client) == Ok(next),
-        Event::Close => scene.desk.turn(rt, client) == Ok(Turn::Drained),
+fn is_given<R: Wait>(rt: &R, scene: &Scene) -> bool {
+    let (id, task) = (FIRST, scene.task);
+    let next = Delivery {
+        number: 0,
+        solved: solved(task),
     };
+    match scene.event {
+        Event::Submit | Event::GiveBack => scene.desk.take_or_wait(rt) == Some(Job { id, task }),
+        Event::Finish => is_told(rt, scene, Turn::Next(next)),
+        Event::Close => is_told(rt, scene, Turn::Drained),
+    }
+}
+
+fn wait<R: Wait + Clock>(rt: &R, scene: &Scene) -> bool {
+    thread::sleep(rt, Duration::from_millis(50));
+    let given = is_given(rt, scene);
     scene.woken.store(true, Ordering::SeqCst);
-    found
+    given
 }
 
 // Whether the call of the event is accepted.
-fn call<R: Wait + Abort>(rt: &R, scene: &Scene, client: &mut Client) -> bool {
+fn call<R: Wait>(rt: &R, scene: &Scene, client: &mut Client) -> bool {
     match scene.event {
-        Event::Submit => send(rt, &scene.desk, client, scene.task) == Ok(0),
+        Event::Submit => sends(rt, &scene.desk, client, scene.task, 0),
         Event::GiveBack => scene.desk.give_back(rt, FIRST) == Ok(()),
         Event::Finish => scene.desk.finish(rt, FIRST, solved(scene.task)) == Ok(()),
         Event::Close => scene.desk.close(rt, client) == Ok(true),
@@ -103,57 +115,51 @@ fn is_woken<R: Clock>(rt: &R, scene: &Scene) -> bool {
     false
 }
 
-// Makes the call while the other thread waits. Then a submit and a close of another sender wake that thread in any case.
-fn wake<R: Wait + Clock + Abort>(rt: &R, alloc: Global, scene: &Scene) -> bool {
+// Makes the call while the other thread waits. Then a submit and a close of another sender wake that
+// thread in any case.
+fn wake<R: Wait + Clock>(rt: &R, alloc: Global, scene: &Scene) -> bool {
     thread::sleep(rt, Duration::from_millis(150));
     let called = call(rt, scene, &mut Client::new(alloc, 0));
     let woken = is_woken(rt, scene);
     let mut other = Client::new(alloc, 1);
-    let _ = send(rt, &scene.desk, &mut other, scene.task);
-    let _ = scene.desk.close(rt, &other);
-    called && woken
+    let ended = sends(rt, &scene.desk, &mut other, scene.task, 0)
+        && scene.desk.close(rt, &other) == Ok(true);
+    called && woken && ended
 }
 
-fn goes_on<R: Threads + Wait + Clock + Abort + Sync>(
+fn play<R: Wait + Clock>(rt: &R, alloc: Global, scene: &Scene, thread: usize) -> bool {
+    match thread {
+        0 => wake(rt, alloc, scene),
+        1 => wait(rt, scene),
+        _ => stand_by(rt, scene),
+    }
+}
+
+fn goes_on<R: Threads + Wait + Clock + Sync>(
     rt: &R,
     alloc: Global,
+    task: Task,
     event: Event,
-) -> Result<bool, Fail> {
-    let mut client = Client::new(alloc, 0);
-    let scene = scene_of(rt, alloc, &mut client, event)?;
-    let scene = &scene;
-    let (stood_by, (waited, woken)) = thread::join(
-        rt,
-        move || stand_by(rt, scene),
-        move || thread::join(
-            rt,
-            move || wait(rt, scene, &mut client),
-            move || wake(rt, alloc, scene),
-        ),
-    );
-    Ok(stood_by && waited && woken)
+) -> Result<bool, AllocError> {
+    let scene = scene_of(rt, alloc, task, event)?;
+    let passed = thread::map_indices(rt, alloc, 3, &|i| play(rt, alloc, &scene, i))?;
+    Ok(!passed.contains(&false))
+}
+
+// Whether the event wakes who waits for it. Memory may be refused once.
+fn wakes<R: Threads + Wait + Clock + Abort + Sync>(rt: &R, alloc: Global, event: Event) -> bool {
+    let task = task_of(rt, UNEQUAL_CORNERS);
+    let woken = match goes_on(rt, alloc, task, event) {
+        Err(AllocError) => goes_on(rt, alloc, task, event),
+        woken => woken,
+    };
+    matches!(woken, Ok(true))
 }
 
 #[test]
-fn a_submit_wakes_a_worker(rt: HostRuntime) -> Result<(), Fail> {
-    assert!(rt; goes_on(&rt, rt.alloc(), Event::Submit)?);
-    Ok(())
-}
-
-#[test]
-fn a_give_back_wakes_a_worker(rt: HostRuntime) -> Result<(), Fail> {
-    assert!(rt; goes_on(&rt, rt.alloc(), Event::GiveBack)?);
-    Ok(())
-}
-
-#[test]
-fn a_finish_wakes_its_client(rt: HostRuntime) -> Result<(), Fail> {
-    assert!(rt; goes_on(&rt, rt.alloc(), Event::Finish)?);
-    Ok(())
-}
-
-#[test]
-fn a_close_wakes_its_client(rt: HostRuntime) -> Result<(), Fail> {
-    assert!(rt; goes_on(&rt, rt.alloc(), Event::Close)?);
-    Ok(())
+fn who_waits_is_woken(rt: HostRuntime) {
+    assert!(rt; wakes(&rt, rt.alloc(), Event::Submit));
+    assert!(rt; wakes(&rt, rt.alloc(), Event::GiveBack));
+    assert!(rt; wakes(&rt, rt.alloc(), Event::Finish));
+    assert!(rt; wakes(&rt, rt.alloc(), Event::Close));
 }

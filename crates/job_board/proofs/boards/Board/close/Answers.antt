@@ -1,7 +1,7 @@
 use Rattle.std.proofs.Common.{Ok, vec_len, ap, sym, ◌∙◌, arith, refl}
 use Rattle.std.proofs.lemmas.Option.{slice_get_read}
 use Rattle.job_board.specs.Contents.{closed_state}
-use Rattle.job_board.specs.Replies.{close_in}
+use Rattle.job_board.specs.Replies.{close_reply_in}
 use Rattle.job_board.proofs.BoardFacts.{keeps, change_at}
 use Rattle.job_board.proofs.boards.Board.close.Goals as goal
 
@@ -14,7 +14,7 @@ invariant_of-self-2 c =
 pub returns-clause-lawful : goal.returns-clause-lawful
 returns-clause-lawful c =
     let at = slice_get_read c.self.inside.senders.items (vec_len c.self.inside.senders) c.args.sender c.in-Some.jobs.now (omega (arith, c.self.inside.senders.ok.0)) (c.in-Some.ensures.variant.0 refl) c.in-Some.ensures.value in
-    rw (← c.self.view_is) (ap Ok c.close.ensures.was ∙ ap close_in (sym at))
+    rw (← c.self.view_is) (ap Ok c.close.ensures.was ∙ ap close_reply_in (sym at))
 
 pub returns-clause-content : goal.returns-clause-content
 returns-clause-content c =

@@ -1,6 +1,6 @@
 use Rattle.std.proofs.Common.{vec_len, refl, ap, sym, ◌∙◌, arith}
 use Rattle.std.proofs.lemmas.Option.{slice_get_read}
-use Rattle.job_board.specs.Replies.{deliver_in}
+use Rattle.job_board.specs.Replies.{deliver_reply_in}
 use Rattle.job_board.proofs.BoardFacts.{delivers, delivered}
 use Rattle.job_board.proofs.boards.Board.deliver.Goals as goal
 
@@ -18,7 +18,7 @@ invariant_of-self-2 c =
 pub returns-clause-lawful : goal.returns-clause-lawful
 returns-clause-lawful c =
     let at = slice_get_read c.self.inside.senders.items (vec_len c.self.inside.senders) c.args.sender c.in-Some.jobs.now (omega (arith, c.self.inside.senders.ok.0)) (c.in-Some.ensures.variant.0 refl) c.in-Some.ensures.value in
-    rw (← c.self.view_is) (c.deliver.ensures.reply ∙ ap deliver_in (sym at))
+    rw (← c.self.view_is) (c.deliver.ensures.reply ∙ ap deliver_reply_in (sym at))
 
 pub returns-clause-content : goal.returns-clause-content
 returns-clause-content c =
