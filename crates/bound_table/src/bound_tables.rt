@@ -4,7 +4,7 @@ ghost use Rattle.std.specs.Prelude.{◌≡◌, ◌<◌, ◌≤◌, ◌↔◌, If
 ghost use Rattle.bound_table.specs.declared.faults.TableFault.TheVariants as fault;
 ghost use Rattle.bound_table.specs.Ranges.{IsTrueOf};
 
-use crate::entries::{Entry, Slot, read, unused, write};
+use crate::entries::{Entry, Slot, empty_slot, read, write};
 use crate::faults::TableFault;
 use crate::ranges::Range;
 use crate::tables::Bounds;
@@ -14,9 +14,10 @@ use std::alloc::Global;
 use std::marker::Model;
 use std::sync::atomic::{AtomicU8, Ordering};
 
-/// A table with a fixed number of entries, which threads share by reference: no call waits, and none but `new` takes
-/// memory. An entry holds a canonical position and a range that is true of it. A store replaces what its entry holds,
-/// and is skipped where another thread uses the entry; a probe then shows None.
+/// A table with a fixed number of entries, which threads share by reference: no call waits, and
+/// none but `new` takes memory. An entry holds a canonical position and a range that is true of it.
+/// A store replaces what its entry holds, and is skipped where another thread uses the entry; a
+/// probe then shows None.
 #[derive(Drop)]
 pub struct BoundTable {
     scoring: Scoring,
@@ -38,20 +39,21 @@ impl Model for BoundTable {
 
 // A number that depends on all bits of both masks: products with odd numbers, folded twice.
 #[inline]
-fn mixed(position: Pos) -> u64 {
+fn hash_of(position: Pos) -> u64 {
     let products = position.own().wrapping_mul(0x9e37_79b9_7f4a_7c15)
         ^ position.opp().wrapping_mul(0xc2b2_ae3d_27d4_eb4f);
     (products ^ (products >> 29)).wrapping_mul(0xbf58_476d_1ce4_e5b9)
 }
 
-// The entry that a position chooses: the upper half of its mixed number, taken as a fraction of 2^32, of the entries.
+// The number of the entry where a position is kept: the upper half of its hash, taken as a fraction
+// of 2^32, of the entries.
 #[inline]
-fn chosen(position: Pos, entries: usize) -> usize
+fn entry_index(position: Pos, entries: usize) -> usize
     requires some { 0 < entries }
     requires few { entries ≤ BoundTable.MOST_ENTRIES }
     ensures { result < entries }
 {
-    let fraction = mixed(position) >> 32;
+    let fraction = hash_of(position) >> 32;
     ((fraction * entries as u64) >> 32) as usize
 }
 
@@ -59,11 +61,13 @@ impl BoundTable {
     /// The greatest number of entries.
     pub const MOST_ENTRIES: usize = 4_194_304;
 
-    /// A table under the scoring with so many entries, none of them stored to. With 0 entries it keeps nothing.
-    /// `TooMany` above `MOST_ENTRIES`, before any memory is asked for; `Memory` where it was refused.
+    /// A table under the scoring with so many entries, none of them stored to. With 0 entries it
+    /// keeps nothing. `TooMany` above `MOST_ENTRIES`, before any memory is asked for; `Memory`
+    /// where it was refused.
     pub fn new(alloc: Global, entries: usize, scoring: Scoring) -> Result<BoundTable, TableFault>
         ensures too_many { (result ≡ Err fault.TooMany) ↔ (Self.MOST_ENTRIES < entries) }
-        ensures made { IfOk result (λ table. table ≡ record { scoring = scoring; entries = entries }) }
+        ensures made { IfOk result
+            (λ table. table ≡ record { scoring = scoring; entries = entries }) }
         ensures without_memory { entries ≡ 0 → IsOk result }
     {
         if entries > Self::MOST_ENTRIES {
@@ -73,7 +77,7 @@ impl BoundTable {
             return Err(TableFault::Memory);
         };
         for _ in 0..entries {
-            slots.push_reserved(unused(scoring));
+            slots.push_reserved(empty_slot(scoring));
         }
         Ok(BoundTable {
             scoring,
@@ -104,13 +108,13 @@ impl BoundTable {
         }
     }
 
-    // The slot that a canonical position chooses.
+    // The slot of a canonical position.
     #[inline]
     fn slot(&self, canonical: Pos) -> &Slot
         requires { 0 < self.now.entries }
         ensures { result.now ≡ self.now.scoring }
     {
-        &self.slots[chosen(canonical, self.slots.len())]
+        &self.slots[entry_index(canonical, self.slots.len())]
     }
 }
 

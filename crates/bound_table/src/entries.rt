@@ -1,8 +1,8 @@
 //! An entry of a shared table, in a slot that many threads may read or one may write.
 //!
-//! Each call looks at the slot's word and makes one turn: to read, which ends by a leave, or to write, which ends by a
-//! put. Where another thread was first, the turn gains nothing and its claim is given back; nothing is tried again, and
-//! nobody waits.
+//! Each call looks at the slot's word and makes one turn: to read, which ends by a leave, or to
+//! write, which ends by a put. Where another thread was first, the turn gains nothing and its claim
+//! is given back; nothing is tried again, and nobody waits.
 
 ghost use Rattle.std.specs.Prelude.{◌≡◌, ◌<◌, ◌+◌, ◌^◌, IfSome, IsTrue};
 ghost use Rattle.std.specs.Option.{SomeIff};
@@ -56,13 +56,14 @@ impl Entry {
     }
 }
 
-/// A place for one entry, which clauses see as the scoring of its range. Its word is `FREE` until the first store,
-/// then `PRESENT` with the number of its readers, or `TAKEN` while a thread writes it.
+/// A place for one entry, which clauses see as the scoring of its range. Its word is `FREE` until
+/// the first store, then `PRESENT` with the number of its readers, or `TAKEN` while a thread writes
+/// it.
 pub(crate) type Slot = Counted<Entry>;
 
 /// A slot that was never stored to. Its range, of all scores, is true of every position.
 #[inline]
-pub(crate) fn unused(scoring: Scoring) -> Slot
+pub(crate) fn empty_slot(scoring: Scoring) -> Slot
     ensures { result ≡ scoring }
 {
     let no_discs = Pos::new(0, 0).unwrap();
@@ -79,7 +80,8 @@ fn admits_reader(word: u64) -> bool
     word % ONE_READER == PRESENT && word / ONE_READER < MOST_READERS
 }
 
-/// The entry of the slot; None where it was never stored to, where a thread writes it, and where the turn is lost.
+/// The entry of the slot; None where it was never stored to, where a thread writes it, and where
+/// the turn is lost.
 #[inline]
 pub(crate) fn read(slot: &Slot) -> Option<Entry>
     ensures { IfSome result (λ entry. IsKnown slot.now entry.position entry.range) }
@@ -98,7 +100,8 @@ pub(crate) fn read(slot: &Slot) -> Option<Entry>
     Some(entry)
 }
 
-/// Puts an entry into the slot; does nothing where a thread reads or writes it, and where the turn is lost.
+/// Puts an entry into the slot; does nothing where a thread reads or writes it, and where the turn
+/// is lost.
 #[inline]
 pub(crate) fn write(slot: &Slot, entry: Entry)
     requires { IsKnown slot.now entry.position entry.range }

@@ -1,13 +1,27 @@
-//! What is known of positions' values: ranges that are true of them, and tables that keep such ranges.
+//! What is known of positions' values: ranges that are true of them, and tables that keep such
+//! ranges.
 //!
-//! A table never promises to show a range. Each range that it shows is true of the position that was asked.
+//! A table never promises to show a range. Each range that it shows is true of the position that
+//! was asked.
+//!
+//! ```rust
+//! use bound_table::{BoundTable, Bounds, Range};
+//! use othello_bits::Pos;
+//! use othello_rules::Scoring;
+//!
+//! // Black has H1 and seven full rows, White B1 to G1: Black moves to A1 and has all 64 discs.
+//! let pos = Pos::new(!0x7f, 0x7e).expect(&rt, "no square is taken twice");
+//! let table = BoundTable::new(rt.alloc(), 1024, Scoring::Winner)?;
+//! table.store(&pos, Range::new(64, 64).unwrap());
+//! assert!(rt; table.probe(&pos).is_none_or(|range| range.low() == 64));
+//! ```
 #![tactic(auto)]
 
-pub mod bound_tables;
+mod bound_tables;
 mod entries;
-pub mod faults;
-pub mod ranges;
-pub mod tables;
+mod faults;
+mod ranges;
+mod tables;
 #[cfg(test)]
 mod tests;
 

@@ -5,8 +5,8 @@ ghost use Rattle.bound_table.specs.Ranges.{interval, IsInterval};
 
 use std::marker::Model;
 
-/// The scores from `low` to `high`, both ends included: `-64 <= low <= high <= 64`. They are in discs, or signs under
-/// `Scoring::Sign`.
+/// The scores from `low` to `high`, both ends included: `-64 <= low <= high <= 64`. They are in
+/// discs, or signs under `Scoring::Sign`.
 #[derive(Clone, Copy, PartialEq, Eq, Debug)]
 pub struct Range {
     low: i8,

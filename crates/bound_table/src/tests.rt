@@ -1,4 +1,5 @@
-//! What no clause says: that a store is shown, to every image and in every thread, and which calls succeed.
+//! What no clause says: that a store is shown, to every image and in every thread, and which calls
+//! succeed.
 
 ghost use Rattle.std.specs.Prelude.{◌≡◌};
 ghost use Rattle.othello_rules.specs.declared.scorings.Scoring.TheVariants.{Winner};
@@ -21,7 +22,8 @@ struct Exact {
 }
 
 impl Exact {
-    // The position where these discs are the opponent's and A1 and H1 are empty, with its value by full minimax.
+    // The position where these discs are the opponent's and A1 and H1 are empty, with its value by
+    // full minimax.
     fn of(rt: &impl Abort, opp: u64) -> Exact {
         let position = Pos::new(!(opp | 0x81), opp).expect(rt, "no square is taken twice");
         let value = position.to_grid(Side::Black).plain_value(Scoring::Winner);
@@ -45,22 +47,27 @@ fn shows(table: &BoundTable, position: Pos, value: i8) -> bool {
     table.probe(&position) == Range::new(value, value)
 }
 
+// Whether a store is shown to each image of the position, and nothing before it.
+fn is_shown_once_stored(table: &BoundTable, exact: &Exact, value: i8) -> bool
+    requires { table.now.scoring ≡ Winner }
+{
+    let before = table.probe(&exact.position);
+    table.store(&exact.position, exact.range);
+    before.is_none()
+        && Sym::all()
+            .iter()
+            .all(|sym| shows(table, exact.position.image(*sym), value))
+}
+
 #[test]
 fn a_store_is_shown_to_every_image(rt: HostRuntime) -> Result<(), Fail> {
     let table = BoundTable::new(rt.alloc(), 1, Scoring::Winner)?;
     let unequal = Exact::of_unequal_corners(&rt);
     let equal = Exact::of_equal_corners(&rt);
-    if let Some(shown) = table.probe(&unequal.position) {
-        assert_eq!(rt; (shown.low(), shown.high()), (-64, 64));
-    }
-    table.store(&unequal.position, unequal.range);
-    assert!(rt;
-        Sym::all()
-            .iter()
-            .all(|sym| shows(&table, unequal.position.image(*sym), 62))
-    );
-    table.store(&equal.position, equal.range);
-    assert!(rt; shows(&table, equal.position, 64) && table.probe(&unequal.position).is_none());
+    assert!(rt; is_shown_once_stored(&table, &unequal, 62));
+    assert!(rt; is_shown_once_stored(&table, &equal, 64));
+    // There is one entry.
+    assert!(rt; table.probe(&unequal.position).is_none());
     Ok(())
 }
 

@@ -6,7 +6,7 @@ use Rattle.std.proofs.lemmas.Option.{none-some, same_Some}
 use Rattle.std.proofs.lemmas.Grind.{common_steps}
 use Rattle.std.proofs.lemmas.List.{append_assoc}
 use Rattle.obf_text.specs.Bytes.{is_blank, is_content}
-use Rattle.obf_text.specs.Fields.{Field, IsField, IsMoveText, IsNoField, IsScoreText, both, field_of, field_of_text, move_of, score_of, trimmed}
+use Rattle.obf_text.specs.Fields.{Field, IsField, IsMoveText, IsNoField, IsScoreText, field_by, field_of, field_of_text, move_of, score_of_text, without_blanks}
 use Rattle.obf_text.specs.declared.entries.ListedMove.{ListedMove}
 use Rattle.obf_text.proofs.Fronts.{Stops}
 use Rattle.obf_text.proofs.TrimLemmas.{back_blank, dropped_behind, front_blank, trimmed_is, trimmed_whole}
@@ -18,7 +18,7 @@ text_is move score f m s =
     let t = move_is move f.0 m in
     rw t.whole (rw (t.reads, score_is score f.1 s) refl)
 
-both_from : (m : Option ListedMove) (s : Option ℤ) (f : Field) → both m s ≡ Some f → (m ≡ Some f.0) × (s ≡ Some f.1)
+both_from : (m : Option ListedMove) (s : Option ℤ) (f : Field) → field_by m s ≡ Some f → (m ≡ Some f.0) × (s ≡ Some f.1)
 both_from None s f h = absurd (none-some f h)
 both_from (Some m) None f h = absurd (none-some f h)
 both_from (Some m) (Some s) f h = let e = same_Some (m, s) f h in (ap (λ p. Some p.0) e, ap (λ p. Some p.1) e)
@@ -31,9 +31,9 @@ pub record Parts (text : List ℕ) (f : Field) : Type 0 where
   pub is_move : IsMoveText move f.0
   pub is_score : IsScoreText score f.1
 
-parts_at : (a b colon : ℕ) (score : List ℕ) (f : Field) (t : Bool) → (colon == 58) ≡ t → cond t (both (move_of a b) (score_of score)) None ≡ Some f → Parts (a ∷ b ∷ colon ∷ score) f
+parts_at : (a b colon : ℕ) (score : List ℕ) (f : Field) (t : Bool) → (colon == 58) ≡ t → cond t (field_by (move_of a b) (score_of_text score)) None ≡ Some f → Parts (a ∷ b ∷ colon ∷ score) f
 parts_at a b colon score f true e h =
-    let parts = both_from (move_of a b) (score_of score) f h in
+    let parts = both_from (move_of a b) (score_of_text score) f h in
     record { move = a ∷ b ∷ []; score = score; whole = ap (λ c. a ∷ b ∷ c ∷ score) (eqb-true colon 58 e); is_move = move_from a b f.0 parts.0; is_score = score_from score f.1 parts.1 }
 parts_at a b colon score f false e h = absurd (none-some f h)
 
@@ -45,7 +45,7 @@ parts_from (a ∷ b ∷ colon ∷ score) f h = parts_at a b colon score f (colon
 
 pub field_from : (piece : List ℕ) (f : Field) → field_of piece ≡ Some f → IsField piece f
 field_from piece f h =
-    let parts = parts_from (trimmed piece) f h in
+    let parts = parts_from (without_blanks piece) f h in
     record {
       before = take (position_or_len is_content piece) piece;
       move = parts.move;

@@ -6,7 +6,7 @@ use Rattle.std.proofs.lemmas.Bool.{eqb-true}
 use Rattle.std.proofs.lemmas.Bool.Decides.{nat_tests}
 use Rattle.std.proofs.lemmas.Option.{none-some, same_Some}
 use Rattle.obf_text.specs.Bytes.{is_blank}
-use Rattle.obf_text.specs.Fields.{IsDigit, IsNumber, IsScoreText, IsSigned, IsTwoDigits, at_most_64, digit_of, score_of, size_of, two_digits}
+use Rattle.obf_text.specs.Fields.{IsDigit, IsNumber, IsScoreText, IsSigned, IsTwoDigits, at_most_64, digit_of, score_of_text, size_of, two_digit_size}
 
 digit_is : (b d : ℕ) → IsDigit b d → digit_of b ≡ Some d
 digit_is b d h = let e : b ≡ 48 + d = h.0 in let le : d ≤ 9 = h.1 in grind (arith, nat_tests)
@@ -26,7 +26,7 @@ size_is (a ∷ []) n h le = digit_is a n h
 size_is (a ∷ b ∷ []) n h le = rw (digit_is a h.tens h.first_digit, digit_is b h.ones h.second_digit, ← h.value) (within_is n le)
 size_is (a ∷ b ∷ c ∷ more) n h le = absurd h
 
-two_from : (a b : ℕ) (s t : Option ℕ) (n : ℕ) → digit_of a ≡ s → digit_of b ≡ t → two_digits s t ≡ Some n → IsTwoDigits a b n × (n ≤ 64)
+two_from : (a b : ℕ) (s t : Option ℕ) (n : ℕ) → digit_of a ≡ s → digit_of b ≡ t → two_digit_size s t ≡ Some n → IsTwoDigits a b n × (n ≤ 64)
 two_from a b None t n d e f = absurd (none-some n f)
 two_from a b (Some x) None n d e f = absurd (none-some n f)
 two_from a b (Some x) (Some y) n d e f =
@@ -45,7 +45,7 @@ number_first a [] n h = let e : a ≡ 48 + n = h.0 in let le : n ≤ 9 = h.1 in 
 number_first a (b ∷ []) n h = let e = h.first_digit.0 in let le = h.first_digit.1 in (omega arith, omega arith)
 number_first a (b ∷ c ∷ more) n h = absurd h
 
-unsigned_is : (digits : List ℕ) (n : ℕ) → IsNumber digits n → n ≤ 64 → score_of digits ≡ Some (pos n)
+unsigned_is : (digits : List ℕ) (n : ℕ) → IsNumber digits n → n ≤ 64 → score_of_text digits ≡ Some (pos n)
 unsigned_is [] n h le = absurd h
 unsigned_is (a ∷ digits) n h le =
     let first = number_first a digits n h in
@@ -54,12 +54,12 @@ unsigned_is (a ∷ digits) n h le =
     let minus : (a == 45) ≡ false = grind (arith, nat_tests) in
     rw (plus, minus, size_is (a ∷ digits) n h le) refl
 
-score_by : (sign digits : List ℕ) (n : ℕ) (z : ℤ) → IsNumber digits n → n ≤ 64 → IsSigned sign n z → score_of (sign ++ digits) ≡ Some z
+score_by : (sign digits : List ℕ) (n : ℕ) (z : ℤ) → IsNumber digits n → n ≤ 64 → IsSigned sign n z → score_of_text (sign ++ digits) ≡ Some z
 score_by sign digits n z h le (inl s) = rw (s.0, s.1, size_is digits n h le) refl
 score_by sign digits n z h le (inr (inl e, v)) = rw (e, v, size_is digits n h le) refl
 score_by sign digits n z h le (inr (inr e, v)) = rw (e, v) (unsigned_is digits n h le)
 
-pub score_is : (text : List ℕ) (z : ℤ) → IsScoreText text z → score_of text ≡ Some z
+pub score_is : (text : List ℕ) (z : ℤ) → IsScoreText text z → score_of_text text ≡ Some z
 score_is text z s = rw s.whole (score_by s.sign s.digits s.size z s.number s.within s.signed)
 
 signed_from : (sign digits : List ℕ) (o : Option ℕ) (f : ℕ → ℤ) (z : ℤ) → size_of digits ≡ o → ((n : ℕ) → IsSigned sign n (f n)) → option_map f o ≡ Some z
@@ -80,7 +80,7 @@ score_at sign digits z false true p m h =
     signed_from (sign ∷ []) digits (size_of digits) (λ n. neg_ℤ (pos n)) z refl (λ n. inl (ap (λ b. b ∷ []) is, refl)) h
 score_at sign digits z false false p m h = signed_from [] (sign ∷ digits) (size_of (sign ∷ digits)) pos z refl (λ n. inr (inr refl, refl)) h
 
-pub score_from : (text : List ℕ) (z : ℤ) → score_of text ≡ Some z → IsScoreText text z
+pub score_from : (text : List ℕ) (z : ℤ) → score_of_text text ≡ Some z → IsScoreText text z
 score_from [] z e = absurd (none-some z e)
 score_from (sign ∷ digits) z e = score_at sign digits z (sign == 43) (sign == 45) refl refl e
 

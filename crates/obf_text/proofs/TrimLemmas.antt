@@ -8,12 +8,12 @@ use Rattle.std.proofs.lemmas.List.Sums.{fails_before_first, prefix_len_passes, p
 use Rattle.std.proofs.Math.ListN.{get_or-append}
 use Rattle.std.proofs.Math.Seq.{drop-append_seam, take-append_seam}
 use Rattle.obf_text.specs.Bytes.{is_blank, is_content}
-use Rattle.obf_text.specs.Fields.{trimmed, without_first_blanks, without_last_blanks}
+use Rattle.obf_text.specs.Fields.{without_blanks, without_first_blanks, without_last_blanks}
 use Rattle.obf_text.proofs.Fronts.{Stops, blanks_len, not_false}
 
 -- blanks round a text whose ends are no blanks
 pub trimmed_is : (before text after : List ℕ) → AllPass is_blank before → AllPass is_blank after → Stops is_content (text ++ after) → 0 < length text
-    → is_blank (get_or text (length text - 1) 0) ≡ false → trimmed (before ++ (text ++ after)) ≡ text
+    → is_blank (get_or text (length text - 1) 0) ≡ false → without_blanks (before ++ (text ++ after)) ≡ text
 trimmed_is before text after b a first some last =
     let front : without_first_blanks (before ++ (text ++ after)) ≡ text ++ after =
     ap (λ n. drop n (before ++ (text ++ after))) (blanks_len before (text ++ after) b first) ∙ drop-append_seam before (text ++ after) in
@@ -53,7 +53,7 @@ dropped_behind piece = drop (length (without_first_blanks piece) - suffix_len is
 pub back_blank : (piece : List ℕ) → AllPass is_blank (dropped_behind piece)
 back_blank piece = end_blank (without_first_blanks piece)
 
-pub trimmed_whole : (piece : List ℕ) → piece ≡ take (position_or_len is_content piece) piece ++ (trimmed piece ++ dropped_behind piece)
+pub trimmed_whole : (piece : List ℕ) → piece ≡ take (position_or_len is_content piece) piece ++ (without_blanks piece ++ dropped_behind piece)
 trimmed_whole piece =
     sym (take-append-drop (position_or_len is_content piece) piece)
     ∙ ap (λ t. take (position_or_len is_content piece) piece ++ t)

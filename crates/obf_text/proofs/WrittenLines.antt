@@ -13,7 +13,7 @@ use Rattle.othello_rules.specs.Rules.{Position}
 use Rattle.othello_rules.specs.Solution.{IsScore, Solution}
 use Rattle.obf_text.specs.Bytes.{is_cell, cell_of, side_of}
 use Rattle.obf_text.specs.Fields.{Field}
-use Rattle.obf_text.specs.Written.{best_text, board_text, cell_byte, fields_text, line_text, listed_of, side_byte, written}
+use Rattle.obf_text.specs.Written.{best_fields_text, board_text, cell_byte, fields_text, line_text, answer_fields, side_byte, line_with_end}
 use Rattle.obf_text.specs.LineText.{lines_of, without_empty_last}
 use Rattle.obf_text.specs.Obf.{Holds, Says}
 use Rattle.obf_text.proofs.LineLemmas.{has_first_part, keeps_first}
@@ -42,17 +42,17 @@ same_length : (cells : List Cell) → length (map cell_byte cells) ≡ length ce
 same_length [] = refl
 same_length (c ∷ cells) = ap suc (same_length cells)
 
-line_parts : (P : Position) (A : Solution) → line_text P A ≡ map cell_byte P.cells ++ (32 ∷ side_byte P.mover ∷ 59 ∷ fields_text (listed_of A))
-unfolding line_text board_text best_text
-line_parts P A = append_assoc (map cell_byte P.cells) (32 ∷ side_byte P.mover ∷ 59 ∷ []) (fields_text (listed_of A))
+line_parts : (P : Position) (A : Solution) → line_text P A ≡ map cell_byte P.cells ++ (32 ∷ side_byte P.mover ∷ 59 ∷ fields_text (answer_fields A))
+unfolding line_text board_text best_fields_text
+line_parts P A = append_assoc (map cell_byte P.cells) (32 ∷ side_byte P.mover ∷ 59 ∷ []) (fields_text (answer_fields A))
 
-pub written_says : (P : Position) (A : Solution) → length P.cells ≡ 64 → IsScore A.score → Says (line_text P A) (Holds (record { position = P; listed = listed_of A }))
+pub written_says : (P : Position) (A : Solution) → length P.cells ≡ 64 → IsScore A.score → Says (line_text P A) (Holds (record { position = P; listed = answer_fields A }))
 written_says P A all h = record {
   blanks = [];
   cells = map cell_byte P.cells;
   gap = 32 ∷ [];
   byte = side_byte P.mover;
-  rest = 59 ∷ fields_text (listed_of A);
+  rest = 59 ∷ fields_text (answer_fields A);
   whole = line_parts P A;
   blank = none_blank;
   spelled = board_cells P.cells;
@@ -60,7 +60,7 @@ written_says P A all h = record {
   gap_blank = gap_is_blank;
   board = board_back P.cells;
   mover = side_back P.mover;
-  fields = all_back (listed_of A) (best_writable A.score A.best (score_size A.score h));
+  fields = all_back (answer_fields A) (best_writable A.score A.best (score_size A.score h));
 }
 
 cells_onto : (cells : List Cell) (tail : List ℕ) → Lacks 10 tail → Lacks 10 (map cell_byte cells ++ tail)
@@ -75,7 +75,7 @@ side_onto side.White tail rest = lacks_cons 10 79 tail (omega arith) rest
 
 line_lacks : (P : Position) (A : Solution) → IsScore A.score → Lacks 10 (line_text P A)
 line_lacks P A h =
-    let fields = lacks_cons 10 59 (fields_text (listed_of A)) (omega arith) (fields_lack 10 (listed_of A) (best_writable A.score A.best (score_size A.score h)) (inl refl)) in
+    let fields = lacks_cons 10 59 (fields_text (answer_fields A)) (omega arith) (fields_lack 10 (answer_fields A) (best_writable A.score A.best (score_size A.score h)) (inl refl)) in
     rw (line_parts P A) (cells_onto P.cells _ (lacks_cons 10 32 _ (omega arith) (side_onto P.mover _ fields)))
 
 -- a text whose last byte is a semicolon
@@ -91,7 +91,7 @@ fields_closed [] = record { front = []; whole = ap (λ t. 59 ∷ t) fields_none 
 fields_closed (f ∷ fields) = rw (fields_cons f fields) (closed_onto (59 ∷ piece_text f) (59 ∷ fields_text fields) (fields_closed fields))
 
 line_closed : (P : Position) (A : Solution) → Closed (line_text P A)
-line_closed P A = rw (line_parts P A) (closed_onto (map cell_byte P.cells) _ (closed_onto (32 ∷ side_byte P.mover ∷ []) _ (fields_closed (listed_of A))))
+line_closed P A = rw (line_parts P A) (closed_onto (map cell_byte P.cells) _ (closed_onto (32 ∷ side_byte P.mover ∷ []) _ (fields_closed (answer_fields A))))
 
 last_at : (front : List ℕ) → get_or (front ++ 59 ∷ []) (length (front ++ 59 ∷ []) - 1) 0 ≡ 59
 last_at front = grind (arith, common_steps)
@@ -99,7 +99,7 @@ last_at front = grind (arith, common_steps)
 closed_kept : (xs : List ℕ) → Closed xs → strip_carriage_return xs ≡ xs
 closed_kept xs c = rw c.whole (rw (last_at c.front) refl)
 
-pub written_line : (P : Position) (A : Solution) (rest : List ℕ) → IsScore A.score → lines_of (written P A ++ rest) ≡ line_text P A ∷ lines_of rest
+pub written_line : (P : Position) (A : Solution) (rest : List ℕ) → IsScore A.score → lines_of (line_with_end P A ++ rest) ≡ line_text P A ∷ lines_of rest
 written_line P A rest h =
     let line = line_text P A in
     let part = has_first_part (λ b. b == 10) rest in

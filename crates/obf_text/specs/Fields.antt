@@ -1,6 +1,7 @@
 -- The fields of a line: what stands behind the side, up to the first `%`, is cut at each `;`; a piece
 -- that is a move, a colon and a score lists that move, and any other piece lists nothing.
-use Rattle.std.specs.Prelude.{◌≡◌, ◌⊎◌, ℕ, ℤ, pos, neg_ℤ, ◌+◌, ◌-◌, ◌*◌, ◌<◌, ◌≤◌, ◌==◌, ◌&&◌, ◌||◌, Bool, nat_le, List, [], ◌∷◌, ◌++◌, length, map, take, drop, Option, Some, None, if◌then◌else◌}
+use Rattle.std.specs.Prelude.{◌≡◌, ◌⊎◌, ℕ, ℤ, pos, neg_ℤ, ◌+◌, ◌-◌, ◌*◌, ◌<◌, ◌≤◌, ◌==◌, ◌&&◌, ◌||◌, Bool, nat_le, List}
+use Rattle.std.specs.Prelude.{[], ◌∷◌, ◌++◌, length, map, take, drop, Option, Some, None, if◌then◌else◌}
 use Rattle.std.specs.List.{AllPass, slice_split, before_first, position_or_len, suffix_len, filter_map}
 use Rattle.std.specs.Option.{option_map}
 use Rattle.othello_rules.specs.Board.{IsNameOf}
@@ -102,11 +103,11 @@ abbrev pub digit_of : ℕ → Option ℕ
 digit_of b = offset_of 48 9 b
 
 -- A to H, or a to h
-abbrev pub column_of : ℕ → Option ℕ
-column_of b = if nat_le b 72 then offset_of 65 7 b else offset_of 97 7 b
+abbrev pub column_of_letter : ℕ → Option ℕ
+column_of_letter b = if nat_le b 72 then offset_of 65 7 b else offset_of 97 7 b
 
-abbrev pub row_of : ℕ → Option ℕ
-row_of b = offset_of 49 7 b
+abbrev pub row_of_digit : ℕ → Option ℕ
+row_of_digit b = offset_of 49 7 b
 
 abbrev pub square_in : Option ℕ → Option ℕ → Option ListedMove
 square_in (Some column) (Some row) = Some (At (column + 8 * row))
@@ -118,34 +119,34 @@ is_pass a b = ((a == 80) || (a == 112)) && ((b == 83) || (b == 115))
 abbrev pub move_of : ℕ → ℕ → Option ListedMove
 move_of a b =
     if is_pass a b then Some Pass
-    else (if (a == 45) && (b == 45) then Some Over else square_in (column_of a) (row_of b))
+    else (if (a == 45) && (b == 45) then Some Over else square_in (column_of_letter a) (row_of_digit b))
 
 abbrev pub at_most_64 : ℕ → Option ℕ
 at_most_64 n = if nat_le n 64 then Some n else None
 
-abbrev pub two_digits : Option ℕ → Option ℕ → Option ℕ
-two_digits (Some tens) (Some ones) = at_most_64 (10 * tens + ones)
-two_digits _ _ = None
+abbrev pub two_digit_size : Option ℕ → Option ℕ → Option ℕ
+two_digit_size (Some tens) (Some ones) = at_most_64 (10 * tens + ones)
+two_digit_size _ _ = None
 
 abbrev pub size_of : List ℕ → Option ℕ
 size_of (a ∷ []) = digit_of a
-size_of (a ∷ b ∷ []) = two_digits (digit_of a) (digit_of b)
+size_of (a ∷ b ∷ []) = two_digit_size (digit_of a) (digit_of b)
 size_of _ = None
 
-abbrev pub score_of : List ℕ → Option ℤ
-score_of [] = None
-score_of (sign ∷ digits) =
+abbrev pub score_of_text : List ℕ → Option ℤ
+score_of_text [] = None
+score_of_text (sign ∷ digits) =
     if sign == 43 then option_map pos (size_of digits)
     else (if sign == 45 then option_map (λ n. neg_ℤ (pos n)) (size_of digits)
     else option_map pos (size_of (sign ∷ digits)))
 
-abbrev pub both : Option ListedMove → Option ℤ → Option Field
-both (Some move) (Some score) = Some (move, score)
-both _ _ = None
+abbrev pub field_by : Option ListedMove → Option ℤ → Option Field
+field_by (Some move) (Some score) = Some (move, score)
+field_by _ _ = None
 
 abbrev pub field_of_text : List ℕ → Option Field
 field_of_text (a ∷ b ∷ colon ∷ score) =
-    if colon == 58 then both (move_of a b) (score_of score) else None
+    if colon == 58 then field_by (move_of a b) (score_of_text score) else None
 field_of_text _ = None
 
 abbrev pub without_first_blanks : List ℕ → List ℕ
@@ -154,11 +155,11 @@ without_first_blanks piece = drop (position_or_len is_content piece) piece
 abbrev pub without_last_blanks : List ℕ → List ℕ
 without_last_blanks piece = take (length piece - suffix_len is_blank piece) piece
 
-abbrev pub trimmed : List ℕ → List ℕ
-trimmed piece = without_last_blanks (without_first_blanks piece)
+abbrev pub without_blanks : List ℕ → List ℕ
+without_blanks piece = without_last_blanks (without_first_blanks piece)
 
 abbrev pub field_of : List ℕ → Option Field
-field_of piece = field_of_text (trimmed piece)
+field_of piece = field_of_text (without_blanks piece)
 
 abbrev pub fields_of : List ℕ → List Field
 fields_of rest = filter_map field_of (pieces_of rest)

@@ -60,19 +60,21 @@ best_fields score (best.Moves mask) = map (λ square. (At square, score)) (squar
 best_fields score best.Pass = (Pass, score) ∷ []
 best_fields score best.Over = (Over, score) ∷ []
 
-abbrev pub listed_of : Solution → List Field
-listed_of A = best_fields A.score A.best
+-- the fields of an answer
+abbrev pub answer_fields : Solution → List Field
+answer_fields A = best_fields A.score A.best
 
-unfoldable pub best_text : ℤ → Best → List ℕ
-best_text score best = fields_text (best_fields score best)
+unfoldable pub best_fields_text : ℤ → Best → List ℕ
+best_fields_text score best = fields_text (best_fields score best)
 
 -- the line of a position with its answer, without its LF
 unfoldable pub line_text : Position → Solution → List ℕ
-line_text P A = board_text P ++ best_text A.score A.best
+line_text P A = board_text P ++ best_fields_text A.score A.best
 
-abbrev pub written : Position → Solution → List ℕ
-written P A = line_text P A ++ 10 ∷ []
+-- the line and its LF
+abbrev pub line_with_end : Position → Solution → List ℕ
+line_with_end P A = line_text P A ++ 10 ∷ []
 
 -- what is read back: the position, with each best move listed with the score
-abbrev pub entry_written : Position → Solution → Entry
-entry_written P A = record { position = P; listed = listed_of A }
+abbrev pub answer_entry : Position → Solution → Entry
+answer_entry P A = record { position = P; listed = answer_fields A }

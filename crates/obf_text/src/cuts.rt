@@ -23,7 +23,8 @@ impl<'a> Model for Lines<'a> {
     ghost view = { λ l. lines_of l.text.now };
 }
 
-/// Cuts a text into its lines. A line ends with LF; one CR before it, or at the text's end, is dropped.
+/// Cuts a text into its lines. A line ends with LF; one CR before it, or at the text's end, is
+/// dropped.
 pub fn split_lines(text: &[u8]) -> Lines<'_>
     ensures lines { result ≡ lines_of text.now }
     // The lines are no longer than the text.

@@ -15,7 +15,8 @@ pub enum LineFault {
     /// A byte that is no square stands in a square's place, at this column.
     #[error("bad square at column {0}")]
     BadCell(usize),
-    /// The side to move is missing at this column: another byte stands there, or the line ends before it.
+    /// The side to move is missing at this column: another byte stands there, or the line ends
+    /// before it.
     #[error("bad side at column {0}")]
     BadSide(usize),
     /// The listed fields found no memory.

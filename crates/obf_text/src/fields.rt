@@ -4,9 +4,9 @@ ghost use Rattle.std.specs.Prelude.{◌≡◌, ◌==◌, ◌<◌, ◌≤◌, ◌
 ghost use Rattle.std.specs.Prelude.{◌∷◌, Some, option_map};
 ghost use Rattle.std.specs.Iterator.{YieldsFirstRef, item_count};
 ghost use Rattle.std.specs.List.{before_first, position_or_len, position};
-ghost use Rattle.obf_text.specs.Fields.{column_of, digit_of, field_of, field_of_text};
-ghost use Rattle.obf_text.specs.Fields.{fields_of, move_of, row_of, score_of, size_of};
-ghost use Rattle.obf_text.specs.Fields.{trimmed, without_first_blanks, without_last_blanks};
+ghost use Rattle.obf_text.specs.Fields.{column_of_letter, digit_of, field_of, field_of_text};
+ghost use Rattle.obf_text.specs.Fields.{fields_of, move_of, row_of_digit, score_of_text, size_of};
+ghost use Rattle.obf_text.specs.Fields.{without_blanks, without_first_blanks, without_last_blanks};
 ghost use Rattle.obf_text.specs.Fields.{pieces_left, square_in};
 
 use crate::bytes::{blank_count, is_blank};
@@ -29,7 +29,7 @@ fn digit_of(byte: u8) -> Option<u8>
 
 // The square of a name, its letter in either case.
 fn square_of(first: u8, second: u8) -> Option<ListedMove>
-    ensures { result ≡ square_in (column_of first) (row_of second) }
+    ensures { result ≡ square_in (column_of_letter first) (row_of_digit second) }
 {
     let square = Square::from_name(&[first, second])?;
     Some(ListedMove::At(square))
@@ -68,8 +68,8 @@ fn size_of(digits: &[u8]) -> Option<u8>
 }
 
 // A size behind a sign, if there is one.
-fn score_of(text: &[u8]) -> Option<i8>
-    ensures { result ≡ score_of text.now }
+fn score_of_text(text: &[u8]) -> Option<i8>
+    ensures { result ≡ score_of_text text.now }
 {
     match text {
         [b'+', digits @ ..] => {
@@ -94,7 +94,7 @@ fn field_of_text(text: &[u8]) -> Option<(ListedMove, i8)>
     match text {
         [first, second, b':', score @ ..] => {
             let listed = move_of(*first, *second)?;
-            let score = score_of(score)?;
+            let score = score_of_text(score)?;
             Some((listed, score))
         }
         _ => None,

@@ -8,7 +8,7 @@ ghost use Rattle.othello_rules.specs.Solution.{IsScore, Solution};
 ghost use Rattle.obf_text.specs.Fields.{Field, IsField, IsNoField, field_of, greatest_listed};
 ghost use Rattle.obf_text.specs.LineText.{lines_of};
 ghost use Rattle.obf_text.specs.Obf.{Holds, Meaning, Says, item_of};
-ghost use Rattle.obf_text.specs.Written.{entry_written, line_text, written};
+ghost use Rattle.obf_text.specs.Written.{answer_entry, line_text, line_with_end};
 
 /// Each piece is one field, or none.
 pub fn one_field()
@@ -18,7 +18,8 @@ pub fn one_field()
     ensures none { (piece : List ℕ) → (field_of piece ≡ None) ↔ IsNoField piece }
 {}
 
-/// The greatest of the listed scores is the score of a listed move, and no listed move has a greater one.
+/// The greatest of the listed scores is the score of a listed move, and no listed move has a
+/// greater one.
 pub fn greatest_is_listed()
     ensures listed { (fields : List Field) → fields ≢ []
         → (f : Field) × Contains fields f × (f.1 ≡ greatest_listed fields) }
@@ -36,9 +37,9 @@ pub fn one_meaning()
 /// A position that is written with an answer is one line, and that line says just what was written.
 pub fn written_is_read()
     ensures line { (P : Position) (A : Solution) (rest : List ℕ) → IsScore A.score
-        → lines_of (written P A ++ rest) ≡ line_text P A ∷ lines_of rest }
+        → lines_of (line_with_end P A ++ rest) ≡ line_text P A ∷ lines_of rest }
     ensures says { (P : Position) (A : Solution) → length P.cells ≡ 64 → IsScore A.score
-        → Says (line_text P A) (Holds (entry_written P A)) }
+        → Says (line_text P A) (Holds (answer_entry P A)) }
     ensures item { (P : Position) (A : Solution) → length P.cells ≡ 64 → IsScore A.score
-        → item_of (line_text P A) ≡ Holds (entry_written P A) }
+        → item_of (line_text P A) ≡ Holds (answer_entry P A) }
 {}

@@ -1,6 +1,6 @@
-//! Lines of OBF text, a form in which the FFO endgame test is distributed: 64 squares, the side to move, and fields that
-//! list moves with their scores. The letters, the spellings of a pass and of a finished game, and the fields are this
-//! project's own profile.
+//! Lines of OBF text, a form in which the FFO endgame test is distributed: 64 squares, the side to
+//! move, and fields that list moves with their scores. The letters, the spellings of a pass and of
+//! a finished game, and the fields are this project's own profile.
 //!
 //! ```rust
 //! use obf_text::{Item, greatest_score, read_line, split_lines};

@@ -73,10 +73,10 @@ fn read_item(alloc: Global, line: &[u8]) -> Result<Item, LineFault>
 
 /// Reads a line without its end.
 ///
-/// A line is blanks, 64 squares in the order A1, B1, .. H8 (`X x * B b` are Black, `O o W w` White, `-` and `.` empty),
-/// blanks, a disc's letter for the side to move, and what is cut at each `;` up to a `%`: a piece as `H1:+62`, `ps:-4` or
-/// `--:0` lists a move with its score, and any other piece is skipped. A line that is blank, or whose first byte after
-/// blanks is `%`, is skipped.
+/// A line is blanks, 64 squares in the order A1, B1, .. H8 (`X x * B b` are Black, `O o W w` White,
+/// `-` and `.` empty), blanks, a disc's letter for the side to move, and what is cut at each `;` up
+/// to a `%`: a piece as `H1:+62`, `ps:-4` or `--:0` lists a move with its score, and any other
+/// piece is skipped. A line that is blank, or whose first byte after blanks is `%`, is skipped.
 ///
 /// The first fault from the left is answered. Memory is taken only for listed moves.
 pub fn read_line(alloc: Global, line: &[u8]) -> Result<Item, LineFault>

@@ -19,7 +19,7 @@ const CORNERS_EMPTY: &[u8; 64] =
 const ALL_BLACK: &[u8; 64] = &[b'X'; 64];
 
 // Some bytes, a byte repeated, and some bytes.
-fn joined(front: &[u8], byte: u8, count: usize, back: &[u8]) -> ArrayVec<u8, 160> {
+fn join(front: &[u8], byte: u8, count: usize, back: &[u8]) -> ArrayVec<u8, 160> {
     let mut line = ArrayVec::new();
     for byte in front {
         let _ = line.try_push(*byte);

@@ -3,8 +3,9 @@
 ghost use Rattle.std.specs.Prelude.{◌≡◌, ◌<◌, nat_abs, length, map, OnOk};
 ghost use Rattle.std.specs.Io.KnownBytes.{Appends};
 ghost use Rattle.othello_rules.specs.declared.answers.Best.TheVariants.{Moves};
-ghost use Rattle.obf_text.specs.Written.{best_text, board_text, cell_byte, field_text};
-ghost use Rattle.obf_text.specs.Written.{move_text, score_part, score_text, side_byte, written};
+ghost use Rattle.obf_text.specs.Written.{best_fields_text, board_text, cell_byte, field_text};
+ghost use Rattle.obf_text.specs.Written.{move_text, score_part, score_text, side_byte};
+ghost use Rattle.obf_text.specs.Written.{line_with_end};
 
 use crate::entries::ListedMove;
 use othello_rules::{Answer, Best, Cell, Grid, Side, Square, squares_in};
@@ -103,7 +104,8 @@ fn write_field<W: Write>(writer: &mut W, listed: ListedMove, score: i8) -> io::R
 fn write_moves<W: Write>(writer: &mut W, score: i8, mask: u64) -> io::Result<()>
     requires { nat_abs score < 100 }
     ensures { OnOk result
-        (Appends (W.contents writer.old) (W.contents writer.new) (best_text score (Moves mask))) }
+        (Appends (W.contents writer.old) (W.contents writer.new)
+        (best_fields_text score (Moves mask))) }
 {
     for square in squares_in(mask).iter() {
         write_field(writer, ListedMove::At(*square), score)?;
@@ -112,11 +114,11 @@ fn write_moves<W: Write>(writer: &mut W, score: i8, mask: u64) -> io::Result<()>
 }
 
 // A field for each best move, for the pass, or for the end of the game.
-#[tactic(auto, unfolding(crate::specs::Written::best_text, crate::specs::Written::fields_text))]
+#[tactic(auto, unfolding(crate::specs::Written::best_fields_text, crate::specs::Written::fields_text))]
 fn write_best<W: Write>(writer: &mut W, score: i8, best: Best) -> io::Result<()>
     requires { nat_abs score < 100 }
     ensures { OnOk result
-        (Appends (W.contents writer.old) (W.contents writer.new) (best_text score best)) }
+        (Appends (W.contents writer.old) (W.contents writer.new) (best_fields_text score best)) }
 {
     match best {
         Best::Moves(mask) => write_moves(writer, score, mask),
@@ -127,15 +129,17 @@ fn write_best<W: Write>(writer: &mut W, score: i8, best: Best) -> io::Result<()>
 
 /// Writes the line of a position with its answer.
 ///
-/// The line is 64 bytes of `X`, `O` and `-` in the order A1, B1, .. H8, a space, `X` or `O` for the side to move, `;`, then
-/// for each best move in the order of the squares a space, its name, `:`, a sign, two digits and `;`, and LF. A pass is
-/// written as the one move `PS`, a game that is over as the one move `--`.
+/// The line is 64 bytes of `X`, `O` and `-` in the order A1, B1, .. H8, a space, `X` or `O` for the
+/// side to move, `;`, then for each best move in the order of the squares a space, its name, `:`, a
+/// sign, two digits and `;`, and LF. A pass is written as the one move `PS`, a game that is over as
+/// the one move `--`.
 ///
 /// Takes no memory. After a fault nothing is said of how much went out.
 #[tactic(auto, unfolding(crate::specs::Written::line_text))]
 pub fn write_line<W: Write>(writer: &mut W, grid: &Grid, answer: &Answer) -> io::Result<()>
     ensures { OnOk result
-        (Appends (W.contents writer.old) (W.contents writer.new) (written grid.now answer.now)) }
+        (Appends (W.contents writer.old) (W.contents writer.new)
+        (line_with_end grid.now answer.now)) }
 {
     write_board(writer, grid)?;
     write_best(writer, answer.score, answer.best)?;

@@ -17,27 +17,27 @@ use Rattle.othello_bits.specs.declared.symmetries.Sym.{Sym}
 use Rattle.obf_text.specs.LineText.{room_of}
 use Rattle.obf_text.specs.Obf.{Meaning, Skipped, Holds, Faulty, item_of}
 use Rattle.endgame_search.specs.declared.solutions.Claim.{Claim}
-use Rattle.solved_book.specs.Advice.{Advice, Claimed, Gives, advice, checked, claim_at, claims_from, found_in, image_claim, is_behind, is_canonical_entry, line_gives, lists_nothing, onto}
+use Rattle.solved_book.specs.Advice.{Advice, PositionClaim, GivesAdvice, advice, claim_or_fault, claim_at, claims_from, found_in, image_claim, is_behind, is_canonical_entry, claim_in_line, lists_nothing, claims_after, claims_with}
 use Rattle.solved_book.specs.Books.{Masks, position_at, positions_in}
 use Rattle.solved_book.specs.Listing.{claim_of}
-use Rattle.solved_book.specs.Reading.{GivesLine, GivesMap, claimed, claimed_positions}
+use Rattle.solved_book.specs.Reading.{GivesLine, GivesMap, position_claim, claimed_positions}
 use Rattle.solved_book.specs.declared.faults.BookFault.{BookFault}
 use Rattle.solved_book.specs.declared.faults.BookFault.TheVariants as fault
 use Rattle.solved_book.proofs.KeptEntries.{masks_cmp, masks_total}
 
-pub positions_claimed : (es : List (Masks × Claim)) → claimed_positions (map claimed es) ≡ positions_in es
+pub positions_claimed : (es : List (Masks × Claim)) → claimed_positions (map position_claim es) ≡ positions_in es
 positions_claimed [] = refl
 positions_claimed (e ∷ es) = ap (λ ps. position_at e.0 ∷ ps) (positions_claimed es)
 
-claim_kept_at : (k : Masks) (es : List (Masks × Claim)) → claim_at (position_at k) (map claimed es) ≡ lookup (λ q. is_eq (masks_cmp k q)) es
+claim_kept_at : (k : Masks) (es : List (Masks × Claim)) → claim_at (position_at k) (map position_claim es) ≡ lookup (λ q. is_eq (masks_cmp k q)) es
 claim_kept_at k [] = refl
 claim_kept_at k (e ∷ es) = ap (λ o. cond (is_eq (masks_cmp k e.0)) (Some e.1) o) (claim_kept_at k es)
 
-pub claim_kept : (p : Discs) (k : Masks) (es : List (Masks × Claim)) → position_at k ≡ p → claim_at p (map claimed es) ≡ lookup (λ q. is_eq (masks_cmp k q)) es
-claim_kept p k es e = ap (λ q. claim_at q (map claimed es)) (sym e) ∙ claim_kept_at k es
+pub claim_kept : (p : Discs) (k : Masks) (es : List (Masks × Claim)) → position_at k ≡ p → claim_at p (map position_claim es) ≡ lookup (λ q. is_eq (masks_cmp k q)) es
+claim_kept p k es e = ap (λ q. claim_at q (map position_claim es)) (sym e) ∙ claim_kept_at k es
 
 -- what a look-up of the canonical position gives, on the image that was asked
-pub found_claim : (a : Advice) (g : Scoring) (p : Discs) (k : Masks) (s : Sym) (es : List (Masks × Claim)) (found : Option Claim) → record { scoring = g; claims = map claimed es } ≡ a
+pub found_claim : (a : Advice) (g : Scoring) (p : Discs) (k : Masks) (s : Sym) (es : List (Masks × Claim)) (found : Option Claim) → record { scoring = g; claims = map position_claim es } ≡ a
     → position_at k ≡ canonical_of p → s ≡ first_symmetry (position_of Black p) → found ≡ lookup (λ q. is_eq (masks_cmp k q)) es → option_map (image_claim (inverse s)) found ≡ found_in a p
 found_claim a g p k s es found ea ek same e =
     ap (option_map (image_claim (inverse s))) (e ∙ sym (claim_kept (canonical_of p) k es ek))
@@ -83,87 +83,87 @@ ahead_more before m v es new h e a = record {
 }
 
 -- the claim of a line stands behind the one before it
-checked_behind : (n : ℕ) (nothing behind canonical : Bool) (claim c : Claimed) → checked n nothing behind canonical claim ≡ Ok (Some c) → (behind ≡ true) × (claim ≡ c)
+checked_behind : (n : ℕ) (nothing behind canonical : Bool) (claim c : PositionClaim) → claim_or_fault n nothing behind canonical claim ≡ Ok (Some c) → (behind ≡ true) × (claim ≡ c)
 checked_behind n true behind canonical claim c h = cc
 checked_behind n false false canonical claim c h = cc
 checked_behind n false true false claim c h = cc
 checked_behind n false true true claim c h = (refl, cc)
 
-line_behind : (n : ℕ) (before : Option Discs) (m : Meaning) (c : Claimed) → line_gives n before m ≡ Ok (Some c) → is_behind before c.0 ≡ true
+line_behind : (n : ℕ) (before : Option Discs) (m : Meaning) (c : PositionClaim) → claim_in_line n before m ≡ Ok (Some c) → is_behind before c.0 ≡ true
 line_behind n before Skipped c h = cc
 line_behind n before (Faulty f) c h = cc
 line_behind n before (Holds entry) c h =
     let told = checked_behind n (lists_nothing entry) (is_behind before (discs_of entry.position)) (is_canonical_entry entry.position) (discs_of entry.position, claim_of entry.listed) c h in
-    ap (λ (x : Claimed). is_behind before x.0) (sym told.1) ∙ told.0
+    ap (λ (x : PositionClaim). is_behind before x.0) (sym told.1) ∙ told.0
 
 -- one line
-pub from_none : (n : ℕ) (before : Option Discs) (line : List ℕ) (lines : List (List ℕ)) → line_gives n before (item_of line) ≡ Ok None → claims_from n before (line ∷ lines) ≡ claims_from (n + 1) before lines
+pub from_none : (n : ℕ) (before : Option Discs) (line : List ℕ) (lines : List (List ℕ)) → claim_in_line n before (item_of line) ≡ Ok None → claims_from n before (line ∷ lines) ≡ claims_from (n + 1) before lines
 unfolding claims_from
-from_none n before line lines e = rw (e, claims_from) refl
+from_none n before line lines e = ap (λ r. claims_with before r (λ last. claims_from (n + 1) last lines)) e
 
-pub from_some : (n : ℕ) (before : Option Discs) (line : List ℕ) (lines : List (List ℕ)) (c : Claimed) → line_gives n before (item_of line) ≡ Ok (Some c)
-    → claims_from n before (line ∷ lines) ≡ onto (c ∷ []) (claims_from (n + 1) (Some c.0) lines)
+pub from_some : (n : ℕ) (before : Option Discs) (line : List ℕ) (lines : List (List ℕ)) (c : PositionClaim) → claim_in_line n before (item_of line) ≡ Ok (Some c)
+    → claims_from n before (line ∷ lines) ≡ claims_after (c ∷ []) (claims_from (n + 1) (Some c.0) lines)
 unfolding claims_from
-from_some n before line lines c e = rw (e, claims_from) refl
+from_some n before line lines c e = ap (λ r. claims_with before r (λ last. claims_from (n + 1) last lines)) e
 
-pub from_err : (n : ℕ) (before : Option Discs) (line : List ℕ) (lines : List (List ℕ)) (f : BookFault) → line_gives n before (item_of line) ≡ Err f → claims_from n before (line ∷ lines) ≡ Err f
+pub from_err : (n : ℕ) (before : Option Discs) (line : List ℕ) (lines : List (List ℕ)) (f : BookFault) → claim_in_line n before (item_of line) ≡ Err f → claims_from n before (line ∷ lines) ≡ Err f
 unfolding claims_from
-from_err n before line lines f e = rw (e, claims_from) refl
+from_err n before line lines f e = ap (λ r. claims_with before r (λ last. claims_from (n + 1) last lines)) e
 
 pub from_end : (n : ℕ) (before : Option Discs) → claims_from n before [] ≡ Ok []
 unfolding claims_from
 from_end n before = refl
 
-onto_onto : (xs ys : List Claimed) (r : Result (List Claimed) BookFault) → onto xs (onto ys r) ≡ onto (xs ++ ys) r
+onto_onto : (xs ys : List PositionClaim) (r : Result (List PositionClaim) BookFault) → claims_after xs (claims_after ys r) ≡ claims_after (xs ++ ys) r
 onto_onto xs ys (Ok zs) = ap Ok (sym (append_assoc xs ys zs))
 onto_onto xs ys (Err f) = refl
 
-onto_nil : (r : Result (List Claimed) BookFault) → onto [] r ≡ r
+onto_nil : (r : Result (List PositionClaim) BookFault) → claims_after [] r ≡ r
 onto_nil (Ok zs) = refl
 onto_nil (Err f) = refl
 
-map_last : (es : List (Masks × Claim)) (m : Masks) (v : Claim) → map claimed (es ++ (m, v) ∷ []) ≡ map claimed es ++ (position_at m, v) ∷ []
+map_last : (es : List (Masks × Claim)) (m : Masks) (v : Claim) → map position_claim (es ++ (m, v) ∷ []) ≡ map position_claim es ++ (position_at m, v) ∷ []
 map_last [] m v = refl
-map_last (e ∷ es) m v = ap (λ cs. claimed e ∷ cs) (map_last es m v)
+map_last (e ∷ es) m v = ap (λ cs. position_claim e ∷ cs) (map_last es m v)
 
 -- the claims so far, and what the lines that are left give
-pub record ReadsOn (n : ℕ) (before : Option Masks) (es : List (Masks × Claim)) (left : List (List ℕ)) (all : Result (List Claimed) BookFault) : Type 0 where
-  pub whole : onto (map claimed es) (claims_from n (option_map position_at before) left) ≡ all
+pub record ReadsOn (n : ℕ) (before : Option Masks) (es : List (Masks × Claim)) (left : List (List ℕ)) (all : Result (List PositionClaim) BookFault) : Type 0 where
+  pub whole : claims_after (map position_claim es) (claims_from n (option_map position_at before) left) ≡ all
 
 pub reads_start : (left : List (List ℕ)) → ReadsOn 1 None [] left (claims_from 1 None left)
 reads_start left = record { whole = onto_nil (claims_from 1 None left) }
 
-pub reads_none : (n : ℕ) (before : Option Masks) (es : List (Masks × Claim)) (line : List ℕ) (left lines : List (List ℕ)) (all : Result (List Claimed) BookFault)
-    → left ≡ line ∷ lines → line_gives n (option_map position_at before) (item_of line) ≡ Ok None → ReadsOn n before es left all → ReadsOn (n + 1) before es lines all
+pub reads_none : (n : ℕ) (before : Option Masks) (es : List (Masks × Claim)) (line : List ℕ) (left lines : List (List ℕ)) (all : Result (List PositionClaim) BookFault)
+    → left ≡ line ∷ lines → claim_in_line n (option_map position_at before) (item_of line) ≡ Ok None → ReadsOn n before es left all → ReadsOn (n + 1) before es lines all
 reads_none n before es line left lines all cut e h = record {
-  whole = ap (onto (map claimed es)) (sym (ap (claims_from n (option_map position_at before)) cut ∙ from_none n (option_map position_at before) line lines e)) ∙ h.whole;
+  whole = ap (claims_after (map position_claim es)) (sym (ap (claims_from n (option_map position_at before)) cut ∙ from_none n (option_map position_at before) line lines e)) ∙ h.whole;
 }
 
-pub reads_some : (n : ℕ) (before : Option Masks) (es new : List (Masks × Claim)) (m : Masks) (v : Claim) (line : List ℕ) (left lines : List (List ℕ)) (all : Result (List Claimed) BookFault)
-    → left ≡ line ∷ lines → line_gives n (option_map position_at before) (item_of line) ≡ Ok (Some (position_at m, v)) → new ≡ insert_entry masks_cmp es m v → IsAhead before es
+pub reads_some : (n : ℕ) (before : Option Masks) (es new : List (Masks × Claim)) (m : Masks) (v : Claim) (line : List ℕ) (left lines : List (List ℕ)) (all : Result (List PositionClaim) BookFault)
+    → left ≡ line ∷ lines → claim_in_line n (option_map position_at before) (item_of line) ≡ Ok (Some (position_at m, v)) → new ≡ insert_entry masks_cmp es m v → IsAhead before es
     → ReadsOn n before es left all → ReadsOn (n + 1) (Some m) new lines all
 reads_some n before es new m v line left lines all cut e is a h =
     let behind = line_behind n (option_map position_at before) (item_of line) (position_at m, v) e in
-    let more : map claimed new ≡ map claimed es ++ (position_at m, v) ∷ [] = ap (map claimed) (is ∙ insert_last m v es (a.each m behind)) ∙ map_last es m v in
+    let more : map position_claim new ≡ map position_claim es ++ (position_at m, v) ∷ [] = ap (map position_claim) (is ∙ insert_last m v es (a.each m behind)) ∙ map_last es m v in
     let rest = claims_from (n + 1) (Some (position_at m)) lines in
-    let step : claims_from n (option_map position_at before) left ≡ onto ((position_at m, v) ∷ []) rest =
+    let step : claims_from n (option_map position_at before) left ≡ claims_after ((position_at m, v) ∷ []) rest =
     ap (claims_from n (option_map position_at before)) cut ∙ from_some n (option_map position_at before) line lines (position_at m, v) e in
-    record { whole = ap (λ cs. onto cs rest) more ∙ sym (onto_onto (map claimed es) ((position_at m, v) ∷ []) rest) ∙ ap (onto (map claimed es)) (sym step) ∙ h.whole }
+    record { whole = ap (λ cs. claims_after cs rest) more ∙ sym (onto_onto (map position_claim es) ((position_at m, v) ∷ []) rest) ∙ ap (claims_after (map position_claim es)) (sym step) ∙ h.whole }
 
-pub stands_behind : (n : ℕ) (before : Option Masks) (line : List ℕ) (m : Masks) (v : Claim) → line_gives n (option_map position_at before) (item_of line) ≡ Ok (Some (position_at m, v))
+pub stands_behind : (n : ℕ) (before : Option Masks) (line : List ℕ) (m : Masks) (v : Claim) → claim_in_line n (option_map position_at before) (item_of line) ≡ Ok (Some (position_at m, v))
     → is_behind (option_map position_at before) (position_at m) ≡ true
 stands_behind n before line m v e = line_behind n (option_map position_at before) (item_of line) (position_at m, v) e
 
-pub reads_err : (n : ℕ) (before : Option Masks) (es : List (Masks × Claim)) (line : List ℕ) (left lines : List (List ℕ)) (f : BookFault) (all : Result (List Claimed) BookFault)
-    → left ≡ line ∷ lines → GivesLine (Err f) (line_gives n (option_map position_at before) (item_of line)) → ReadsOn n before es left all → GivesMap (Err f) all
+pub reads_err : (n : ℕ) (before : Option Masks) (es : List (Masks × Claim)) (line : List ℕ) (left lines : List (List ℕ)) (f : BookFault) (all : Result (List PositionClaim) BookFault)
+    → left ≡ line ∷ lines → GivesLine (Err f) (claim_in_line n (option_map position_at before) (item_of line)) → ReadsOn n before es left all → GivesMap (Err f) all
 reads_err n before es line left lines f all cut e h = by f e
   where
-    fails : (f : BookFault) → line_gives n (option_map position_at before) (item_of line) ≡ Err f → all ≡ Err f
+    fails : (f : BookFault) → claim_in_line n (option_map position_at before) (item_of line) ≡ Err f → all ≡ Err f
     fails f e =
         sym h.whole
-        ∙ ap (onto (map claimed es)) (ap (claims_from n (option_map position_at before)) cut ∙ from_err n (option_map position_at before) line lines f e)
+        ∙ ap (claims_after (map position_claim es)) (ap (claims_from n (option_map position_at before)) cut ∙ from_err n (option_map position_at before) line lines f e)
 
-    by : (f : BookFault) → GivesLine (Err f) (line_gives n (option_map position_at before) (item_of line)) → GivesMap (Err f) all
+    by : (f : BookFault) → GivesLine (Err f) (claim_in_line n (option_map position_at before) (item_of line)) → GivesMap (Err f) all
     by fault.Memory e = tt
     by (fault.Line k l) e = fails (fault.Line k l) e
     by (fault.NoMoves k) e = fails (fault.NoMoves k) e
@@ -171,12 +171,12 @@ reads_err n before es line left lines f all cut e h = by f e
     by (fault.NotCanonical k) e = fails (fault.NotCanonical k) e
     by fault.Header e = fails fault.Header e
 
-pub reads_end : (n : ℕ) (before : Option Masks) (es : List (Masks × Claim)) (left : List (List ℕ)) (all : Result (List Claimed) BookFault)
-    → left ≡ [] → ReadsOn n before es left all → all ≡ Ok (map claimed es)
+pub reads_end : (n : ℕ) (before : Option Masks) (es : List (Masks × Claim)) (left : List (List ℕ)) (all : Result (List PositionClaim) BookFault)
+    → left ≡ [] → ReadsOn n before es left all → all ≡ Ok (map position_claim es)
 reads_end n before es left all cut h =
     sym h.whole
-    ∙ ap (onto (map claimed es)) (ap (claims_from n (option_map position_at before)) cut ∙ from_end n (option_map position_at before))
-    ∙ ap Ok (append-nil (map claimed es))
+    ∙ ap (claims_after (map position_claim es)) (ap (claims_from n (option_map position_at before)) cut ∙ from_end n (option_map position_at before))
+    ∙ ap Ok (append-nil (map position_claim es))
 
 -- the room of a line is no longer left
 pub room_more : (n most : ℕ) (line : List ℕ) (left lines : List (List ℕ)) → left ≡ line ∷ lines → n + room_of left ≤ most
@@ -185,42 +185,42 @@ room_more n most line left lines cut h = let k = rw cut at h in (omega arith, om
 
 -- ---- no line is an unknown header
 
-checked_known : (n : ℕ) (nothing behind canonical : Bool) (claim : Claimed) → checked n nothing behind canonical claim ≡ Err fault.Header → ⊥
+checked_known : (n : ℕ) (nothing behind canonical : Bool) (claim : PositionClaim) → claim_or_fault n nothing behind canonical claim ≡ Err fault.Header → ⊥
 checked_known n true behind canonical claim h = cc
 checked_known n false false canonical claim h = cc
 checked_known n false true false claim h = cc
 checked_known n false true true claim h = cc
 
-line_known : (n : ℕ) (before : Option Discs) (m : Meaning) → line_gives n before m ≡ Err fault.Header → ⊥
+line_known : (n : ℕ) (before : Option Discs) (m : Meaning) → claim_in_line n before m ≡ Err fault.Header → ⊥
 line_known n before Skipped h = cc
 line_known n before (Faulty f) h = cc
 line_known n before (Holds entry) h =
     checked_known n (lists_nothing entry) (is_behind before (discs_of entry.position)) (is_canonical_entry entry.position) (discs_of entry.position, claim_of entry.listed) h
 
-onto_err : (xs : List Claimed) (r : Result (List Claimed) BookFault) (f : BookFault) → onto xs r ≡ Err f → r ≡ Err f
+onto_err : (xs : List PositionClaim) (r : Result (List PositionClaim) BookFault) (f : BookFault) → claims_after xs r ≡ Err f → r ≡ Err f
 onto_err xs (Ok ys) f h = cc
 onto_err xs (Err g) f h = h
 
-abbrev failed : BookFault → Result (List Claimed) BookFault
+abbrev failed : BookFault → Result (List PositionClaim) BookFault
 failed f = Err f
 
 err_same : (f g : BookFault) → failed f ≡ failed g → f ≡ g
 err_same f g h = cc
 
-advice_err : (g : Scoring) (r : Result (List Claimed) BookFault) (f : BookFault) → advice g r ≡ Err f → r ≡ Err f
+advice_err : (g : Scoring) (r : Result (List PositionClaim) BookFault) (f : BookFault) → advice g r ≡ Err f → r ≡ Err f
 advice_err g (Ok cs) f h = cc
 advice_err g (Err e) f h = cc
 
 pub lines_known : (n : ℕ) (before : Option Discs) (lines : List (List ℕ)) → claims_from n before lines ≡ Err fault.Header → ⊥
 lines_known n before [] h = let e = sym (from_end n before) ∙ h in cc
-lines_known n before (line ∷ lines) h = by (line_gives n before (item_of line)) refl (λ b k. lines_known (n + 1) b lines k)
+lines_known n before (line ∷ lines) h = by (claim_in_line n before (item_of line)) refl (λ b k. lines_known (n + 1) b lines k)
   where
-    by : (r : Result (Option Claimed) BookFault) → line_gives n before (item_of line) ≡ r → ((b : Option Discs) → claims_from (n + 1) b lines ≡ Err fault.Header → ⊥) → ⊥
+    by : (r : Result (Option PositionClaim) BookFault) → claim_in_line n before (item_of line) ≡ r → ((b : Option Discs) → claims_from (n + 1) b lines ≡ Err fault.Header → ⊥) → ⊥
     by (Err f) e more = line_known n before (item_of line) (e ∙ ap (λ x. Err x) (err_same f fault.Header (sym (from_err n before line lines f e) ∙ h)))
     by (Ok None) e more = more before (sym (from_none n before line lines e) ∙ h)
     by (Ok (Some c)) e more = more (Some c.0) (onto_err (c ∷ []) (claims_from (n + 1) (Some c.0) lines) fault.Header (sym (from_some n before line lines c e) ∙ h))
 
-pub gives_fault : (g : Scoring) (f : BookFault) (lines : List (List ℕ)) → GivesMap (Err f) (claims_from 1 None lines) → Gives (Err f) (advice g (claims_from 1 None lines))
+pub gives_fault : (g : Scoring) (f : BookFault) (lines : List (List ℕ)) → GivesMap (Err f) (claims_from 1 None lines) → GivesAdvice (Err f) (advice g (claims_from 1 None lines))
 gives_fault g fault.Memory lines e = λ h. lines_known 1 None lines (advice_err g (claims_from 1 None lines) fault.Header h)
 gives_fault g (fault.Line k l) lines e = ap (advice g) e
 gives_fault g (fault.NoMoves k) lines e = ap (advice g) e

@@ -6,67 +6,67 @@ use Rattle.othello_rules.specs.declared.scorings.Scoring.{Scoring}
 use Rattle.othello_bits.specs.Discs.{Discs, discs_of}
 use Rattle.obf_text.specs.LineText.{lines_of}
 use Rattle.obf_text.specs.Obf.{Meaning, Skipped, Holds, Faulty, item_of}
-use Rattle.solved_book.specs.Advice.{Advice, Claimed, advice, advice_under, checked, claims_from, claims_of, entry_claim, is_behind, is_canonical_entry, last_position, line_gives, lists_nothing, onto, scoring_of_lines}
+use Rattle.solved_book.specs.Advice.{Advice, PositionClaim, advice, advice_under, claim_or_fault, claims_from, claims_of, entry_claim, is_behind, is_canonical_entry, last_position, claim_in_line, lists_nothing, claims_after, scoring_of_lines}
 use Rattle.solved_book.specs.Listing.{claim_of}
 use Rattle.solved_book.specs.declared.faults.BookFault.{BookFault}
 use Rattle.solved_book.proofs.ClaimSteps.{from_end, from_err, from_none, from_some}
 
 abbrev Given : Type 0
-Given = Result (List Claimed) BookFault
+Given = Result (List PositionClaim) BookFault
 
 -- ---- what is in front
 
-onto_ok : (c : Claimed) (r : Given) (cs : List Claimed) → onto (c ∷ []) r ≡ Ok cs → (more : List Claimed) × (r ≡ Ok more) × (cs ≡ c ∷ more)
+onto_ok : (c : PositionClaim) (r : Given) (cs : List PositionClaim) → claims_after (c ∷ []) r ≡ Ok cs → (more : List PositionClaim) × (r ≡ Ok more) × (cs ≡ c ∷ more)
 onto_ok c (Ok more) cs h = (more, refl, cc)
 onto_ok c (Err f) cs h = cc
 
 -- what stands before a faulty line without a fault leaves its fault to be told
-pub fault_after : (front rest : List (List ℕ)) (line : List ℕ) (n : ℕ) (before : Option Discs) (cs : List Claimed) (f : BookFault)
-    → claims_from n before front ≡ Ok cs → line_gives (n + length front) (last_position before cs) (item_of line) ≡ Err f → claims_from n before (front ++ line ∷ rest) ≡ Err f
+pub fault_after : (front rest : List (List ℕ)) (line : List ℕ) (n : ℕ) (before : Option Discs) (cs : List PositionClaim) (f : BookFault)
+    → claims_from n before front ≡ Ok cs → claim_in_line (n + length front) (last_position before cs) (item_of line) ≡ Err f → claims_from n before (front ++ line ∷ rest) ≡ Err f
 fault_after [] rest line n before cs f h e =
     let none : [] ≡ cs = let same = sym (from_end n before) ∙ h in cc in
     let here : n + 0 ≡ n = omega arith in
-    from_err n before line rest f (ap₂ (λ k b. line_gives k b (item_of line)) (sym here) (ap (last_position before) none) ∙ e)
+    from_err n before line rest f (ap₂ (λ k b. claim_in_line k b (item_of line)) (sym here) (ap (last_position before) none) ∙ e)
 fault_after (l ∷ front) rest line n before cs f h e =
-    by (line_gives n before (item_of l)) refl (λ b ds k i. fault_after front rest line (n + 1) b ds f k i)
+    by (claim_in_line n before (item_of l)) refl (λ b ds k i. fault_after front rest line (n + 1) b ds f k i)
   where
     further : n + length (l ∷ front) ≡ n + 1 + length front
     further = omega arith
 
-    by : (r : Result (Option Claimed) BookFault) → line_gives n before (item_of l) ≡ r
-        → ((b : Option Discs) (ds : List Claimed) → claims_from (n + 1) b front ≡ Ok ds → line_gives (n + 1 + length front) (last_position b ds) (item_of line) ≡ Err f
+    by : (r : Result (Option PositionClaim) BookFault) → claim_in_line n before (item_of l) ≡ r
+        → ((b : Option Discs) (ds : List PositionClaim) → claims_from (n + 1) b front ≡ Ok ds → claim_in_line (n + 1 + length front) (last_position b ds) (item_of line) ≡ Err f
         → claims_from (n + 1) b (front ++ line ∷ rest) ≡ Err f)
         → claims_from n before (l ∷ (front ++ line ∷ rest)) ≡ Err f
     by (Err k) i more = let no = sym (from_err n before l front k i) ∙ h in cc
     by (Ok None) i more =
         from_none n before l (front ++ line ∷ rest) i
-        ∙ more before cs (sym (from_none n before l front i) ∙ h) (ap (λ k. line_gives k (last_position before cs) (item_of line)) (sym further) ∙ e)
+        ∙ more before cs (sym (from_none n before l front i) ∙ h) (ap (λ k. claim_in_line k (last_position before cs) (item_of line)) (sym further) ∙ e)
     by (Ok (Some c)) i more =
         let split = onto_ok c (claims_from (n + 1) (Some c.0) front) cs (sym (from_some n before l front c i) ∙ h) in
         from_some n before l (front ++ line ∷ rest) c i
-        ∙ ap (onto (c ∷ [])) (more (Some c.0) split.0 split.1 (ap₂ (λ k ds. line_gives k (last_position before ds) (item_of line)) (sym further) (sym split.2) ∙ e))
+        ∙ ap (claims_after (c ∷ [])) (more (Some c.0) split.0 split.1 (ap₂ (λ k ds. claim_in_line k (last_position before ds) (item_of line)) (sym further) (sym split.2) ∙ e))
 
 -- ---- the entries
 
 -- what a line that is no fault adds
-entry_given : (n : ℕ) (before : Option Discs) (m : Meaning) (given : Option Claimed) → line_gives n before m ≡ Ok given → entry_claim m ≡ given
+entry_given : (n : ℕ) (before : Option Discs) (m : Meaning) (given : Option PositionClaim) → claim_in_line n before m ≡ Ok given → entry_claim m ≡ given
 entry_given n before Skipped given h = cc
 entry_given n before (Faulty f) given h = cc
 entry_given n before (Holds entry) given h =
     by (lists_nothing entry) (is_behind before (discs_of entry.position)) (is_canonical_entry entry.position) h
   where
-    by : (nothing behind canonical : Bool) → checked n nothing behind canonical (discs_of entry.position, claim_of entry.listed) ≡ Ok given → Some (discs_of entry.position, claim_of entry.listed) ≡ given
+    by : (nothing behind canonical : Bool) → claim_or_fault n nothing behind canonical (discs_of entry.position, claim_of entry.listed) ≡ Ok given → Some (discs_of entry.position, claim_of entry.listed) ≡ given
     by true behind canonical h = cc
     by false false canonical h = cc
     by false true false h = cc
     by false true true h = cc
 
-entries_from : (n : ℕ) (before : Option Discs) (lines : List (List ℕ)) (cs : List Claimed) → claims_from n before lines ≡ Ok cs → cs ≡ filter_map (λ line. entry_claim (item_of line)) lines
+entries_from : (n : ℕ) (before : Option Discs) (lines : List (List ℕ)) (cs : List PositionClaim) → claims_from n before lines ≡ Ok cs → cs ≡ filter_map (λ line. entry_claim (item_of line)) lines
 entries_from n before [] cs h = let same = sym (from_end n before) ∙ h in cc
-entries_from n before (line ∷ lines) cs h = by (line_gives n before (item_of line)) refl (λ b ds k. entries_from (n + 1) b lines ds k)
+entries_from n before (line ∷ lines) cs h = by (claim_in_line n before (item_of line)) refl (λ b ds k. entries_from (n + 1) b lines ds k)
   where
-    by : (r : Result (Option Claimed) BookFault) → line_gives n before (item_of line) ≡ r
-        → ((b : Option Discs) (ds : List Claimed) → claims_from (n + 1) b lines ≡ Ok ds → ds ≡ filter_map (λ line. entry_claim (item_of line)) lines)
+    by : (r : Result (Option PositionClaim) BookFault) → claim_in_line n before (item_of line) ≡ r
+        → ((b : Option Discs) (ds : List PositionClaim) → claims_from (n + 1) b lines ≡ Ok ds → ds ≡ filter_map (λ line. entry_claim (item_of line)) lines)
         → cs ≡ filter_map (λ line. entry_claim (item_of line)) (line ∷ lines)
     by (Err f) i more = let no = sym (from_err n before line lines f i) ∙ h in cc
     by (Ok None) i more = rw (entry_given n before (item_of line) None i) (more before cs (sym (from_none n before line lines i) ∙ h))

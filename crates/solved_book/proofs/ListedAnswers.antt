@@ -25,7 +25,7 @@ use Rattle.obf_text.specs.Fields.{Field, greatest_listed}
 use Rattle.obf_text.specs.Written.{best_fields}
 use Rattle.obf_text.specs.declared.entries.ListedMove.TheVariants.{At, Pass, Over}
 use Rattle.endgame_search.specs.declared.solutions.Claim.{Claim}
-use Rattle.solved_book.specs.Listing.{best_by, best_listed, claim_of, lists_pass, lists_square, squares_listed}
+use Rattle.solved_book.specs.Listing.{best_by, listed_best, claim_of, lists_pass, lists_square, listed_squares}
 
 abbrev pub at : ℤ → ℕ → Field
 at score q = (At q, score)
@@ -59,8 +59,8 @@ lists_same score q [] = refl
 lists_same score q (s ∷ qs) =
     ap₂ (λ a b. a || b) (ap (λ b. (s == q) && b) (same_score score) ∙ and-true (s == q)) (lists_same score q qs)
 
-squares_back : (score : ℤ) (m : ℕ) → m < 2 ^ 64 → squares_listed score (map (at score) (squares_of m)) ≡ m
-unfolding squares_listed
+squares_back : (score : ℤ) (m : ℕ) → m < 2 ^ 64 → listed_squares score (map (at score) (squares_of m)) ≡ m
+unfolding listed_squares
 squares_back score m h =
     sym (is_where m (λ q. list_any (lists_square score q) (map (at score) (squares_of m))) h (λ q l. sym (lists_same score q (squares_of m) ∙ square_in m q l)))
 
@@ -89,12 +89,12 @@ pub record IsListed (score : ℤ) (best : Best) (fields : List Field) : Type 0 w
   pub some : nat_eq (length fields) 0 ≡ false
   pub claim : claim_of fields ≡ record { score = score; best = best }
 
-claim_from : (score : ℤ) (b : Best) (fields : List Field) → greatest_listed fields ≡ score → best_listed score fields ≡ b → claim_of fields ≡ record { score = score; best = b }
+claim_from : (score : ℤ) (b : Best) (fields : List Field) → greatest_listed fields ≡ score → listed_best score fields ≡ b → claim_of fields ≡ record { score = score; best = b }
 claim_from score b fields s e =
-    let best : best_listed (greatest_listed fields) fields ≡ b = ap (λ z. best_listed z fields) s ∙ e in
+    let best : listed_best (greatest_listed fields) fields ≡ b = ap (λ z. listed_best z fields) s ∙ e in
     λ k. let c : Claim = record { score = s k; best = best k } in c
 
-moves_by : (score : ℤ) (m : ℕ) → 0 < m → m < 2 ^ 64 → best_listed score (map (at score) (squares_of m)) ≡ best.Moves m
+moves_by : (score : ℤ) (m : ℕ) → 0 < m → m < 2 ^ 64 → listed_best score (map (at score) (squares_of m)) ≡ best.Moves m
 moves_by score m some h =
     ap (λ squares. best_by squares (list_any (lists_pass score) (map (at score) (squares_of m)))) (squares_back score m h)
     ∙ ap (λ b. cond b (cond (list_any (lists_pass score) (map (at score) (squares_of m))) best.Pass best.Over) (best.Moves m)) (ne_eqb m 0 (λ e. absurd (omega arith)))
@@ -109,8 +109,8 @@ moves_back score m (q ∷ qs) e some h = record {
   claim = claim_from score (best.Moves m) (map (at score) (squares_of m)) (ap (λ t. greatest_listed (map (at score) t)) e ∙ scores_back score qs) (moves_by score m some h);
 }
 
-no_squares : (score : ℤ) (fields : List Field) → ((q : ℕ) → list_any (lists_square score q) fields ≡ false) → squares_listed score fields ≡ 0
-unfolding squares_listed
+no_squares : (score : ℤ) (fields : List Field) → ((q : ℕ) → list_any (lists_square score q) fields ≡ false) → listed_squares score fields ≡ 0
+unfolding listed_squares
 no_squares score fields none = sym (is_where 0 (λ q. list_any (lists_square score q) fields) (omega arith) (λ q l. in_mask-zero q ∙ sym (none q)))
 
 pub listed_back : (score : ℤ) (b : Best) → IsBest b → IsNarrow b → IsListed score b (best_fields score b)

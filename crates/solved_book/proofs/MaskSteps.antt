@@ -7,7 +7,7 @@ use Rattle.othello_rules.specs.Masks.{in_mask}
 use Rattle.othello_bits.proofs.Bits.{in_mask-or, in_mask-pow, in_mask-zero}
 use Rattle.othello_bits.proofs.Wheres.{is_where}
 use Rattle.obf_text.specs.Fields.{Field}
-use Rattle.solved_book.specs.Listing.{lists_square, squares_listed}
+use Rattle.solved_book.specs.Listing.{lists_square, listed_squares}
 
 or_swap : (a b : Bool) → (a || b) ≡ (b || a)
 or_swap true true = refl
@@ -39,7 +39,7 @@ lists_more score fields i field mask new within is fits step held = record {
       ∙ sym (list_any_more (lists_square score q) fields i field within);
 }
 
-pub lists_all : (score : ℤ) (fields : List Field) (i mask : ℕ) → length fields ≤ i → HasListed score (take i fields) mask → mask ≡ squares_listed score fields
-unfolding squares_listed
+pub lists_all : (score : ℤ) (fields : List Field) (i mask : ℕ) → length fields ≤ i → HasListed score (take i fields) mask → mask ≡ listed_squares score fields
+unfolding listed_squares
 lists_all score fields i mask past held =
     is_where mask (λ q. list_any (lists_square score q) fields) held.fits (λ q h. held.each q h ∙ ap (list_any (lists_square score q)) (take_all i fields past))

@@ -27,12 +27,12 @@ use Rattle.othello_bits.proofs.PlayMeaning.{apart-from, discs_of-position_of}
 use Rattle.othello_bits.proofs.Wheres.{where_lt}
 use Rattle.obf_text.specs.LineText.{lines_of, without_empty_last}
 use Rattle.obf_text.specs.Obf.{Holds, Skipped, item_of}
-use Rattle.obf_text.specs.Written.{entry_written, line_text}
+use Rattle.obf_text.specs.Written.{answer_entry, line_text}
 use Rattle.obf_text.proofs.LineLemmas.{has_first_part, keeps_first}
 use Rattle.obf_text.proofs.OnlyMeaning.{says_only}
 use Rattle.obf_text.proofs.WrittenLines.{written_line, written_says}
 use Rattle.endgame_search.specs.declared.solutions.Claim.{Claim}
-use Rattle.solved_book.specs.Advice.{Advice, advice, advice_under, answered, checked, claim_at, claim_by, claims_from, claims_of, found_in, image_claim, is_behind, is_canonical_entry, line_gives, onto, same_discs, scoring_in, scoring_of_lines}
+use Rattle.solved_book.specs.Advice.{Advice, advice, advice_under, answer_claim, claim_or_fault, claim_at, claim_by, claims_from, claims_of, found_in, image_claim, is_behind, is_canonical_entry, claim_in_line, claims_after, same_discs, scoring_in, scoring_of_lines}
 use Rattle.solved_book.specs.Books.{book_text, entry_text, header, position_at}
 use Rattle.solved_book.specs.Order.{IsCanonical, AreBookPositions, by_masks}
 use Rattle.solved_book.proofs.Answers.{answer_best, answer_score, canonical_apart}
@@ -73,15 +73,15 @@ answer_narrow g p = subst IsNarrow (ap (λ (r : Solution). r.best) (sym (answer-
 -- ---- a line
 
 line_back : (g : Scoring) (n : ℕ) (before : Option Discs) (p : Discs) → IsCanonical p → is_behind before p ≡ true
-    → line_gives n before (item_of (line_text (position_of Black p) (answer_of g p))) ≡ Ok (Some (answered g p))
+    → claim_in_line n before (item_of (line_text (position_of Black p) (answer_of g p))) ≡ Ok (Some (answer_claim g p))
 line_back g n before p own behind =
     let P = position_of Black p in
     let A = answer_of g p in
     let listed = listed_back A.score A.best (answer_best g p) (answer_narrow g p) in
     let says = written_says P A (length-cells_of Black p) (answer_score g p) in
-    ap (line_gives n before) (sym (says_only (line_text P A) (Holds (entry_written P A)) says))
-    ∙ (λ k. checked n (listed.some k) (is_behind before (discs_back p own k)) (is_canonical_written p own k) (discs_back p own k, listed.claim k))
-    ∙ ap (λ b. checked n false b true (answered g p)) behind
+    ap (claim_in_line n before) (sym (says_only (line_text P A) (Holds (answer_entry P A)) says))
+    ∙ (λ k. claim_or_fault n (listed.some k) (is_behind before (discs_back p own k)) (is_canonical_written p own k) (discs_back p own k, listed.claim k))
+    ∙ ap (λ b. claim_or_fault n false b true (answer_claim g p)) behind
 
 -- ---- all lines
 
@@ -101,14 +101,14 @@ unfolding entry_text
 entry_line g p rest = written_line (position_of Black p) (answer_of g p) rest (answer_score g p)
 
 lines_back : (g : Scoring) (n : ℕ) (before : Option Discs) (ps : List Discs) → IsStrictlySortedBy by_masks ps → AllByRecursion IsCanonical ps → IsNext before ps
-    → claims_from n before (lines_of (flat_map (entry_text g) ps)) ≡ Ok (map (answered g) ps)
+    → claims_from n before (lines_of (flat_map (entry_text g) ps)) ≡ Ok (map (answer_claim g) ps)
 unfolding IsStrictlySortedBy
 lines_back g n before [] sorted own next = from_end n before
 lines_back g n before (p ∷ ps) sorted own next =
     let rest = flat_map (entry_text g) ps in
     ap (claims_from n before) (entry_line g p rest)
-    ∙ from_some n before (line_text (position_of Black p) (answer_of g p)) (lines_of rest) (answered g p) (line_back g n before p own.0 next)
-    ∙ ap (onto (answered g p ∷ [])) (lines_back g (n + 1) (Some p) ps sorted.1 own.1 (next_behind p ps sorted.0))
+    ∙ from_some n before (line_text (position_of Black p) (answer_of g p)) (lines_of rest) (answer_claim g p) (line_back g n before p own.0 next)
+    ∙ ap (claims_after (answer_claim g p ∷ [])) (lines_back g (n + 1) (Some p) ps sorted.1 own.1 (next_behind p ps sorted.0))
 
 -- ---- the header
 
@@ -138,11 +138,11 @@ header_scoring scoring.Winner = refl
 header_scoring scoring.Discs = refl
 header_scoring scoring.Sign = refl
 
-pub claims_back : (g : Scoring) (ps : List Discs) → AreBookPositions ps → claims_of (book_text g ps) ≡ Ok (record { scoring = g; claims = map (answered g) ps })
+pub claims_back : (g : Scoring) (ps : List Discs) → AreBookPositions ps → claims_of (book_text g ps) ≡ Ok (record { scoring = g; claims = map (answer_claim g) ps })
 unfolding book_text
 claims_back g ps h =
     let rest = flat_map (entry_text g) ps in
-    let skipped : line_gives 1 None (item_of (header g)) ≡ Ok None = ap (line_gives 1 None) (header_skipped g) in
+    let skipped : claim_in_line 1 None (item_of (header g)) ≡ Ok None = ap (claim_in_line 1 None) (header_skipped g) in
     ap (λ lines. advice_under (scoring_of_lines lines) lines) (header_line g rest)
     ∙ ap (λ o. advice_under o (header g ∷ lines_of rest)) (header_scoring g)
     ∙ ap (advice g) (from_none 1 None (header g) (lines_of rest) skipped ∙ lines_back g 2 None ps h.rising (recursion_from_All IsCanonical ps h.canonical) (first ps))
@@ -159,29 +159,29 @@ is_exact p q e = ap position_at (masks_exact (masks_at p) (masks_at q) e)
 is_tied : (p q : Discs) → p ≡ q → by_masks p q ≡ Equal
 is_tied p q e = ap (λ r. masks_cmp (masks_at p) (masks_at r)) (sym e) ∙ tied_itself masks_total (masks_at p)
 
-claim_held : (g : Scoring) (c : Discs) (ps : List Discs) → Contains ps c → claim_at c (map (answered g) ps) ≡ Some (claim_by (answer_of g c))
+claim_held : (g : Scoring) (c : Discs) (ps : List Discs) → Contains ps c → claim_at c (map (answer_claim g) ps) ≡ Some (claim_by (answer_of g c))
 claim_held g c [] h = absurd (Contains-nil c h)
 claim_held g c (p ∷ ps) h = by (by_masks c p) refl (λ k. claim_held g c ps k)
   where
     other : (o : Ordering) → is_eq o ≡ false → by_masks c p ≡ o → Contains ps c
     other o apart e = elim (Contains-cons_cases p ps c h) [ inl same ↦ absurd (false≢true (sym apart ∙ ap is_eq (sym e ∙ is_tied c p (sym same)))) | inr k ↦ k ]
 
-    by : (o : Ordering) → by_masks c p ≡ o → (Contains ps c → claim_at c (map (answered g) ps) ≡ Some (claim_by (answer_of g c)))
-        → cond (is_eq o) (Some (claim_by (answer_of g p))) (claim_at c (map (answered g) ps)) ≡ Some (claim_by (answer_of g c))
+    by : (o : Ordering) → by_masks c p ≡ o → (Contains ps c → claim_at c (map (answer_claim g) ps) ≡ Some (claim_by (answer_of g c)))
+        → cond (is_eq o) (Some (claim_by (answer_of g p))) (claim_at c (map (answer_claim g) ps)) ≡ Some (claim_by (answer_of g c))
     by Equal e more = ap (λ q. Some (claim_by (answer_of g q))) (sym (is_exact c p e))
     by Less e more = more (other Less refl e)
     by Greater e more = more (other Greater refl e)
 
-claim_missing : (g : Scoring) (c : Discs) (ps : List Discs) → (Contains ps c → ⊥) → claim_at c (map (answered g) ps) ≡ None
+claim_missing : (g : Scoring) (c : Discs) (ps : List Discs) → (Contains ps c → ⊥) → claim_at c (map (answer_claim g) ps) ≡ None
 claim_missing g c [] h = refl
 claim_missing g c (p ∷ ps) h = by (by_masks c p) refl (claim_missing g c ps (λ k. h (Contains-cons p ps c k)))
   where
-    by : (o : Ordering) → by_masks c p ≡ o → claim_at c (map (answered g) ps) ≡ None → cond (is_eq o) (Some (claim_by (answer_of g p))) (claim_at c (map (answered g) ps)) ≡ None
+    by : (o : Ordering) → by_masks c p ≡ o → claim_at c (map (answer_claim g) ps) ≡ None → cond (is_eq o) (Some (claim_by (answer_of g p))) (claim_at c (map (answer_claim g) ps)) ≡ None
     by Equal e rest = absurd (h (subst (λ q. Contains (p ∷ ps) q) (sym (is_exact c p e)) (Contains-head p ps)))
     by Less e rest = rest
     by Greater e rest = rest
 
-read_is : (g : Scoring) (ps : List Discs) (a : Advice) → AreBookPositions ps → claims_of (book_text g ps) ≡ Ok a → record { scoring = g; claims = map (answered g) ps } ≡ a
+read_is : (g : Scoring) (ps : List Discs) (a : Advice) → AreBookPositions ps → claims_of (book_text g ps) ≡ Ok a → record { scoring = g; claims = map (answer_claim g) ps } ≡ a
 read_is g ps a h e = let same = sym (claims_back g ps h) ∙ e in cc
 
 pub found_back : (g : Scoring) (ps : List Discs) (a : Advice) (p : Discs) → AreBookPositions ps → claims_of (book_text g ps) ≡ Ok a → Contains ps (canonical_of p) → found_in a p ≡ Some (claim_by (answer_of g p))

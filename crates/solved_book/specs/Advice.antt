@@ -1,5 +1,6 @@
 -- What a text of a book claims, and how a claim is found.
-use Rattle.std.specs.Prelude.{◌≡◌, ◌≢◌, ℕ, ◌+◌, ◌&&◌, Bool, true, false, nat_eq, List, [], ◌∷◌, ◌++◌, length, codes, Option, Some, None, option_map, Result, Ok, Err, if◌then◌else◌}
+use Rattle.std.specs.Prelude.{◌≡◌, ◌≢◌, ℕ, ◌+◌, ◌&&◌, Bool, true, false, nat_eq, List, [], ◌∷◌, ◌++◌, length, codes}
+use Rattle.std.specs.Prelude.{Option, Some, None, option_map, Result, Ok, Err, if◌then◌else◌}
 use Rattle.std.specs.List.{starts_with}
 use Rattle.std.specs.Map.{lookup}
 use Rattle.std.specs.Ordering.{is_gt, is_eq}
@@ -24,13 +25,13 @@ use Rattle.solved_book.specs.declared.faults.BookFault.{BookFault}
 use Rattle.solved_book.specs.declared.faults.BookFault.TheVariants as fault
 
 -- a position with what is claimed of it
-abbrev pub Claimed : Type 0
-Claimed = bits.Discs × Claim
+abbrev pub PositionClaim : Type 0
+PositionClaim = bits.Discs × Claim
 
 -- what contracts see of claims: their scoring, and the claimed positions in rising order
 pub record Advice : Type 0 where
   pub scoring : Scoring
-  pub claims : List Claimed
+  pub claims : List PositionClaim
 
 -- ---- the first line
 
@@ -53,69 +54,80 @@ abbrev pub is_behind : Option bits.Discs → bits.Discs → Bool
 is_behind None p = true
 is_behind (Some q) p = is_gt (by_masks p q)
 
-abbrev pub is_black : Side → Bool
-is_black Black = true
-is_black White = false
+abbrev pub is_black_side : Side → Bool
+is_black_side Black = true
+is_black_side White = false
 
 abbrev pub same_discs : bits.Discs → bits.Discs → Bool
 same_discs p q = nat_eq p.own q.own && nat_eq p.opp q.opp
 
 -- Black is to move, and the position is canonical
 abbrev pub is_canonical_entry : Position → Bool
-is_canonical_entry P = is_black P.mover && same_discs (canonical_of (discs_of P)) (discs_of P)
+is_canonical_entry P = is_black_side P.mover && same_discs (canonical_of (discs_of P)) (discs_of P)
 
 abbrev pub lists_nothing : Entry → Bool
 lists_nothing entry = nat_eq (length entry.listed) 0
 
+-- what a line gives: a claim, unless it is skipped, or its fault
+abbrev pub LineOutcome : Type 0
+LineOutcome = Result (Option PositionClaim) BookFault
+
 -- the claim of line n, or the first of its faults: it lists nothing, it is not behind, it is not canonical
-abbrev pub checked : ℕ → Bool → Bool → Bool → Claimed → Result (Option Claimed) BookFault
-checked n nothing behind canonical claim =
+abbrev pub claim_or_fault : ℕ → Bool → Bool → Bool → PositionClaim → LineOutcome
+claim_or_fault n nothing behind canonical claim =
     if nothing then Err (fault.NoMoves n)
     else (if behind then (if canonical then Ok (Some claim) else Err (fault.NotCanonical n)) else Err (fault.Unsorted n))
 
 -- what an entry gives that stands in line n behind a position
-abbrev pub entry_gives : ℕ → Option bits.Discs → Entry → Result (Option Claimed) BookFault
-entry_gives n before entry =
-    checked n (lists_nothing entry) (is_behind before (discs_of entry.position)) (is_canonical_entry entry.position)
+abbrev pub claim_in_entry : ℕ → Option bits.Discs → Entry → LineOutcome
+claim_in_entry n before entry =
+    claim_or_fault n
+    (lists_nothing entry)
+    (is_behind before (discs_of entry.position))
+    (is_canonical_entry entry.position)
     (discs_of entry.position, claim_of entry.listed)
 
 -- a line gives nothing where it is skipped
-abbrev pub line_gives : ℕ → Option bits.Discs → Meaning → Result (Option Claimed) BookFault
-line_gives n before Skipped = Ok None
-line_gives n before (Faulty f) = Err (fault.Line n f)
-line_gives n before (Holds entry) = entry_gives n before entry
+abbrev pub claim_in_line : ℕ → Option bits.Discs → Meaning → LineOutcome
+claim_in_line n before Skipped = Ok None
+claim_in_line n before (Faulty f) = Err (fault.Line n f)
+claim_in_line n before (Holds entry) = claim_in_entry n before entry
 
 -- the claim of a line that is an entry
-abbrev pub entry_claim : Meaning → Option Claimed
+abbrev pub entry_claim : Meaning → Option PositionClaim
 entry_claim Skipped = None
 entry_claim (Faulty f) = None
 entry_claim (Holds entry) = Some (discs_of entry.position, claim_of entry.listed)
 
 -- ---- all lines
 
-abbrev pub onto : List Claimed → Result (List Claimed) BookFault → Result (List Claimed) BookFault
-onto front (Ok claims) = Ok (front ++ claims)
-onto front (Err f) = Err f
+-- what lines give: their claims, or the fault of the first faulty one
+abbrev pub LinesOutcome : Type 0
+LinesOutcome = Result (List PositionClaim) BookFault
 
--- lines, the first of which is line n, behind a position: the claims that they give, or the fault of the first faulty one
-unfoldable pub claims_from : ℕ → Option bits.Discs → List (List ℕ) → Result (List Claimed) BookFault
+-- claims, and those of the lines behind them
+abbrev pub claims_after : List PositionClaim → LinesOutcome → LinesOutcome
+claims_after front (Ok claims) = Ok (front ++ claims)
+claims_after front (Err f) = Err f
+
+-- what a line gives, and the lines behind it by the position of the last claim
+abbrev pub claims_with : Option bits.Discs → LineOutcome → (Option bits.Discs → LinesOutcome) → LinesOutcome
+claims_with before (Err f) behind = Err f
+claims_with before (Ok None) behind = behind before
+claims_with before (Ok (Some c)) behind = claims_after (c ∷ []) (behind (Some c.0))
+
+-- what lines give, the first of which is line n, behind a position
+unfoldable pub claims_from : ℕ → Option bits.Discs → List (List ℕ) → LinesOutcome
 claims_from n before [] = Ok []
 claims_from n before (line ∷ lines) =
-    elim (line_gives n before (item_of line)) [
-      | Err f ↦ Err f
-      | Ok given ↦
-          elim given [
-            | None ↦ claims_from (n + 1) before lines
-            | Some c ↦ onto (c ∷ []) (claims_from (n + 1) (Some c.0) lines)
-          ]
-    ]
+    claims_with before (claim_in_line n before (item_of line)) (λ last. claims_from (n + 1) last lines)
 
 -- the position of the last claim, or the one before all of them
-abbrev pub last_position : Option bits.Discs → List Claimed → Option bits.Discs
+abbrev pub last_position : Option bits.Discs → List PositionClaim → Option bits.Discs
 last_position before [] = before
 last_position before (c ∷ claims) = last_position (Some c.0) claims
 
-abbrev pub advice : Scoring → Result (List Claimed) BookFault → Result Advice BookFault
+abbrev pub advice : Scoring → LinesOutcome → Result Advice BookFault
 advice g (Ok claims) = Ok (record { scoring = g; claims = claims })
 advice g (Err f) = Err f
 
@@ -130,12 +142,12 @@ claims_of text = advice_under (scoring_of_lines (lines_of text)) (lines_of text)
 -- ---- what calls give
 
 -- a call gives these claims or this fault; else it wants memory, but never in place of an unknown header
-abbrev pub Gives : Result Advice BookFault → Result Advice BookFault → Type 0
-Gives (Ok a) meaning = meaning ≡ Ok a
-Gives (Err fault.Memory) meaning = meaning ≢ Err fault.Header
-Gives (Err f) meaning = meaning ≡ Err f
+abbrev pub GivesAdvice : Result Advice BookFault → Result Advice BookFault → Type 0
+GivesAdvice (Ok a) meaning = meaning ≡ Ok a
+GivesAdvice (Err fault.Memory) meaning = meaning ≢ Err fault.Header
+GivesAdvice (Err f) meaning = meaning ≡ Err f
 
-abbrev pub claim_at : bits.Discs → List Claimed → Option Claim
+abbrev pub claim_at : bits.Discs → List PositionClaim → Option Claim
 claim_at p claims = lookup (λ q. is_eq (by_masks p q)) claims
 
 abbrev pub image_claim : Sym → Claim → Claim
@@ -143,12 +155,13 @@ image_claim s c = record { score = c.score; best = best_image s c.best }
 
 -- the claim of the canonical position, its squares moved by the inverse of the symmetry that leads to it
 abbrev pub found_in : Advice → bits.Discs → Option Claim
-found_in a p = option_map (image_claim (inverse (first_symmetry (position_of Black p)))) (claim_at (canonical_of p) a.claims)
+found_in a p =
+    option_map (image_claim (inverse (first_symmetry (position_of Black p)))) (claim_at (canonical_of p) a.claims)
 
 -- an answer as a claim
 abbrev pub claim_by : Solution → Claim
 claim_by answer = record { score = answer.score; best = answer.best }
 
 -- a position with its answer as the claim
-abbrev pub answered : Scoring → bits.Discs → Claimed
-answered g p = (p, claim_by (bits.answer_of g p))
+abbrev pub answer_claim : Scoring → bits.Discs → PositionClaim
+answer_claim g p = (p, claim_by (bits.answer_of g p))

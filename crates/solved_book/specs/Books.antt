@@ -7,7 +7,7 @@ use Rattle.othello_rules.specs.Scores.{scoring_name}
 use Rattle.othello_rules.specs.Solution.{Solution}
 use Rattle.othello_bits.specs.Discs as bits
 use Rattle.othello_bits.specs.Discs.{discs, position_of, answer_of}
-use Rattle.obf_text.specs.Written.{written}
+use Rattle.obf_text.specs.Written.{line_with_end}
 use Rattle.solved_book.specs.Order.{IsCanonical}
 
 -- what contracts see of a book: the scoring of its answers, and its positions
@@ -21,7 +21,7 @@ header g = codes "% ffobook 2 " ++ scoring_name g
 
 -- the line of a position, with Black as the mover
 unfoldable pub entry_text : Scoring → bits.Discs → List ℕ
-entry_text g p = written (position_of Black p) (answer_of g p)
+entry_text g p = line_with_end (position_of Black p) (answer_of g p)
 
 -- the header, and a line for each position
 unfoldable pub book_text : Scoring → List bits.Discs → List ℕ

@@ -4,23 +4,23 @@ use Rattle.std.specs.BTreeMap.{BTreeMap}
 use Rattle.othello_bits.specs.Discs.{Discs}
 use Rattle.endgame_search.specs.declared.solutions.Claim.{Claim}
 use Rattle.solved_book.specs.Books.{Masks, position_at}
-use Rattle.solved_book.specs.Advice.{Claimed}
+use Rattle.solved_book.specs.Advice.{PositionClaim}
 use Rattle.solved_book.specs.declared.faults.BookFault.{BookFault}
 use Rattle.solved_book.specs.declared.faults.BookFault.TheVariants.{Memory}
 
 -- a claim that is kept under the masks of its position
-abbrev pub claimed : Masks × Claim → Claimed
-claimed (masks, claim) = (position_at masks, claim)
+abbrev pub position_claim : Masks × Claim → PositionClaim
+position_claim (masks, claim) = (position_at masks, claim)
 
-abbrev pub GivesLine : Result (Option (Masks × Claim)) BookFault → Result (Option Claimed) BookFault → Type 0
-GivesLine (Ok given) meaning = meaning ≡ Ok (option_map claimed given)
+abbrev pub GivesLine : Result (Option (Masks × Claim)) BookFault → Result (Option PositionClaim) BookFault → Type 0
+GivesLine (Ok given) meaning = meaning ≡ Ok (option_map position_claim given)
 GivesLine (Err Memory) meaning = Unit {0}
 GivesLine (Err f) meaning = meaning ≡ Err f
 
-abbrev pub GivesMap : Result (BTreeMap Masks Claim) BookFault → Result (List Claimed) BookFault → Type 0
-GivesMap (Ok kept) meaning = meaning ≡ Ok (map claimed kept.entries)
+abbrev pub GivesMap : Result (BTreeMap Masks Claim) BookFault → Result (List PositionClaim) BookFault → Type 0
+GivesMap (Ok kept) meaning = meaning ≡ Ok (map position_claim kept.entries)
 GivesMap (Err Memory) meaning = Unit {0}
 GivesMap (Err f) meaning = meaning ≡ Err f
 
-abbrev pub claimed_positions : List Claimed → List Discs
-claimed_positions claims = map (λ (c : Claimed). c.0) claims
+abbrev pub claimed_positions : List PositionClaim → List Discs
+claimed_positions claims = map (λ (c : PositionClaim). c.0) claims

@@ -2,7 +2,7 @@
 
 ghost use Rattle.std.specs.Prelude.{◌≡◌, [], None, length};
 ghost use Rattle.obf_text.specs.LineText.{lines_of};
-ghost use Rattle.solved_book.specs.Advice.{Gives, claims_from, claims_of, found_in};
+ghost use Rattle.solved_book.specs.Advice.{GivesAdvice, claims_from, claims_of, found_in};
 ghost use Rattle.solved_book.specs.Order.{AreRising};
 ghost use Rattle.solved_book.specs.Reading.{GivesMap, claimed_positions};
 
@@ -18,8 +18,8 @@ use std::alloc::Global;
 use std::collections::BTreeMap;
 use std::marker::Model;
 
-/// What a book claims of positions under its scoring. A claim is advice and need not be true. Contracts see the scoring
-/// and the claimed positions with their claims, in rising order.
+/// What a book claims of positions under its scoring. A claim is advice and need not be true.
+/// Contracts see the scoring and the claimed positions with their claims, in rising order.
 #[derive(Drop)]
 pub struct Claims {
     scoring: Scoring,
@@ -29,11 +29,12 @@ pub struct Claims {
 impl Model for Claims {
     ghost use Rattle.std.specs.Prelude.{map};
     ghost use Rattle.solved_book.specs.Advice.{Advice};
-    ghost use Rattle.solved_book.specs.Reading.{claimed};
+    ghost use Rattle.solved_book.specs.Reading.{position_claim};
 
     ghost Value = { Advice };
 
-    ghost view = { λ c. record { scoring = c.scoring; claims = map claimed c.claims.entries } };
+    ghost view = { λ c.
+        record { scoring = c.scoring; claims = map position_claim c.claims.entries } };
 }
 
 // The claims of the lines of a text.
@@ -69,15 +70,16 @@ impl Claims {
 
     /// Reads the text of a book.
     ///
-    /// If the first line is a header, it names the scoring; a first line that begins as a header and is none is refused;
-    /// without a header the scoring is `Winner`. Each line that is not skipped is a line of OBF text with Black to move
-    /// in a canonical position, which stands behind the one before it, and with a listed move. The greatest listed score
-    /// is claimed of the position, with the squares that are listed with it as the best moves; where there is none, a
-    /// pass if one is listed with it, else that the game is over.
+    /// If the first line is a header, it names the scoring; a first line that begins as a header
+    /// and is none is refused; without a header the scoring is `Winner`. Each line that is not
+    /// skipped is a line of OBF text with Black to move in a canonical position, which stands
+    /// behind the one before it, and with a listed move. The greatest listed score is claimed of
+    /// the position, with the squares that are listed with it as the best moves; where there is
+    /// none, a pass if one is listed with it, else that the game is over.
     ///
     /// The first faulty line is told, with the first of its faults in the order of `BookFault`.
     pub fn read(alloc: Global, text: &[u8]) -> Result<Claims, BookFault>
-        ensures { Gives result (claims_of text.now) }
+        ensures { GivesAdvice result (claims_of text.now) }
     {
         let Some(scoring) = scoring_of(text) else {
             return Err(BookFault::Header);
@@ -101,7 +103,8 @@ impl Claims {
         self.claims.len()
     }
 
-    /// The claim of a position, if there is one: that of its canonical position, with the squares moved back.
+    /// The claim of a position, if there is one: that of its canonical position, with the squares
+    /// moved back.
     pub fn find(&self, position: &Pos) -> Option<Claim>
         ensures { result ≡ found_in self.now position.now }
     {

@@ -1,11 +1,13 @@
 //! Books of solved positions.
 
-ghost use Rattle.std.specs.Prelude.{◌≡◌, ◌↔◌, ◌⊎◌, [], ◌∷◌, ◌++◌, length, Contains, IfOk, OnErr, OnOk, IsTrue};
+ghost use Rattle.std.specs.Prelude.{◌≡◌, ◌↔◌, ◌⊎◌, [], ◌∷◌, ◌++◌, length, Contains, IfOk, OnErr};
+ghost use Rattle.std.specs.Prelude.{OnOk, IsTrue};
 ghost use Rattle.std.specs.Io.KnownBytes.{Appends};
 ghost use Rattle.othello_rules.specs.declared.discs.Side.TheVariants.{Black};
 ghost use Rattle.othello_bits.specs.Discs.{Discs, answer_of, position_of};
 ghost use Rattle.othello_bits.specs.Symmetries.{canonical_of, first_symmetry};
-ghost use Rattle.solved_book.specs.Books.{book_text, entry_text, header, position_at, IsSolvedEntry};
+ghost use Rattle.solved_book.specs.Books.{book_text, entry_text, header, position_at};
+ghost use Rattle.solved_book.specs.Books.{IsSolvedEntry};
 ghost use Rattle.solved_book.specs.Order.{AreBookPositions};
 
 use crate::headers::header;
@@ -20,9 +22,9 @@ use std::io;
 use std::io::Write;
 use std::marker::Model;
 
-/// Positions with their answers under one scoring. Of the eight images of a position it holds the canonical one, once.
-/// Contracts see the scoring and the canonical positions, in rising order: by this type their answers are those of the
-/// definitions.
+/// Positions with their answers under one scoring. Of the eight images of a position it holds the
+/// canonical one, once. Contracts see the scoring and the canonical positions, in rising order: by
+/// this type their answers are those of the definitions.
 #[derive(Debug, Drop)]
 pub struct Book {
     scoring: Scoring,
@@ -34,7 +36,8 @@ impl Model for Book {
 
     ghost Value = { Contents };
 
-    ghost view = { λ b. record { scoring = b.scoring; positions = positions_in b.answers.entries } };
+    ghost view = { λ b.
+        record { scoring = b.scoring; positions = positions_in b.answers.entries } };
 
     ghost invariant = { λ b. AreSolved b.scoring b.answers.entries };
 }
@@ -60,7 +63,9 @@ fn write_entry<W: Write>(
     answer: &Answer,
 ) -> io::Result<()>
     requires { IsSolvedEntry scoring (masks, answer.now) }
-    ensures { OnOk result (Appends (W.contents writer.old) (W.contents writer.new) (entry_text scoring (position_at masks))) }
+    ensures { OnOk result
+        (Appends (W.contents writer.old) (W.contents writer.new)
+        (entry_text scoring (position_at masks))) }
 {
     let (own, opp) = masks;
     let Some(position) = Pos::new(own, opp) else {
@@ -71,7 +76,8 @@ fn write_entry<W: Write>(
 
 // The header and its end.
 fn write_header<W: Write>(writer: &mut W, scoring: Scoring) -> io::Result<()>
-    ensures { OnOk result (Appends (W.contents writer.old) (W.contents writer.new) (header scoring ++ 10 ∷ [])) }
+    ensures { OnOk result
+        (Appends (W.contents writer.old) (W.contents writer.new) (header scoring ++ 10 ∷ [])) }
 {
     writer.write_all(header(scoring))?;
     writer.write_all(b"\n")
@@ -103,15 +109,19 @@ impl Book {
         self.answers.len()
     }
 
-    /// Adds the canonical position of a solved one. True where it is new. Want of memory leaves the book as it was.
+    /// Adds the canonical position of a solved one. True where it is new. Want of memory leaves the
+    /// book as it was.
     pub fn add(&mut self, solved: &Solved) -> Result<bool, AllocError>
         requires { solved.now.scoring ≡ self.old.scoring }
-        ensures new { IfOk result (λ added. IsTrue added ↔ (Contains self.old.positions (canonical_of solved.now.position) → ⊥)) }
-        ensures holds { OnOk result ((p : Discs) → Contains self.new.positions p ↔ ((p ≡ canonical_of solved.now.position) ⊎ Contains self.old.positions p)) }
+        ensures new { IfOk result (λ added. IsTrue added
+            ↔ (Contains self.old.positions (canonical_of solved.now.position) → ⊥)) }
+        ensures holds { OnOk result ((p : Discs) → Contains self.new.positions p
+            ↔ ((p ≡ canonical_of solved.now.position) ⊎ Contains self.old.positions p)) }
         ensures scoring { self.new.scoring ≡ self.old.scoring }
         ensures unchanged { OnErr result (self.new ≡ self.old) }
         // Only a new position takes memory.
-        ensures err { OnErr result (Contains self.old.positions (canonical_of solved.now.position) → ⊥) }
+        ensures err { OnErr result
+            (Contains self.old.positions (canonical_of solved.now.position) → ⊥) }
     {
         let (position, sym) = solved.pos().canonical();
         let answer = canonical_answer(*solved, sym);
@@ -119,10 +129,13 @@ impl Book {
         Ok(known.is_none())
     }
 
-    /// Writes the header of the scoring and the line of each position, with Black as the mover, in rising order. It
-    /// takes no memory of its own. After a fault nothing is said of how much went out.
+    /// Writes the header of the scoring and the line of each position, with Black as the mover, in
+    /// rising order. It takes no memory of its own. After a fault nothing is said of how much went
+    /// out.
     pub fn write<W: Write>(&self, writer: &mut W) -> io::Result<()>
-        ensures text { OnOk result (Appends (W.contents writer.old) (W.contents writer.new) (book_text self.now.scoring self.now.positions)) }
+        ensures text { OnOk result
+            (Appends (W.contents writer.old) (W.contents writer.new)
+            (book_text self.now.scoring self.now.positions)) }
         ensures positions { OnOk result (AreBookPositions self.now.positions) }
     {
         write_header(writer, self.scoring)?;

@@ -3,7 +3,8 @@
 ghost use Rattle.std.specs.Prelude.{◌≡◌, option_map, IfOk, IfErr};
 ghost use Rattle.obf_text.specs.Obf.{entry_of, item_of};
 ghost use Rattle.othello_bits.specs.Discs.{discs_of};
-ghost use Rattle.solved_book.specs.Advice.{entry_gives, is_behind, is_canonical_entry, line_gives};
+ghost use Rattle.solved_book.specs.Advice.{claim_in_entry, is_behind, is_canonical_entry};
+ghost use Rattle.solved_book.specs.Advice.{claim_in_line};
 ghost use Rattle.solved_book.specs.Books.{position_at};
 ghost use Rattle.solved_book.specs.Reading.{GivesLine};
 
@@ -35,12 +36,13 @@ fn is_canonical(grid: &Grid, position: Pos) -> bool
 }
 
 // The claim of an entry in line `number`, with the masks of its position.
-fn claim_entry(
+fn read_entry(
     number: usize,
     before: Option<Masks>,
     entry: &Line,
 ) -> Result<Option<(Masks, Claim)>, BookFault>
-    ensures { GivesLine result (entry_gives number (option_map position_at before) (entry_of entry.now)) }
+    ensures { GivesLine result
+        (claim_in_entry number (option_map position_at before) (entry_of entry.now)) }
 {
     let Some(claim) = claim_of(entry.listed.as_slice()) else {
         return Err(BookFault::NoMoves(number));
@@ -64,11 +66,12 @@ pub(crate) fn read_claim(
     before: Option<Masks>,
     line: &[u8],
 ) -> Result<Option<(Masks, Claim)>, BookFault>
-    ensures { GivesLine result (line_gives number (option_map position_at before) (item_of line.now)) }
+    ensures { GivesLine result
+        (claim_in_line number (option_map position_at before) (item_of line.now)) }
 {
     match read_line(alloc, line) {
         Ok(Item::Skip) => Ok(None),
-        Ok(Item::Entry(entry)) => claim_entry(number, before, &entry),
+        Ok(Item::Entry(entry)) => read_entry(number, before, &entry),
         Err(LineFault::Memory) => Err(BookFault::Memory),
         Err(fault) => Err(BookFault::Line(number, fault)),
     }

@@ -7,7 +7,8 @@ use obf_text::LineFault;
 use std::alloc::{AllocError, AllocFailed};
 use thiserror::Error;
 
-/// Why a text is no book. Lines are numbered from 1, skipped ones counted; the first faulty line decides.
+/// Why a text is no book. Lines are numbered from 1, skipped ones counted; the first faulty line
+/// decides.
 #[derive(Clone, Copy, PartialEq, Eq, Debug, Error)]
 pub enum BookFault {
     /// The line is no line of OBF text. Want of memory is never told here.

@@ -20,7 +20,8 @@ pub(crate) fn header(scoring: Scoring) -> &'static [u8]
     }
 }
 
-// The scoring that a first line names: `Winner` where it is no header, None where it is an unknown one.
+// The scoring that a first line names: `Winner` where it is no header, None where it is an unknown
+// one.
 fn scoring_in(line: &[u8]) -> Option<Scoring>
     ensures { result ≡ scoring_in line.now }
 {

@@ -1,6 +1,8 @@
-//! What holds of books and of what is read from them. Each function's body is empty: its contract is the law.
+//! What holds of books and of what is read from them. Each function's body is empty: its contract
+//! is the law.
 
-ghost use Rattle.std.specs.Prelude.{◌≡◌, ◌↔◌, ℕ, ◌+◌, List, ◌∷◌, ◌++◌, length, Contains, map, Ok, Err, Some, None};
+ghost use Rattle.std.specs.Prelude.{◌≡◌, ◌↔◌, ℕ, ◌+◌, List, ◌∷◌, ◌++◌, length, Contains, map, Ok};
+ghost use Rattle.std.specs.Prelude.{Err, Some, None};
 ghost use Rattle.std.specs.List.{filter_map};
 ghost use Rattle.othello_rules.specs.declared.scorings.Scoring.{Scoring};
 ghost use Rattle.othello_bits.specs.Discs.{Discs, answer_of};
@@ -9,29 +11,49 @@ ghost use Rattle.othello_bits.specs.declared.symmetries.Sym.{Sym};
 ghost use Rattle.obf_text.specs.LineText.{lines_of};
 ghost use Rattle.obf_text.specs.Obf.{item_of};
 ghost use Rattle.solved_book.specs.declared.faults.BookFault.{BookFault};
-ghost use Rattle.solved_book.specs.Advice.{Advice, Claimed, answered, claim_by, claims_from, claims_of, entry_claim, found_in, last_position, line_gives};
+ghost use Rattle.solved_book.specs.Advice.{Advice, PositionClaim, answer_claim, claim_by};
+ghost use Rattle.solved_book.specs.Advice.{claims_from, claims_of, entry_claim, found_in};
+ghost use Rattle.solved_book.specs.Advice.{last_position, claim_in_line};
 ghost use Rattle.solved_book.specs.Books.{book_text};
 ghost use Rattle.solved_book.specs.Order.{AreRising, AreBookPositions};
 
-/// The text of a book, read again, claims the answers of its positions under its scoring, and nothing else. So each image
-/// of a position of the book is found with its score and all its best moves, and no other position is found.
+/// The text of a book, read again, claims the answers of its positions under its scoring, and
+/// nothing else. So each image of a position of the book is found with its score and all its best
+/// moves, and no other position is found.
 pub fn book_is_read_again()
-    ensures claims { (g : Scoring) (positions : List Discs) → AreBookPositions positions → claims_of (book_text g positions) ≡ Ok (record { scoring = g; claims = map (answered g) positions }) }
-    ensures found { (g : Scoring) (positions : List Discs) (a : Advice) (p : Discs) (s : Sym) → AreBookPositions positions → claims_of (book_text g positions) ≡ Ok a → Contains positions (canonical_of p) → found_in a (image_of s p) ≡ Some (claim_by (answer_of g (image_of s p))) }
-    ensures missing { (g : Scoring) (positions : List Discs) (a : Advice) (p : Discs) → AreBookPositions positions → claims_of (book_text g positions) ≡ Ok a → (Contains positions (canonical_of p) → ⊥) → found_in a p ≡ None }
+    ensures claims { (g : Scoring) (positions : List Discs) → AreBookPositions positions
+        → claims_of (book_text g positions)
+        ≡ Ok (record { scoring = g; claims = map (answer_claim g) positions }) }
+    ensures found { (g : Scoring) (positions : List Discs) (a : Advice) (p : Discs) (s : Sym)
+        → AreBookPositions positions
+        → claims_of (book_text g positions) ≡ Ok a
+        → Contains positions (canonical_of p)
+        → found_in a (image_of s p) ≡ Some (claim_by (answer_of g (image_of s p))) }
+    ensures missing { (g : Scoring) (positions : List Discs) (a : Advice) (p : Discs)
+        → AreBookPositions positions
+        → claims_of (book_text g positions) ≡ Ok a
+        → (Contains positions (canonical_of p) → ⊥)
+        → found_in a p ≡ None }
 {}
 
 /// Where a text has no fault, its claims are those of its entries, in their order.
 pub fn claims_are_of_entries()
-    ensures { (text : List ℕ) (a : Advice) → claims_of text ≡ Ok a → a.claims ≡ filter_map (λ line. entry_claim (item_of line)) (lines_of text) }
+    ensures { (text : List ℕ) (a : Advice) → claims_of text ≡ Ok a
+        → a.claims ≡ filter_map (λ line. entry_claim (item_of line)) (lines_of text) }
 {}
 
 /// The first faulty line decides: where the lines before it have no fault, and whatever follows it.
 pub fn first_fault_decides()
-    ensures { (front rest : List (List ℕ)) (line : List ℕ) (claims : List Claimed) (f : BookFault) → claims_from 1 None front ≡ Ok claims → line_gives (1 + length front) (last_position None claims) (item_of line) ≡ Err f → claims_from 1 None (front ++ line ∷ rest) ≡ Err f }
+    ensures { (front rest : List (List ℕ)) (line : List ℕ) (claims : List PositionClaim)
+        → (f : BookFault)
+        → claims_from 1 None front ≡ Ok claims
+        → claim_in_line (1 + length front) (last_position None claims) (item_of line) ≡ Err f
+        → claims_from 1 None (front ++ line ∷ rest) ≡ Err f }
 {}
 
 /// Positions have one rising order: what a book holds determines its text.
 pub fn order_is_one()
-    ensures { (xs ys : List Discs) → AreRising xs → AreRising ys → ((p : Discs) → Contains xs p ↔ Contains ys p) → xs ≡ ys }
+    ensures { (xs ys : List Discs) → AreRising xs → AreRising ys
+        → ((p : Discs) → Contains xs p ↔ Contains ys p)
+        → xs ≡ ys }
 {}

@@ -1,6 +1,6 @@
-//! A book of solved positions: written as OBF text with the canonical form of each position once, in rising order, and
-//! read again as claims, which are advice for a search and nothing more. The header and the order are this project's own
-//! format.
+//! A book of solved positions: written as OBF text with the canonical form of each position once,
+//! in rising order, and read again as claims, which are advice for a search and nothing more. The
+//! header and the order are this project's own format.
 #![tactic(auto)]
 
 mod advice;

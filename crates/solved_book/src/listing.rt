@@ -3,7 +3,8 @@
 ghost use Rattle.std.specs.Prelude.{◌≡◌, ◌↔◌, ◌==◌, ◌||◌, ◌<◌, ℕ, [], IsNone, IfSome};
 ghost use Rattle.std.specs.List.{list_any};
 ghost use Rattle.othello_rules.specs.Masks.{in_mask};
-ghost use Rattle.solved_book.specs.Listing.{best_by, best_listed, claim_of, lists_pass, lists_square, squares_listed};
+ghost use Rattle.solved_book.specs.Listing.{best_by, listed_best, claim_of, lists_pass};
+ghost use Rattle.solved_book.specs.Listing.{lists_square, listed_squares};
 
 use endgame_search::Claim;
 use obf_text::{ListedMove, greatest_score};
@@ -18,7 +19,8 @@ fn with_square(mask: u64, square: Square) -> u64
 
 // The mask with the square of a field, if the field lists one with the score.
 fn with_listed(squares: u64, field: &(ListedMove, i8), score: i8) -> u64
-    ensures { (q : ℕ) → q < 64 → in_mask result q ≡ (lists_square score q field.now || in_mask squares q) }
+    ensures { (q : ℕ) → q < 64
+        → in_mask result q ≡ (lists_square score q field.now || in_mask squares q) }
 {
     let (listed_move, listed_score) = *field;
     match listed_move {
@@ -34,8 +36,8 @@ fn with_listed(squares: u64, field: &(ListedMove, i8), score: i8) -> u64
 }
 
 // The squares that are listed with a score.
-fn squares_listed(listed: &[(ListedMove, i8)], score: i8) -> u64
-    ensures { result ≡ squares_listed score listed.now }
+fn listed_squares(listed: &[(ListedMove, i8)], score: i8) -> u64
+    ensures { result ≡ listed_squares score listed.now }
 {
     let mut squares = 0u64;
     for field in listed {
@@ -44,7 +46,7 @@ fn squares_listed(listed: &[(ListedMove, i8)], score: i8) -> u64
     squares
 }
 
-fn is_pass(listed_move: ListedMove, listed_score: i8, score: i8) -> bool
+fn lists_pass(listed_move: ListedMove, listed_score: i8, score: i8) -> bool
     ensures { result ≡ lists_pass score (listed_move, listed_score) }
 {
     match listed_move {
@@ -57,14 +59,14 @@ fn is_pass(listed_move: ListedMove, listed_score: i8, score: i8) -> bool
 fn is_pass_listed(listed: &[(ListedMove, i8)], score: i8) -> bool
     ensures { result ≡ list_any (lists_pass score) listed.now }
 {
-    listed.iter().any(|(listed_move, listed_score)| is_pass(*listed_move, *listed_score, score))
+    listed.iter().any(|(listed_move, listed_score)| lists_pass(*listed_move, *listed_score, score))
 }
 
 // What is listed with a score.
-fn best_listed(listed: &[(ListedMove, i8)], score: i8) -> Best
-    ensures { result ≡ best_listed score listed.now }
+fn listed_best(listed: &[(ListedMove, i8)], score: i8) -> Best
+    ensures { result ≡ listed_best score listed.now }
 {
-    let squares = squares_listed(listed, score);
+    let squares = listed_squares(listed, score);
     if squares != 0 {
         return Best::Moves(squares);
     }
@@ -83,6 +85,6 @@ pub(crate) fn claim_of(listed: &[(ListedMove, i8)]) -> Option<Claim>
     let score = greatest_score(listed)?;
     Some(Claim {
         score,
-        best: best_listed(listed, score),
+        best: listed_best(listed, score),
     })
 }

@@ -1,10 +1,11 @@
 //! Lines that cannot be read, lines that are skipped, and the texts of the faults.
 
-use crate::tests::joined;
+use crate::tests::join;
 use crate::{Item, LineFault, read_line};
 use std::alloc::{AllocError, Global};
 
-// What stands in front of some discs, how many there are, what follows, and the fault; None where the line is skipped.
+// What stands in front of some discs, how many there are, what follows, and the fault; None where
+// the line is skipped.
 type Row = (&'static [u8], usize, &'static [u8], Option<LineFault>);
 
 const ROWS: [Row; 22] = [
@@ -34,7 +35,7 @@ const ROWS: [Row; 22] = [
 
 fn is_right(alloc: Global, row: &Row) -> bool {
     let (front, count, back, fault) = *row;
-    match read_line(alloc, &joined(front, b'X', count, back)) {
+    match read_line(alloc, &join(front, b'X', count, back)) {
         Ok(Item::Skip) => fault.is_none(),
         Ok(Item::Entry(_)) => false,
         Err(found) => fault == Some(found),

@@ -1,6 +1,6 @@
 //! What lines say.
 
-use crate::tests::{A1_EMPTY, ALL_BLACK, TWO_EMPTY, grid_of, joined};
+use crate::tests::{A1_EMPTY, ALL_BLACK, TWO_EMPTY, grid_of, join};
 use crate::{Item, Line, LineFault, ListedMove, read_line, split_lines};
 use othello_rules::{Cell, Grid, Side};
 use std::alloc::Global;
@@ -65,7 +65,7 @@ const FIELDS: [(&[u8], &[Field]); 23] = [
 ];
 
 fn are_read(alloc: Global, rest: &[u8], fields: &[Field]) -> bool {
-    let line = joined(TWO_EMPTY, b' ', 0, rest);
+    let line = join(TWO_EMPTY, b' ', 0, rest);
     says(
         read_line(alloc, &line),
         &grid_of(TWO_EMPTY, Side::Black),
@@ -99,7 +99,7 @@ const LETTERS: [(u8, Cell, u8, Side); 11] = [
 
 fn is_letter(alloc: Global, row: &(u8, Cell, u8, Side)) -> bool {
     let (letter, cell, side_letter, side) = *row;
-    let line = joined(b"", letter, 64, &[b' ', side_letter]);
+    let line = join(b"", letter, 64, &[b' ', side_letter]);
     says(read_line(alloc, &line), &Grid::new([cell; 64], side), &[])
 }
 
@@ -112,7 +112,7 @@ fn reads_letters(rt: HostRuntime) {
 
 #[test]
 fn reads_lenient_bytes(rt: HostRuntime) {
-    let text = joined(b"  .owOoWO*", b'x', 56, b"\tb\r\n");
+    let text = join(b"  .owOoWO*", b'x', 56, b"\tb\r\n");
     let mut lines = split_lines(&text);
     let item = lines.next().map(|line| read_line(rt.alloc(), line));
     let grid = grid_of(A1_EMPTY, Side::Black);

@@ -1,67 +1,26 @@
 //! Written lines, and writers that fail.
 
-use crate::tests::{A1_EMPTY, ALL_BLACK, CORNERS_EMPTY, TWO_EMPTY, grid_of, joined};
+use crate::tests::{A1_EMPTY, ALL_BLACK, CORNERS_EMPTY, TWO_EMPTY, grid_of, join};
 use crate::write_line;
-use arrayvec::ArrayVec;
 use othello_rules::{Answer, Best, Grid, Side};
 use std::io;
-use std::io::Write;
 
-// Counts its calls, and fails at the one that finds none left.
-#[derive(Drop)]
-struct CountedWriter {
-    bytes: ArrayVec<u8, 160>,
-    calls_left: usize,
-}
-
-impl CountedWriter {
-    fn new(calls_left: usize) -> CountedWriter {
-        CountedWriter {
-            bytes: ArrayVec::new(),
-            calls_left,
-        }
+// Whether the line is whole in so much room, or the fault the writer's where the room is too small.
+fn is_written_in(room: usize, grid: &Grid, answer: &Answer, whole: &[u8]) -> bool {
+    let mut bytes = [0; 160];
+    let Some(mut left) = bytes.get_mut(..room) else {
+        return false;
+    };
+    match write_line(&mut left, grid, answer) {
+        Ok(()) => room >= whole.len() && bytes.starts_with(whole),
+        Err(error) => room < whole.len() && error.kind() == io::ErrorKind::WriteZero,
     }
 }
 
-impl Write for CountedWriter {
-    fn write(&mut self, buf: &[u8]) -> io::Result<usize> {
-        if self.calls_left == 0 {
-            return Err(io::Error::from(io::ErrorKind::BrokenPipe));
-        }
-        self.calls_left -= 1;
-        for byte in buf {
-            let _ = self.bytes.try_push(*byte);
-        }
-        Ok(buf.len())
-    }
-
-    fn flush(&mut self) -> io::Result<()> {
-        Ok(())
-    }
-}
-
-fn fails_after(calls: usize, grid: &Grid, answer: &Answer) -> bool {
-    match write_line(&mut CountedWriter::new(calls), grid, answer) {
-        Ok(()) => false,
-        Err(error) => error.kind() == io::ErrorKind::BrokenPipe,
-    }
-}
-
-fn writes_within(calls: usize, grid: &Grid, answer: &Answer, whole: &[u8]) -> bool {
-    let mut writer = CountedWriter::new(calls);
-    write_line(&mut writer, grid, answer).is_ok() && writer.bytes.as_slice() == whole
-}
-
-// With too few calls the writer's fault is told, and with as many as are needed, or more, the line is whole.
 fn is_written(board: &[u8; 64], side: Side, answer: &Answer, rest: &[u8]) -> bool {
     let grid = grid_of(board, side);
-    let whole = joined(board, b' ', 0, rest);
-    match (0..30).position(|calls| !fails_after(calls, &grid, answer)) {
-        Some(needed) => {
-            needed > 0 && (needed..30).all(|calls| writes_within(calls, &grid, answer, &whole))
-        }
-        None => false,
-    }
+    let whole = join(board, b' ', 0, rest);
+    (0..160).all(|room| is_written_in(room, &grid, answer, &whole))
 }
 
 #[test]

@@ -4,8 +4,8 @@ use Rattle.std.proofs.lemmas.Result.{err_from_is_err_and}
 use Rattle.obf_text.specs.LineText.{lines_of}
 use Rattle.obf_text.specs.Obf.{item_of}
 use Rattle.solved_book.specs.Books.{position_at}
-use Rattle.solved_book.specs.Advice.{claims_from, line_gives}
-use Rattle.solved_book.specs.Reading.{claimed}
+use Rattle.solved_book.specs.Advice.{claims_from, claim_in_line}
+use Rattle.solved_book.specs.Reading.{position_claim}
 use Rattle.solved_book.proofs.ClaimSteps.{ahead_more, ahead_none, reads_end, reads_err, reads_none, reads_some, reads_start, room_more, stands_behind}
 use Rattle.solved_book.proofs.advice.read_claims.Goals as goal
 use Rattle.solved_book.proofs.advice.read_claims.Goals.{in-Some-2+in_ok-insert-in-Some-2, in-None-2}
@@ -36,8 +36,8 @@ loop-line-preserved c =
       | in-Some-2+in_ok-insert-in-Some-2 w ↦
           let m = w.in-Some-2.masks in
           let v = w.in-Some-2.claim in
-          let given : line_gives number (option_map position_at before) (item_of line) ≡ Ok (Some (position_at m, v)) =
-          c.in_ok-masks.ensures ∙ ap (λ o. Ok (option_map claimed o)) w.in-Some-2.is in
+          let given : claim_in_line number (option_map position_at before) (item_of line) ≡ Ok (Some (position_at m, v)) =
+          c.in_ok-masks.ensures ∙ ap (λ o. Ok (option_map position_claim o)) w.in-Some-2.is in
           let entries = ap (λ t. t.entries) w.claims-is ∙ w.in_ok-insert-in-Some-2.ensures.entries in
           record {
             reads = rw w.before-is (reads_some number before kept _ m v line left lines all cut given entries held.ahead held.reads);
@@ -45,8 +45,8 @@ loop-line-preserved c =
             room = room.1;
           }
       | in-None-2 w ↦
-          let given : line_gives number (option_map position_at before) (item_of line) ≡ Ok None =
-          c.in_ok-masks.ensures ∙ ap (λ o. Ok (option_map claimed o)) w.in-None-2.is in
+          let given : claim_in_line number (option_map position_at before) (item_of line) ≡ Ok None =
+          c.in_ok-masks.ensures ∙ ap (λ o. Ok (option_map position_claim o)) w.in-None-2.is in
           record {
             reads = rw (w.before-is, w.claims-is) (reads_none number before kept line left lines all cut given held.reads);
             ahead = rw (w.before-is, w.claims-is) held.ahead;

@@ -1,6 +1,6 @@
 use Rattle.std.proofs.Common.{take}
 use Rattle.solved_book.proofs.MaskSteps.{HasListed}
-use Rattle.solved_book.proofs.listing.squares_listed.Given as goal
+use Rattle.solved_book.proofs.listing.listed_squares.Given as goal
 
 -- the squares of the fields so far
 abbrev pub invariant-loop-field : goal.invariant-loop-field

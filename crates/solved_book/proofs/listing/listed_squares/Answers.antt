@@ -1,9 +1,9 @@
 use Rattle.std.proofs.Common.{◌≡◌, ◌∙◌, ap, arith}
 use Rattle.std.proofs.lemmas.Int.{ints}
 use Rattle.endgame_search.proofs.Windows.{shown}
-use Rattle.solved_book.specs.Listing.{squares_listed}
+use Rattle.solved_book.specs.Listing.{listed_squares}
 use Rattle.solved_book.proofs.MaskSteps.{lists_all, lists_more, lists_none}
-use Rattle.solved_book.proofs.listing.squares_listed.Goals as goal
+use Rattle.solved_book.proofs.listing.listed_squares.Goals as goal
 
 pub loop-field-init : goal.loop-field-init
 loop-field-init c = lists_none _
@@ -17,4 +17,4 @@ pub returns : goal.returns
 returns c =
     let s : shown c.args.score ≡ c.args.score = omega (arith, ints) in
     lists_all (shown c.args.score) c.args.listed.now c.loop-field.field-index c.loop-field.squares c.loop-field-test.false c.loop-field.invariant
-    ∙ ap (λ z. squares_listed z c.args.listed.now) s
+    ∙ ap (λ z. listed_squares z c.args.listed.now) s

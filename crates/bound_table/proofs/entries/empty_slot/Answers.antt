@@ -1,6 +1,6 @@
 use Rattle.othello_bits.proofs.GameLaws.{value_score}
 use Rattle.bound_table.proofs.CanonicalRanges.{known_of_canonical}
-use Rattle.bound_table.proofs.entries.unused.Goals as goal
+use Rattle.bound_table.proofs.entries.empty_slot.Goals as goal
 
 pub new-requires-2 : goal.new-requires-2
 new-requires-2 c =
