@@ -1,5 +1,6 @@
 -- What holds of a board between any two steps (the invariant of the state machine).
-use Rattle.std.specs.Prelude.{ℕ, ◌≡◌, ◌+◌, ◌<◌, ◌≤◌, Bool, true, List, length, Some, slice_get, count_by, sum_by, if◌then◌else◌}
+use Rattle.std.specs.Prelude.{ℕ, ◌≡◌, ◌+◌, ◌<◌, ◌≤◌, Bool, true, List, length, Some, slice_get}
+use Rattle.std.specs.Prelude.{count_by, sum_by, if◌then◌else◌}
 use Rattle.endgame_search.specs.Problems.{Problem}
 use Rattle.job_board.specs.declared.jobs.JobId.{JobId}
 use Rattle.job_board.specs.declared.jobs.Stage.{Stage}

@@ -1,5 +1,6 @@
 -- What a board holds: the jobs of each sender (queues of work, as a state machine).
-use Rattle.std.specs.Prelude.{ℕ, ◌+◌, Bool, true, false, List, [], ◌∷◌, ◌++◌, Option, Some, None, slice_get, slice_set, replicate}
+use Rattle.std.specs.Prelude.{ℕ, ◌+◌, Bool, true, false, List, [], ◌∷◌, ◌++◌, Option, Some, None}
+use Rattle.std.specs.Prelude.{slice_get, slice_set, replicate}
 use Rattle.endgame_search.specs.Problems.{Problem}
 use Rattle.job_board.specs.declared.jobs.Stage.{Stage}
 use Rattle.job_board.specs.declared.jobs.Stage.TheVariants.{Waiting, Taken, Finished}

@@ -1,6 +1,7 @@
 -- The lawful replies of each step at a board with content c, and the content after it (the steps of
 -- the state machine).
-use Rattle.std.specs.Prelude.{ℕ, ◌≡◌, ◌≢◌, ◌==◌, ◌&&◌, Bool, false, length, Option, Some, None, Result, Ok, Err, slice_get, if◌then◌else◌, ◌⊎◌, nat_lt, not}
+use Rattle.std.specs.Prelude.{ℕ, ◌≡◌, ◌≢◌, ◌==◌, ◌&&◌, Bool, false, length, Option, Some, None}
+use Rattle.std.specs.Prelude.{Result, Ok, Err, slice_get, if◌then◌else◌, ◌⊎◌, nat_lt, not}
 use Rattle.endgame_search.specs.Problems.{Problem}
 use Rattle.job_board.specs.declared.jobs.JobId.{JobId}
 use Rattle.job_board.specs.declared.jobs.Job.{Job}
@@ -13,7 +14,8 @@ use Rattle.job_board.specs.declared.faults.SubmitFault.TheVariants as fault
 use Rattle.job_board.specs.declared.faults.JobFault.{JobFault}
 use Rattle.job_board.specs.declared.faults.JobFault.TheVariants.{NotTaken, OtherPosition}
 use Rattle.job_board.specs.declared.faults.NoSender.{NoSender}
-use Rattle.job_board.specs.Contents.{State, Content, content_with, stage_at, task_at, with_stage, with_task, with_one_handed, closed_state, is_waiting}
+use Rattle.job_board.specs.Contents.{State, Content, content_with, stage_at, task_at, with_stage}
+use Rattle.job_board.specs.Contents.{with_task, with_one_handed, closed_state, is_waiting}
 
 -- why a submit is refused, but for want of memory
 abbrev pub submit_refusal : Option State → Option SubmitFault

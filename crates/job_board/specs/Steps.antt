@@ -6,7 +6,9 @@ use Rattle.job_board.specs.declared.steps.Step.TheVariants as step
 use Rattle.job_board.specs.declared.steps.Reply.{Reply}
 use Rattle.job_board.specs.declared.steps.Reply.TheVariants as reply
 use Rattle.job_board.specs.Contents.{Content, empty_content}
-use Rattle.job_board.specs.Replies.{Submits, after_submit, Takes, after_take, Finishes, after_finish, give_back_reply, after_give_back, deliver_reply, after_deliver, close_reply, after_close}
+use Rattle.job_board.specs.Replies.{Submits, after_submit, Takes, after_take, Finishes}
+use Rattle.job_board.specs.Replies.{after_finish, give_back_reply, after_give_back, deliver_reply}
+use Rattle.job_board.specs.Replies.{after_deliver, close_reply, after_close}
 
 -- the reply is lawful of a board with content c
 abbrev pub IsLawful : Content → Step → Reply → Type 0

@@ -11,8 +11,9 @@ use endgame_search::{Solved, Task};
 use std::alloc::Global;
 use std::marker::Model;
 
-/// The jobs of up to 64 senders: each waits, is taken or is finished. Contracts see what it holds of each sender.
-/// It doesn't record who took a job: any caller may finish one that is taken, or give it back.
+/// The jobs of up to 64 senders: each waits, is taken or is finished. Contracts see what it holds
+/// of each sender. It doesn't record who took a job: any caller may finish one that is taken, or
+/// give it back.
 #[derive(Drop)]
 pub struct Board {
     pub(crate) senders: Vec<Sender>,
@@ -41,7 +42,11 @@ fn are_closed(senders: &[Sender]) -> bool
 impl Board {
     ghost use Rattle.job_board.specs.Contents.{empty_content};
     ghost use Rattle.job_board.specs.Boards.{AllDone};
-    ghost use Rattle.job_board.specs.Replies.{Submits, after_submit, Takes, after_take, Finishes, after_finish, give_back_reply, after_give_back, deliver_reply, after_deliver, close_reply, after_close};
+    ghost use Rattle.job_board.specs.Replies.{Submits, after_submit, Takes, after_take};
+    ghost use Rattle.job_board.specs.Replies.{Finishes, after_finish, give_back_reply};
+    ghost use Rattle.job_board.specs.Replies.{after_give_back};
+    ghost use Rattle.job_board.specs.Replies.{deliver_reply, after_deliver, close_reply};
+    ghost use Rattle.job_board.specs.Replies.{after_close};
 
     /// The most senders.
     pub const MOST_SENDERS: u32 = 64;
@@ -49,8 +54,8 @@ impl Board {
     /// The most jobs of one sender.
     pub const MOST_JOBS: usize = MOST_JOBS;
 
-    /// A board of so many senders, whose numbers count from 0, with no jobs. `TooManySenders` above `MOST_SENDERS`,
-    /// before any memory is asked for; `Memory` where it was refused.
+    /// A board of so many senders, whose numbers count from 0, with no jobs. `TooManySenders` above
+    /// `MOST_SENDERS`, before any memory is asked for; `Memory` where it was refused.
     pub fn new(alloc: Global, senders: u32) -> Result<Board, BoardFault>
         ensures too_many { (result ≡ Err fault.TooManySenders) ↔ (Self.MOST_SENDERS < senders) }
         ensures empty { IfOk result (λ board. board ≡ empty_content senders) }
@@ -71,8 +76,9 @@ impl Board {
         })
     }
 
-    /// Accepts a task for a sender, and gives the number of its job. All memory that the job will ever need is taken
-    /// here, room to wait again included. The first refusal of `SubmitFault` decides, and changes nothing.
+    /// Accepts a task for a sender, and gives the number of its job. All memory that the job will
+    /// ever need is taken here, room to wait again included. The first refusal of `SubmitFault`
+    /// decides, and changes nothing.
     pub fn submit(&mut self, sender: u32, task: Task) -> Result<u32, SubmitFault>
         ensures lawful { Submits self.old sender result }
         ensures content { self.new ≡ after_submit self.old sender task result }
@@ -94,8 +100,8 @@ impl Board {
         Ok(number)
     }
 
-    /// Takes a job that waits, the one with most empty squares first, then of the first sender, then of the least
-    /// number. None where no job waits.
+    /// Takes a job that waits, the one with most empty squares first, then of the first sender,
+    /// then of the least number. None where no job waits.
     pub fn take(&mut self) -> Option<Job>
         ensures lawful { Takes self.old result }
         ensures content { self.new ≡ after_take self.old result }
@@ -140,8 +146,8 @@ impl Board {
         Ok(())
     }
 
-    /// Hands over the next answer of a sender, in the order of its submits. `Drained` where the sender is closed and
-    /// was handed all answers.
+    /// Hands over the next answer of a sender, in the order of its submits. `Drained` where the
+    /// sender is closed and was handed all answers.
     pub fn deliver(&mut self, sender: u32) -> Handed
         ensures lawful { result ≡ deliver_reply self.old sender }
         ensures content { self.new ≡ after_deliver self.old sender result }
@@ -152,7 +158,8 @@ impl Board {
         jobs.deliver()
     }
 
-    /// Ends the submits of a sender. True where it was open. Its jobs are still solved and delivered.
+    /// Ends the submits of a sender. True where it was open. Its jobs are still solved and
+    /// delivered.
     pub fn close(&mut self, sender: u32) -> Result<bool, NoSender>
         ensures lawful { result ≡ close_reply self.old sender }
         ensures content { self.new ≡ after_close self.old sender result }

@@ -1,6 +1,7 @@
 //! What the thread of one sender knows: what it sent, and how much of it came back.
 
-ghost use Rattle.std.specs.Prelude.{◌≡◌, ◌≢◌, ◌<◌, ◌+◌, length, IfOk, IfErr, IfSome, IfNone, OnOk, OnErr, Err};
+ghost use Rattle.std.specs.Prelude.{◌≡◌, ◌≢◌, ◌<◌, ◌+◌, length, IfOk, IfErr, IfSome, IfNone, OnOk};
+ghost use Rattle.std.specs.Prelude.{OnErr, Err};
 ghost use Rattle.job_board.specs.declared.faults.SubmitFault.TheVariants as fault;
 ghost use Rattle.job_board.specs.declared.clients.Turn.TheVariants.{Next, Drained};
 
@@ -23,7 +24,8 @@ pub enum Turn {
     Drained,
 }
 
-/// One sender's part at a desk: its number, the tasks that it sent, and how many of their answers came back.
+/// One sender's part at a desk: its number, the tasks that it sent, and how many of their answers
+/// came back.
 #[derive(Drop)]
 pub struct Client {
     sender: u32,
@@ -89,7 +91,8 @@ impl Client {
         }
     }
 
-    /// Submits a task to the board, and keeps it. The client's own want of memory comes before all other refusals.
+    /// Submits a task to the board, and keeps it. The client's own want of memory comes before all
+    /// other refusals.
     pub(crate) fn send(&mut self, board: &mut Board, task: Task) -> Result<u32, SubmitFault>
         ensures ok { OnOk result (self.new ≡ with_sent task self.old) }
         ensures err { OnErr result (self.new ≡ self.old) }
@@ -104,8 +107,8 @@ impl Client {
         Ok(number)
     }
 
-    /// What one hold of the board gives the client: a deliver, and where that says to wait, a take. None where the
-    /// client has to wait.
+    /// What one hold of the board gives the client: a deliver, and where that says to wait, a take.
+    /// None where the client has to wait.
     pub(crate) fn look(&mut self, board: &mut Board) -> Option<Result<Turn, Mixed>>
         ensures ok { IfSome result (λ found. IfOk found (TurnGives self.old self.new)) }
         ensures err { IfSome result (λ found. OnErr found (self.new ≡ self.old)) }
@@ -117,7 +120,7 @@ impl Client {
         boards_have_contents(board);
         match board.deliver(self.sender) {
             Handed::Next(delivery) => Some(self.accept(delivery)),
-            Handed::Drained => Some(self.settle()),
+            Handed::Drained => Some(self.check_drained()),
             Handed::NoSender => Some(Err(Mixed)),
             Handed::Waiting => {
                 let job = board.take()?;
@@ -143,8 +146,8 @@ impl Client {
         Ok(Turn::Next(delivery))
     }
 
-    // Whether all answers came back.
-    fn settle(&self) -> Result<Turn, Mixed>
+    // `Drained`, if all answers came back.
+    fn check_drained(&self) -> Result<Turn, Mixed>
         ensures ok { IfOk result (λ turn. (turn ≡ Drained) × IsServed self.now) }
         ensures err { OnErr result (IsServed self.now → ⊥) }
     {

@@ -1,10 +1,11 @@
-//! A board that threads share under a lock. What one hold of the lock does is a call of `Board` or of `Client`; a desk
-//! takes the lock, makes the call, and wakes those who wait.
+//! A board that threads share under a lock. What one hold of the lock does is a call of `Board` or
+//! of `Client`; a desk takes the lock, makes the call, and wakes those who wait.
 //!
-//! A worker waits for a job or for the end; a client waits for its next answer, for a job or for its end. One more
-//! waiting job is of use to one of them, whichever it is, so a submit and a give back wake one. What a finish or a close
-//! changes may be of use to any, so they wake all. A client that was woken for a job may find its answer there and leave
-//! the job; but the finish of that answer wakes all others, who look for the job.
+//! A worker waits for a job or for the end; a client waits for its next answer, for a job or for
+//! its end. One more waiting job is of use to one of them, whichever it is, so a submit and a give
+//! back wake one. What a finish or a close changes may be of use to any, so they wake all. A client
+//! that was woken for a job may find its answer there and leave the job; but the finish of that
+//! answer wakes all others, who look for the job.
 
 ghost use Rattle.std.specs.Prelude.{◌≡◌, ◌<◌, ◌↔◌, IfOk, OnOk, OnErr};
 ghost use Rattle.job_board.specs.declared.faults.BoardFault.TheVariants as fault;
@@ -39,8 +40,8 @@ impl Desk {
         })
     }
 
-    /// Submits a task for the client's sender, and gives the number of its job. A refusal changes neither the client
-    /// nor the board; the client's own want of memory comes first.
+    /// Submits a task for the client's sender, and gives the number of its job. A refusal changes
+    /// neither the client nor the board; the client's own want of memory comes first.
     pub fn submit<R: Wait>(
         &self,
         rt: &R,
@@ -59,8 +60,8 @@ impl Desk {
         Ok(number)
     }
 
-    /// Takes a job, as `Board::take` does; waits while there is none. None once the board is done: all senders are
-    /// closed, and all jobs finished.
+    /// Takes a job, as `Board::take` does; waits while there is none. None once the board is done:
+    /// all senders are closed, and all jobs finished.
     pub fn take_or_wait<R: Wait>(&self, rt: &R) -> Option<Job> {
         let mut board = self.board.lock(rt);
         for _ in rt.forever() {
@@ -89,9 +90,10 @@ impl Desk {
         Ok(())
     }
 
-    /// The client's next answer; else a job, which the client has now taken; else that all answers came back. Waits
-    /// while there is none of these. `Mixed` where the board hands over what is not the client's next, where it says
-    /// `Drained` and a sent task hasn't come back, and where it has no such sender; the client is unchanged then.
+    /// The client's next answer; else a job, which the client has now taken; else that all answers
+    /// came back. Waits while there is none of these. `Mixed` where the board hands over what is
+    /// not the client's next, where it says `Drained` and a sent task hasn't come back, and where
+    /// it has no such sender; the client is unchanged then.
     pub fn turn<R: Wait>(&self, rt: &R, client: &mut Client) -> Result<Turn, Mixed>
         ensures ok { IfOk result (TurnGives client.old client.new) }
         ensures err { OnErr result (client.new ≡ client.old) }

@@ -1,7 +1,8 @@
-//! What holds of every list of steps, in whatever order threads make them: laws over the definitions alone. Each
-//! function's contract is a law; calling it does nothing.
+//! What holds of every list of steps, in whatever order threads make them: laws over the
+//! definitions alone. Each function's contract is a law; calling it does nothing.
 
-ghost use Rattle.std.specs.Prelude.{◌≡◌, ◌<◌, ◌≤◌, ◌++◌, ℕ, List, [], ◌∷◌, Some, length, map, slice_get, true};
+ghost use Rattle.std.specs.Prelude.{◌≡◌, ◌<◌, ◌≤◌, ◌++◌, ℕ, List, [], ◌∷◌, Some, length, map};
+ghost use Rattle.std.specs.Prelude.{slice_get, true};
 ghost use Rattle.job_board.specs.declared.clients.Turn.TheVariants.{Drained};
 ghost use Rattle.job_board.specs.declared.steps.Step.{Step};
 ghost use Rattle.job_board.specs.declared.steps.Reply.{Reply};
@@ -9,15 +10,16 @@ ghost use Rattle.job_board.specs.Contents.{State, Content};
 ghost use Rattle.job_board.specs.Boards.{IsContent};
 ghost use Rattle.job_board.specs.Clients.{ClientState, new_client};
 ghost use Rattle.job_board.specs.Steps.{AreLawful, after_all, IsLegal, IsDrained, content};
-ghost use Rattle.job_board.specs.Histories.{InOrder, IsStateOf, accepted_tasks, deliveries_to, is_closed};
+ghost use Rattle.job_board.specs.Histories.{InOrder, IsStateOf};
+ghost use Rattle.job_board.specs.Histories.{accepted_tasks, deliveries_to, is_closed};
 ghost use Rattle.job_board.specs.Services.{Event, Told, Leads, sent_tasks, received_answers};
 ghost use Rattle.job_board.specs.Traces.{trace_steps, trace_replies};
 
 use crate::boards::Board;
 
-/// Of a legal history: what a sender is handed is, in order and each once, the answers of a prefix of its accepted
-/// tasks; of all of them where it is drained, and from then on it is handed no more; and after its close nothing is
-/// accepted.
+/// Of a legal history: what a sender is handed is, in order and each once, the answers of a prefix
+/// of its accepted tasks; of all of them where it is drained, and from then on it is handed no
+/// more; and after its close nothing is accepted.
 pub fn deliveries_are_in_order()
     ensures in_order { (n s : ℕ) (ss : List Step) (rs : List Reply)
         → s < n → IsLegal n ss rs
@@ -35,9 +37,10 @@ pub fn deliveries_are_in_order()
         → accepted_tasks s later replies ≡ [] }
 {}
 
-/// Of a client at any desk, whatever other threads do there: over any list of its accepted submits and of its turns,
-/// what it received is, in order and each once, the answers of a prefix of what it sent; of all of it where a turn says
-/// that the client is drained. `Client::sent` and `Client::received` tell just that.
+/// Of a client at any desk, whatever other threads do there: over any list of its accepted submits
+/// and of its turns, what it received is, in order and each once, the answers of a prefix of what
+/// it sent; of all of it where a turn says that the client is drained. `Client::sent` and
+/// `Client::received` tell just that.
 pub fn clients_receive_in_order()
     ensures in_order { (s : ℕ) (es : List Event) (me : ClientState)
         → Leads (new_client s) es me
@@ -50,9 +53,9 @@ pub fn clients_receive_in_order()
         → (me.sent ≡ sent_tasks es) × (me.received ≡ length (received_answers es)) }
 {}
 
-/// Of a legal history: its content has as many senders as the history, and is one that a board may have; and the state
-/// of each sender is what the steps and replies say: its accepted tasks, how far each job has come, how many answers it
-/// was handed, whether it was closed.
+/// Of a legal history: its content has as many senders as the history, and is one that a board may
+/// have; and the state of each sender is what the steps and replies say: its accepted tasks, how
+/// far each job has come, how many answers it was handed, whether it was closed.
 pub fn contents_are_of_histories()
     ensures senders { (n : ℕ) (ss : List Step) (rs : List Reply) → length (content n ss rs) ≡ n }
     ensures kept { (n : ℕ) (ss : List Step) (rs : List Reply)
@@ -77,11 +80,13 @@ pub fn boards_have_contents(board: &Board)
     ensures content { IsContent board.now }
     ensures few { length board.now ≤ Board.MOST_SENDERS }
 {
+    // A look at a field, so that the invariant of the type is known here.
     let _ = &board.senders;
 }
 
-/// Each content that a board may have, and so the one that a hold of a desk's lock finds, is left by a legal history,
-/// its trace. `boards_have_contents` says that a board's content meets the premise.
+/// Each content that a board may have, and so the one that a hold of a desk's lock finds, is left
+/// by a legal history, its trace. `boards_have_contents` says that a board's content meets the
+/// premise.
 pub fn contents_have_histories()
     ensures legal { (c : Content)
         → IsContent c → IsLegal (length c) (trace_steps 0 c) (trace_replies 0 c) }

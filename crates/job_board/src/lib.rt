@@ -1,15 +1,18 @@
-//! Jobs of many senders: solved in any order, by anyone, and handed back to each sender in the order of its submits.
+//! Jobs of many senders: solved in any order, by anyone, and handed back to each sender in the
+//! order of its submits.
 //!
 //! ```rust
+//! use job_board::{Board, Handed};
+//!
 //! let mut board = Board::new(alloc, 1)?;
-//! let number = board.submit(0, task)?;
-//! let Some(job) = board.take() else { unreachable!() };
+//! board.submit(0, task)?;
+//! let job = board.take().expect(&rt, "one job waits");
 //! board.finish(job.id, solve(&NoTable::new(task.scoring()), job.task))?;
-//! let Handed::Next(delivery) = board.deliver(0) else { unreachable!() };
+//! assert!(rt; matches!(board.deliver(0), Handed::Next(_)));
 //! ```
 //!
-//! A `Board` is a machine of six steps, which runs on one thread. A `Desk` is a board that threads share under a lock,
-//! and a `Client` is one sender's part at a desk.
+//! A `Board` is a machine of six steps, which runs on one thread. A `Desk` is a board that threads
+//! share under a lock, and a `Client` is one sender's part at a desk.
 #![tactic(auto)]
 
 mod boards;

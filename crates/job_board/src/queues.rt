@@ -1,6 +1,7 @@
 //! The jobs that wait, the longest first.
 
-ghost use Rattle.std.specs.Prelude.{◌≡◌, ◌<◌, ◌≤◌, ◌+◌, ◌^◌, ◌↔◌, [], ◌∷◌, length, IfSome, IfNone, IsTrue, OnOk};
+ghost use Rattle.std.specs.Prelude.{◌≡◌, ◌<◌, ◌≤◌, ◌+◌, ◌^◌, ◌↔◌, [], ◌∷◌, length};
+ghost use Rattle.std.specs.Prelude.{IfSome, IfNone, IsTrue, OnOk};
 ghost use Rattle.std.specs.List.Sorted.{IsPermutation};
 
 use crate::jobs::JobId;
@@ -17,8 +18,9 @@ struct Entry {
     id: Reverse<JobId>,
 }
 
-/// A priority queue of jobs: those with most empty squares come first, then those of the first sender, then those of
-/// the least number. Contracts see the jobs in no certain order, and for how many there is room.
+/// A priority queue of jobs: those with most empty squares come first, then those of the first
+/// sender, then those of the least number. Contracts see the jobs in no certain order, and for how
+/// many there is room.
 #[derive(Drop)]
 pub(crate) struct JobQueue {
     heap: BinaryHeap<Entry>,

@@ -36,7 +36,8 @@ impl Model for Sender {
 
 impl Sender {
     ghost use Rattle.job_board.specs.Contents.{empty_state, with_stage, with_task, closed_state};
-    ghost use Rattle.job_board.specs.Replies.{submit_refusal, FinishAs, give_back_reply_at, deliver_reply_of, state_after_handed, answer_in};
+    ghost use Rattle.job_board.specs.Replies.{submit_refusal, FinishAs, give_back_reply_at};
+    ghost use Rattle.job_board.specs.Replies.{deliver_reply_of, state_after_handed, answer_in};
 
     pub(crate) fn new(alloc: Global) -> Sender
         ensures { result ≡ empty_state }

@@ -9,7 +9,8 @@ use crate::jobs::{Handed, Job, JobId};
 use endgame_search::{Solved, Task};
 use std::alloc::{AllocError, Global};
 
-/// A step of a board, with any senders, numbers and answers in it: the call of that name, and what it is given.
+/// A step of a board, with any senders, numbers and answers in it: the call of that name, and what
+/// it is given.
 #[derive(Clone, Copy, PartialEq, Eq, Debug)]
 pub enum Step {
     Submit(u32, Task),
@@ -31,8 +32,8 @@ pub enum Reply {
     Closed(Result<bool, NoSender>),
 }
 
-/// Runs all steps in order, with one reply for each. The list of replies is made first: at `Err` no step was run.
-/// A submit that is refused memory says so in its reply, and the later steps go on.
+/// Runs all steps in order, with one reply for each. The list of replies is made first: at `Err` no
+/// step was run. A submit that is refused memory says so in its reply, and the later steps go on.
 pub fn run_steps(alloc: Global, board: &mut Board, steps: &[Step]) -> Result<Vec<Reply>, AllocError>
     ensures one_each { IfOk result (λ replies. length replies.items ≡ length steps.now) }
     ensures lawful { IfOk result (λ replies. AreLawful board.old steps.now replies.items) }

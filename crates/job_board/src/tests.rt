@@ -1,5 +1,5 @@
-//! Worked lists of steps, the order of `take`, limits, and a desk on one thread and on many. Each test
-//! also passes where one request for memory is refused: what was refused is done again.
+//! Worked lists of steps, the order of `take`, limits, and a desk on one thread and on many. Each
+//! test also passes where one request for memory is refused: what was refused is done again.
 
 mod boards;
 mod crowds;

@@ -33,7 +33,9 @@ fn is_in_order(alloc: Global, short: Task, long: Task) -> bool {
         && board.submit(0, short) == Ok(0)
         && board.submit(0, long) == Ok(1);
     let taken = takes(board, SECOND) && takes(board, OTHER) && takes(board, FIRST);
-    let given_back = board.take().is_none() && gives_back(board, OTHER) && gives_back(board, SECOND);
+    let given_back = board.take().is_none()
+        && gives_back(board, OTHER)
+        && gives_back(board, SECOND);
     sent && taken && given_back && takes(board, SECOND) && takes(board, OTHER)
 }
 

@@ -1,5 +1,5 @@
-//! Many threads at one desk: some send jobs and receive the answers, others solve jobs, and one leaves
-//! with its first job given back. All are served, in order.
+//! Many threads at one desk: some send jobs and receive the answers, others solve jobs, and one
+//! leaves with its first job given back. All are served, in order.
 
 use super::{
     CORNER_LEFT_OVER, EQUAL_CORNERS, LAST_CORNER, SECOND, UNEQUAL_CORNERS, sends, solved, task_of,
@@ -100,8 +100,8 @@ fn receive_all<R: Wait>(rt: &R, desk: &Desk, client: &mut Client, load: &Load) -
     unreachable!()
 }
 
-// The part of a thread: the second leaves; of the others the even ones work, and the first and the odd
-// ones are clients.
+// The part of a thread: the second leaves; of the others the even ones work, and the first and the
+// odd ones are clients.
 fn play<R: Wait>(rt: &R, alloc: Global, desk: &Desk, load: &Load, thread: usize) -> bool {
     if thread == 1 {
         return leave(rt, desk);

@@ -1,5 +1,5 @@
-//! Who waits at a desk is woken. The thread that wakes it does so again by other calls if it sees no
-//! answer for some seconds, so that a test whose wake-up is lost ends all the same, and fails.
+//! Who waits at a desk is woken. The thread that wakes it does so again by other calls if it sees
+//! no answer for some seconds, so that a test whose wake-up is lost ends all the same, and fails.
 
 use super::{FIRST, UNEQUAL_CORNERS, sends, solved, task_of};
 use crate::{Client, Delivery, Desk, Job, Turn};
@@ -36,12 +36,7 @@ struct Scene {
 }
 
 // A desk of two senders. Where the event is about a job, the client has sent it, and it is taken.
-fn scene_of<R: Wait>(
-    rt: &R,
-    alloc: Global,
-    task: Task,
-    event: Event,
-) -> Result<Scene, AllocError> {
+fn scene_of<R: Wait>(rt: &R, alloc: Global, task: Task, event: Event) -> Result<Scene, AllocError> {
     let Ok(desk) = Desk::new(alloc, 2) else {
         return Err(AllocError);
     };
@@ -106,17 +101,17 @@ fn call<R: Wait>(rt: &R, scene: &Scene, client: &mut Client) -> bool {
 
 // Whether the waiting thread goes on within five seconds.
 fn is_woken<R: Clock>(rt: &R, scene: &Scene) -> bool {
-    for _ in 0..1_000 {
+    for _ in 0..50 {
         if scene.woken.load(Ordering::SeqCst) {
             return true;
         }
-        thread::sleep(rt, Duration::from_millis(5));
+        thread::sleep(rt, Duration::from_millis(100));
     }
     false
 }
 
-// Makes the call while the other thread waits. Then a submit and a close of another sender wake that
-// thread in any case.
+// Makes the call while the other thread waits. Then a submit and a close of another sender wake
+// that thread in any case.
 fn wake<R: Wait + Clock>(rt: &R, alloc: Global, scene: &Scene) -> bool {
     thread::sleep(rt, Duration::from_millis(150));
     let called = call(rt, scene, &mut Client::new(alloc, 0));
