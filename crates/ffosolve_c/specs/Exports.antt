@@ -1,5 +1,7 @@
 -- What C hands in and is handed back: scorings, refusals and answers as numbers.
-use Rattle.std.specs.Prelude.{◌≡◌, ◌⊎◌, ℕ, ℤ, pos, All, List, length, map, IfSome, Option, Some, None, is_some, option_and_then, position, slice_get, bit_and, nat_eq, nat_lt, if◌then◌else◌}
+use Rattle.std.specs.Prelude.{◌≡◌, ◌⊎◌, ℕ, ℤ, pos, All, List, length, map, IfSome, Option, Some}
+use Rattle.std.specs.Prelude.{None, is_some, option_and_then, position, slice_get, bit_and, nat_eq}
+use Rattle.std.specs.Prelude.{nat_lt, if◌then◌else◌}
 use Rattle.othello_rules.specs.Solution.{Solution}
 use Rattle.othello_rules.specs.declared.answers.Best.{Best}
 use Rattle.othello_rules.specs.declared.answers.Best.TheVariants.{Moves, Pass, Over}
@@ -9,23 +11,27 @@ use Rattle.othello_bits.specs.Discs.{Discs, discs, empties_of, answer_of}
 use Rattle.ffosolve_c.specs.declared.answers.FfosolveAnswer.{FfosolveAnswer}
 use Rattle.ffosolve_c.specs.declared.positions.FfosolvePosition.{FfosolvePosition}
 use Rattle.ffosolve_c.specs.declared.refusals.Refusal.{Refusal}
-use Rattle.ffosolve_c.specs.declared.refusals.Refusal.TheVariants.{UnknownScoring, TooManyEntries, UnequalLengths, SharedSquare, TooManyEmpties, NoMove, NoMemory}
+use Rattle.ffosolve_c.specs.declared.refusals.Refusal.TheVariants.{UnknownScoring, TooManyEntries}
+use Rattle.ffosolve_c.specs.declared.refusals.Refusal.TheVariants.{UnequalLengths, SharedSquare}
+use Rattle.ffosolve_c.specs.declared.refusals.Refusal.TheVariants.{TooManyEmpties, NoMove, NoMemory}
 
 -- the scoring that a number names
 unfoldable pub scoring_of : ℕ → Option Scoring
 scoring_of n =
     if nat_eq n 0 then Some scoring.Winner
-    else (if nat_eq n 1 then Some scoring.Discs else (if nat_eq n 2 then Some scoring.Sign else None))
+    else (if nat_eq n 1 then Some scoring.Discs
+    else (if nat_eq n 2 then Some scoring.Sign else None))
 
 -- the position of the masks
 abbrev pub discs_at : FfosolvePosition → Discs
 discs_at p = discs p.own p.opp
 
 -- a position as C reads it
-abbrev pub placed : Discs → FfosolvePosition
-placed p = record { own = p.own; opp = p.opp }
+abbrev pub c_position : Discs → FfosolvePosition
+c_position p = record { own = p.own; opp = p.opp }
 
--- what attains the score, as a kind: 0 moves, 1 a pass, 2 the end of the game; and the mask of the moves, 0 for none
+-- what attains the score, as a kind: 0 moves, 1 a pass, 2 the end of the game; and the mask of the
+-- moves, 0 for none
 abbrev pub kind_of : Best → ℤ
 kind_of (Moves mask) = pos 0
 kind_of Pass = pos 1
@@ -37,11 +43,12 @@ moves_in Pass = 0
 moves_in Over = 0
 
 -- an answer as C reads it, and the answer of a position
-abbrev pub written : Solution → FfosolveAnswer
-written answer = record { score = answer.score; kind = kind_of answer.best; best = moves_in answer.best }
+abbrev pub c_answer : Solution → FfosolveAnswer
+c_answer answer =
+    record { score = answer.score; kind = kind_of answer.best; best = moves_in answer.best }
 
 abbrev pub answer_at : Scoring → FfosolvePosition → FfosolveAnswer
-answer_at g p = written (answer_of g (discs_at p))
+answer_at g p = c_answer (answer_of g (discs_at p))
 
 -- the answer of the position, and the answers of the positions, under the scoring of this number
 abbrev pub IsAnswer : ℕ → FfosolvePosition → FfosolveAnswer → Type 0
@@ -96,12 +103,14 @@ abbrev pub first_refused : List FfosolvePosition → Option ℕ
 first_refused ps = position (λ p. is_some (position_refusal p)) ps
 
 abbrev pub first_refusal : List FfosolvePosition → Option Refusal
-first_refusal ps = option_and_then (λ i. option_and_then position_refusal (slice_get ps i)) (first_refused ps)
+first_refusal ps =
+    option_and_then (λ i. option_and_then position_refusal (slice_get ps i)) (first_refused ps)
 
 -- why a request for the answers of a list is refused, where there is room for so many answers
 abbrev pub refusal_of_all : ℕ → ℕ → List FfosolvePosition → ℕ → Option Refusal
 refusal_of_all scoring entries ps room =
-    first_of (table_refusal scoring entries) (first_of (lengths_refusal (length ps) room) (first_refusal ps))
+    first_of (table_refusal scoring entries)
+    (first_of (lengths_refusal (length ps) room) (first_refusal ps))
 
 -- what a request ends with that has this refusal: a good one may still want memory
 abbrev pub IsRefusal : Option Refusal → Refusal → Type 0

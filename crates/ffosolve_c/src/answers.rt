@@ -1,13 +1,13 @@
 //! Answers and claims as C reads and writes them.
 
 ghost use Rattle.std.specs.Prelude.{◌≡◌};
-ghost use Rattle.ffosolve_c.specs.Exports.{kind_of, moves_in, written};
+ghost use Rattle.ffosolve_c.specs.Exports.{kind_of, moves_in, c_answer};
 
 use endgame_search::Claim;
 use othello_rules::{Answer, Best};
 
-/// The score of a position, and what attains it: moves (kind 0, all of them in `best`), a pass (1) or the end of the
-/// game (2).
+/// The score of a position, and what attains it: moves (kind 0, all of them in `best`), a pass (1)
+/// or the end of the game (2).
 #[repr(C)]
 #[derive(Clone, Copy, PartialEq, Eq)]
 pub struct FfosolveAnswer {
@@ -36,8 +36,8 @@ fn moves_in(best: Best) -> u64
 }
 
 /// An answer as C reads it.
-pub fn written(answer: Answer) -> FfosolveAnswer
-    ensures { result ≡ written answer }
+pub fn c_answer(answer: Answer) -> FfosolveAnswer
+    ensures { result ≡ c_answer answer }
 {
     FfosolveAnswer {
         score: i32::from(answer.score),
@@ -47,7 +47,7 @@ pub fn written(answer: Answer) -> FfosolveAnswer
 }
 
 // What attains a claimed score; None where the kind is unknown.
-fn best_of(claim: FfosolveAnswer) -> Option<Best> {
+fn claimed_best(claim: FfosolveAnswer) -> Option<Best> {
     match claim.kind {
         0 => Some(Best::Moves(claim.best)),
         1 => Some(Best::Pass),
@@ -61,7 +61,7 @@ pub fn claim_of(claim: FfosolveAnswer) -> Option<Claim> {
     if claim.score < -64 || claim.score > 64 {
         return None;
     }
-    let best = best_of(claim)?;
+    let best = claimed_best(claim)?;
     Some(Claim {
         score: claim.score as i8,
         best,

@@ -1,10 +1,20 @@
 //! The solver for C: exact answers of positions that are given as masks.
+//!
+//! ```c
+//! #include "ffosolve.h"
+//!
+//! /* H1 and seven full rows against B1 to G1: +64, by A1 */
+//! struct ffosolve_position position = {~0x7fULL, 0x7e};
+//! struct ffosolve_answer answer;
+//! if (ffosolve_answer(position, FFOSOLVE_WINNER, 0, &answer) == FFOSOLVE_DONE)
+//!     printf("%d %" PRIx64 "\n", answer.score, answer.best);
+//! ```
 #![tactic(auto)]
 
-pub mod answers;
+mod answers;
 mod lists;
-pub mod positions;
-pub mod refusals;
+mod positions;
+mod refusals;
 mod requests;
 #[cfg(test)]
 mod tests;
@@ -12,16 +22,21 @@ mod tests;
 ghost use Rattle.std.specs.Prelude.{◌≡◌, ◌≢◌, ◌↔◌, pos, Some, bit_and, length};
 ghost use Rattle.othello_bits.specs.Discs.{moves_of, play_of, IsMove};
 ghost use Rattle.ffosolve_c.specs.declared.refusals.Refusal.TheVariants as refusal;
-ghost use Rattle.ffosolve_c.specs.Exports.{discs_at, first_refused, placed, refusal_of, refusal_of_all, status_of, AreAnswers, IsAnswer, IsOfPosition, IsStatus};
+ghost use Rattle.ffosolve_c.specs.Exports.{discs_at, first_refused, c_position, refusal_of};
+ghost use Rattle.ffosolve_c.specs.Exports.{refusal_of_all, status_of, AreAnswers, IsAnswer};
+ghost use Rattle.ffosolve_c.specs.Exports.{IsOfPosition, IsStatus};
 
-use crate::answers::{FfosolveAnswer, claim_of};
-use crate::lists::answered_all;
-use crate::positions::{FfosolvePosition, played, position_of};
-use crate::requests::answered;
+use crate::answers::claim_of;
+use crate::lists::answer_all;
+use crate::positions::{play_move, position_of};
+use crate::requests::answer_one;
+pub use answers::FfosolveAnswer;
+pub use positions::FfosolvePosition;
+pub use refusals::Refusal;
 use std::alloc::Global;
 
-/// The answer of a position, by a search over a table with so many entries. The status is 0 where `answer` was
-/// written; else it is as it was, and the status tells why.
+/// The answer of a position, by a search over a table with so many entries. The status is 0 where
+/// `answer` was written; else it is as it was, and the status tells why.
 #[unsafe(no_mangle)]
 pub extern "C" fn ffosolve_answer(
     alloc: Global,
@@ -35,7 +50,7 @@ pub extern "C" fn ffosolve_answer(
     ensures answer { result ≡ pos 0 → IsAnswer scoring position answer.new }
     ensures unchanged { result ≢ pos 0 → answer.new ≡ answer.old }
 {
-    match answered(alloc, position, scoring, entries, None) {
+    match answer_one(alloc, position, scoring, entries, None) {
         Ok(found) => {
             *answer = found;
             0
@@ -59,7 +74,7 @@ pub extern "C" fn ffosolve_confirm(
     ensures answer { result ≡ pos 0 → IsAnswer scoring position answer.new }
     ensures unchanged { result ≢ pos 0 → answer.new ≡ answer.old }
 {
-    match answered(alloc, position, scoring, entries, claim_of(claim)) {
+    match answer_one(alloc, position, scoring, entries, claim_of(claim)) {
         Ok(found) => {
             *answer = found;
             0
@@ -68,9 +83,9 @@ pub extern "C" fn ffosolve_confirm(
     }
 }
 
-/// The answers of positions, in their order, by searches over one table. The status is 0 where all of `answers` was
-/// written; else it is as it was, and the status tells why. Where that is a position, `at` is the index of the first
-/// one that is refused; else `at` is as it was.
+/// The answers of positions, in their order, by searches over one table. The status is 0 where all
+/// of `answers` was written; else it is as it was, and the status tells why. Where that is a
+/// position, `at` is the index of the first one that is refused; else `at` is as it was.
 #[unsafe(no_mangle)]
 pub extern "C" fn ffosolve_answers(
     alloc: Global,
@@ -80,14 +95,15 @@ pub extern "C" fn ffosolve_answers(
     answers: &mut [FfosolveAnswer],
     at: &mut usize,
 ) -> i32
-    ensures status { IsStatus (refusal_of_all scoring entries positions.now (length answers.old)) result }
+    ensures status { IsStatus
+        (refusal_of_all scoring entries positions.now (length answers.old)) result }
     ensures without_memory { entries ≡ 0 → result ≢ status_of refusal.NoMemory }
     ensures answers { result ≡ pos 0 → AreAnswers scoring positions.now answers.new }
     ensures unchanged { result ≢ pos 0 → answers.new ≡ answers.old }
     ensures refused { IsOfPosition result → first_refused positions.now ≡ Some at.new }
     ensures at_unchanged { (IsOfPosition result → ⊥) → at.new ≡ at.old }
 {
-    match answered_all(alloc, positions, scoring, entries, answers, at) {
+    match answer_all(alloc, positions, scoring, entries, answers, at) {
         Ok(()) => 0,
         Err(refused) => refused.status(),
     }
@@ -110,21 +126,24 @@ pub extern "C" fn ffosolve_moves(position: FfosolvePosition, moves: &mut u64) ->
     }
 }
 
-/// The position after a move. The status is 0; `SharedSquare`; or `NoMove` where the square is no move.
+/// The position after a move. The status is 0; `SharedSquare`; or `NoMove` where the square is no
+/// move.
 #[unsafe(no_mangle)]
 pub extern "C" fn ffosolve_play(
     position: FfosolvePosition,
     square: u8,
     after: &mut FfosolvePosition,
 ) -> i32
-    ensures shared { (result ≡ status_of refusal.SharedSquare) ↔ (bit_and position.own position.opp ≢ 0) }
+    ensures shared { (result ≡ status_of refusal.SharedSquare)
+        ↔ (bit_and position.own position.opp ≢ 0) }
     ensures legal { result ≡ pos 0 → IsMove (discs_at position) square }
     ensures no_move { result ≡ status_of refusal.NoMove → IsMove (discs_at position) square → ⊥ }
-    ensures others { result ≢ pos 0 → result ≢ status_of refusal.SharedSquare → result ≡ status_of refusal.NoMove }
-    ensures after { result ≡ pos 0 → after.new ≡ placed (play_of (discs_at position) square) }
+    ensures others { result ≢ pos 0 → result ≢ status_of refusal.SharedSquare
+        → result ≡ status_of refusal.NoMove }
+    ensures after { result ≡ pos 0 → after.new ≡ c_position (play_of (discs_at position) square) }
     ensures unchanged { result ≢ pos 0 → after.new ≡ after.old }
 {
-    match played(position, square) {
+    match play_move(position, square) {
         Ok(position) => {
             *after = position;
             0

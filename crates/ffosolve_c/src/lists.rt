@@ -1,10 +1,13 @@
 //! Requests for the answers of many positions.
 
-ghost use Rattle.std.specs.Prelude.{◌≡◌, ◌≢◌, Some, None, IsNone, IfSome, IfErr, OnOk, OnErr, length, map};
+ghost use Rattle.std.specs.Prelude.{◌≡◌, ◌≢◌, Some, None, IsNone, IfSome, IfErr, OnOk, OnErr};
+ghost use Rattle.std.specs.Prelude.{length, map};
 ghost use Rattle.ffosolve_c.specs.declared.refusals.Refusal.TheVariants as refusal;
-ghost use Rattle.ffosolve_c.specs.Exports.{answer_at, first_refusal, first_refused, position_refusal, refusal_of_all, status_of, AreAnswers, AreSolvable, IsOfPosition, IsRefusal};
+ghost use Rattle.ffosolve_c.specs.Exports.{answer_at, first_refusal, first_refused};
+ghost use Rattle.ffosolve_c.specs.Exports.{position_refusal, refusal_of_all, status_of, AreAnswers};
+ghost use Rattle.ffosolve_c.specs.Exports.{AreSolvable, IsOfPosition, IsRefusal};
 
-use crate::answers::{FfosolveAnswer, written};
+use crate::answers::{FfosolveAnswer, c_answer};
 use crate::positions::{FfosolvePosition, task_of};
 use crate::refusals::Refusal;
 use crate::requests::{table_of, table_scoring};
@@ -35,7 +38,7 @@ fn answer_at(table: &BoundTable, position: FfosolvePosition) -> FfosolveAnswer
     ensures { result ≡ answer_at table.now.scoring position }
 {
     match task_of(position, table.scoring()) {
-        Ok(task) => written(solve(table, task).answer()),
+        Ok(task) => c_answer(solve(table, task).answer()),
         Err(_) => unreachable!(),
     }
 }
@@ -51,8 +54,9 @@ fn fill(table: &BoundTable, positions: &[FfosolvePosition], answers: &mut [Ffoso
     }
 }
 
-/// Writes the answers of all positions; or nothing but, where a position is refused, its index into `at`.
-pub fn answered_all(
+/// Writes the answers of all positions; or nothing but, where a position is refused, its index into
+/// `at`.
+pub fn answer_all(
     alloc: Global,
     positions: &[FfosolvePosition],
     scoring: u32,
@@ -60,12 +64,15 @@ pub fn answered_all(
     answers: &mut [FfosolveAnswer],
     at: &mut usize,
 ) -> Result<(), Refusal>
-    ensures good { OnOk result (refusal_of_all scoring entries positions.now (length answers.old) ≡ None) }
+    ensures good { OnOk result
+        (refusal_of_all scoring entries positions.now (length answers.old) ≡ None) }
     ensures answers { OnOk result (AreAnswers scoring positions.now answers.new) }
-    ensures refused { IfErr result (IsRefusal (refusal_of_all scoring entries positions.now (length answers.old))) }
+    ensures refused { IfErr result
+        (IsRefusal (refusal_of_all scoring entries positions.now (length answers.old))) }
     ensures without_memory { entries ≡ 0 → IfErr result (λ r. r ≢ refusal.NoMemory) }
     ensures unchanged { OnErr result (answers.new ≡ answers.old) }
-    ensures at { IfErr result (λ r. IsOfPosition (status_of r) → first_refused positions.now ≡ Some at.new) }
+    ensures at { IfErr result (λ r.
+        IsOfPosition (status_of r) → first_refused positions.now ≡ Some at.new) }
     ensures at_unchanged { IfErr result (λ r. (IsOfPosition (status_of r) → ⊥) → at.new ≡ at.old) }
     ensures at_kept { OnOk result (at.new ≡ at.old) }
 {

@@ -3,14 +3,16 @@
 ghost use Rattle.std.specs.Prelude.{◌≡◌, ◌≢◌, ◌↔◌, bit_and, Some, None, Err, IfOk, IfErr};
 ghost use Rattle.othello_bits.specs.Discs.{play_of, IsMove};
 ghost use Rattle.ffosolve_c.specs.declared.refusals.Refusal.TheVariants as refusal;
-ghost use Rattle.ffosolve_c.specs.Exports.{discs_at, placed, position_refusal, status_of, IsOfPosition};
+ghost use Rattle.ffosolve_c.specs.Exports.{discs_at, c_position, position_refusal, status_of};
+ghost use Rattle.ffosolve_c.specs.Exports.{IsOfPosition};
 
 use crate::refusals::Refusal;
 use endgame_search::Task;
 use othello_bits::Pos;
 use othello_rules::{Scoring, Square};
 
-/// The discs of the side to move, and of the other side: square n is bit n, so A1 is bit 0 and H8 bit 63.
+/// The discs of the side to move, and of the other side: square n is bit n, so A1 is bit 0 and H8
+/// bit 63.
 #[repr(C)]
 #[derive(Clone, Copy, PartialEq, Eq)]
 pub struct FfosolvePosition {
@@ -35,7 +37,8 @@ pub fn position_of(position: FfosolvePosition) -> Result<Pos, Refusal>
 #[tactic(auto, unfolding(crate::specs::Exports::position_refusal))]
 pub fn task_of(position: FfosolvePosition, scoring: Scoring) -> Result<Task, Refusal>
     ensures good { IfOk result (λ task. position_refusal position ≡ None) }
-    ensures task { IfOk result (λ task. task ≡ record { position = discs_at position; scoring = scoring }) }
+    ensures task { IfOk result (λ task.
+        task ≡ record { position = discs_at position; scoring = scoring }) }
     ensures refused { IfErr result (λ r. position_refusal position ≡ Some r) }
     ensures kinds { IfErr result (λ r. IsOfPosition (status_of r)) }
     ensures not_memory { IfErr result (λ r. r ≢ refusal.NoMemory) }
@@ -48,10 +51,10 @@ pub fn task_of(position: FfosolvePosition, scoring: Scoring) -> Result<Task, Ref
 }
 
 /// The position after a move: `SharedSquare`, or `NoMove` where the square is none.
-pub fn played(position: FfosolvePosition, square: u8) -> Result<FfosolvePosition, Refusal>
+pub fn play_move(position: FfosolvePosition, square: u8) -> Result<FfosolvePosition, Refusal>
     ensures apart { IfOk result (λ after. bit_and position.own position.opp ≡ 0) }
     ensures legal { IfOk result (λ after. IsMove (discs_at position) square) }
-    ensures after { IfOk result (λ after. after ≡ placed (play_of (discs_at position) square)) }
+    ensures after { IfOk result (λ after. after ≡ c_position (play_of (discs_at position) square)) }
     ensures shared { (result ≡ Err refusal.SharedSquare) ↔ (bit_and position.own position.opp ≢ 0) }
     ensures no_move { result ≡ Err refusal.NoMove → IsMove (discs_at position) square → ⊥ }
     ensures others { IfErr result (λ r. r ≢ refusal.SharedSquare → r ≡ refusal.NoMove) }

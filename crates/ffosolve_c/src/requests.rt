@@ -3,9 +3,10 @@
 ghost use Rattle.std.specs.Prelude.{◌≡◌, ◌≢◌, ◌≤◌, Some, None, IfOk, IfErr};
 ghost use Rattle.othello_bits.specs.Discs.{answer_of};
 ghost use Rattle.ffosolve_c.specs.declared.refusals.Refusal.TheVariants as refusal;
-ghost use Rattle.ffosolve_c.specs.Exports.{refusal_of, scoring_of, status_of, table_refusal, IsAnswer, IsOfPosition, IsRefusal};
+ghost use Rattle.ffosolve_c.specs.Exports.{refusal_of, scoring_of, status_of, table_refusal};
+ghost use Rattle.ffosolve_c.specs.Exports.{IsAnswer, IsOfPosition, IsRefusal};
 
-use crate::answers::{FfosolveAnswer, written};
+use crate::answers::{FfosolveAnswer, c_answer};
 use crate::positions::{FfosolvePosition, task_of};
 use crate::refusals::Refusal;
 use bound_table::{BoundTable, Bounds};
@@ -58,7 +59,7 @@ pub fn table_of(alloc: Global, entries: usize, scoring: Scoring) -> Result<Bound
 }
 
 // The answer of a task by a search, or by a claim where there is one.
-fn found(table: &BoundTable, task: Task, claim: Option<Claim>) -> Answer
+fn find_answer(table: &BoundTable, task: Task, claim: Option<Claim>) -> Answer
     requires { task.scoring ≡ table.now.scoring }
     ensures { result ≡ answer_of task.scoring task.position }
 {
@@ -70,7 +71,7 @@ fn found(table: &BoundTable, task: Task, claim: Option<Claim>) -> Answer
 }
 
 /// The answer of a position, by a claim where there is one; or why there is none.
-pub fn answered(
+pub fn answer_one(
     alloc: Global,
     position: FfosolvePosition,
     scoring: u32,
@@ -85,5 +86,5 @@ pub fn answered(
     let scoring = table_scoring(scoring, entries)?;
     let task = task_of(position, scoring)?;
     let table = table_of(alloc, entries, scoring)?;
-    Ok(written(found(&table, task, claim)))
+    Ok(c_answer(find_answer(&table, task, claim)))
 }

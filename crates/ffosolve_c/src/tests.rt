@@ -1,10 +1,8 @@
 //! That calls succeed where memory is at hand.
 
-ghost use Rattle.std.specs.Prelude.{◌≡◌};
-
-use crate::answers::FfosolveAnswer;
-use crate::positions::FfosolvePosition;
-use crate::{ffosolve_answer, ffosolve_answers, ffosolve_confirm};
+use crate::{
+    FfosolveAnswer, FfosolvePosition, ffosolve_answer, ffosolve_answers, ffosolve_confirm,
+};
 use std::alloc::Global;
 
 const NO_MEMORY: i32 = 7;

@@ -1,6 +1,6 @@
 use Rattle.std.proofs.lemmas.Bool.{false≢true}
 use Rattle.othello_bits.proofs.MaskMeaning.{IsMove-on_board}
-use Rattle.ffosolve_c.proofs.positions.played.Goals as goal
+use Rattle.ffosolve_c.proofs.positions.play_move.Goals as goal
 
 pub returns-in_default-clause-no_move : goal.returns-in_default-clause-no_move
 returns-in_default-clause-no_move c _ move =
