@@ -1,6 +1,7 @@
 -- Positions, what a move turns, the moves, play and pass, and when the game is over
 -- (World Othello Federation rules).
-use Rattle.std.specs.Prelude.{◌≡◌, ℕ, Bool, true, false, if◌then◌else◌, List, [], ◌∷◌, map, Option, Some, None, slice_get, nat_eq}
+use Rattle.std.specs.Prelude.{◌≡◌, ℕ, Bool, true, false, if◌then◌else◌, List, [], ◌∷◌, map, Option, Some, None}
+use Rattle.std.specs.Prelude.{slice_get, nat_eq}
 use Rattle.std.specs.List.{filter, flat_map, list_any, count_by, enumerate_from}
 use Rattle.othello_rules.specs.declared.directions.Direction.{Direction}
 use Rattle.othello_rules.specs.declared.discs.Side.{Side}

@@ -5,7 +5,8 @@ use std::marker::Model;
 /// What attains the score of a position.
 #[derive(Clone, Copy, PartialEq, Eq, Debug)]
 pub enum Best {
-    /// The best moves, all of them: square n is bit n, so A1 is bit 0 and H8 bit 63. In an `Answer` it is not 0.
+    /// The best moves, all of them: square n is bit n, so A1 is bit 0 and H8 bit 63. In an `Answer`
+    /// it is not 0.
     Moves(u64),
     /// The mover has no move and the opponent has one.
     Pass,

@@ -6,7 +6,8 @@ ghost use Rattle.std.specs.Option.{option_map_or};
 ghost use Rattle.std.specs.Int.{int_max};
 ghost use Rattle.arrayvec.specs.ArrayVec.{array_vec_len};
 ghost use Rattle.othello_rules.specs.Board.{ray, room};
-ghost use Rattle.othello_rules.specs.Rules.{IsOver, count_of, flips, has, moves, pass, play, turned};
+ghost use Rattle.othello_rules.specs.Rules.{IsOver, count_of, flips, has, moves, pass, play};
+ghost use Rattle.othello_rules.specs.Rules.{turned};
 ghost use Rattle.othello_rules.specs.Scores.{final};
 ghost use Rattle.othello_rules.specs.Masks.{mask_of};
 ghost use Rattle.othello_rules.specs.Solution.{IsScore};
@@ -22,8 +23,8 @@ use crate::squares::Square;
 use arrayvec::ArrayVec;
 use std::marker::Model;
 
-/// A position: 64 cells in the order of the squares' numbers (A1, B1, .. H1, A2, .. H8), and the side to move, the
-/// mover.
+/// A position: 64 cells in the order of the squares' numbers (A1, B1, .. H1, A2, .. H8), and the
+/// side to move, the mover.
 #[derive(Clone, Copy, PartialEq, Eq, Debug)]
 pub struct Grid {
     cells: [Cell; 64],
@@ -138,8 +139,8 @@ impl Grid {
         }
     }
 
-    /// The squares whose discs a move would turn: direction by direction (north, north-east, and so on round the
-    /// board), nearest first, and none on an occupied square.
+    /// The squares whose discs a move would turn: direction by direction (north, north-east, and so
+    /// on round the board), nearest first, and none on an occupied square.
     pub fn flips(&self, square: Square) -> ArrayVec<Square, 64>
         ensures value { result.items ≡ flips self.now square }
         ensures on_board { square < 64 }
@@ -162,8 +163,9 @@ impl Grid {
         !self.flips(square).is_empty()
     }
 
-    /// The position after a move: the square and all that the move turns are the mover's, and the other side is to
-    /// move. `Occupied` on an occupied square, else `TurnsNothing` where nothing would turn.
+    /// The position after a move: the square and all that the move turns are the mover's, and the
+    /// other side is to move. `Occupied` on an occupied square, else `TurnsNothing` where nothing
+    /// would turn.
     pub fn play(&self, square: Square) -> Result<Grid, RuleFault>
         ensures occupied { (result ≡ Err RuleFault.Occupied)
             ↔ (has self.now Cell.Empty square ≡ false) }

@@ -1,4 +1,5 @@
-//! What the definitions promise above their own text. Each function's body is empty: its contract is the law.
+//! What the definitions promise above their own text. Each function's body is empty: its contract
+//! is the law.
 
 ghost use Rattle.std.specs.Prelude.{◌≡◌, ◌≢◌, ◌<◌, ◌≤◌, ◌≤ℤ◌, ℕ, [], ◌∷◌, Some, None};
 ghost use Rattle.std.specs.Prelude.{neg_ℤ, length, map};
@@ -15,8 +16,8 @@ ghost use Rattle.othello_rules.specs.Value.{greatest, value, best_moves, answer}
 ghost use Rattle.othello_rules.specs.Colours.{swapped};
 ghost use Rattle.othello_rules.specs.Solution.{IsScore};
 
-/// A ray goes step by step: it is empty where the square has no neighbour in the direction, and else it is the
-/// neighbour, and then the neighbour's ray.
+/// A ray goes step by step: it is empty where the square has no neighbour in the direction, and
+/// else it is the neighbour, and then the neighbour's ray.
 pub fn rays_go_step_by_step()
     ensures edge { (d : Direction) (q : ℕ) → Contains directions d → q < 64
         → neighbour d q ≡ None
@@ -26,8 +27,9 @@ pub fn rays_go_step_by_step()
         → ray d q ≡ next ∷ ray d next }
 {}
 
-/// The value is the one of textbook minimax: the score where the game is over, minus the value after a pass where
-/// only the mover has no move, and else the greatest of minus the value after each move.
+/// The value is the one of textbook minimax: the score where the game is over, minus the value
+/// after a pass where only the mover has no move, and else the greatest of minus the value after
+/// each move.
 pub fn value_is_minimax()
     ensures over { (g : Scoring) (P : Position) → IsOver P → value g P ≡ final g P }
     ensures passed { (g : Scoring) (P : Position) → moves P ≡ [] → moves (pass P) ≢ []
@@ -48,7 +50,8 @@ pub fn colours_are_alike()
     ensures answer { (g : Scoring) (P : Position) → answer g (swapped P) ≡ answer g P }
 {}
 
-/// The sign of a value is the value under `Scoring::Sign`, and a best move under any scoring is best under that one.
+/// The sign of a value is the value under `Scoring::Sign`, and a best move under any scoring is
+/// best under that one.
 pub fn scorings_agree()
     ensures value { (g : Scoring) (P : Position) → int_signum (value g P) ≡ value Sign P }
     ensures best { (g : Scoring) (P : Position) (q : ℕ) → Contains (best_moves g P) q

@@ -8,11 +8,12 @@ ghost use Rattle.othello_rules.specs.declared.scorings.Scoring.TheVariants.{Winn
 
 use std::cmp::Ordering;
 
-/// What the score of a position counts, as the side to move sees it: discs, or under `Sign` the outcome alone.
+/// What the score of a position counts, as the side to move sees it: discs, or under `Sign` the
+/// outcome alone.
 #[derive(Clone, Copy, PartialEq, Eq, Debug)]
 pub enum Scoring {
-    /// The disc difference, with all empty squares for the side that has more discs, and for nobody in a draw:
-    /// the practice of endgame solvers and of the published FFO results.
+    /// The disc difference, with all empty squares for the side that has more discs, and for nobody
+    /// in a draw: the practice of endgame solvers and of the published FFO results.
     Winner,
     /// The plain disc difference.
     Discs,

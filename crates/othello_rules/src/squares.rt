@@ -6,8 +6,8 @@ ghost use Rattle.othello_rules.specs.Board.{name_of, IsNameOf, room, square_afte
 use crate::directions::Direction;
 use std::marker::Model;
 
-/// One of the 64 squares. Its number is `column + 8 * row`, both from 0: A1 is 0, H1 is 7, A8 is 56 and H8 is 63.
-/// Contracts see the number. The default is A1.
+/// One of the 64 squares. Its number is `column + 8 * row`, both from 0: A1 is 0, H1 is 7, A8 is 56
+/// and H8 is 63. Contracts see the number. The default is A1.
 #[derive(Clone, Copy, PartialEq, Eq, PartialOrd, Ord, Debug)]
 pub struct Square {
     index: u8,
@@ -93,7 +93,8 @@ impl Square {
         Square::at(column + 8 * row)
     }
 
-    /// The square's name: the letter of its column, `A` to `H`, and the digit of its row, `1` to `8`.
+    /// The square's name: the letter of its column, `A` to `H`, and the digit of its row, `1` to
+    /// `8`.
     #[tactic(auto, unfolding(crate::specs::Board::name_of))]
     pub fn name(self) -> [u8; 2]
         ensures { result ≡ name_of self }
@@ -101,7 +102,8 @@ impl Square {
         [b'A' + self.number() % 8, b'1' + self.number() / 8]
     }
 
-    /// The square of a name of two bytes, a letter in either case and a digit; None for anything else.
+    /// The square of a name of two bytes, a letter in either case and a digit; None for anything
+    /// else.
     #[tactic(auto, unfolding(crate::specs::Board::name_of))]
     pub fn from_name(name: &[u8]) -> Option<Square>
         ensures named { IfSome result (λ q. IsNameOf name.now q) }

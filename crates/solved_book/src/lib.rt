@@ -1,6 +1,16 @@
 //! A book of solved positions: written as OBF text with the canonical form of each position once,
 //! in rising order, and read again as claims, which are advice for a search and nothing more. The
 //! header and the order are this project's own format.
+//!
+//! ```rust
+//! use solved_book::{Book, Claims};
+//!
+//! let mut book = Book::new(alloc, solved.scoring());
+//! book.add(&solved)?;
+//! let mut text = Vec::new(alloc);
+//! book.write(&mut text)?;
+//! assert!(rt; Claims::read(alloc, &text)?.find(&solved.pos()).is_some());
+//! ```
 #![tactic(auto)]
 
 mod advice;
