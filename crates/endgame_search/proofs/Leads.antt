@@ -135,7 +135,7 @@ module _ (g : Scoring) (p : Discs) (items : List Child) (score : ℤ) (moves : �
   pub lead_value : score ≡ value_of g p
   lead_value =
       let a = held.attained in
-      let b = (best_of_all g p items score some children held.most).0 in
+      let b = best_of_all g p items score some children held.most in
       omega (arith, ints)
 
   is_best_there : (q : ℕ) → in_mask moves q ≡ true → is_best g p q ≡ true

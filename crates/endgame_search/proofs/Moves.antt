@@ -1,13 +1,14 @@
 -- What the moves of a position tell of its value.
-use Rattle.std.proofs.Common.{◌≡◌, ◌≢◌, ℕ, ◌+◌, ◌<◌, ℤ, neg_ℤ, ◌≤ℤ◌, List, map, take, length, get_or, All, sym, ap, ◌∙◌, subst, arith}
+use Rattle.std.proofs.Common.{◌≡◌, ◌≢◌, ◌⊎◌, ℕ, ◌+◌, ◌<◌, ℤ, neg_ℤ, ◌≤ℤ◌, true, List, take, length, get_or, All, Contains, inl, inr, sym, ap, ◌∙◌, subst, arith}
+use Rattle.othello_rules.specs.Masks.{in_mask}
 use Rattle.std.proofs.lemmas.Int.{ints}
-use Rattle.std.proofs.lemmas.List.{length-map}
 use Rattle.std.proofs.lemmas.List.Elements.{All-map, All-contains, All-more, All-weaker}
 use Rattle.othello_rules.specs.declared.scorings.Scoring.{Scoring}
 use Rattle.othello_bits.specs.Discs.{Discs, moves_of, play_of, pass_of, empties_of, value_of, IsMove, HasNoMove}
 use Rattle.othello_bits.proofs.GameLaws.{value_above, value_reached, value-pass, empties_positive, empties-play, empties-pass}
 use Rattle.endgame_search.specs.declared.children.Child.{Child}
-use Rattle.endgame_search.specs.Children.{IsChildOf, AreChildrenOf}
+use Rattle.endgame_search.specs.declared.children.Stuck.{Stuck}
+use Rattle.endgame_search.specs.Children.{IsChildOf, AreChildrenOf, AreOthersOf, AreUpTo, squares_of}
 
 -- what the move to a child is worth, and how many squares are empty there
 pub child_worth : (g : Scoring) (p : Discs) (c : Child) → IsChildOf p c → neg_ℤ (value_of g c.position) ≤ℤ value_of g p
@@ -48,16 +49,41 @@ searched_more g items i x best more h is grow one all =
     (λ c k. let j : neg_ℤ (value_of g c.position) ≤ℤ best = k in omega (arith, ints)) (take i items) all)
     (subst (λ (c : Child). neg_ℤ (value_of g c.position) ≤ℤ more) is one)
 
--- where every child was searched, the best is no less than the value
+-- where every move is worth no more than the best, nor is the value
+pub best_of_others : (g : Scoring) (p : Discs) (items : List Child) (searched best : ℤ) → moves_of p ≢ 0 → AreOthersOf g p searched items → searched ≤ℤ best
+    → All (λ (c : Child). neg_ℤ (value_of g c.position) ≤ℤ best) items
+    → value_of g p ≤ℤ best
+best_of_others g p items searched best some others more all =
+    let r = value_reached g p some in
+    let by_square : All (λ (c : Child). neg_ℤ (value_of g (play_of p c.square)) ≤ℤ best) items =
+    λ i x h. subst (λ d. neg_ℤ (value_of g d) ≤ℤ best) (others.each i x h).position (all i x h) in
+    let reached : neg_ℤ (value_of g (play_of p r.0)) ≤ℤ best =
+    elim (others.every r.0 r.1) [
+      | inl l ↦
+          All-contains (λ q. neg_ℤ (value_of g (play_of p q)) ≤ℤ best) (squares_of items) r.0
+          (All-map (λ q. neg_ℤ (value_of g (play_of p q)) ≤ℤ best) (λ (c : Child). c.square) items by_square) l
+      | inr w ↦ let k : neg_ℤ (value_of g (play_of p r.0)) ≤ℤ searched = w in omega (arith, ints)
+    ] in
+    subst (λ z. z ≤ℤ best) r.2 reached
+
+pub all_others : (g : Scoring) (p : Discs) (items : List Child) (best : ℤ) → AreChildrenOf p items → AreOthersOf g p best items
+all_others g p items best children = record { each = children.each; every = λ q m. inl (children.every q m) }
+
 pub best_of_all : (g : Scoring) (p : Discs) (items : List Child) (best : ℤ) → moves_of p ≢ 0 → AreChildrenOf p items
     → All (λ (c : Child). neg_ℤ (value_of g c.position) ≤ℤ best) items
-    → (value_of g p ≤ℤ best) × (0 < length items)
+    → value_of g p ≤ℤ best
 best_of_all g p items best some children all =
-    let r = value_reached g p some in
-    let l = children.every r.0 r.1 in
-    let by_square : All (λ (c : Child). neg_ℤ (value_of g (play_of p c.square)) ≤ℤ best) items =
-    λ i x h. subst (λ d. neg_ℤ (value_of g d) ≤ℤ best) (children.each i x h).position (all i x h) in
-    let k : neg_ℤ (value_of g (play_of p r.0)) ≤ℤ best =
-    All-contains (λ q. neg_ℤ (value_of g (play_of p q)) ≤ℤ best) (map (λ (c : Child). c.square) items) r.0
-    (All-map (λ q. neg_ℤ (value_of g (play_of p q)) ≤ℤ best) (λ (c : Child). c.square) items by_square) l in
-    (subst (λ z. z ≤ℤ best) r.2 k, omega (arith, l.1, length-map items (λ (c : Child). c.square)))
+    best_of_others g p items best best some (all_others g p items best children) (omega (arith, ints)) all
+
+-- the children after one without replies that was searched
+pub others_left : (g : Scoring) (p : Discs) (s : Stuck) (items more : List Child) (best : ℤ) → AreUpTo p s items → neg_ℤ (value_of g s.child.position) ≤ℤ best
+    → All (IsChildOf p) more → ((q : ℕ) → (in_mask s.rest q ≡ true) ⊎ Contains (squares_of items) q → Contains (squares_of more) q)
+    → AreOthersOf g p best more
+others_left g p s items more best up worth each every =
+    record {
+      each = each;
+      every = λ q m. elim (up.every q m) [
+        | inl e ↦ inr (subst (λ z. neg_ℤ (value_of g (play_of p z)) ≤ℤ best) (sym e) (subst (λ d. neg_ℤ (value_of g d) ≤ℤ best) up.child.position worth))
+        | inr l ↦ inl (every q l)
+      ];
+    }

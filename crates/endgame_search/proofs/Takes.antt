@@ -1,18 +1,19 @@
 -- What taking the squares out of a mask one by one leaves, and the list of children that it fills.
-use Rattle.std.proofs.Common.{◌≡◌, ◌≢◌, ℕ, zero, suc, ◌+◌, ◌<◌, ◌≤◌, ◌^◌, ◌⊎◌, Bool, true, false, cond, not, ◌&&◌, nat_eq, List, [], ◌∷◌, ◌++◌, map, length, All, Contains, refl, sym, ap, ◌∙◌, subst, inl, inr, arith}
+use Rattle.std.proofs.Common.{◌≡◌, ◌≢◌, ℕ, zero, suc, ◌+◌, ◌<◌, ◌≤◌, ◌^◌, ◌⊎◌, Bool, true, false, cond, not, ◌&&◌, nat_eq, List, [], ◌∷◌, ◌++◌, length, All, Contains, refl, sym, ap, ◌∙◌, subst, inl, inr, arith}
 use Rattle.std.specs.Int.Count.{ones}
-use Rattle.std.specs.List.{refill}
 use Rattle.std.specs.List.Sorted.{IsPermutation}
 use Rattle.std.proofs.lemmas.Bool.{cases_eq, eq-eqb, ne_eqb, and_parts, both_ways}
 use Rattle.std.proofs.lemmas.List.{map-append}
 use Rattle.std.proofs.lemmas.List.Elements.{All-same, All-push, Contains-append_left, Contains-push}
-use Rattle.std.proofs.lemmas.List.Sorted.{All-permutation, Contains-permutation, IsPermutation-map, length_permutation}
+use Rattle.std.proofs.lemmas.List.Sorted.{All-permutation, Contains-permutation, IsPermutation-map}
 use Rattle.arrayvec.specs.ArrayVec.{ArrayVec, array_vec_len}
-use Rattle.arrayvec.proofs.ArrayVecLemmas.{items-with_items}
 use Rattle.othello_rules.specs.Masks.{in_mask}
+use Rattle.othello_bits.specs.Discs.{Discs, IsMove}
 use Rattle.othello_bits.proofs.Bits.{none_from_zero}
+use Rattle.othello_bits.proofs.MaskMeaning.{IsMove-on_board}
 use Rattle.othello_bits.proofs.Numbers.{count_below, is_number, ones_number}
 use Rattle.endgame_search.specs.declared.children.Child.{Child}
+use Rattle.endgame_search.specs.Children.{squares_of}
 
 module _ (f h : ℕ → Bool) (r : ℕ) (taken : (i : ℕ) → h i ≡ (f i && not (nat_eq r i))) where
   pub other : (i : ℕ) → i ≢ r → h i ≡ f i
@@ -67,8 +68,9 @@ module _ (old new r : ℕ) (here : in_mask old r ≡ true) (taken : (i : ℕ) �
       let b : ones old ≡ count_below 64 (in_mask old) = ap ones (is_number old (in_mask old) ho (λ i l. refl)) ∙ ones_number 64 (in_mask old) in
       omega (arith, a, b, less_above (in_mask old) (in_mask new) r taken 64 hr here)
 
-abbrev pub squares_of : List Child → List ℕ
-squares_of items = map (λ (c : Child). c.square) items
+-- the same of a move that is taken out of a mask of moves
+pub fewer : (p : Discs) (old new r : ℕ) → in_mask old r ≡ true → ((i : ℕ) → in_mask new i ≡ (in_mask old i && not (nat_eq r i))) → old < 2 ^ 64 → new < 2 ^ 64 → IsMove p r → ones new + 1 ≡ ones old
+fewer p old new r here taken ho hn legal = one_less old new r here taken ho hn (IsMove-on_board p r legal)
 
 pub each_more : (P : Child → Type 0) (items grown : List Child) (x : Child) → grown ≡ items ++ x ∷ [] → All P items → P x → All P grown
 each_more P items grown x e all one = All-same P grown (items ++ x ∷ []) e (All-push P items x all one)
@@ -90,20 +92,13 @@ only_square old new r q none taken here =
       | inr d ↦ absurd (both_ways (in_mask new q) (none_from_zero new none q) (other (in_mask old) (in_mask new) r taken q d ∙ here))
     ]
 
--- what a sort of the list in place leaves
-module _ (v : ArrayVec Child) (shown sorted : List Child) (is : shown ≡ v.items) (permuted : IsPermutation shown sorted) where
-  refilled : refill (array_vec_len v) v.items sorted ≡ sorted
-  refilled = items-with_items v sorted (length_permutation shown sorted permuted ∙ ap length is)
+-- what a sort of the list leaves
+pub sorted_each : (P : Child → Type 0) (items sorted : List Child) → IsPermutation items sorted → All P items → All P sorted
+sorted_each P items sorted permuted h = All-permutation P items sorted permuted h
 
-  pub sorted_each : (P : Child → Type 0) → All P v.items → All P (refill (array_vec_len v) v.items sorted)
-  sorted_each P h = All-same P _ sorted refilled (All-permutation P shown sorted permuted (All-same P shown v.items is h))
-
-  pub sorted_listed : (q : ℕ) → Contains (squares_of v.items) q → Contains (squares_of (refill (array_vec_len v) v.items sorted)) q
-  sorted_listed q h =
-      subst (λ l. Contains (squares_of l) q) (sym refilled)
-      (Contains-permutation (squares_of shown) (squares_of sorted) q
-      (IsPermutation-map (λ (c : Child). c.square) shown sorted permuted)
-      (subst (λ l. Contains (squares_of l) q) (sym is) h))
+pub sorted_listed : (items sorted : List Child) → IsPermutation items sorted → (q : ℕ) → Contains (squares_of items) q → Contains (squares_of sorted) q
+sorted_listed items sorted permuted q h =
+    Contains-permutation (squares_of items) (squares_of sorted) q (IsPermutation-map (λ (c : Child). c.square) items sorted permuted) h
 
 -- an empty list
 pub no_items : (v : ArrayVec Child) → v.items ≡ [] → array_vec_len v ≡ 0

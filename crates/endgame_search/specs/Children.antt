@@ -1,7 +1,14 @@
 -- The positions that the moves of a position lead to.
-use Rattle.std.specs.Prelude.{◌≡◌, ℕ, List, map, All, Contains}
-use Rattle.othello_bits.specs.Discs.{Discs, moves_of, play_of, IsMove}
+use Rattle.std.specs.Prelude.{◌≡◌, ◌⊎◌, ◌≤ℤ◌, ℕ, ℤ, neg_ℤ, true, List, map, All, Contains}
+use Rattle.othello_rules.specs.declared.scorings.Scoring.{Scoring}
+use Rattle.othello_rules.specs.Masks.{in_mask}
+use Rattle.othello_bits.specs.Discs.{Discs, moves_of, play_of, value_of, IsMove}
 use Rattle.endgame_search.specs.declared.children.Child.{Child}
+use Rattle.endgame_search.specs.declared.children.Stuck.{Stuck}
+
+-- the squares of the moves that lead to the children
+abbrev pub squares_of : List Child → List ℕ
+squares_of cs = map (λ (c : Child). c.square) cs
 
 -- c holds a move of p, the position after it and the mask of the moves there
 pub record IsChildOf (p : Discs) (c : Child) : Type 0 where
@@ -12,4 +19,17 @@ pub record IsChildOf (p : Discs) (c : Child) : Type 0 where
 -- the list holds a child for each move of p, and nothing else
 pub record AreChildrenOf (p : Discs) (cs : List Child) : Type 0 where
   pub each : All (IsChildOf p) cs
-  pub every : (q : ℕ) → IsMove p q → Contains (map (λ (c : Child). c.square) cs) q
+  pub every : (q : ℕ) → IsMove p q → Contains (squares_of cs) q
+
+-- s holds a child of p without replies and a mask of moves of p, and the list children of p: together, all of them
+pub record AreUpTo (p : Discs) (s : Stuck) (cs : List Child) : Type 0 where
+  pub child : IsChildOf p s.child
+  pub stuck : s.child.replies ≡ 0
+  pub rest : (q : ℕ) → in_mask s.rest q ≡ true → IsMove p q
+  pub each : All (IsChildOf p) cs
+  pub every : (q : ℕ) → IsMove p q → (q ≡ s.child.square) ⊎ ((in_mask s.rest q ≡ true) ⊎ Contains (squares_of cs) q)
+
+-- the list holds children of p, and a move of p that leads to none of them is worth at most best
+pub record AreOthersOf (g : Scoring) (p : Discs) (best : ℤ) (cs : List Child) : Type 0 where
+  pub each : All (IsChildOf p) cs
+  pub every : (q : ℕ) → IsMove p q → Contains (squares_of cs) q ⊎ (neg_ℤ (value_of g (play_of p q)) ≤ℤ best)

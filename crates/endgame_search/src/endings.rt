@@ -8,7 +8,7 @@ ghost use Rattle.endgame_search.specs.Windows.{IsWindow, Places};
 ghost use Rattle.endgame_search.specs.Endings.{IsEnding};
 ghost use Rattle.endgame_search.specs.Lasts.{IsFree, IsLast, AreLast};
 
-use crate::ranges::decided;
+use crate::ranges::decide;
 use bound_table::Bounds;
 use othello_bits::Pos;
 use othello_bits::masks::{lowest, without};
@@ -77,7 +77,7 @@ fn search_last_move<T: Bounds>(table: &T, ending: Ending, low: i8, high: i8) -> 
     requires window { IsWindow low high }
     ensures { Places low high (value_of (T.scoring table.now) ending.position) result }
 {
-    if let Some(score) = decided(table, ending.position, low, high) {
+    if let Some(score) = decide(table, ending.position, low, high) {
         return score;
     }
     ending.score(table.scoring())
@@ -95,7 +95,7 @@ fn search_last_pass<T: Bounds>(table: &T, ending: Ending, low: i8, high: i8) -> 
     if passed.turned == 0 {
         return ending.position.final_score(table.scoring());
     }
-    if let Some(score) = decided(table, ending.position, low, high) {
+    if let Some(score) = decide(table, ending.position, low, high) {
         return score;
     }
     -search_last_move(table, passed, -high, -low)

@@ -7,7 +7,7 @@ ghost use Rattle.std.proofs.Common.{sym};
 ghost use Rattle.endgame_search.specs.Problems.{Problem};
 ghost use Rattle.othello_bits.specs.Discs.{moves_of, play_of, value_of, answer_of, best_of, is_best, mask_where, IsMove};
 
-use crate::ranges::{decided, greatest_score, stored};
+use crate::ranges::{decide, greatest_score, store};
 use crate::roots::leading_moves;
 use crate::searches::value_in;
 use crate::tasks::Task;
@@ -97,11 +97,11 @@ fn solve_moves<T: Bounds>(table: &T, task: Task, moves: u64) -> Solved
 {
     let position = task.pos();
     let most = greatest_score(table.scoring());
-    if let Some(score) = decided(table, position, -most, most) {
+    if let Some(score) = decide(table, position, -most, most) {
         return solved_at(table, task, score);
     }
     let leaders = leading_moves(table, position, moves);
-    let score = stored(table, position, -65, 65, leaders.score);
+    let score = store(table, position, -65, 65, leaders.score);
     solved_as(task, score, Best::Moves(leaders.moves))
 }
 

@@ -7,25 +7,12 @@ use Rattle.othello_bits.specs.Discs.{moves_of, pass_of, empties_of, final_of, va
 use Rattle.othello_bits.proofs.Bits.{none_from_zero}
 use Rattle.othello_bits.proofs.GameLaws.{value_score, value-over}
 use Rattle.endgame_search.specs.declared.children.Child.{Child}
-use Rattle.endgame_search.specs.Children.{IsChildOf}
+use Rattle.endgame_search.specs.Children.{IsChildOf, AreOthersOf}
 use Rattle.endgame_search.specs.Windows.{IsWindow}
-use Rattle.endgame_search.proofs.Moves.{child_worth, child_empties, only_worth, passed_worth, passed_empties, at_index, searched_more, best_of_all}
+use Rattle.endgame_search.proofs.Moves.{child_worth, child_empties, only_worth, passed_worth, passed_empties, at_index, searched_more, best_of_others, others_left}
 use Rattle.endgame_search.proofs.Takes.{only_square}
-use Rattle.endgame_search.proofs.Windows.{shown, exact, shown_window, turned_window, turned_whole, turned_shown, null_low, null_high, second_window, second_score, floor_window, cut_step, grows, covers, keeps_more, started_more, keeps_none, given_back}
+use Rattle.endgame_search.proofs.Windows.{shown, exact, shown_window, turned_window, turned_whole, turned_shown, all_searched, at_least_as, unshown, null_low, null_high, second_window, second_score, floor_window, cut_step, grows, covers, keeps_more, given_back, first_cut, first_covers, keeps_first}
 use Rattle.endgame_search.proofs.searches.+search.Goals as goal
-
-pub search-returns : goal.search-returns
-search-returns g t c =
-    let none : HasNoMove c.args.position = sym c.requires.moves ∙ c.if-moves-ne0.false in
-    let over : HasNoMove (pass_of c.args.position) = ap moves_of (sym c.pass-passed.ensures.value) ∙ sym c.moves-replies.ensures.value ∙ c.if-replies-ne0.false in
-    let r = g.T.Bounds.scoring c.args.table.now in
-    let s = value_score r c.args.position in
-    let e : c.final_score.result ≡ value_of r c.args.position =
-    c.final_score.ensures.value ∙ ap (λ h. final_of h c.args.position) c.scoring.ensures ∙ sym (value-over r c.args.position (none, over)) in
-    let l = s.low in
-    let m = s.high in
-    let f : shown c.final_score.result ≡ c.final_score.result = omega (arith, ints, e, l, m) in
-    exact _ _ _ _ s (f ∙ e)
 
 pub search_after-returns-then-is_first : goal.search_after-returns-then-is_first
 search_after-returns-then-is_first g t c = turned_whole c.args.low c.args.high _ _ c.requires.window c.search.ensures
@@ -56,80 +43,14 @@ pub search_after-returns : goal.search_after-returns
 search_after-returns g t c =
     second_score c.args.low c.args.high _ _ _ c.requires.window c.search-score.ensures (omega (arith, ints)) c.if-score-low.false c.if-score-high.false _ c.search-2.ensures
 
-pub search_children-loop-child-init : goal.search_children-loop-child-init
-search_children-loop-child-init g t c =
-    record { searched = λ k x h. absurd (omega (arith, h)); best = keeps_none c.args.low c.args.high _ c.requires.window; started = λ h. absurd (omega (arith, h)) }
-
 pub search_children-search_after-score-requires : goal.search_children-search_after-score-requires
 search_children-search_after-score-requires g t c κs within =
     let kept = c.loop-child.invariant in
     let d : 8 * empties_of c.args.position + 2 ≡ t = c.decreases in
-    let child = at_index (IsChildOf c.args.position) c.args.children.now c.loop-child.child-index c.child-item.result c.loop-child-test.true c.child-item.is c.requires.children.each in
+    let child = at_index (IsChildOf c.args.position) c.args.children.now c.loop-child.child-index c.child-item.result c.loop-child-test.true c.child-item.is c.requires.others.each in
     let w : 8 * empties_of c.child-item.result.position + 8 < t = omega (arith, d, child_empties c.args.position c.child-item.result child) in
     let o : IsWindow c.max-floor.result c.args.high = floor_window c.args.low c.args.high _ _ _ c.requires.window kept.best c.max-floor.ensures.value in
     (w, (within, (child.replies, shown_window c.max-floor.result c.args.high o)))
-
-pub search_children-stored-requires : goal.search_children-stored-requires
-search_children-stored-requires g t c =
-    let kept = c.loop-child.invariant in
-    let child = at_index (IsChildOf c.args.position) c.args.children.now c.loop-child.child-index c.child-item.result c.loop-child-test.true c.child-item.is c.requires.children.each in
-    let above = child_worth (g.T.Bounds.scoring c.args.table.now) c.args.position c.child-item.result child in
-    record {
-      window = shown_window c.args.low c.args.high c.requires.window;
-      places =
-          cut_step c.args.low c.args.high _ _ _ _ _ c.requires.window kept.best c.max-floor.ensures.value c.search_after-score.ensures above c.if-score-high.true;
-    }
-
-pub search_children-returns-then-score-high : goal.search_children-returns-then-score-high
-search_children-returns-then-score-high g t c =
-    let kept = c.loop-child.invariant in
-    let child = at_index (IsChildOf c.args.position) c.args.children.now c.loop-child.child-index c.child-item.result c.loop-child-test.true c.child-item.is c.requires.children.each in
-    let above = child_worth (g.T.Bounds.scoring c.args.table.now) c.args.position c.child-item.result child in
-    given_back c.args.low c.args.high _ _ _ c.requires.window
-    (cut_step c.args.low c.args.high _ _ _ _ _ c.requires.window kept.best c.max-floor.ensures.value c.search_after-score.ensures above c.if-score-high.true)
-    c.stored.ensures
-
-pub search_children-loop-child-preserved : goal.search_children-loop-child-preserved
-search_children-loop-child-preserved g t c =
-    let kept = c.loop-child.invariant in
-    let items = c.args.children.now in
-    let r = g.T.Bounds.scoring c.args.table.now in
-    let child = at_index (IsChildOf c.args.position) items c.loop-child.child-index c.child-item.result c.loop-child-test.true c.child-item.is c.requires.children.each in
-    let above = child_worth r c.args.position c.child-item.result child in
-    record {
-      searched = searched_more r items c.loop-child.child-index c.child-item.result _ _ c.loop-child-test.true c.child-item.is
-          (grows c.args.low c.args.high _ _ _ _ _ c.requires.window kept.best c.max-floor.ensures.value c.search_after-score.ensures above _ c.max-best.ensures.value c.if-score-high.false)
-          (covers c.args.low c.args.high _ _ _ _ _ c.requires.window kept.best c.max-floor.ensures.value c.search_after-score.ensures above _ c.max-best.ensures.value c.if-score-high.false)
-          kept.searched;
-      best = keeps_more c.args.low c.args.high _ _ _ _ _ c.requires.window kept.best c.max-floor.ensures.value c.search_after-score.ensures above _ c.max-best.ensures.value c.if-score-high.false;
-      started = λ _. started_more c.args.low c.args.high _ _ _ _ _ c.requires.window kept.best c.max-floor.ensures.value c.search_after-score.ensures above _ c.max-best.ensures.value c.if-score-high.false;
-    }
-
-pub search_children-stored-requires-2 : goal.search_children-stored-requires-2
-search_children-stored-requires-2 g t c =
-    let kept = c.loop-child.invariant in
-    let items = c.args.children.now in
-    let r = g.T.Bounds.scoring c.args.table.now in
-    let e : take c.loop-child.child-index items ≡ items = take_all c.loop-child.child-index items (omega (arith, c.loop-child-test.false)) in
-    let all = All-same (λ (x : Child). neg_ℤ (value_of r x.position) ≤ℤ to_z w8 c.loop-child.best-bits) items _ (sym e) kept.searched in
-    let b = best_of_all r c.args.position items _ c.requires.some c.requires.children all in
-    record {
-      window = shown_window c.args.low c.args.high c.requires.window;
-      places =
-          record { below = λ _. b.0; above = kept.best.attained; least = kept.started (omega (arith, b.1, c.loop-child-test.false)); most = kept.best.most };
-    }
-
-pub search_children-returns : goal.search_children-returns
-search_children-returns g t c =
-    let kept = c.loop-child.invariant in
-    let items = c.args.children.now in
-    let r = g.T.Bounds.scoring c.args.table.now in
-    let e : take c.loop-child.child-index items ≡ items = take_all c.loop-child.child-index items (omega (arith, c.loop-child-test.false)) in
-    let all = All-same (λ (x : Child). neg_ℤ (value_of r x.position) ≤ℤ to_z w8 c.loop-child.best-bits) items _ (sym e) kept.searched in
-    let b = best_of_all r c.args.position items _ c.requires.some c.requires.children all in
-    given_back c.args.low c.args.high _ _ _ c.requires.window
-    (record { below = λ _. b.0; above = kept.best.attained; least = kept.started (omega (arith, b.1, c.loop-child-test.false)); most = kept.best.most })
-    c.stored-2.ensures
 
 pub search_moves-search_only-requires : goal.search_moves-search_only-requires
 search_moves-search_only-requires g t c κs within =
@@ -147,8 +68,8 @@ search_only-search-score-requires g t c κs within =
     let w : 8 * empties_of c.after-child.result.position + 7 < t = omega (arith, d, child_empties c.args.position c.after-child.result child) in
     (w, (within, (child.replies, turned_window c.args.low c.args.high (pos 0) (pos 0) c.requires.window)))
 
-pub search_only-stored-requires : goal.search_only-stored-requires
-search_only-stored-requires g t c =
+pub search_only-store-requires : goal.search_only-store-requires
+search_only-store-requires g t c =
     record {
       window = shown_window c.args.low c.args.high c.requires.window;
       places =
@@ -167,28 +88,170 @@ search_only-returns g t c =
     (λ z. both_ways (in_mask (moves_of c.args.position) c.args.square) (none_from_zero (moves_of c.args.position) z c.args.square) c.requires.legal)
     (λ q m. c.requires.only q m ∙ sym c.after-child.ensures.move_made))
     c.search-score.ensures)
-    c.stored.ensures
+    c.store.ensures
+
+pub search_pass-returns-then-replies-eq0 : goal.search_pass-returns-then-replies-eq0
+search_pass-returns-then-replies-eq0 g t c =
+    let over : HasNoMove (pass_of c.args.position) = ap moves_of (sym c.pass-passed.ensures.value) ∙ sym c.moves-replies.ensures.value ∙ c.if-replies-eq0.true in
+    let r = g.T.Bounds.scoring c.args.table.now in
+    let s = value_score r c.args.position in
+    let e : c.final_score.result ≡ value_of r c.args.position =
+    c.final_score.ensures.value ∙ ap (λ h. final_of h c.args.position) c.scoring.ensures ∙ sym (value-over r c.args.position (c.requires.none, over)) in
+    let l = s.low in
+    let m = s.high in
+    let f : shown c.final_score.result ≡ c.final_score.result = omega (arith, ints, e, l, m) in
+    exact _ _ _ _ s (f ∙ e)
 
 pub search_pass-search_moves-score-requires : goal.search_pass-search_moves-score-requires
 search_pass-search_moves-score-requires g t c κs within =
     let d : 8 * empties_of c.args.position + 6 ≡ t = c.decreases in
-    let w : 8 * empties_of c.args.passed + 5 < t = omega (arith, d, passed_empties c.args.position c.args.passed c.requires.passed) in
-    (w, (within, (c.requires.replies, (c.requires.some, turned_window c.args.low c.args.high (pos 0) (pos 0) c.requires.window))))
+    let w : 8 * empties_of c.pass-passed.result + 5 < t = omega (arith, d, passed_empties c.args.position c.pass-passed.result c.pass-passed.ensures.value) in
+    (w, (within, (c.moves-replies.ensures.value, (c.if-replies-eq0.false, turned_window c.args.low c.args.high (pos 0) (pos 0) c.requires.window))))
 
-pub search_pass-stored-requires : goal.search_pass-stored-requires
-search_pass-stored-requires g t c =
-    record {
-      window = shown_window c.args.low c.args.high c.requires.window;
-      places =
-          turned_shown c.args.low c.args.high _ _ _ c.requires.window
-          (passed_worth (g.T.Bounds.scoring c.args.table.now) c.args.position c.args.passed c.args.replies c.requires.none c.requires.passed c.requires.replies c.requires.some)
-          c.search_moves-score.ensures;
-    }
+pub search_pass-store-requires-clause-places : goal.search_pass-store-requires-clause-places
+search_pass-store-requires-clause-places g t c =
+    turned_shown c.args.low c.args.high _ _ _ c.requires.window
+    (passed_worth (g.T.Bounds.scoring c.args.table.now) c.args.position c.pass-passed.result c.moves-replies.result c.requires.none c.pass-passed.ensures.value c.moves-replies.ensures.value c.if-replies-eq0.false)
+    c.search_moves-score.ensures
 
 pub search_pass-returns : goal.search_pass-returns
 search_pass-returns g t c =
     given_back c.args.low c.args.high _ _ _ c.requires.window
     (turned_shown c.args.low c.args.high _ _ _ c.requires.window
-    (passed_worth (g.T.Bounds.scoring c.args.table.now) c.args.position c.args.passed c.args.replies c.requires.none c.requires.passed c.requires.replies c.requires.some)
+    (passed_worth (g.T.Bounds.scoring c.args.table.now) c.args.position c.pass-passed.result c.moves-replies.result c.requires.none c.pass-passed.ensures.value c.moves-replies.ensures.value c.if-replies-eq0.false)
     c.search_moves-score.ensures)
-    c.stored.ensures
+    c.store.ensures
+
+pub search_children-store-requires-clause-places : goal.search_children-store-requires-clause-places
+search_children-store-requires-clause-places g t c =
+    let kept = c.loop-child.invariant in
+    let child = at_index (IsChildOf c.args.position) c.args.children.now c.loop-child.child-index c.child-item.result c.loop-child-test.true c.child-item.is c.requires.others.each in
+    let above = child_worth (g.T.Bounds.scoring c.args.table.now) c.args.position c.child-item.result child in
+    cut_step c.args.low c.args.high _ _ _ _ _ c.requires.window kept.best c.max-floor.ensures.value c.search_after-score.ensures above c.if-score-high.true
+
+pub search_children-returns-then-score-high : goal.search_children-returns-then-score-high
+search_children-returns-then-score-high g t c =
+    let kept = c.loop-child.invariant in
+    let child = at_index (IsChildOf c.args.position) c.args.children.now c.loop-child.child-index c.child-item.result c.loop-child-test.true c.child-item.is c.requires.others.each in
+    let above = child_worth (g.T.Bounds.scoring c.args.table.now) c.args.position c.child-item.result child in
+    given_back c.args.low c.args.high _ _ _ c.requires.window
+    (cut_step c.args.low c.args.high _ _ _ _ _ c.requires.window kept.best c.max-floor.ensures.value c.search_after-score.ensures above c.if-score-high.true)
+    c.store.ensures
+
+pub search_children-loop-child-preserved : goal.search_children-loop-child-preserved
+search_children-loop-child-preserved g t c =
+    let kept = c.loop-child.invariant in
+    let items = c.args.children.now in
+    let r = g.T.Bounds.scoring c.args.table.now in
+    let child = at_index (IsChildOf c.args.position) items c.loop-child.child-index c.child-item.result c.loop-child-test.true c.child-item.is c.requires.others.each in
+    let above = child_worth r c.args.position c.child-item.result child in
+    let more = grows c.args.low c.args.high _ _ _ _ _ c.requires.window kept.best c.max-floor.ensures.value c.search_after-score.ensures above _ c.max-best.ensures.value c.if-score-high.false in
+    record {
+      searched = searched_more r items c.loop-child.child-index c.child-item.result _ _ c.loop-child-test.true c.child-item.is more
+          (covers c.args.low c.args.high _ _ _ _ _ c.requires.window kept.best c.max-floor.ensures.value c.search_after-score.ensures above _ c.max-best.ensures.value c.if-score-high.false)
+          kept.searched;
+      best = keeps_more c.args.low c.args.high _ _ _ _ _ c.requires.window kept.best c.max-floor.ensures.value c.search_after-score.ensures above _ c.max-best.ensures.value c.if-score-high.false;
+      grown = at_least_as _ _ _ kept.grown more;
+    }
+
+pub search_children-store-requires-2-clause-places : goal.search_children-store-requires-2-clause-places
+search_children-store-requires-2-clause-places g t c =
+    let kept = c.loop-child.invariant in
+    let items = c.args.children.now in
+    let r = g.T.Bounds.scoring c.args.table.now in
+    let e : take c.loop-child.child-index items ≡ items = take_all c.loop-child.child-index items (omega (arith, c.loop-child-test.false)) in
+    let all = All-same (λ (x : Child). neg_ℤ (value_of r x.position) ≤ℤ to_z w8 c.loop-child.best-bits) items _ (sym e) kept.searched in
+    all_searched _ _ _ _ (value_score r c.args.position) kept.best (best_of_others r c.args.position items _ _ c.requires.some c.requires.others (unshown _ _ c.requires.best.least c.requires.best.most kept.grown) all)
+
+pub search_children-returns : goal.search_children-returns
+search_children-returns g t c =
+    let kept = c.loop-child.invariant in
+    let items = c.args.children.now in
+    let r = g.T.Bounds.scoring c.args.table.now in
+    let e : take c.loop-child.child-index items ≡ items = take_all c.loop-child.child-index items (omega (arith, c.loop-child-test.false)) in
+    let all = All-same (λ (x : Child). neg_ℤ (value_of r x.position) ≤ℤ to_z w8 c.loop-child.best-bits) items _ (sym e) kept.searched in
+    given_back c.args.low c.args.high _ _ _ c.requires.window
+    (all_searched _ _ _ _ (value_score r c.args.position) kept.best (best_of_others r c.args.position items _ _ c.requires.some c.requires.others (unshown _ _ c.requires.best.least c.requires.best.most kept.grown) all))
+    c.store-2.ensures
+
+pub search_few-search_after-score-requires : goal.search_few-search_after-score-requires
+search_few-search_after-score-requires g t c κs within =
+    let up = c.in-Some.ensures.stuck in
+    let d : 8 * empties_of c.args.position + 3 ≡ t = c.decreases in
+    let w : 8 * empties_of c.in-Some.stuck.child.position + 8 < t = omega (arith, d, child_empties c.args.position c.in-Some.stuck.child up.child) in
+    (w, (within, (up.child.replies, shown_window c.args.low c.args.high c.requires.window)))
+
+pub search_few-store-requires-clause-places : goal.search_few-store-requires-clause-places
+search_few-store-requires-clause-places g t c =
+    let above = child_worth (g.T.Bounds.scoring c.args.table.now) c.args.position c.in-Some.stuck.child c.in-Some.ensures.stuck.child in
+    first_cut c.args.low c.args.high _ _ _ c.requires.window c.search_after-score.ensures above c.if-score-high.true
+
+pub search_few-returns-then-score-high : goal.search_few-returns-then-score-high
+search_few-returns-then-score-high g t c =
+    let above = child_worth (g.T.Bounds.scoring c.args.table.now) c.args.position c.in-Some.stuck.child c.in-Some.ensures.stuck.child in
+    given_back c.args.low c.args.high _ _ _ c.requires.window
+    (first_cut c.args.low c.args.high _ _ _ c.requires.window c.search_after-score.ensures above c.if-score-high.true)
+    c.store.ensures
+
+pub search_few-search_children-requires-2 : goal.search_few-search_children-requires-2
+search_few-search_children-requires-2 g t c κs within =
+    let r = g.T.Bounds.scoring c.args.table.now in
+    let up = c.in-Some.ensures.stuck in
+    let above = child_worth r c.args.position c.in-Some.stuck.child up.child in
+    let d : 8 * empties_of c.args.position + 3 ≡ t = c.decreases in
+    let w : 8 * empties_of c.args.position + 2 < t = omega (arith, d) in
+    let covered = first_covers c.args.low c.args.high _ _ _ c.requires.window c.search_after-score.ensures above c.if-score-high.false in
+    let others = others_left r c.args.position c.in-Some.stuck _ _ _ up covered c.order_children.ensures.each c.order_children.ensures.every in (
+      w,
+      (
+        within,
+        (
+          subst (AreOthersOf r c.args.position (shown c.search_after-score.result)) (sym c.deref-2.ensures.0) others,
+          (
+            keeps_first c.args.low c.args.high _ _ _ c.requires.window c.search_after-score.ensures above c.if-score-high.false,
+            (λ z. c.requires.some (c.requires.moves ∙ z), shown_window c.args.low c.args.high c.requires.window),
+          ),
+        ),
+      ),
+    )
+
+pub search_many-search_after-score-requires : goal.search_many-search_after-score-requires
+search_many-search_after-score-requires g t c κs within =
+    let up = c.in-Some.ensures.stuck in
+    let d : 8 * empties_of c.args.position + 3 ≡ t = c.decreases in
+    let w : 8 * empties_of c.in-Some.stuck.child.position + 8 < t = omega (arith, d, child_empties c.args.position c.in-Some.stuck.child up.child) in
+    (w, (within, (up.child.replies, shown_window c.args.low c.args.high c.requires.window)))
+
+pub search_many-store-requires-clause-places : goal.search_many-store-requires-clause-places
+search_many-store-requires-clause-places g t c =
+    let above = child_worth (g.T.Bounds.scoring c.args.table.now) c.args.position c.in-Some.stuck.child c.in-Some.ensures.stuck.child in
+    first_cut c.args.low c.args.high _ _ _ c.requires.window c.search_after-score.ensures above c.if-score-high.true
+
+pub search_many-returns-then-score-high : goal.search_many-returns-then-score-high
+search_many-returns-then-score-high g t c =
+    let above = child_worth (g.T.Bounds.scoring c.args.table.now) c.args.position c.in-Some.stuck.child c.in-Some.ensures.stuck.child in
+    given_back c.args.low c.args.high _ _ _ c.requires.window
+    (first_cut c.args.low c.args.high _ _ _ c.requires.window c.search_after-score.ensures above c.if-score-high.true)
+    c.store.ensures
+
+pub search_many-search_children-requires-2 : goal.search_many-search_children-requires-2
+search_many-search_children-requires-2 g t c κs within =
+    let r = g.T.Bounds.scoring c.args.table.now in
+    let up = c.in-Some.ensures.stuck in
+    let above = child_worth r c.args.position c.in-Some.stuck.child up.child in
+    let d : 8 * empties_of c.args.position + 3 ≡ t = c.decreases in
+    let w : 8 * empties_of c.args.position + 2 < t = omega (arith, d) in
+    let covered = first_covers c.args.low c.args.high _ _ _ c.requires.window c.search_after-score.ensures above c.if-score-high.false in
+    let others = others_left r c.args.position c.in-Some.stuck _ _ _ up covered c.order_children.ensures.each c.order_children.ensures.every in (
+      w,
+      (
+        within,
+        (
+          subst (AreOthersOf r c.args.position (shown c.search_after-score.result)) (sym c.deref-2.ensures.0) others,
+          (
+            keeps_first c.args.low c.args.high _ _ _ c.requires.window c.search_after-score.ensures above c.if-score-high.false,
+            (λ z. c.requires.some (c.requires.moves ∙ z), shown_window c.args.low c.args.high c.requires.window),
+          ),
+        ),
+      ),
+    )

@@ -1,7 +1,7 @@
-use Rattle.std.proofs.Common.{◌<◌, ◌*◌, ◌+◌, negsuc, neg_ℤ, ◌≤ℤ◌, take, All}
+use Rattle.std.proofs.Common.{◌*◌, ◌+◌, neg_ℤ, ◌≤ℤ◌, take, All}
 use Rattle.othello_bits.specs.Discs.{empties_of, value_of}
 use Rattle.endgame_search.specs.declared.children.Child.{Child}
-use Rattle.endgame_search.proofs.Windows.{KeepsBest}
+use Rattle.endgame_search.specs.Windows.{KeepsBest}
 use Rattle.endgame_search.proofs.searches.+search.Given as goal
 
 abbrev pub decreases-search : goal.decreases-search
@@ -19,9 +19,6 @@ decreases-search_only g l = 8 * empties_of l.position + 4
 abbrev pub decreases-search_few : goal.decreases-search_few
 decreases-search_few g l = 8 * empties_of l.position + 3
 
-abbrev pub decreases-search_some : goal.decreases-search_some
-decreases-search_some g l = 8 * empties_of l.position + 3
-
 abbrev pub decreases-search_many : goal.decreases-search_many
 decreases-search_many g l = 8 * empties_of l.position + 3
 
@@ -35,5 +32,5 @@ abbrev pub invariant-search_children-loop-child : goal.invariant-search_children
 invariant-search_children-loop-child g l = record {
   searched : All (λ (c : Child). neg_ℤ (value_of (g.T.Bounds.scoring l.table) c.position) ≤ℤ l.best) (take l.child-index l.children);
   best : KeepsBest l.low l.high (value_of (g.T.Bounds.scoring l.table) l.position) l.best;
-  started : 0 < l.child-index → negsuc 63 ≤ℤ l.best;
+  grown : l.fn.searched ≤ℤ l.best;
 }

@@ -4,12 +4,12 @@ use Rattle.othello_bits.specs.Discs.{value_of}
 use Rattle.othello_bits.proofs.GameLaws.{value_score}
 use Rattle.endgame_search.proofs.Windows.{shown, recast}
 use Rattle.endgame_search.proofs.Told.{told_true}
-use Rattle.endgame_search.proofs.ranges.stored.Goals as goal
+use Rattle.endgame_search.proofs.ranges.store.Goals as goal
 
 pub store-requires : goal.store-requires
 store-requires g c =
     let r = g.T.Bounds.scoring c.args.table.now in
-    let t = c.told.ensures in
+    let t = c.range_of.ensures in
     let w = c.requires.window in
     let p = c.requires.places in
     let l = p.least in
@@ -17,5 +17,5 @@ store-requires g c =
     let a : c.args.low ≡ shown c.args.low = omega (arith, ints, w.0, w.1, w.2) in
     let b : c.args.high ≡ shown c.args.high = omega (arith, ints, w.0, w.1, w.2) in
     let d : c.args.score ≡ shown c.args.score = omega (arith, ints) in
-    told_true (shown c.args.low) (shown c.args.high) (value_of r c.args.position) (shown c.args.score) c.told.result
+    told_true (shown c.args.low) (shown c.args.high) (value_of r c.args.position) (shown c.args.score) c.range_of.result
     (recast c.args.low c.args.high _ _ _ c.args.score _ a b d p) (value_score r c.args.position) t.at_most t.at_least t.exact (omega (arith, ints, a, b, w.1))
