@@ -1,12 +1,15 @@
 -- The steps of the rows.
-use Rattle.std.proofs.Common.{◌≡◌, ℕ, ◌+◌, ◌≤◌, List, [], ◌∷◌, ◌++◌, length, refl, sym, ◌∙◌, arith}
+use Rattle.std.proofs.Common.{◌≡◌, ℕ, ◌+◌, ◌≤◌, List, [], ◌∷◌, ◌++◌, length, map, refl, sym, ◌∙◌, arith}
 use Rattle.std.specs.Prelude.{Some, None}
-use Rattle.std.proofs.lemmas.List.{append_assoc, append-nil}
+use Rattle.std.proofs.lemmas.List.{append_assoc, append-nil, map-append}
 use Rattle.othello_rules.specs.declared.scorings.Scoring.{Scoring}
 use Rattle.obf_text.specs.LineText.{lines_of, room_of}
 use Rattle.obf_text.specs.Obf.{item_of}
 use Rattle.suite_solver.specs.declared.rows.RowResult.{RowResult}
 use Rattle.suite_solver.specs.declared.rows.ReportRow.{ReportRow}
+use Rattle.suite_solver.specs.Readings.{result_in, row_in}
+use Rattle.suite_solver.specs.declared.readings.Reading.{Reading}
+use Rattle.suite_solver.specs.declared.texts.NumberedReading.{NumberedReading}
 use Rattle.suite_solver.specs.Rows.{numbered, result_of, rows, rows_from}
 
 pub rows_start : (g : Scoring) (limit : ℕ) (text : List ℕ) → rows g limit text ≡ rows_from g limit 1 (lines_of text)
@@ -28,22 +31,22 @@ unfolding rows_from
 rows_no g limit n line lines e = rw e refl
 
 -- a line with a result adds its row
-pub whole_yes : (g : Scoring) (limit n : ℕ) (line : List ℕ) (left lines : List (List ℕ)) (r : RowResult) (made all : List ReportRow)
-    → left ≡ line ∷ lines → result_of g limit (item_of line) ≡ Some r → made ++ rows_from g limit n left ≡ all
-    → (made ++ numbered n r ∷ []) ++ rows_from g limit (n + 1) lines ≡ all
-whole_yes g limit n line left lines r made all cut e h =
-    let k = rw (cut, rows_yes g limit n line lines r e) at h in
-    rw append_assoc k
+pub rows_more : (g : Scoring) (limit n : ℕ) (line : List ℕ) (left lines : List (List ℕ)) (r : Reading) (made : List NumberedReading) (all : List ReportRow)
+    → left ≡ line ∷ lines → result_of g limit (item_of line) ≡ Some (result_in r) → map row_in made ++ rows_from g limit n left ≡ all
+    → map row_in (made ++ (record { line = n; reading = r }) ∷ []) ++ rows_from g limit (n + 1) lines ≡ all
+rows_more g limit n line left lines r made all cut e h =
+    let k = rw (cut, rows_yes g limit n line lines (result_in r) e) at h in
+    rw (map-append, append_assoc) k
 
 -- a line that is skipped adds none
-pub whole_no : (g : Scoring) (limit n : ℕ) (line : List ℕ) (left lines : List (List ℕ)) (made all : List ReportRow)
+pub rows_skip : (g : Scoring) (limit n : ℕ) (line : List ℕ) (left lines : List (List ℕ)) (made all : List ReportRow)
     → left ≡ line ∷ lines → result_of g limit (item_of line) ≡ None → made ++ rows_from g limit n left ≡ all
     → made ++ rows_from g limit (n + 1) lines ≡ all
-whole_no g limit n line left lines made all cut e h = rw (cut, rows_no g limit n line lines e) at h
+rows_skip g limit n line left lines made all cut e h = rw (cut, rows_no g limit n line lines e) at h
 
-pub whole_end : (g : Scoring) (limit n : ℕ) (left : List (List ℕ)) (made all : List ReportRow)
+pub rows_all : (g : Scoring) (limit n : ℕ) (left : List (List ℕ)) (made all : List ReportRow)
     → left ≡ [] → made ++ rows_from g limit n left ≡ all → made ≡ all
-whole_end g limit n left made all cut h = sym (append-nil made) ∙ (rw (cut, rows_end g limit n) at h)
+rows_all g limit n left made all cut h = sym (append-nil made) ∙ (rw (cut, rows_end g limit n) at h)
 
 -- the room of a line is no longer left
 pub room_more : (n most : ℕ) (line : List ℕ) (left lines : List (List ℕ)) → left ≡ line ∷ lines → n + room_of left ≤ most

@@ -1,66 +1,94 @@
 -- The tasks of lines, one line after the other.
-use Rattle.std.proofs.Common.{◌≡◌, ℕ, zero, suc, ◌+◌, Bool, true, false, cond, List, [], ◌∷◌, ◌++◌, length, ◌≤◌, drop, All, refl, sym, ap, ◌∙◌, arith}
+use Rattle.std.proofs.Common.{◌≡◌, ℕ, zero, suc, ◌+◌, ◌<◌, Bool, true, false, cond, List, [], ◌∷◌, ◌++◌, length, get_or, take, drop, All, refl, sym, ap, ap₂, ◌∙◌, subst, arith}
 use Rattle.std.specs.Prelude.{Option, Some, None, slice_get, nat_lt}
-use Rattle.std.proofs.Math.Seq.{drop-append_seam}
-use Rattle.std.proofs.lemmas.List.{append_assoc, append-nil, drop-drop}
-use Rattle.std.proofs.lemmas.Option.{slice_get_within}
-use Rattle.std.proofs.lemmas.List.Elements.{All-append, All-cons, All-nil, All-same}
+use Rattle.std.specs.List.{cons_option}
+use Rattle.std.proofs.lemmas.List.{append_assoc, append-nil, drop_more, take_more}
+use Rattle.std.proofs.lemmas.List.Elements.{All-cons, All-nil, All-same, filter_map-append}
 use Rattle.othello_rules.specs.declared.scorings.Scoring.{Scoring}
 use Rattle.endgame_search.specs.Problems.{Problem}
 use Rattle.obf_text.specs.Obf.{Meaning, Skipped, Holds, Faulty, item_of}
-use Rattle.suite_solver.specs.Readings.{asked_of}
 use Rattle.obf_text.specs.LineText.{lines_of}
 use Rattle.othello_rules.specs.Value.{empties}
+use Rattle.suite_solver.specs.Readings.{task_in, tasks_in}
 use Rattle.suite_solver.specs.Rows.{task_of, tasks, tasks_from}
+use Rattle.suite_solver.specs.declared.texts.NumberedReading.{NumberedReading}
 
-tasks_step : (g : Scoring) (limit : ℕ) (line : List ℕ) (lines : List (List ℕ)) (o : Option Problem) → task_of g limit (item_of line) ≡ o
-    → tasks_from g limit (line ∷ lines) ≡ asked_of o ++ tasks_from g limit lines
+tasks_step : (g : Scoring) (limit : ℕ) (line : List ℕ) (lines : List (List ℕ))
+    → tasks_from g limit (line ∷ lines) ≡ cons_option (task_of g limit (item_of line)) (tasks_from g limit lines)
 unfolding tasks_from
-tasks_step g limit line lines None e = rw e refl
-tasks_step g limit line lines (Some t) e = rw e refl
+tasks_step g limit line lines = refl
 
-pub tasks_end : (g : Scoring) (limit : ℕ) → tasks_from g limit [] ≡ []
+tasks_end : (g : Scoring) (limit : ℕ) → tasks_from g limit [] ≡ []
 unfolding tasks_from
 tasks_end g limit = refl
 
-front_of_drop : {X : Type 0} (xs : List X) (n : ℕ) (x : X) (ys : List X) → drop n xs ≡ x ∷ ys → slice_get xs n ≡ Some x
-front_of_drop [] zero x ys e = cc
-front_of_drop [] (suc n) x ys e = cc
-front_of_drop (y ∷ xs) zero x ys e = let h : y ≡ x = cc in ap Some h
-front_of_drop (y ∷ xs) (suc n) x ys e = front_of_drop xs n x ys e
+joined : {X : Type 0} (xs ys : List X) (o : Option X) → (xs ++ cons_option o []) ++ ys ≡ xs ++ cons_option o ys
+joined xs ys None = append_assoc xs [] ys
+joined xs ys (Some x) = append_assoc xs (x ∷ []) ys
 
--- a line is read, and the answers from n on are those of the lines that are left
-module _ (g : Scoring) (limit : ℕ) (line : List ℕ) (left lines : List (List ℕ)) (cut : left ≡ line ∷ lines) (o : Option Problem) (is : o ≡ task_of g limit (item_of line)) where
-  left_tasks : tasks_from g limit left ≡ asked_of o ++ tasks_from g limit lines
-  left_tasks = ap (tasks_from g limit) cut ∙ tasks_step g limit line lines o (sym is)
+-- ---- lines are read
 
-  pub next_answer : (solved : List Problem) (n : ℕ) (t : Problem) → drop n solved ≡ tasks_from g limit left → o ≡ Some t → slice_get solved n ≡ Some t
-  next_answer solved n t h e = front_of_drop solved n t (tasks_from g limit lines) (h ∙ left_tasks ∙ ap (λ p. asked_of p ++ tasks_from g limit lines) e)
+module _ (g : Scoring) (limit : ℕ) (line : List ℕ) (left lines : List (List ℕ)) (cut : left ≡ line ∷ lines) (made : List NumberedReading) (all : List Problem) (h : tasks_in made ++ tasks_from g limit left ≡ all) where
+  step : tasks_in made ++ cons_option (task_of g limit (item_of line)) (tasks_from g limit lines) ≡ all
+  step = sym (ap (λ l. tasks_in made ++ l) (ap (tasks_from g limit) cut ∙ tasks_step g limit line lines)) ∙ h
 
-  pub answers_left : (solved : List Problem) (n m : ℕ) → drop n solved ≡ tasks_from g limit left → m ≡ n + length (asked_of o) → drop m solved ≡ tasks_from g limit lines
-  answers_left solved n m h e =
-      ap (λ k. drop k solved) e ∙ sym (drop-drop (length (asked_of o)) n solved) ∙ ap (drop (length (asked_of o))) (h ∙ left_tasks)
-      ∙ drop-append_seam (asked_of o) (tasks_from g limit lines)
+  -- the task of a line comes behind those before it
+  pub tasks_more : (r : NumberedReading) → task_in r.reading ≡ task_of g limit (item_of line) → tasks_in (made ++ r ∷ []) ++ tasks_from g limit lines ≡ all
+  tasks_more r is =
+      ap (λ l. l ++ tasks_from g limit lines) (filter_map-append (λ (n : NumberedReading). task_in n.reading) made (r ∷ []))
+      ∙ joined (tasks_in made) (tasks_from g limit lines) (task_in r.reading)
+      ∙ ap (λ o. tasks_in made ++ cons_option o (tasks_from g limit lines)) is ∙ step
 
-  pub answers_within : (solved : List Problem) (n : ℕ) → n ≤ length solved → drop n solved ≡ tasks_from g limit left → n + length (asked_of o) ≤ length solved
-  answers_within solved n few h = within o refl
-    where
-      within : (p : Option Problem) → o ≡ p → n + length (asked_of p) ≤ length solved
-      within None e = omega (arith, few)
-      within (Some t) e = omega (arith, slice_get_within solved n t (next_answer solved n t h e))
-
-  -- the task of the line comes behind those that are made
-  pub tasks_more : (made all : List Problem) → made ++ tasks_from g limit left ≡ all → (made ++ asked_of o) ++ tasks_from g limit lines ≡ all
-  tasks_more made all h = append_assoc made (asked_of o) (tasks_from g limit lines) ∙ ap (λ l. made ++ l) (sym left_tasks) ∙ h
-
--- a line without a task
-pub tasks_skip : (g : Scoring) (limit : ℕ) (line : List ℕ) (left lines : List (List ℕ)) → left ≡ line ∷ lines → None ≡ task_of g limit (item_of line)
-    → (made all : List Problem) → made ++ tasks_from g limit left ≡ all → made ++ tasks_from g limit lines ≡ all
-tasks_skip g limit line left lines cut is made all h =
-    ap (λ l. made ++ l) (sym (ap (tasks_from g limit) cut ∙ tasks_step g limit line lines None (sym is))) ∙ h
+  -- a line that is skipped has none
+  pub tasks_skip : None ≡ task_of g limit (item_of line) → tasks_in made ++ tasks_from g limit lines ≡ all
+  tasks_skip is = ap (λ o. tasks_in made ++ cons_option o (tasks_from g limit lines)) is ∙ step
 
 pub tasks_all : (g : Scoring) (limit : ℕ) (left : List (List ℕ)) (made all : List Problem) → left ≡ [] → made ++ tasks_from g limit left ≡ all → made ≡ all
 tasks_all g limit left made all none h = sym (append-nil made) ∙ (rw (none, tasks_end g limit) at h)
+
+-- ---- the readings that are left, and their tasks
+
+same_after : {X : Type 0} (o : Option X) (xs ys : List X) → cons_option o xs ≡ cons_option o ys → xs ≡ ys
+same_after None xs ys e = e
+same_after (Some x) xs ys e = cc
+
+module _ (readings : List NumberedReading) (i : ℕ) (d : NumberedReading) (lt : i < length readings) where
+  abbrev here : Option Problem
+  here = task_in (get_or readings i d).reading
+
+  cut_tasks : tasks_in (drop i readings) ≡ cons_option here (tasks_in (drop (i + 1) readings))
+  cut_tasks = ap tasks_in (drop_more readings i d lt)
+
+  take_tasks : tasks_in (take (i + 1) readings) ≡ tasks_in (take i readings) ++ cons_option here []
+  take_tasks = ap tasks_in (take_more readings i d lt) ∙ filter_map-append (λ (n : NumberedReading). task_in n.reading) (take i readings) (get_or readings i d ∷ [])
+
+  -- a line's task comes behind those before it
+  pub task_taken : (made : List Problem) (t : Problem) → made ≡ tasks_in (take i readings) → Some t ≡ here → made ++ t ∷ [] ≡ tasks_in (take (i + 1) readings)
+  task_taken made t h e = ap₂ (λ l o. l ++ cons_option o []) h e ∙ sym take_tasks
+
+  pub none_taken : None ≡ here → tasks_in (take i readings) ≡ tasks_in (take (i + 1) readings)
+  none_taken e = sym (append-nil (tasks_in (take i readings))) ∙ ap (λ o. tasks_in (take i readings) ++ cons_option o []) e ∙ sym take_tasks
+
+  -- the first answer is that of the reading
+  pub next_answer : (answers : List Problem) (t : Problem) → answers ≡ tasks_in (drop i readings) → here ≡ Some t → slice_get answers 0 ≡ Some t
+  next_answer answers t h e = ap (λ l. slice_get l 0) (h ∙ cut_tasks ∙ ap (λ o. cons_option o (tasks_in (drop (i + 1) readings))) e)
+
+  pub answers_left : (answers later : List Problem) → answers ≡ tasks_in (drop i readings) → answers ≡ cons_option here later → later ≡ tasks_in (drop (i + 1) readings)
+  answers_left answers later h e = same_after here later (tasks_in (drop (i + 1) readings)) (sym e ∙ h ∙ cut_tasks)
+
+front_holds : {X : Type 0} (P : X → Type 0) (x : X) (xs : List X) → All P (x ∷ xs) → P x
+front_holds P x xs h = h 0 x (omega arith)
+
+rest_holds : {X : Type 0} (P : X → Type 0) (o : Option X) (xs : List X) → All P (cons_option o xs) → All P xs
+rest_holds P None xs h = h
+rest_holds P (Some x) xs h = λ k d lt. h (suc k) d (omega arith)
+
+-- what holds of all tasks holds of that of each line
+pub task_holds : (P : Problem → Type 0) (readings : List NumberedReading) (i : ℕ) (d : NumberedReading) (t : Problem) → i < length readings
+    → All P (tasks_in readings) → task_in (get_or readings i d).reading ≡ Some t → P t
+task_holds P [] i d t lt h e = absurd (omega arith)
+task_holds P (r ∷ rs) zero d t lt h e = front_holds P t (tasks_in rs) (subst (λ o. All P (cons_option o (tasks_in rs))) e h)
+task_holds P (r ∷ rs) (suc i) d t lt h e = task_holds P rs i d t (omega arith) (rest_holds P (task_in r.reading) (tasks_in rs) h) e
 
 -- each task has the scoring
 abbrev pub HasScoring : Scoring → Problem → Type 0
@@ -75,16 +103,15 @@ task_scored g limit Skipped t e = cc
 task_scored g limit (Faulty fault) t e = cc
 task_scored g limit (Holds entry) t e = ap (λ (r : Problem). r.scoring) (sym (chosen (nat_lt limit (empties entry.position)) _ t e))
 
-asked_scored : (g : Scoring) (o : Option Problem) → ((t : Problem) → o ≡ Some t → HasScoring g t) → All (HasScoring g) (asked_of o)
-asked_scored g None h = All-nil (HasScoring g)
-asked_scored g (Some t) h = All-cons (HasScoring g) t [] (h t refl) (All-nil (HasScoring g))
+line_scored : (g : Scoring) (o : Option Problem) (ts : List Problem) → ((t : Problem) → o ≡ Some t → HasScoring g t) → All (HasScoring g) ts → All (HasScoring g) (cons_option o ts)
+line_scored g None ts h all = all
+line_scored g (Some t) ts h all = All-cons (HasScoring g) t ts (h t refl) all
 
 lines_scored : (g : Scoring) (limit : ℕ) (lines : List (List ℕ)) → All (HasScoring g) (tasks_from g limit lines)
 lines_scored g limit [] = All-same (HasScoring g) _ [] (tasks_end g limit) (All-nil (HasScoring g))
 lines_scored g limit (line ∷ lines) =
-    All-same (HasScoring g) _ _ (tasks_step g limit line lines (task_of g limit (item_of line)) refl)
-    (All-append (HasScoring g) (asked_of (task_of g limit (item_of line))) (tasks_from g limit lines)
-    (asked_scored g (task_of g limit (item_of line)) (λ t e. task_scored g limit (item_of line) t e)) (lines_scored g limit lines))
+    All-same (HasScoring g) _ _ (tasks_step g limit line lines)
+    (line_scored g (task_of g limit (item_of line)) (tasks_from g limit lines) (λ t e. task_scored g limit (item_of line) t e) (lines_scored g limit lines))
 
 pub tasks_scored : (g : Scoring) (limit : ℕ) (text : List ℕ) → All (HasScoring g) (tasks g limit text)
 tasks_scored g limit text = lines_scored g limit (lines_of text)

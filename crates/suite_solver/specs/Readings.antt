@@ -1,12 +1,15 @@
--- What a line asks, and what comes of it.
-use Rattle.std.specs.Prelude.{List, [], ◌∷◌, Option, Some, None}
+-- What the lines of a text ask, and what comes of them.
+use Rattle.std.specs.Prelude.{List, Option, Some, None}
+use Rattle.std.specs.List.{filter_map}
 use Rattle.endgame_search.specs.Problems.{Problem}
 use Rattle.othello_bits.specs.Discs.{answer_of}
 use Rattle.suite_solver.specs.Checks.{check}
 use Rattle.suite_solver.specs.declared.readings.Reading.{Reading}
 use Rattle.suite_solver.specs.declared.readings.Reading.TheVariants as reading
+use Rattle.suite_solver.specs.declared.rows.ReportRow.{ReportRow}
 use Rattle.suite_solver.specs.declared.rows.RowResult.{RowResult}
 use Rattle.suite_solver.specs.declared.rows.RowResult.TheVariants.{Solved, Refused}
+use Rattle.suite_solver.specs.declared.texts.NumberedReading.{NumberedReading}
 
 abbrev pub task_in : Reading → Option Problem
 task_in (reading.Asked task listed) = Some task
@@ -18,7 +21,10 @@ result_in (reading.Asked task listed) =
     Solved (answer_of task.scoring task.position) (check listed (answer_of task.scoring task.position))
 result_in (reading.Refused refusal) = Refused refusal
 
--- the answers that a line takes
-abbrev pub asked_of : Option Problem → List Problem
-asked_of (Some task) = task ∷ []
-asked_of None = []
+-- the row of a line
+abbrev pub row_in : NumberedReading → ReportRow
+row_in numbered = record { line = numbered.line; result = result_in numbered.reading }
+
+-- the tasks of lines, in their order
+abbrev pub tasks_in : List NumberedReading → List Problem
+tasks_in readings = filter_map (λ (n : NumberedReading). task_in n.reading) readings

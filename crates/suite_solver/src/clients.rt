@@ -1,17 +1,17 @@
 //! What the threads of a run do at its desk.
 
-ghost use Rattle.std.specs.Prelude.{◌≡◌, ◌⊎◌, ◌≤◌, ◌++◌, length, IfOk, IfErr, OnOk, IsOkAnd, IsErr, IsErrOf};
+ghost use Rattle.std.specs.Prelude.{◌≡◌, ◌⊎◌, ◌≤◌, ◌++◌, length, Ok, IfOk, IfErr, OnOk, IsErr, IsErrOf};
+ghost use Rattle.suite_solver.specs.Readings.{tasks_in};
 ghost use Rattle.suite_solver.specs.Rows.{rows, tasks};
 ghost use Rattle.suite_solver.specs.declared.faults.RunFault.TheVariants.{Memory, Mixed};
 
 use crate::faults::{RunFault, worse};
 use crate::gates::Gate;
 use crate::parts::Part;
-use crate::readings::tasks_of;
-use crate::rows::rows_of;
 use crate::solvers::Solver;
+use crate::texts::{NumberedReading, readings_of, rows_of};
 use bound_table::Bounds;
-use endgame_search::{Solved, Task};
+use endgame_search::Solved;
 use job_board::{Client, Desk, Job, Turn};
 use solved_book::Claims;
 use std::alloc::{AllocError, Global};
@@ -22,13 +22,16 @@ fn send_all<R: Wait>(
     rt: &R,
     desk: &Desk,
     client: &mut Client,
-    tasks: &[Task],
+    readings: &[NumberedReading],
 ) -> Result<(), RunFault>
-    ensures sent { OnOk result (client.new ≡ record client.old { sent = client.old.sent ++ tasks.now }) }
+    ensures sent { OnOk result (client.new
+        ≡ record client.old { sent = client.old.sent ++ tasks_in readings.now }) }
     ensures faults { IfErr result (λ fault. (fault ≡ Memory) ⊎ (fault ≡ Mixed)) }
 {
-    for task in tasks {
-        desk.submit(rt, client, *task)?;
+    for reading in readings {
+        if let Some(task) = reading.task() {
+            desk.submit(rt, client, task)?;
+        }
     }
     Ok(())
 }
@@ -107,19 +110,25 @@ pub(crate) fn work<R: Wait, T: Bounds, G: Gate>(
     }
 }
 
-// Submits the tasks, where there was memory for them, and closes the sender in any case, since others wait for that.
+// Submits the tasks of what was read, where there was memory for that, and closes the sender in any case, since others
+// wait for the close.
 fn send_and_close<R: Wait>(
     rt: &R,
     desk: &Desk,
     client: &mut Client,
-    tasks: Result<Vec<Task>, AllocError>,
-) -> Result<(), RunFault>
-    ensures sent { OnOk result (IsOkAnd tasks (λ all. client.new ≡ record client.old { sent = client.old.sent ++ all.items })) }
-    ensures wanting { IsErr tasks → IsErrOf result Memory }
+    read: Result<Vec<NumberedReading>, AllocError>,
+) -> Result<Vec<NumberedReading>, RunFault>
+    ensures read { IfOk result (λ readings. read ≡ Ok readings) }
+    ensures sent { IfOk result (λ readings. client.new
+        ≡ record client.old { sent = client.old.sent ++ tasks_in readings.items }) }
+    ensures wanting { IsErr read → IsErrOf result Memory }
     ensures faults { IfErr result (λ fault. (fault ≡ Memory) ⊎ (fault ≡ Mixed)) }
 {
-    let sent = match tasks {
-        Ok(all) => send_all(rt, desk, client, &all),
+    let sent = match read {
+        Ok(readings) => match send_all(rt, desk, client, &readings) {
+            Ok(()) => Ok(readings),
+            Err(fault) => Err(fault),
+        },
         Err(_) => Err(RunFault::Memory),
     };
     match desk.close(rt, client) {
@@ -153,9 +162,9 @@ pub fn client_part<R: Wait, T: Bounds, G: Gate>(
 {
     let solver = Solver::new(table, claims);
     let mut client = Client::new(alloc, sender);
-    let tasks = tasks_of(alloc, limit, table.scoring(), text);
-    send_and_close(rt, desk, &mut client, tasks)?;
+    let read = readings_of(alloc, limit, table.scoring(), text);
+    let readings = send_and_close(rt, desk, &mut client, read)?;
     let solved = receive_all(rt, alloc, desk, &mut client, &solver, gate)?;
-    let rows = rows_of(alloc, limit, table.scoring(), text, &solved)?;
+    let rows = rows_of(alloc, &readings, &solved)?;
     Ok(Part { rows, solved })
 }

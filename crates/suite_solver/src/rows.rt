@@ -1,14 +1,7 @@
 //! What a report says of each line.
 
-ghost use Rattle.std.specs.Prelude.{◌≡◌, ◌≤◌, length, IfOk};
-ghost use Rattle.suite_solver.specs.Rows.{rows, tasks};
-
 use crate::checks::Check;
-use crate::readings::reading_of;
-use endgame_search::Solved;
-use obf_text::split_lines;
-use othello_rules::{Answer, Scoring};
-use std::alloc::{AllocError, Global};
+use othello_rules::Answer;
 
 /// Why a line was not solved.
 #[derive(Clone, Copy, PartialEq, Eq, Debug)]
@@ -35,38 +28,4 @@ pub enum RowResult {
 pub struct ReportRow {
     pub line: u32,
     pub result: RowResult,
-}
-
-// The rows of a text, whose tasks were solved, in their order.
-pub(crate) fn rows_of(
-    alloc: Global,
-    limit: u8,
-    scoring: Scoring,
-    text: &[u8],
-    solved: &[Solved],
-) -> Result<Vec<ReportRow>, AllocError>
-    requires few_empties { limit ≤ 60 }
-    requires short { length text.now ≤ 1048576 }
-    requires solved { solved.now ≡ tasks scoring limit text.now }
-    ensures { IfOk result (λ found. found.items ≡ rows scoring limit text.now) }
-{
-    let mut rows = Vec::new(alloc);
-    let mut number: u32 = 1;
-    let mut next: usize = 0;
-    for line in split_lines(text) {
-        match reading_of(alloc, limit, scoring, line)? {
-            Some(reading) => {
-                let answers = reading.answers();
-                let result = reading.result(solved, next);
-                rows.push(ReportRow {
-                    line: number,
-                    result,
-                })?;
-                next += answers;
-            }
-            None => {}
-        }
-        number += 1;
-    }
-    Ok(rows)
 }

@@ -1,8 +1,25 @@
-use Rattle.std.proofs.Common.{ap}
+use Rattle.std.proofs.Common.{◌≡◌, sym, ap, ap₂, ◌∙◌, arith}
+use Rattle.std.specs.Slice.Iter.{iter_rest}
 use Rattle.std.proofs.lemmas.Option.{slice_get_within}
-use Rattle.suite_solver.specs.Readings.{task_in}
+use Rattle.othello_bits.specs.Discs.{answer_of}
+use Rattle.endgame_search.specs.Problems.{Problem}
+use Rattle.suite_solver.specs.Checks.{check}
+use Rattle.suite_solver.specs.Readings.{result_in, task_in}
+use Rattle.suite_solver.specs.declared.rows.RowResult.TheVariants.{Solved}
 use Rattle.suite_solver.proofs.readings.Reading.result.Goals as goal
 
-pub answer_at-answer-requires : goal.answer_at-answer-requires
-answer_at-answer-requires c =
-    slice_get_within c.args.solved.now c.args.next c.in-Asked.field-0 (c.requires c.in-Asked.field-0 (ap task_in c.in-Asked.is))
+pub unreachable-requires : goal.unreachable-requires
+unreachable-requires c =
+    let t = c.in-Asked.field-0 in
+    let some = slice_get_within (iter_rest c.args.answers.now) 0 t (c.requires t (ap task_in c.in-Asked.is)) in
+    let none = c.in_default.ensures.steps.0 in
+    omega arith
+
+pub returns-in-Some-clause-result : goal.returns-in-Some-clause-result
+returns-in-Some-clause-result c =
+    let t = c.in-Asked.field-0 in
+    let first = rw c.in-Some.ensures.steps at (c.requires t (ap task_in c.in-Asked.is)) in
+    let same : c.in-Some.solved.now ≡ t = cc in
+    let answer = c.answer-answer.ensures ∙ ap (λ (p : Problem). answer_of p.scoring p.position) same in
+    let checked = c.check_of.ensures ∙ ap (λ l. check l c.answer-answer.result) c.as_slice.ensures in
+    ap₂ Solved answer (checked ∙ ap (check c.in-Asked.listed) answer) ∙ sym (ap result_in c.in-Asked.is)
