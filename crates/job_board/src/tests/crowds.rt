@@ -1,5 +1,7 @@
 //! Many threads at one desk: some send jobs and receive the answers, others solve jobs, and one
-//! leaves with its first job given back. All are served, in order.
+//! leaves with its first job given back. All are served, in order. One more watches: where nothing is
+//! done for some seconds, it wakes the others again and again, so that a test whose wake-up is lost
+//! ends all the same, and fails.
 
 use super::{
     CORNER_LEFT_OVER, EQUAL_CORNERS, LAST_CORNER, SECOND, UNEQUAL_CORNERS, sends, solved, task_of,
@@ -9,8 +11,10 @@ use endgame_search::Task;
 use std::alloc::{AllocError, Global};
 use std::process::Abort;
 use std::sync::Wait;
+use std::sync::atomic::{AtomicU32, Ordering};
 use std::thread;
 use std::thread::Threads;
+use std::time::{Clock, Duration};
 
 // A job whose number is a multiple of this is given back when a thread has it for the first time.
 const GIVEN_BACK: u32 = 7;
@@ -36,31 +40,44 @@ fn task_at(load: &Load, number: u32) -> Task {
     load.tasks[number as usize % 4]
 }
 
+#[derive(Drop)]
+struct Crowd {
+    desk: Desk,
+    load: Load,
+    // Of the threads that are watched.
+    threads: u32,
+    // How many jobs were given back or finished.
+    served: AtomicU32,
+    // How many threads ended.
+    ended: AtomicU32,
+}
+
 // Takes a job, gives it back and leaves.
-fn leave<R: Wait>(rt: &R, desk: &Desk) -> bool {
-    match desk.take_or_wait(rt) {
-        Some(job) => desk.give_back(rt, job.id) == Ok(()),
+fn leave<R: Wait>(rt: &R, crowd: &Crowd) -> bool {
+    match crowd.desk.take_or_wait(rt) {
+        Some(job) => crowd.desk.give_back(rt, job.id) == Ok(()),
         None => true,
     }
 }
 
 // Gives the job back, or finishes it. `last` is the job that the thread gave back last.
-fn serve<R: Wait>(rt: &R, desk: &Desk, job: Job, last: &mut JobId) -> bool {
+fn serve<R: Wait>(rt: &R, crowd: &Crowd, job: Job, last: &mut JobId) -> bool {
+    crowd.served.fetch_add(1, Ordering::SeqCst);
     if job.id.number % GIVEN_BACK == 0 && *last != job.id {
         *last = job.id;
-        return desk.give_back(rt, job.id) == Ok(());
+        return crowd.desk.give_back(rt, job.id) == Ok(());
     }
-    desk.finish(rt, job.id, solved(job.task)) == Ok(())
+    crowd.desk.finish(rt, job.id, solved(job.task)) == Ok(())
 }
 
 // Whether all jobs that the worker took were accepted again.
-fn work<R: Wait>(rt: &R, desk: &Desk) -> bool {
+fn work<R: Wait>(rt: &R, crowd: &Crowd) -> bool {
     let mut last = SECOND;
     for _ in rt.forever() {
-        let Some(job) = desk.take_or_wait(rt) else {
+        let Some(job) = crowd.desk.take_or_wait(rt) else {
             return true;
         };
-        if !serve(rt, desk, job, &mut last) {
+        if !serve(rt, crowd, job, &mut last) {
             return false;
         }
     }
@@ -68,29 +85,35 @@ fn work<R: Wait>(rt: &R, desk: &Desk) -> bool {
 }
 
 // Sends the tasks in turn, and closes the sender.
-fn send_all<R: Wait>(rt: &R, desk: &Desk, client: &mut Client, load: &Load) -> bool {
-    for number in 0..load.jobs {
-        if !sends(rt, desk, client, task_at(load, number), number) {
+fn send_all<R: Wait>(rt: &R, crowd: &Crowd, client: &mut Client) -> bool {
+    for number in 0..crowd.load.jobs {
+        if !sends(
+            rt,
+            &crowd.desk,
+            client,
+            task_at(&crowd.load, number),
+            number,
+        ) {
             return false;
         }
     }
-    desk.close(rt, client) == Ok(true)
+    crowd.desk.close(rt, client) == Ok(true)
 }
 
 // Whether the answers are those of the tasks, in their order, up to the end.
-fn receive_all<R: Wait>(rt: &R, desk: &Desk, client: &mut Client, load: &Load) -> bool {
+fn receive_all<R: Wait>(rt: &R, crowd: &Crowd, client: &mut Client) -> bool {
     let mut last = SECOND;
     let mut received = 0;
     for _ in rt.forever() {
-        let goes_on = match desk.turn(rt, client) {
+        let goes_on = match crowd.desk.turn(rt, client) {
             Ok(Turn::Next(next)) => {
-                let wanted = solved(task_at(load, received));
+                let wanted = solved(task_at(&crowd.load, received));
                 let found = next.number == received && next.solved == wanted;
                 received = received.wrapping_add(1);
                 found
             }
-            Ok(Turn::Work(job)) => serve(rt, desk, job, &mut last),
-            Ok(Turn::Drained) => return received == load.jobs,
+            Ok(Turn::Work(job)) => serve(rt, crowd, job, &mut last),
+            Ok(Turn::Drained) => return received == crowd.load.jobs,
             Err(_) => false,
         };
         if !goes_on {
@@ -102,48 +125,110 @@ fn receive_all<R: Wait>(rt: &R, desk: &Desk, client: &mut Client, load: &Load) -
 
 // The part of a thread: the second leaves; of the others the even ones work, and the first and the
 // odd ones are clients.
-fn play<R: Wait>(rt: &R, alloc: Global, desk: &Desk, load: &Load, thread: usize) -> bool {
+fn play<R: Wait>(rt: &R, alloc: Global, crowd: &Crowd, thread: u32) -> bool {
     if thread == 1 {
-        return leave(rt, desk);
+        return leave(rt, crowd);
     }
     if thread > 0 && thread % 2 == 0 {
-        return work(rt, desk);
+        return work(rt, crowd);
     }
-    let Ok(sender) = u32::try_from(thread / 2) else {
-        return false;
+    let mut client = Client::new(alloc, thread / 2);
+    send_all(rt, crowd, &mut client) && receive_all(rt, crowd, &mut client)
+}
+
+fn have_ended(crowd: &Crowd) -> bool {
+    crowd.ended.load(Ordering::SeqCst) >= crowd.threads
+}
+
+// Whether something is done within five seconds, or all have ended.
+fn goes_on<R: Clock>(rt: &R, crowd: &Crowd) -> bool {
+    let served = crowd.served.load(Ordering::SeqCst);
+    for _ in 0..100 {
+        thread::sleep(rt, Duration::from_millis(50));
+        if have_ended(crowd) || crowd.served.load(Ordering::SeqCst) != served {
+            return true;
+        }
+    }
+    false
+}
+
+// Wakes all until they have ended, by closes of a sender that is closed.
+fn wake_all<R: Wait + Clock>(rt: &R, crowd: &Crowd, idle: &Client) {
+    for _ in 0..10_000 {
+        if have_ended(crowd) || crowd.desk.close(rt, idle).is_err() {
+            return;
+        }
+        thread::sleep(rt, Duration::from_millis(1));
+    }
+}
+
+// Whether the others end by themselves.
+fn watch<R: Wait + Clock>(rt: &R, alloc: Global, crowd: &Crowd) -> bool {
+    for _ in rt.forever() {
+        if have_ended(crowd) {
+            return true;
+        }
+        if !goes_on(rt, crowd) {
+            wake_all(rt, crowd, &Client::new(alloc, crowd.threads / 2));
+            return false;
+        }
+    }
+    unreachable!()
+}
+
+// The part of a thread of the crowd, or of the one that watches.
+fn take_part<R: Wait + Clock>(rt: &R, alloc: Global, crowd: &Crowd, thread: usize) -> bool {
+    match u32::try_from(thread) {
+        Ok(thread) if thread < crowd.threads => {
+            let played = play(rt, alloc, crowd, thread);
+            crowd.ended.fetch_add(1, Ordering::SeqCst);
+            played
+        }
+        _ => watch(rt, alloc, crowd),
+    }
+}
+
+// A desk with a sender for each client, and one more, which is closed.
+fn crowd_of<R: Wait>(rt: &R, alloc: Global, load: Load, threads: u32) -> Result<Crowd, AllocError> {
+    let Ok(desk) = Desk::new(alloc, threads / 2 + 1) else {
+        return Err(AllocError);
     };
-    let mut client = Client::new(alloc, sender);
-    send_all(rt, desk, &mut client, load) && receive_all(rt, desk, &mut client, load)
+    let _ = desk.close(rt, &Client::new(alloc, threads / 2));
+    Ok(Crowd {
+        desk,
+        load,
+        threads,
+        served: AtomicU32::new(0),
+        ended: AtomicU32::new(0),
+    })
 }
 
 // Whether all threads are served.
-fn are_served<R: Threads + Wait + Sync>(
+fn are_served<R: Threads + Wait + Clock + Sync>(
     rt: &R,
     alloc: Global,
     load: &Load,
     threads: u32,
 ) -> Result<bool, AllocError> {
-    let Ok(desk) = Desk::new(alloc, threads / 2) else {
-        return Err(AllocError);
-    };
+    let crowd = crowd_of(rt, alloc, *load, threads)?;
     let served = thread::map_indices(
         rt,
         alloc,
-        threads as usize,
-        &|i| play(rt, alloc, &desk, load, i),
+        threads as usize + 1,
+        &|i| take_part(rt, alloc, &crowd, i),
     )?;
     Ok(!served.contains(&false))
 }
 
 // The same, where memory may be refused once.
-fn are_served_at_last<R: Threads + Wait + Sync>(
+fn are_served_at_last<R: Threads + Wait + Clock + Sync>(
     rt: &R,
     alloc: Global,
-    load: Load,
+    load: &Load,
     threads: u32,
 ) -> bool {
-    let served = match are_served(rt, alloc, &load, threads) {
-        Err(AllocError) => are_served(rt, alloc, &load, threads),
+    let served = match are_served(rt, alloc, load, threads) {
+        Err(AllocError) => are_served(rt, alloc, load, threads),
         served => served,
     };
     matches!(served, Ok(true))
@@ -151,12 +236,13 @@ fn are_served_at_last<R: Threads + Wait + Sync>(
 
 #[test]
 fn a_worker_leaves(rt: HostRuntime) {
-    assert!(rt; are_served_at_last(&rt, rt.alloc(), load_of(&rt, 3), 3));
+    assert!(rt; are_served_at_last(&rt, rt.alloc(), &load_of(&rt, 3), 3));
 }
 
 #[test]
 fn two_to_eight_threads(rt: HostRuntime) {
+    let load = load_of(&rt, 500);
     for threads in 2..=8 {
-        assert!(rt; are_served_at_last(&rt, rt.alloc(), load_of(&rt, 500), threads));
+        assert!(rt; are_served_at_last(&rt, rt.alloc(), &load, threads));
     }
 }

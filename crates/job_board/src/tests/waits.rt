@@ -110,14 +110,15 @@ fn is_woken<R: Clock>(rt: &R, scene: &Scene) -> bool {
     false
 }
 
-// Makes the call while the other thread waits. Then a submit and a close of another sender wake
-// that thread in any case.
+// Makes the call while the other thread waits. Then two submits and a close of another sender wake that
+// thread, and the one that stands by, in any case.
 fn wake<R: Wait + Clock>(rt: &R, alloc: Global, scene: &Scene) -> bool {
     thread::sleep(rt, Duration::from_millis(150));
     let called = call(rt, scene, &mut Client::new(alloc, 0));
     let woken = is_woken(rt, scene);
     let mut other = Client::new(alloc, 1);
     let ended = sends(rt, &scene.desk, &mut other, scene.task, 0)
+        && sends(rt, &scene.desk, &mut other, scene.task, 1)
         && scene.desk.close(rt, &other) == Ok(true);
     called && woken && ended
 }
