@@ -1,5 +1,6 @@
 -- The masks that end a run: at its ray's lowest square that isn't opposing, or at its highest.
 use Rattle.std.proofs.Common.{◌≡◌, ℕ, zero, suc, ◌-◌, ◌*◌, ◌/◌, ◌%◌, ◌^◌, ◌+◌, ◌<◌, ◌≤◌, Bool, true, false, not, ◌&&◌, ◌||◌, eqb, ltb, ◌⊎◌, ◌≢◌, inl, inr, List, bit_and, bit_or, refl, ap, sym, ◌∙◌, arith}
+use mir.Val.{bool_byte}
 use Rattle.std.specs.Int.{bit_at, bit_not, w64}
 use Rattle.std.proofs.Math.Bool.{and-false, and-true, or-false}
 use Rattle.std.proofs.lemmas.Bool.{false≢true, and_parts, or_cases, or_right, cases_eq, cases_lt, eqb-true, eq-eqb, ne_eqb, lt-ltb, le-ltb, ltb-true}
@@ -146,7 +147,7 @@ module _ (own opp ray : ℕ) (hopp : opp < 2 ^ 64) (hray : ray < 2 ^ 64) (met : 
             let l = below_top (rest opp ray) t (rest_fits opp ray) b in
             in_mask-above lowest_end i (end_fits (bit_not w64 lower)) g ∙ sym (rw (ne_eqb t i (λ e. absurd (omega arith))) (and-false (in_mask own t)))
 
-    pub ahead_closed : (lowest_end ≡ 0 → ⊥) → (i : ℕ) → in_mask (bit_and ray (lowest_end - 1)) i ≡ turns own opp met i
+    ahead_closed : (lowest_end ≡ 0 → ⊥) → (i : ℕ) → in_mask (bit_and ray (lowest_end - 1)) i ≡ turns own opp met i
     ahead_closed h i =
         let f = lowest (of_rest (bit_not w64 lower) h) in
         let t = f.0 in
@@ -154,7 +155,7 @@ module _ (own opp ray : ℕ) (hopp : opp < 2 ^ 64) (hray : ray < 2 ^ 64) (met : 
         in_mask-and ray (lowest_end - 1) i ∙ ap (λ b. in_mask ray i && b) (less_end own t lowest_end f.3 o i)
         ∙ sym (turned_before ltb one_way_up own opp ray hopp hray met ray_is t f.1 (λ j l. f.2 j (ltb-true j t l)) i ∙ ap (λ c. c && (in_mask ray i && ltb i t)) o)
 
-    pub ahead_open : lowest_end ≡ 0 → (i : ℕ) → in_mask 0 i ≡ turns own opp met i
+    ahead_open : lowest_end ≡ 0 → (i : ℕ) → in_mask 0 i ≡ turns own opp met i
     ahead_open h i = in_mask-zero i ∙ sym (elim (cases_lt 0 (rest opp ray)) [
       | inr z ↦
           let none : rest opp ray ≡ 0 = omega arith in
@@ -164,6 +165,26 @@ module _ (own opp ray : ℕ) (hopp : opp < 2 ^ 64) (hray : ray < 2 ^ 64) (met : 
           let t = f.0 in
           turned_before ltb one_way_up own opp ray hopp hray met ray_is t f.1 (λ j l. f.2 j (ltb-true j t l)) i ∙ ap (λ c. c && (in_mask ray i && ltb i t)) (not_own own t lowest_end f.3 h)
     ])
+
+    -- an end less one, or nothing where there is no end
+    pub below_end : (end : ℕ) → end < 2 ^ 64 → (end + (2 ^ 64 - bool_byte (not (eqb end 0)))) % 2 ^ 64 ≡ end - 1
+    below_end end fits = elim (cases_eq end 0) [
+      | inl z ↦ rw (eq-eqb end 0 z) (omega (arith, z))
+      | inr n ↦ rw (ne_eqb end 0 n) (omega (arith, n, fits))
+    ]
+
+    -- where there is no end, nothing lies below it
+    ahead : (i : ℕ) → in_mask (bit_and ray (lowest_end - 1)) i ≡ turns own opp met i
+    ahead i = elim (cases_eq lowest_end 0) [
+      | inr h ↦ ahead_closed h i
+      | inl h ↦
+          let e : lowest_end - 1 ≡ 0 = omega (arith, h) in
+          in_mask-and ray (lowest_end - 1) i ∙ ap (λ m. in_mask ray i && in_mask m i) e ∙ ap (λ b. in_mask ray i && b) (in_mask-zero i)
+          ∙ and-false (in_mask ray i) ∙ sym (in_mask-zero i) ∙ ahead_open h i
+    ]
+
+    pub ahead_of : (i : ℕ) → in_mask (bit_and ray ((lowest_end + (2 ^ 64 - bool_byte (not (eqb lowest_end 0)))) % 2 ^ 64)) i ≡ turns own opp met i
+    ahead_of i = ap (λ m. in_mask (bit_and ray m) i) (below_end lowest_end (end_fits (bit_not w64 lower))) ∙ ahead i
 
 -- the highest bit of a number
 abbrev Top : ℕ → Type 0
