@@ -7,19 +7,19 @@ use Rattle.std.specs.Cmp.{IsTotalOrder}
 use Rattle.std.specs.List.{AllByRecursion}
 use Rattle.std.specs.List.Sorted.{IsStrictlySortedBy}
 use Rattle.std.specs.Map.{keys_of}
-use Rattle.std.specs.Ordering.{nat_cmp, ordering_then, match_ordering, is_eq}
+use Rattle.std.specs.Ordering.{nat_cmp, ordering_reverse, ordering_then, match_ordering, is_eq}
 use Rattle.std.specs.declared.cmp.Ordering.{Ordering}
 use Rattle.std.specs.declared.cmp.Ordering.TheVariants.{Less, Equal, Greater}
 use Rattle.std.proofs.lemmas.Bool.{false≢true}
 use Rattle.std.proofs.lemmas.Cmp.{nat_cmp_total, on_total, then_total, tied_itself}
-use Rattle.std.proofs.lemmas.List.Elements.{All-from_recursion, All-map, All-weaker, recursion_from_All}
+use Rattle.std.proofs.lemmas.List.Elements.{All-from_recursion, All-nil, All-map, All-weaker, recursion_from_All}
 use Rattle.std.proofs.lemmas.Map.Lookups.{CmpEqualImpliesEq, exact_pairs, exact_unsigned}
 use Rattle.std.proofs.lemmas.Map.Views.{btree_map_contains_key_iff}
 use Rattle.othello_rules.specs.declared.scorings.Scoring.{Scoring}
 use Rattle.othello_rules.specs.Solution.{Solution}
 use Rattle.othello_rules.proofs.BoundLaws.{Contains-map, Contains-from_map}
 use Rattle.othello_bits.specs.Discs.{Discs}
-use Rattle.solved_book.specs.Books.{AreSolved, IsSolvedEntry, Masks, position_at, positions_in}
+use Rattle.solved_book.specs.Books.{AreSolved, IsBook, IsSolvedEntry, Masks, position_at, positions_in}
 use Rattle.solved_book.specs.Order.{AreRising, IsCanonical, AreBookPositions, by_masks}
 
 -- the order of the pairs of masks
@@ -35,20 +35,10 @@ masks_exact = exact_pairs nat_cmp nat_cmp exact_unsigned exact_unsigned
 abbrev pub masks_at : Discs → Masks
 masks_at p = (p.own, p.opp)
 
--- keys in order are positions in order
-all_after : {X : Type 0} (k : Masks) (es : List (Masks × X)) → AllByRecursion (λ y. masks_cmp k y ≡ Less) (keys_of es) → AllByRecursion (λ q. by_masks (position_at k) q ≡ Less) (positions_in es)
-all_after k [] h = h
-all_after k (e ∷ es) h = (h.0, all_after k es h.1)
-
-pub rising_from_keys : {X : Type 0} (es : List (Masks × X)) → IsStrictlySortedBy masks_cmp (keys_of es) → AreRising (positions_in es)
-unfolding IsStrictlySortedBy
-rising_from_keys [] h = h
-rising_from_keys (e ∷ es) h = (all_after e.0 es h.0, rising_from_keys es h.1)
-
-pub book_positions_from : (g : Scoring) (es : List (Masks × Solution)) → AreSolved g es → IsStrictlySortedBy masks_cmp (keys_of es) → AreBookPositions (positions_in es)
-book_positions_from g es solved sorted = record {
-  rising = rising_from_keys es sorted;
-  canonical = All-map IsCanonical (λ (e : Masks × Solution). position_at e.0) es (All-weaker (IsSolvedEntry g) (λ e. IsCanonical (position_at e.0)) (λ e s. s.canonical) es solved);
+pub book_positions_from : (g : Scoring) (es : List (Masks × Solution)) → IsBook g es → AreBookPositions (positions_in es)
+book_positions_from g es kept = record {
+  rising = kept.rising;
+  canonical = All-map IsCanonical (λ (e : Masks × Solution). position_at e.0) es (All-weaker (IsSolvedEntry g) (λ e. IsCanonical (position_at e.0)) (λ e s. s.canonical) es kept.solved);
 }
 
 -- an entry that is put in
@@ -61,9 +51,51 @@ insert_all P k v h (e ∷ es) a = by (masks_cmp k e.0) refl (insert_all P k v h 
     by Equal s rest = (subst (λ (x : Masks). P (x, v)) (masks_exact k e.0 s) h, a.1)
     by Greater s rest = (a.0, rest)
 
-pub solved_insert : (g : Scoring) (k : Masks) (v : Solution) (es new : List (Masks × Solution)) → IsSolvedEntry g (k, v) → AreSolved g es → new ≡ insert_entry masks_cmp es k v → AreSolved g new
+solved_insert : (g : Scoring) (k : Masks) (v : Solution) (es new : List (Masks × Solution)) → IsSolvedEntry g (k, v) → AreSolved g es → new ≡ insert_entry masks_cmp es k v → AreSolved g new
 solved_insert g k v es new h a e =
     rw e (All-from_recursion (IsSolvedEntry g) (insert_entry masks_cmp es k v) (insert_all (IsSolvedEntry g) k v h es (recursion_from_All (IsSolvedEntry g) es a)))
+
+-- an entry that is put in keeps the order
+all_weaker : (P Q : Discs → Type 0) → ((q : Discs) → P q → Q q) → (qs : List Discs) → AllByRecursion P qs → AllByRecursion Q qs
+all_weaker P Q f [] a = tt
+all_weaker P Q f (q ∷ qs) a = (f q a.0, all_weaker P Q f qs a.1)
+
+all_insert : {X : Type 0} (P : Discs → Type 0) (k : Masks) (v : X) → P (position_at k) → (es : List (Masks × X)) → AllByRecursion P (positions_in es) → AllByRecursion P (positions_in (insert_entry masks_cmp es k v))
+all_insert P k v h [] a = (h, tt)
+all_insert P k v h (e ∷ es) a = by (masks_cmp k e.0) (all_insert P k v h es a.1)
+  where
+    by : (o : Ordering) → AllByRecursion P (positions_in (insert_entry masks_cmp es k v)) → AllByRecursion P (positions_in (match_ordering o ((k, v) ∷ e ∷ es) ((e.0, v) ∷ es) (e ∷ insert_entry masks_cmp es k v)))
+    by Less rest = (h, (a.0, a.1))
+    by Equal rest = (a.0, a.1)
+    by Greater rest = (a.0, rest)
+
+pub rising_insert : {X : Type 0} (k : Masks) (v : X) (es : List (Masks × X)) → AreRising (positions_in es) → AreRising (positions_in (insert_entry masks_cmp es k v))
+unfolding IsStrictlySortedBy
+rising_insert k v [] h = (tt, tt)
+rising_insert k v (e ∷ es) h = by (masks_cmp k e.0) refl (rising_insert k v es h.1)
+  where
+    below : masks_cmp k e.0 ≡ Less → (q : Discs) → by_masks (position_at e.0) q ≡ Less → by_masks (position_at k) q ≡ Less
+    below s q l = masks_total.trans k e.0 (masks_at q) s l
+
+    by : (o : Ordering) → masks_cmp k e.0 ≡ o → IsStrictlySortedBy by_masks (positions_in (insert_entry masks_cmp es k v)) → IsStrictlySortedBy by_masks (positions_in (match_ordering o ((k, v) ∷ e ∷ es) ((e.0, v) ∷ es) (e ∷ insert_entry masks_cmp es k v)))
+    by Less s rest =
+        ((s, all_weaker (λ q. by_masks (position_at e.0) q ≡ Less) (λ q. by_masks (position_at k) q ≡ Less) (below s) (positions_in es) h.0), (h.0, h.1))
+    by Equal s rest = (h.0, h.1)
+    by Greater s rest =
+        (all_insert (λ q. by_masks (position_at e.0) q ≡ Less) k v (masks_total.antisymm e.0 k ∙ ap ordering_reverse s) es h.0, rest)
+
+pub rising_empty : AreRising []
+unfolding IsStrictlySortedBy
+rising_empty = tt
+
+pub book_empty : (g : Scoring) → IsBook g []
+book_empty g = record { solved = All-nil (IsSolvedEntry g); rising = rising_empty }
+
+pub book_insert : (g : Scoring) (k : Masks) (v : Solution) (es new : List (Masks × Solution)) → IsSolvedEntry g (k, v) → IsBook g es → new ≡ insert_entry masks_cmp es k v → IsBook g new
+book_insert g k v es new h kept e = record {
+  solved = solved_insert g k v es new h kept.solved e;
+  rising = rw e (rising_insert k v es kept.rising);
+}
 
 -- positions and keys
 key_from_position : {X : Type 0} (es : List (Masks × X)) (p : Discs) → Contains (positions_in es) p → Contains (keys_of es) (masks_at p)

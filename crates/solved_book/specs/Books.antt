@@ -8,7 +8,7 @@ use Rattle.othello_rules.specs.Solution.{Solution}
 use Rattle.othello_bits.specs.Discs as bits
 use Rattle.othello_bits.specs.Discs.{discs, position_of, answer_of}
 use Rattle.obf_text.specs.Written.{line_with_end}
-use Rattle.solved_book.specs.Order.{IsCanonical}
+use Rattle.solved_book.specs.Order.{AreRising, IsCanonical}
 
 -- what contracts see of a book: the scoring of its answers, and its positions
 pub record Contents : Type 0 where
@@ -47,3 +47,8 @@ pub record IsSolvedEntry (g : Scoring) (e : Masks × Solution) : Type 0 where
 
 abbrev pub AreSolved : Scoring → List (Masks × Solution) → Type 0
 AreSolved g kept = All (IsSolvedEntry g) kept
+
+-- what a book keeps: canonical positions in rising order, each with its answer
+pub record IsBook (g : Scoring) (kept : List (Masks × Solution)) : Type 0 where
+  pub solved : AreSolved g kept
+  pub rising : AreRising (positions_in kept)

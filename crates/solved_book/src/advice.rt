@@ -1,8 +1,9 @@
 //! Claims of positions, read from the text of a book.
 
-ghost use Rattle.std.specs.Prelude.{◌≡◌, [], None, length};
+ghost use Rattle.std.specs.Prelude.{◌≡◌, [], IfOk, None, length};
 ghost use Rattle.obf_text.specs.LineText.{lines_of};
 ghost use Rattle.solved_book.specs.Advice.{GivesAdvice, claims_from, claims_of, found_in};
+ghost use Rattle.solved_book.specs.Books.{positions_in};
 ghost use Rattle.solved_book.specs.Order.{AreRising};
 ghost use Rattle.solved_book.specs.Reading.{GivesMap, claimed_positions};
 
@@ -29,17 +30,22 @@ pub struct Claims {
 impl Model for Claims {
     ghost use Rattle.std.specs.Prelude.{map};
     ghost use Rattle.solved_book.specs.Advice.{Advice};
+    ghost use Rattle.solved_book.specs.Books.{positions_in};
+    ghost use Rattle.solved_book.specs.Order.{AreRising};
     ghost use Rattle.solved_book.specs.Reading.{position_claim};
 
     ghost Value = { Advice };
 
     ghost view = { λ c.
         record { scoring = c.scoring; claims = map position_claim c.claims.entries } };
+
+    ghost invariant = { λ c. AreRising (positions_in c.claims.entries) };
 }
 
 // The claims of the lines of a text.
 fn read_claims(alloc: Global, text: &[u8]) -> Result<BTreeMap<Masks, Claim>, BookFault>
-    ensures { GivesMap result (claims_from 1 None (lines_of text.now)) }
+    ensures gives { GivesMap result (claims_from 1 None (lines_of text.now)) }
+    ensures rising { IfOk result (λ claims. AreRising (positions_in claims.entries)) }
 {
     let mut claims = BTreeMap::new(alloc);
     let mut before = None;

@@ -32,14 +32,14 @@ pub struct Book {
 }
 
 impl Model for Book {
-    ghost use Rattle.solved_book.specs.Books.{Contents, AreSolved, positions_in};
+    ghost use Rattle.solved_book.specs.Books.{Contents, IsBook, positions_in};
 
     ghost Value = { Contents };
 
     ghost view = { λ b.
         record { scoring = b.scoring; positions = positions_in b.answers.entries } };
 
-    ghost invariant = { λ b. AreSolved b.scoring b.answers.entries };
+    ghost invariant = { λ b. IsBook b.scoring b.answers.entries };
 }
 
 // The answer of the canonical position, to which the symmetry leads.

@@ -7,6 +7,7 @@ use Rattle.solved_book.specs.Books.{position_at}
 use Rattle.solved_book.specs.Advice.{claims_from, claim_in_line}
 use Rattle.solved_book.specs.Reading.{position_claim}
 use Rattle.solved_book.proofs.ClaimSteps.{ahead_more, ahead_none, reads_end, reads_err, reads_none, reads_some, reads_start, room_more, stands_behind}
+use Rattle.solved_book.proofs.KeptEntries.{rising_empty, rising_insert}
 use Rattle.solved_book.proofs.advice.read_claims.Goals as goal
 use Rattle.solved_book.proofs.advice.read_claims.Goals.{in-Some-2+in_ok-insert-in-Some-2, in-None-2}
 
@@ -17,6 +18,7 @@ loop-line-init c =
     record {
       reads = rw (c.new-claims.ensures.empty, same) (reads_start (lines_of c.args.text.now));
       ahead = rw c.new-claims.ensures.empty ahead_none;
+      rising = rw c.new-claims.ensures.empty rising_empty;
       room = rw same (omega arith);
     }
 
@@ -42,6 +44,7 @@ loop-line-preserved c =
           record {
             reads = rw w.before-is (reads_some number before kept _ m v line left lines all cut given entries held.ahead held.reads);
             ahead = rw w.before-is (ahead_more before m v kept _ (stands_behind number before line m v given) entries held.ahead);
+            rising = rw entries (rising_insert m v kept held.rising);
             room = room.1;
           }
       | in-None-2 w ↦
@@ -50,18 +53,19 @@ loop-line-preserved c =
           record {
             reads = rw (w.before-is, w.claims-is) (reads_none number before kept line left lines all cut given held.reads);
             ahead = rw (w.before-is, w.claims-is) held.ahead;
+            rising = rw w.claims-is held.rising;
             room = room.1;
           }
     ]
 
-pub returns-in_err-masks : goal.returns-in_err-masks
-returns-in_err-masks c =
+pub returns-in_err-masks-clause-gives : goal.returns-in_err-masks-clause-gives
+returns-in_err-masks-clause-gives c =
     let p = err_from_is_err_and c.from_residual.result c.from_residual.ensures.1 in
     let cut : c.loop-line.line-iterator ≡ c.in-Some.line.now ∷ c.next.new.self = search rules in
     rw (p.1, p.2) (reads_err c.loop-line.number c.loop-line.before c.loop-line.claims.entries c.in-Some.line.now c.loop-line.line-iterator c.next.new.self _
     (claims_from 1 None (lines_of c.args.text.now)) cut c.in_err-masks.ensures c.loop-line.invariant.reads)
 
-pub returns : goal.returns
-returns c =
+pub returns-clause-gives : goal.returns-clause-gives
+returns-clause-gives c =
     let none : c.loop-line.line-iterator ≡ [] = search rules in
     reads_end c.loop-line.number c.loop-line.before c.loop-line.claims.entries c.loop-line.line-iterator (claims_from 1 None (lines_of c.args.text.now)) none c.loop-line.invariant.reads

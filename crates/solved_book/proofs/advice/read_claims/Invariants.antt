@@ -1,6 +1,8 @@
 use Rattle.std.proofs.Common.{◌+◌, ◌≤◌, None, length}
 use Rattle.obf_text.specs.LineText.{lines_of, room_of}
 use Rattle.solved_book.specs.Advice.{claims_from}
+use Rattle.solved_book.specs.Books.{positions_in}
+use Rattle.solved_book.specs.Order.{AreRising}
 use Rattle.solved_book.proofs.ClaimSteps.{IsAhead, ReadsOn}
 use Rattle.solved_book.proofs.advice.read_claims.Given as goal
 
@@ -9,5 +11,6 @@ abbrev pub invariant-loop-line : goal.invariant-loop-line
 invariant-loop-line l = record {
   reads : ReadsOn l.number l.before l.claims.entries l.line-iterator (claims_from 1 None (lines_of l.fn.text));
   ahead : IsAhead l.before l.claims.entries;
+  rising : AreRising (positions_in l.claims.entries);
   room : l.number + room_of l.line-iterator ≤ length l.fn.text + 2;
 }

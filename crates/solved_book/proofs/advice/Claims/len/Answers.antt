@@ -3,10 +3,9 @@ use Rattle.solved_book.specs.Advice.{Advice}
 use Rattle.solved_book.specs.Order.{AreRising}
 use Rattle.solved_book.specs.Reading.{claimed_positions}
 use Rattle.solved_book.proofs.ClaimSteps.{positions_claimed}
-use Rattle.solved_book.proofs.KeptEntries.{rising_from_keys}
 use Rattle.solved_book.proofs.advice.Claims.len.Goals as goal
 
 pub returns-clause-rising : goal.returns-clause-rising
 returns-clause-rising c =
     let kept = c.self.inside.claims.entries in
-    subst (λ (a : Advice). AreRising (claimed_positions a.claims)) c.self.view_is (rw (positions_claimed kept) (rising_from_keys kept c.len.ensures.ordered))
+    subst (λ (a : Advice). AreRising (claimed_positions a.claims)) c.self.view_is (rw (positions_claimed kept) c.self.invariant)

@@ -6,7 +6,7 @@ use Rattle.othello_bits.specs.Symmetries.{canonical_of}
 use Rattle.solved_book.specs.Books.{Contents, position_at, positions_in}
 use Rattle.solved_book.specs.Order.{IsCanonical}
 use Rattle.solved_book.proofs.Answers.{canonical_again}
-use Rattle.solved_book.proofs.KeptEntries.{held_then, new_when, none_held, solved_insert}
+use Rattle.solved_book.proofs.KeptEntries.{held_then, new_when, none_held, book_insert}
 use Rattle.solved_book.proofs.books.Book.add.Goals as goal
 
 pub invariant_of-self-2 : goal.invariant_of-self-2
@@ -14,7 +14,7 @@ invariant_of-self-2 c =
     let p = c.args.solved.now.position in
     let at : position_at c.masks_of.result ≡ canonical_of p = c.masks_of.ensures ∙ c.canonical-position.ensures.value ∙ ap canonical_of c.pos.ensures in
     let scoring : c.args.solved.now.scoring ≡ c.self.inside.scoring = c.requires ∙ ap (λ (b : Contents). b.scoring) (sym c.self.view_is) in
-    solved_insert c.self.inside.scoring c.masks_of.result c.canonical_answer-answer.result c.self.inside.answers.entries c.insert.new.self.entries
+    book_insert c.self.inside.scoring c.masks_of.result c.canonical_answer-answer.result c.self.inside.answers.entries c.insert.new.self.entries
     (record {
       canonical = subst IsCanonical (sym at) (canonical_again p);
       exact = c.canonical_answer-answer.ensures ∙ (λ k. answer_of (scoring k) (sym at k));

@@ -17,7 +17,7 @@ loop-masks-init g c =
     record {
       text = rw same (completes_more _ _ _ (header r ++ 10 ∷ []) (flat_map (entry_text r) (positions_in kept)) _
           (completes_start _ _) c.in_ok-write_header.ensures);
-      solved = rw same (recursion_from_All (IsSolvedEntry r) kept c.self.invariant);
+      solved = rw same (recursion_from_All (IsSolvedEntry r) kept c.self.invariant.solved);
     }
 
 pub write_entry-requires : goal.write_entry-requires
@@ -41,4 +41,4 @@ returns-clause-text g c =
 
 pub returns-clause-positions : goal.returns-clause-positions
 returns-clause-positions g c =
-    subst (λ (b : Contents). AreBookPositions b.positions) c.self.view_is (book_positions_from c.self.inside.scoring c.self.inside.answers.entries c.self.invariant (search rules))
+    subst (λ (b : Contents). AreBookPositions b.positions) c.self.view_is (book_positions_from c.self.inside.scoring c.self.inside.answers.entries c.self.invariant)
