@@ -4,7 +4,7 @@ use Rattle.othello_bits.specs.Discs.{value_of}
 use Rattle.othello_bits.proofs.GameLaws.{value_score}
 use Rattle.endgame_search.proofs.Windows.{shown, recast}
 use Rattle.endgame_search.proofs.Told.{told_true}
-use Rattle.endgame_search.proofs.ranges.store.Goals as goal
+use Rattle.endgame_search.proofs.ranges.store_range.Goals as goal
 
 pub store-requires : goal.store-requires
 store-requires g c =
