@@ -1,6 +1,8 @@
-//! The last two empty squares: without a list of moves, a sort, or a look at the moves of the positions after them.
+//! The last two empty squares: without a list of moves, a sort, or a look at the moves of the
+//! positions after them.
 
-ghost use Rattle.std.specs.Prelude.{◌≡◌, ◌≢◌, ◌<◌, ℕ, ℤ, ◌↔◌, ◌<ℤ◌, neg_ℤ, true, count_ones, IfSome};
+ghost use Rattle.std.specs.Prelude.{◌≡◌, ◌≢◌, ◌<◌, ◌<ℤ◌, ◌↔◌, ℕ, ℤ, neg_ℤ, true};
+ghost use Rattle.std.specs.Prelude.{count_ones, IfSome};
 ghost use Rattle.std.specs.Int.{int_max};
 ghost use Rattle.othello_rules.specs.Masks.{in_mask};
 ghost use Rattle.othello_bits.specs.Discs.{play_of, flips_of, value_of, moves_of, IsMove};
@@ -57,7 +59,8 @@ impl Ending {
         Ending::new(position.after(square, position.flips(square)), left)
     }
 
-    // The value where the mover has a move: its discs, the one put on the square and those turned against the rest.
+    // The value where the mover has a move: its discs, the one put on the square and those turned
+    // against the rest.
     #[inline(always)]
     fn score(self, scoring: Scoring) -> i8
         requires ending { IsEnding self }
@@ -115,13 +118,16 @@ fn search_last<T: Bounds>(table: &T, ending: Ending, low: i8, high: i8) -> i8
     }
 }
 
-// The score of two moves, from the score of the first, which leaves a part of the window to the second.
+// The score of two moves, from the score of the first, which leaves a part of the window to the
+// second.
 #[inline(always)]
 fn search_second<T: Bounds>(table: &T, score: i8, ending: Ending, low: i8, high: i8) -> i8
     requires ending { IsEnding ending }
     requires window { IsWindow low high }
     requires open { score <ℤ high }
-    ensures { (v : ℤ) → Places low high v score → Places low high (int_max v (neg_ℤ (value_of (T.scoring table.now) ending.position))) result }
+    ensures { (v : ℤ) → Places low high v score
+        → Places low high
+        (int_max v (neg_ℤ (value_of (T.scoring table.now) ending.position))) result }
 {
     let floor = low.max(score);
     score.max(-search_last(table, ending, -high, -floor))
@@ -133,7 +139,9 @@ fn search_in_order<T: Bounds>(table: &T, this: Ending, that: Ending, low: i8, hi
     requires this { IsEnding this }
     requires that { IsEnding that }
     requires window { IsWindow low high }
-    ensures { Places low high (int_max (neg_ℤ (value_of (T.scoring table.now) this.position)) (neg_ℤ (value_of (T.scoring table.now) that.position))) result }
+    ensures { Places low high
+        (int_max (neg_ℤ (value_of (T.scoring table.now) this.position))
+        (neg_ℤ (value_of (T.scoring table.now) that.position))) result }
 {
     let score = -search_last(table, this, -high, -low);
     if score >= high {
@@ -142,8 +150,9 @@ fn search_in_order<T: Bounds>(table: &T, this: Ending, that: Ending, low: i8, hi
     search_second(table, score, that, low, high)
 }
 
-// A score that places the position's value in the window, where each of two empty squares is a move: the one that
-// leaves no reply comes first, else the lower square. The second position is made only where it is needed.
+// A score that places the position's value in the window, where each of two empty squares is a
+// move: the one that leaves no reply comes first, else the lower square. The second position is
+// made only where it is needed.
 #[inline(always)]
 fn search_both<T: Bounds>(
     table: &T,

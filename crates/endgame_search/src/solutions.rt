@@ -5,7 +5,8 @@ ghost use Rattle.othello_rules.specs.declared.scorings.Scoring.TheVariants.{Sign
 ghost use Rattle.othello_rules.specs.Solution.{IsScore};
 ghost use Rattle.std.proofs.Common.{sym};
 ghost use Rattle.endgame_search.specs.Problems.{Problem};
-ghost use Rattle.othello_bits.specs.Discs.{moves_of, play_of, value_of, answer_of, best_of, is_best, mask_where, IsMove};
+ghost use Rattle.othello_bits.specs.Discs.{moves_of, play_of, value_of, answer_of, best_of};
+ghost use Rattle.othello_bits.specs.Discs.{is_best, mask_where, IsMove};
 
 use crate::ranges::{decide, greatest_score, store};
 use crate::roots::leading_moves;
@@ -17,8 +18,8 @@ use othello_bits::masks::without;
 use othello_rules::{Answer, Best, Scoring, Square, squares_in};
 use std::marker::Model;
 
-/// A position with its answer under a scoring. `solve` and `confirm` alone make one. Contracts see the problem that
-/// it solves: by this type its answer is the one of the definitions.
+/// A position with its answer under a scoring. `solve` and `confirm` alone make one. Contracts see
+/// the problem that it solves: by this type its answer is the one of the definitions.
 #[derive(Clone, Copy, PartialEq, Eq, Debug)]
 pub struct Solved {
     position: Pos,
@@ -33,9 +34,17 @@ impl Model for Solved {
 
     ghost invariant = { λ solved. solved.answer ≡ answer_of solved.scoring solved.position };
 
-    ghost inverse = { λ problem. record { position = problem.position; scoring = problem.scoring; answer = answer_of problem.scoring problem.position } };
+    ghost inverse = { λ problem. record {
+      position = problem.position;
+      scoring = problem.scoring;
+      answer = answer_of problem.scoring problem.position;
+    } };
 
-    ghost inverse_ok = { λ solved exact. λ k. record { position = solved.position; scoring = solved.scoring; answer = sym exact k } };
+    ghost inverse_ok = { λ solved exact. λ k. record {
+      position = solved.position;
+      scoring = solved.scoring;
+      answer = sym exact k;
+    } };
 }
 
 impl Solved {
@@ -105,8 +114,8 @@ fn solve_moves<T: Bounds>(table: &T, task: Task, moves: u64) -> Solved
     solved_as(task, score, Best::Moves(leaders.moves))
 }
 
-/// What `solve` gives, sooner where the claim is right: two null windows test the score, and one tests each move.
-/// Where a test fails the position is solved afresh.
+/// What `solve` gives, sooner where the claim is right: two null windows test the score, and one
+/// tests each move. Where a test fails the position is solved afresh.
 pub fn confirm<T: Bounds>(table: &T, task: Task, claim: Claim) -> Solved
     requires { task.scoring ≡ T.scoring table.now }
     ensures { result ≡ task }
@@ -196,7 +205,8 @@ fn best_moves<T: Bounds>(table: &T, position: Pos, moves: u64, score: i8) -> u64
 fn gives<T: Bounds>(table: &T, position: Pos, square: Square, score: i8) -> bool
     requires legal { IsMove position square }
     requires in_range { IsScore score }
-    ensures { IsTrue result ↔ (score ≤ℤ neg_ℤ (value_of (T.scoring table.now) (play_of position square))) }
+    ensures { IsTrue result
+        ↔ (score ≤ℤ neg_ℤ (value_of (T.scoring table.now) (play_of position square))) }
 {
     let after = position.after(square, position.flips(square));
     value_in(table, after, -score, 1 - score) <= -score

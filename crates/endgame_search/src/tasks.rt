@@ -23,7 +23,10 @@ impl Model for Task {
 
     ghost invariant = { λ task. empties_of task.position ≤ 60 };
 
-    ghost inverse = { λ problem. record { position = problem.position; scoring = problem.scoring } };
+    ghost inverse = { λ problem. record {
+      position = problem.position;
+      scoring = problem.scoring;
+    } };
 }
 
 /// Why a position is no task: it has this many empty squares.
@@ -35,7 +38,8 @@ impl Task {
     /// Refuses a position with more empty squares than the limit. A limit above 60 counts as 60.
     pub fn new(position: Pos, limit: u8, scoring: Scoring) -> Result<Task, TooMany>
         ensures when { IsOk result ↔ (empties_of position ≤ min limit 60) }
-        ensures task { IfOk result (λ task. task ≡ record { position = position; scoring = scoring }) }
+        ensures task { IfOk result
+            (λ task. task ≡ record { position = position; scoring = scoring }) }
         ensures refused { IfErr result (λ many. many.0 ≡ empties_of position) }
     {
         let empties = position.empties();

@@ -14,8 +14,8 @@ use othello_rules::{Scoring, Side};
 use std::cell::Cell;
 use std::process::Abort;
 
-// The masks of Black's discs and of White's: A1 is the lowest bit, H8 the highest. Rows are told from row 1, X for
-// Black, O for White, - for an empty square.
+// The masks of Black's discs and of White's: A1 is the lowest bit, H8 the highest. Rows are told
+// from row 1, X for Black, O for White, - for an empty square.
 type Discs = (u64, u64);
 
 // XXXXXXXX in all rows
@@ -42,7 +42,8 @@ const OPEN_CORNERS: Discs = (!0x4289, 0x4208);
 // -OXXXXX- XXXXXXXO XXXXXXXX XXXXXXXX XXXOXXXX and three rows XXXXXXXX
 const UNEQUAL_CORNERS: Discs = (!0x8_0000_8083, 0x8_0000_8002);
 
-// position 40 of the FFO endgame test: O--OOOOX -OOOOOOX OOXXOOOX OOXOOOXX OOOOOOXX ---OOOOX ----O--X --------
+// position 40 of the FFO endgame test: O--OOOOX -OOOOOOX OOXXOOOX OOXOOOXX OOOOOOXX ---OOOOX
+// ----O--X --------
 const FFO_40: Discs = (0x80_80c0_c48c_8080, 0x10_783f_3b73_7e79);
 
 // the same without its disc on H7
@@ -51,7 +52,8 @@ const FFO_40_WITHOUT_H7: Discs = (0x80c0_c48c_8080, 0x10_783f_3b73_7e79);
 // OOOOOOOX OXXXXXXX OOXXOXOX OOOXXOXX OXOOXOXX OOXXOXXX --OXXXXX --------
 const TEN_EMPTY_SQUARES: Discs = (0xf8_ecd2_d8ac_fe80, 0x4_132d_2753_017f);
 
-// a ring of X around the four squares of the centre and those four, within a ring of O, within the empty edge
+// a ring of X around the four squares of the centre and those four, within a ring of O, within the
+// empty edge
 const RINGS: Discs = (0x3c3c_3c3c_0000, 0x7e_4242_4242_7e00);
 
 // XXX----- and seven empty rows

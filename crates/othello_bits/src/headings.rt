@@ -47,7 +47,8 @@ impl Heading {
         }
     }
 
-    // The runs of at most six squares of `within` that begin beside `from`, in three doubling steps.
+    // The runs of at most six squares of `within` that begin beside `from`, in three doubling
+    // steps.
     #[inline(always)]
     fn fill(self, from: u64, within: u64) -> u64
         ensures { (i : ℕ) → in_mask result i
@@ -76,7 +77,8 @@ impl Heading {
         }
     }
 
-    // The squares from which a disc would turn others in this direction, occupied squares not left out.
+    // The squares from which a disc would turn others in this direction, occupied squares not left
+    // out.
     #[inline(always)]
     pub fn reached(self, own: u64, opp: u64) -> u64
         requires { bit_and own opp ≡ 0 }

@@ -48,8 +48,8 @@ impl Image {
         Image::new(own, opp, first).least(Image::new(own, opp, second))
     }
 
-    // The least image, by the first symmetry that gives it: the lesser of two pairs at a time, in the order of the
-    // symmetries.
+    // The least image, by the first symmetry that gives it: the lesser of two pairs at a time, in
+    // the order of the symmetries.
     #[inline(always)]
     pub(crate) fn canonical(own: u64, opp: u64) -> Image
         ensures leads { result ≡ image_by own opp result.sym }

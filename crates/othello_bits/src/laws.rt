@@ -1,4 +1,5 @@
-//! What the definitions promise above their own text. Each function's body is empty: its contract is the law.
+//! What the definitions promise above their own text. Each function's body is empty: its contract
+//! is the law.
 
 ghost use Rattle.std.specs.Prelude.{◌≡◌, ◌≢◌, ◌≤ℤ◌, ◌≤◌, ◌<◌, ◌-◌, ◌^◌, ◌↔◌, ◌⊎◌, ℕ, [], ◌∷◌};
 ghost use Rattle.std.specs.Prelude.{neg_ℤ, length, get_or};
@@ -47,14 +48,15 @@ pub fn colours_are_alike()
         → answer g (position_of s p) ≡ answer_of g p }
 {}
 
-/// The answer is the value with the mask of the moves that attain it, or a pass, or that the game is over.
+/// The answer is the value with the mask of the moves that attain it, or a pass, or that the game
+/// is over.
 pub fn answer_is_gathered()
     ensures { (g : Scoring) (p : Discs)
         → answer_of g p ≡ record { score = value_of g p; best = best_of g p } }
 {}
 
-/// The symmetries stand in the order of their places. Three of them turn the columns round, turn the rows round, and
-/// exchange columns with rows; the others are made of these.
+/// The symmetries stand in the order of their places. Three of them turn the columns round, turn
+/// the rows round, and exchange columns with rows; the others are made of these.
 pub fn symmetries_are_in_order()
     ensures order { symmetries ≡ sym.Identity ∷ sym.FlipColumns ∷ sym.FlipRows ∷ sym.HalfTurn
         ∷ sym.Transpose ∷ sym.TurnRight ∷ sym.TurnLeft ∷ sym.AntiTranspose ∷ [] }
@@ -76,8 +78,8 @@ pub fn symmetries_are_in_order()
         → sent sym.AntiTranspose q ≡ sent sym.HalfTurn (sent sym.Transpose q) }
 {}
 
-/// The image of a position of 64 cells has the cell of each square where the symmetry sends that square; the inverse
-/// leads back, and one symmetry after another is one of the eight.
+/// The image of a position of 64 cells has the cell of each square where the symmetry sends that
+/// square; the inverse leads back, and one symmetry after another is one of the eight.
 pub fn images_are_placed()
     ensures on_board { (s : Sym) (q : ℕ) → q < 64 → sent s q < 64 }
     ensures back { (s : Sym) (q : ℕ) → q < 64 → sent (inverse s) (sent s q) ≡ q }
@@ -92,7 +94,8 @@ pub fn images_are_placed()
         → (u : Sym) × ((P : Position) → image s (image t P) ≡ image u P) }
 {}
 
-/// A symmetry keeps the rules and the value of a position of 64 cells, and sends its best moves to those of the image.
+/// A symmetry keeps the rules and the value of a position of 64 cells, and sends its best moves to
+/// those of the image.
 pub fn images_are_alike()
     ensures moved { (s : Sym) (P : Position) (q : ℕ) → length P.cells ≡ 64 → q < 64
         → is_move (image s P) (sent s q) ≡ is_move P q }
@@ -113,8 +116,8 @@ pub fn images_are_alike()
         ≡ record { score = value_of g p; best = best_image s (answer_of g p).best } }
 {}
 
-/// All images of a position of 64 cells have one canonical position: of the eight images the one with the least pair of
-/// masks, own first, to which the first symmetry leads and none before it.
+/// All images of a position of 64 cells have one canonical position: of the eight images the one
+/// with the least pair of masks, own first, to which the first symmetry leads and none before it.
 pub fn canonical_is_one()
     ensures pairs { (p q : Discs) → p.opp < 2 ^ 64 → q.opp < 2 ^ 64
         → (pair_of p < pair_of q)

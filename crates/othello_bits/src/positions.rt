@@ -21,8 +21,9 @@ use crate::symmetries::Sym;
 use othello_rules::{Grid, Scoring, Side, Square};
 use std::marker::Model;
 
-/// The discs of the side to move and those of the other side: bit n of a mask is square n, A1 is bit 0.
-/// The colours are not kept: the same masks are one position with Black to move and one with White.
+/// The discs of the side to move and those of the other side: bit n of a mask is square n, A1 is
+/// bit 0. The colours are not kept: the same masks are one position with Black to move and one with
+/// White.
 #[derive(Clone, Copy, PartialEq, Eq, Debug)]
 pub struct Pos {
     own: u64,
@@ -43,7 +44,8 @@ impl Model for Pos {
 }
 
 impl Pos {
-    /// The position of these masks of the mover's and the opponent's discs; None where they share a bit.
+    /// The position of these masks of the mover's and the opponent's discs; None where they share a
+    /// bit.
     pub fn new(own: u64, opp: u64) -> Option<Pos>
         ensures apart { IsSome result ↔ (bit_and own opp ≡ 0) }
         ensures value { IfSome result (λ p. p ≡ discs own opp) }
@@ -169,8 +171,8 @@ impl Pos {
         }
     }
 
-    /// The image with the least pair (own, opp), compared as numbers, own first; and of the symmetries that lead to it
-    /// the first in the order of `Sym::all`.
+    /// The image with the least pair (own, opp), compared as numbers, own first; and of the
+    /// symmetries that lead to it the first in the order of `Sym::all`.
     pub fn canonical(self) -> (Pos, Sym)
         ensures meaning { (s : Side) → position_of s result.0 ≡ canonical (position_of s self) }
         ensures symmetry { (s : Side) → result.1 ≡ first_symmetry (position_of s self) }

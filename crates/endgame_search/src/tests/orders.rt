@@ -24,7 +24,8 @@ fn children_come_in_order(rt: HostRuntime) {
     assert!(rt; children.len() == 28 && are_in_order(&children));
 }
 
-// Whether of the moves A1 and H1 the first is enough for a window from 0 to 1, and the second is not looked at.
+// Whether of the moves A1 and H1 the first is enough for a window from 0 to 1, and the second is
+// not looked at.
 fn is_a1_enough(rt: &impl Abort, discs: Discs, table: BoundTable) -> bool {
     let position = pos_of(rt, discs, Side::Black);
     let after_a1 = position.play(Square::at(0)).expect(rt, "a move");

@@ -22,7 +22,8 @@ fn probes_and_cut_offs(rt: HostRuntime) {
     let position = pos_of(&rt, UNEQUAL_CORNERS, Side::Black);
     let after_h1 = position.play(Square::at(7)).expect(&rt, "a move");
     let after_a1 = position.play(Square::at(0)).expect(&rt, "a move");
-    // H1 leaves White no move and A1 one, so H1 is searched first; it is enough for a window from 0 to 1.
+    // H1 leaves White no move and A1 one, so H1 is searched first; it is enough for a window from 0
+    // to 1.
     let table = BoundTable::new(rt.alloc(), 0, Scoring::Winner).expect(&rt, "memory");
     let counter = count_probes(table, [after_h1, after_a1]);
     assert!(rt; value_in(&counter, position, 0, 1) >= 1);
