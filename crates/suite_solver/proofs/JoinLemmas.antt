@@ -4,7 +4,7 @@ use Rattle.std.specs.Prelude.{Option, Some, None, Result, Ok, Err, IfOk, IfErr, 
 use Rattle.std.specs.declared.alloc.Global.{Global}
 use Rattle.std.proofs.lemmas.List.{append-nil, map-append}
 use Rattle.othello_rules.specs.declared.scorings.Scoring.{Scoring}
-use Rattle.suite_solver.specs.Parts.{GivesPart, GivesParts, IsPartFault, worse, yield, yield_of}
+use Rattle.suite_solver.specs.Parts.{GivesPart, GivesParts, IsPartFault, worse_fault, yield, yield_of}
 use Rattle.suite_solver.specs.Threads.{AreJoined, Assignment, assignment, yield_at}
 use Rattle.suite_solver.specs.declared.faults.RunFault.{RunFault}
 use Rattle.suite_solver.specs.declared.faults.RunFault.TheVariants.{Memory, Mixed, TooManyFiles, FileTooLarge}
@@ -14,7 +14,7 @@ pub assigned_yields : (g : Scoring) (limit : ℕ) (texts : List (List ℕ)) → 
 assigned_yields g limit [] = refl
 assigned_yields g limit (text ∷ texts) = ap (λ l. yield g limit text ∷ l) (assigned_yields g limit texts)
 
-worse_kept : (before : Option RunFault) (fault : RunFault) → IsPartFault fault → IsPartFault (worse before fault)
+worse_kept : (before : Option RunFault) (fault : RunFault) → IsPartFault fault → IsPartFault (worse_fault before fault)
 worse_kept None fault h = h
 worse_kept (Some Memory) fault h = inl refl
 worse_kept (Some Mixed) fault h = h
@@ -29,7 +29,7 @@ part_joined done a parts part (Some fault) e h = h
 
 -- a client is joined
 pub join_step : (done : List Assignment) (a : Assignment) (old new : List Part) (before after : Option RunFault) (given : Result Part RunFault)
-    → IfOk given (λ part. (new ≡ old ++ part ∷ []) × (after ≡ before)) → IfErr given (λ fault. after ≡ Some (worse before fault))
+    → IfOk given (λ part. (new ≡ old ++ part ∷ []) × (after ≡ before)) → IfErr given (λ fault. after ≡ Some (worse_fault before fault))
     → GivesPart a.scoring a.limit a.text given → AreJoined done old before → AreJoined (done ++ a ∷ []) new after
 join_step done a old new before after (Ok part) ok err gives h = rw (ok.0, ok.1) (part_joined done a old part before gives h)
 join_step done a old new before after (Err fault) ok err gives h = rw err (worse_kept before fault gives)

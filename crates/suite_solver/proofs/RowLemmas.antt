@@ -10,7 +10,7 @@ use Rattle.suite_solver.specs.declared.rows.ReportRow.{ReportRow}
 use Rattle.suite_solver.specs.Readings.{result_in, row_in}
 use Rattle.suite_solver.specs.declared.readings.Reading.{Reading}
 use Rattle.suite_solver.specs.declared.texts.NumberedReading.{NumberedReading}
-use Rattle.suite_solver.specs.Rows.{numbered, result_of, rows, rows_from}
+use Rattle.suite_solver.specs.Rows.{report_row, result_of, rows, rows_from}
 
 pub rows_start : (g : Scoring) (limit : ℕ) (text : List ℕ) → rows g limit text ≡ rows_from g limit 1 (lines_of text)
 unfolding rows
@@ -21,7 +21,7 @@ unfolding rows_from
 rows_end g limit n = refl
 
 rows_yes : (g : Scoring) (limit n : ℕ) (line : List ℕ) (lines : List (List ℕ)) (r : RowResult) → result_of g limit (item_of line) ≡ Some r
-    → rows_from g limit n (line ∷ lines) ≡ numbered n r ∷ rows_from g limit (n + 1) lines
+    → rows_from g limit n (line ∷ lines) ≡ report_row n r ∷ rows_from g limit (n + 1) lines
 unfolding rows_from
 rows_yes g limit n line lines r e = rw e refl
 

@@ -57,14 +57,14 @@ pub record IsBookOf (g : Scoring) (tasks : List Problem) (book : Contents) : Typ
   pub positions : (p : Discs) → Contains book.positions p ↔ Contains (canonicals tasks) p
 
 -- what a refused submit is to a run
-abbrev pub submit_refused : SubmitFault → RunFault
-submit_refused submit.Memory = Memory
-submit_refused _ = Mixed
+abbrev pub fault_of_submit : SubmitFault → RunFault
+fault_of_submit submit.Memory = Memory
+fault_of_submit _ = Mixed
 
 -- the worse of two faults: want of memory comes first
-abbrev pub worse : Option RunFault → RunFault → RunFault
-worse (Some Memory) fault = Memory
-worse _ fault = fault
+abbrev pub worse_fault : Option RunFault → RunFault → RunFault
+worse_fault (Some Memory) fault = Memory
+worse_fault _ fault = fault
 
 abbrev pub IsPartFault : RunFault → Type 0
 IsPartFault fault = (fault ≡ Memory) ⊎ (fault ≡ Mixed)

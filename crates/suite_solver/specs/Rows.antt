@@ -50,12 +50,12 @@ result_of g limit Skipped = None
 result_of g limit (Holds entry) = Some (entry_result g limit entry)
 result_of g limit (Faulty fault) = fault_result fault
 
-abbrev pub numbered : ℕ → RowResult → ReportRow
-numbered n result = record { line = n; result = result }
+abbrev pub report_row : ℕ → RowResult → ReportRow
+report_row n result = record { line = n; result = result }
 
 -- the row of a line with its number
 abbrev pub row_of : Scoring → ℕ → ℕ × List ℕ → Option ReportRow
-row_of g limit (n, line) = option_map (numbered n) (result_of g limit (item_of line))
+row_of g limit (n, line) = option_map (report_row n) (result_of g limit (item_of line))
 
 -- the rows of lines, the first of which has the number n
 unfoldable pub rows_from : Scoring → ℕ → ℕ → List (List ℕ) → List ReportRow

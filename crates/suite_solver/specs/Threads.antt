@@ -17,12 +17,12 @@ pub record Assignment : Type 0 where
 abbrev pub assignment : Scoring → ℕ → List ℕ → Assignment
 assignment g limit text = record { scoring = g; limit = limit; text = text }
 
-abbrev pub assigned : PartOf → Assignment
-assigned promise = assignment promise.scoring promise.limit promise.text.now
+abbrev pub assignment_of : PartOf → Assignment
+assignment_of promise = assignment promise.scoring promise.limit promise.text.now
 
 -- the client's thread gives what comes of the text, or it was given
 abbrev pub IsFor : Assignment → Progress → Type 0
-IsFor a (There handle) = assigned handle.promise ≡ a
+IsFor a (There handle) = assignment_of handle.promise ≡ a
 IsFor a (Here part) = GivesPart a.scoring a.limit a.text part
 
 -- what comes of a client

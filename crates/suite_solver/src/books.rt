@@ -4,7 +4,7 @@ ghost use Rattle.std.specs.Prelude.{◌≡◌, ◌⊎◌, IfOk, IfErr};
 ghost use Rattle.solved_book.specs.Books.{book_text};
 ghost use Rattle.suite_solver.specs.Programs.{IsSilent, status_of};
 
-use crate::stops::{Stop, unread};
+use crate::stops::{Stop, read_stop};
 use solved_book::{Book, Claims};
 use std::alloc::{AllocError, Global};
 use std::fs::{OpenFile, OpenOptions};
@@ -30,7 +30,7 @@ fn read_text<'a, T: Files>(rt: &T, alloc: Global, name: &'a str) -> Result<Vec<u
     };
     match read {
         Ok(text) => Ok(text),
-        Err(fault) => Err(unread(&fault, name)),
+        Err(fault) => Err(read_stop(&fault, name)),
     }
 }
 

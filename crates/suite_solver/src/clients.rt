@@ -5,7 +5,7 @@ ghost use Rattle.suite_solver.specs.Readings.{tasks_in};
 ghost use Rattle.suite_solver.specs.Rows.{rows, tasks};
 ghost use Rattle.suite_solver.specs.declared.faults.RunFault.TheVariants.{Memory, Mixed};
 
-use crate::faults::{RunFault, worse};
+use crate::faults::{RunFault, worse_fault};
 use crate::gates::Gate;
 use crate::parts::Part;
 use crate::solvers::Solver;
@@ -133,7 +133,7 @@ fn send_and_close<R: Wait>(
     };
     match desk.close(rt, client) {
         Ok(_) => sent,
-        Err(_) => Err(worse(sent.err(), RunFault::Mixed)),
+        Err(_) => Err(worse_fault(sent.err(), RunFault::Mixed)),
     }
 }
 
@@ -156,8 +156,10 @@ pub fn client_part<R: Wait, T: Bounds, G: Gate>(
 ) -> Result<Part, RunFault>
     requires few_empties { limit ≤ 60 }
     requires short { length text.now ≤ 1048576 }
-    ensures rows { IfOk result (λ part. part.rows.items ≡ rows (T.scoring table.now) limit text.now) }
-    ensures solved { IfOk result (λ part. part.solved.items ≡ tasks (T.scoring table.now) limit text.now) }
+    ensures rows { IfOk result
+        (λ part. part.rows.items ≡ rows (T.scoring table.now) limit text.now) }
+    ensures solved { IfOk result
+        (λ part. part.solved.items ≡ tasks (T.scoring table.now) limit text.now) }
     ensures faults { IfErr result (λ fault. (fault ≡ Memory) ⊎ (fault ≡ Mixed)) }
 {
     let solver = Solver::new(table, claims);

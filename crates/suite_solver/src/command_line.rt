@@ -100,7 +100,7 @@ fn run_options<'a>(alloc: Global, names: &'a [&'a str]) -> Result<Command<'a>, A
         "20",
         "Solve positions with at most N empty squares, 0 to 60",
     );
-    let c1 = bare.arg(max_empties)?;
+    let with_empties = bare.arg(max_empties)?;
     let workers = number_arg(
         alloc,
         "workers",
@@ -108,7 +108,7 @@ fn run_options<'a>(alloc: Global, names: &'a [&'a str]) -> Result<Command<'a>, A
         "2",
         "Solve on N threads beside one for each file, 0 to 64; it changes no report",
     );
-    let c2 = c1.arg(workers)?;
+    let with_workers = with_empties.arg(workers)?;
     let table = number_arg(
         alloc,
         "table",
@@ -116,23 +116,23 @@ fn run_options<'a>(alloc: Global, names: &'a [&'a str]) -> Result<Command<'a>, A
         "65536",
         "Keep the bounds of at most N positions, 0 to 4194304",
     );
-    let c3 = c2.arg(table)?;
-    c3.arg(scoring_arg(alloc, names))
+    let with_table = with_workers.arg(table)?;
+    with_table.arg(scoring_arg(alloc, names))
 }
 
 fn command<'a>(alloc: Global, names: &'a [&'a str]) -> Result<Command<'a>, AllocError>
     ensures { IfOk result (λ c. app_of c ≡ ffosolve names.entry) }
 {
-    let c1 = run_options(alloc, names)?;
+    let for_runs = run_options(alloc, names)?;
     let book_in = book_arg(
         alloc,
         "book-in",
         "Read a book of solved positions, whose claims are confirmed; it changes no report",
     );
-    let c2 = c1.arg(book_in)?;
+    let reading_books = for_runs.arg(book_in)?;
     let book_out = book_arg(alloc, "book-out", "Write a book of all solved positions");
-    let c3 = c2.arg(book_out)?;
-    c3.arg(files_arg(alloc))
+    let writing_books = reading_books.arg(book_out)?;
+    writing_books.arg(files_arg(alloc))
 }
 
 fn byte_of(matches: &ArgMatches<'_>, id: &str) -> Option<u8>
@@ -158,7 +158,7 @@ fn settings_of(matches: &ArgMatches<'_>) -> Option<Settings>
     Settings::new(max_empties, workers, table, scoring)
 }
 
-fn owned(alloc: Global, names: &[&str]) -> Result<Vec<String>, AllocError>
+fn copy_names(alloc: Global, names: &[&str]) -> Result<Vec<String>, AllocError>
     ensures { IfOk result (λ all. names_of all.items ≡ map (λ name. name.now) names.now) }
 {
     let mut all = Vec::new(alloc);
@@ -184,7 +184,7 @@ fn files_of(alloc: Global, matches: &ArgMatches<'_>) -> Result<Vec<String>, Allo
         ≡ unwrap_or (option_map raw_values (matched_of (found_of matches.now) (codes "FILES"))) []) }
 {
     match matches.get_strs("FILES") {
-        Some(names) => owned(alloc, names),
+        Some(names) => copy_names(alloc, names),
         None => Ok(Vec::new(alloc)),
     }
 }
@@ -193,11 +193,13 @@ fn files_of(alloc: Global, matches: &ArgMatches<'_>) -> Result<Vec<String>, Allo
 /// has clap's error, which can also be the help that the words ask for.
 pub fn options(alloc: Global, words: &[&str]) -> Result<Options, OptionFault>
     // For words that clap takes, only memory can be wanting.
-    ensures taken { IsTaken (map (λ word. word.now) words.now) → IfErr result (λ fault. fault ≡ Memory) }
+    ensures taken { IsTaken (map (λ word. word.now) words.now)
+        → IfErr result (λ fault. fault ≡ Memory) }
     // What else is refused has a fault that clap defines for the words.
     ensures refused { IfErr result (IsFaultOf (map (λ word. word.now) words.now)) }
     // Clap takes the words, and the settings and names are those of the matches that it defines.
-    ensures asked { IfOk result (λ found. Asks (map (λ word. word.now) words.now) (request_of found)) }
+    ensures asked { IfOk result
+        (λ found. Asks (map (λ word. word.now) words.now) (request_of found)) }
 {
     let command = command(alloc, SCORINGS.as_slice())?;
     let matches = command.try_get_matches_from(words)?;

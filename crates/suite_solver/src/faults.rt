@@ -1,7 +1,7 @@
 //! Why a run gives no reports.
 
 ghost use Rattle.std.specs.Prelude.{◌≡◌};
-ghost use Rattle.suite_solver.specs.Parts.{submit_refused, worse};
+ghost use Rattle.suite_solver.specs.Parts.{fault_of_submit, worse_fault};
 ghost use Rattle.suite_solver.specs.declared.faults.RunFault.TheVariants.{Memory};
 
 use job_board::SubmitFault;
@@ -41,7 +41,7 @@ impl<T: Drop> From<AllocFailed<T>> for RunFault {
 }
 
 impl From<SubmitFault> for RunFault {
-    ghost from_gives = { λ refused fault. fault ≡ submit_refused refused };
+    ghost from_gives = { λ refused fault. fault ≡ fault_of_submit refused };
 
     fn from(refused: SubmitFault) -> RunFault {
         match refused {
@@ -51,9 +51,9 @@ impl From<SubmitFault> for RunFault {
     }
 }
 
-/// The worse of two faults: want of memory is told before any other.
-pub(crate) fn worse(before: Option<RunFault>, fault: RunFault) -> RunFault
-    ensures { result ≡ worse before fault }
+/// The worse_fault of two faults: want of memory is told before any other.
+pub(crate) fn worse_fault(before: Option<RunFault>, fault: RunFault) -> RunFault
+    ensures { result ≡ worse_fault before fault }
 {
     match before {
         Some(RunFault::Memory) => RunFault::Memory,

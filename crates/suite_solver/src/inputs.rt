@@ -5,7 +5,7 @@ ghost use Rattle.suite_solver.specs.CommandLine.{names_of};
 ghost use Rattle.suite_solver.specs.Programs.{AreFrontsOf, status_of};
 ghost use Rattle.suite_solver.specs.Runs.{texts_of};
 
-use crate::stops::{Stop, unread};
+use crate::stops::{Stop, read_stop};
 use std::alloc::Global;
 use std::io::Read;
 use std::rt::Files;
@@ -41,7 +41,7 @@ fn read_input<R: Read>(alloc: Global, input: &mut R) -> Result<Vec<Vec<u8>>, Sto
             files.push(text)?;
             Ok(files)
         }
-        Err(fault) => Err(unread(&fault, "standard input")),
+        Err(fault) => Err(read_stop(&fault, "standard input")),
     }
 }
 
@@ -56,7 +56,7 @@ fn read_file<'a, T: Files>(rt: &T, alloc: Global, name: &'a str) -> Result<Vec<u
     };
     match read {
         Ok(text) => Ok(text),
-        Err(fault) => Err(unread(&fault, name)),
+        Err(fault) => Err(read_stop(&fault, name)),
     }
 }
 
@@ -66,7 +66,7 @@ fn open_only<'a, T: Files>(rt: &T, name: &'a str) -> Result<(), Stop<'a>>
 {
     match fs::open(rt, name) {
         Ok(_) => Ok(()),
-        Err(fault) => Err(unread(&fault, name)),
+        Err(fault) => Err(read_stop(&fault, name)),
     }
 }
 

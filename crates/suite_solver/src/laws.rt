@@ -13,6 +13,7 @@ pub use crate::clients::client_part;
 /// book, whatever their workers, tables, claims and gates. That its positions stand in order, each call of `Book::len` and
 /// of `Book::write` says.
 pub fn books_are_one()
-    ensures { (g : Scoring) (tasks : List Problem) (a b : Contents) → IsBookOf g tasks a → IsBookOf g tasks b
+    ensures { (g : Scoring) (tasks : List Problem) (a b : Contents)
+        → IsBookOf g tasks a → IsBookOf g tasks b
         → AreBookPositions a.positions → AreBookPositions b.positions → a ≡ b }
 {}

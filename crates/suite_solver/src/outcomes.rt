@@ -88,7 +88,8 @@ fn reports_of(alloc: Global, parts: &[Part]) -> Result<Reports, AllocError>
 fn add_all(book: &mut Book, solved: &[Solved]) -> Result<(), AllocError>
     requires { All (λ (t : Problem). t.scoring ≡ book.old.scoring) solved.now }
     ensures scoring { OnOk result (book.new.scoring ≡ book.old.scoring) }
-    ensures holds { OnOk result ((p : Discs) → Contains book.new.positions p ↔ (Contains book.old.positions p ⊎ Contains (canonicals solved.now) p)) }
+    ensures holds { OnOk result ((p : Discs) → Contains book.new.positions p
+        ↔ (Contains book.old.positions p ⊎ Contains (canonicals solved.now) p)) }
 {
     for one in solved {
         book.add(one)?;
@@ -98,7 +99,8 @@ fn add_all(book: &mut Book, solved: &[Solved]) -> Result<(), AllocError>
 
 // The book of all solved positions.
 fn book_of(alloc: Global, scoring: Scoring, parts: &[Part]) -> Result<Book, AllocError>
-    requires { All (λ (y : Yield). All (λ (t : Problem). t.scoring ≡ scoring) y.1) (map yield_of parts.now) }
+    requires { All (λ (y : Yield). All (λ (t : Problem). t.scoring ≡ scoring) y.1)
+        (map yield_of parts.now) }
     ensures { IfOk result (IsBookOf scoring (yield_tasks (map yield_of parts.now))) }
 {
     let mut book = Book::new(alloc, scoring);
@@ -115,9 +117,12 @@ pub(crate) fn outcome_of(
     parts: &[Part],
 ) -> Result<Outcome, AllocError>
     requires few { length parts.now ≤ 64 }
-    requires scored { All (λ (y : Yield). All (λ (t : Problem). t.scoring ≡ scoring) y.1) (map yield_of parts.now) }
-    ensures reports { IfOk result (λ outcome. outcome.reports ≡ yield_reports 0 (map yield_of parts.now)) }
-    ensures book { IfOk result (λ outcome. IsBookOf scoring (yield_tasks (map yield_of parts.now)) outcome.book) }
+    requires scored { All (λ (y : Yield). All (λ (t : Problem). t.scoring ≡ scoring) y.1)
+        (map yield_of parts.now) }
+    ensures reports { IfOk result
+        (λ outcome. outcome.reports ≡ yield_reports 0 (map yield_of parts.now)) }
+    ensures book { IfOk result
+        (λ outcome. IsBookOf scoring (yield_tasks (map yield_of parts.now)) outcome.book) }
 {
     let reports = reports_of(alloc, parts)?;
     let book = book_of(alloc, scoring, parts)?;

@@ -54,7 +54,8 @@ impl Reading {
         requires { (task : Problem) → task_in self.now ≡ Some task
             → slice_get (iter_rest answers.old) 0 ≡ Some task }
         ensures result { result ≡ result_in self.now }
-        ensures left { iter_rest answers.old ≡ cons_option (task_in self.now) (iter_rest answers.new) }
+        ensures left { iter_rest answers.old
+            ≡ cons_option (task_in self.now) (iter_rest answers.new) }
     {
         match self {
             Reading::Asked(_, listed) => {
@@ -78,8 +79,10 @@ pub(crate) fn reading_of(
 ) -> Result<Option<Reading>, AllocError>
     requires few_empties { limit ≤ 60 }
     requires short { length line.now ≤ 1048576 }
-    ensures result { IfOk result (λ found. option_map result_in found ≡ result_of scoring limit (item_of line.now)) }
-    ensures task { IfOk result (λ found. option_and_then task_in found ≡ task_of scoring limit (item_of line.now)) }
+    ensures result { IfOk result
+        (λ found. option_map result_in found ≡ result_of scoring limit (item_of line.now)) }
+    ensures task { IfOk result
+        (λ found. option_and_then task_in found ≡ task_of scoring limit (item_of line.now)) }
 {
     let refusal = match read_line(alloc, line) {
         Ok(Item::Skip) => return Ok(None),

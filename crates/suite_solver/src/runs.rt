@@ -21,7 +21,7 @@ use std::alloc::{AllocError, Global};
 use std::sync::Wait;
 use std::thread::Threads;
 
-// The same by the files themselves, which is what std's contract speaks of.
+// By the files as they are given. `first_large` says it of their texts, of which the definitions speak.
 fn large_file(files: &[Vec<u8>]) -> Option<usize>
     ensures { result ≡ position (λ file. is_large file.items) files.now }
 {
@@ -84,8 +84,7 @@ fn parts_serially(
 {
     let table = new_table(alloc, settings)?;
     let solver = Solver::new(&table, claims);
-    let parts = serial_parts(alloc, files, settings.max_empties(), &solver)?;
-    Ok(parts)
+    serial_parts(alloc, files, settings.max_empties(), &solver)
 }
 
 // The outcome of what comes of all files. They are named for the contract alone.
@@ -119,7 +118,7 @@ fn solve_serially(
     outcome_from(alloc, files, settings, &parts)
 }
 
-// The run, with all that it answers in one clause.
+// The run, with all that it answers in one clause, case by case; `run_serial` says it in its parts.
 fn run_files(
     alloc: Global,
     files: &[Vec<u8>],
@@ -158,8 +157,8 @@ pub fn run_serial(
     ensures unmixed { result ≢ Err Mixed }
     ensures reports { IfOk result (λ outcome. outcome.reports
         ≡ reports settings.now.scoring settings.now.max_empties (texts_of files.now)) }
-    ensures book { IfOk result (λ outcome. IsBookOf settings.now.scoring
-        (all_tasks settings.now.scoring settings.now.max_empties (texts_of files.now)) outcome.book) }
+    ensures book { IfOk result (λ outcome. IsBookOf settings.now.scoring (all_tasks
+        settings.now.scoring settings.now.max_empties (texts_of files.now)) outcome.book) }
 {
     run_files(alloc, files, settings, claims)
 }
@@ -219,7 +218,7 @@ fn solve_on_threads<R: Threads + Wait + Sync, G: Gate>(
     }
 }
 
-// The run on threads, with all that it answers in one clause.
+// The run on threads, with all that it answers in one clause; `run` says it in its parts.
 fn run_threads<R: Threads + Wait + Sync, G: Gate>(
     rt: &R,
     alloc: Global,
@@ -256,8 +255,8 @@ pub fn run<R: Threads + Wait + Sync, G: Gate>(
         ((length files.now ≤ 64) × (first_large (texts_of files.now) ≡ Some sender)) }
     ensures reports { IfOk result (λ outcome. outcome.reports
         ≡ reports settings.now.scoring settings.now.max_empties (texts_of files.now)) }
-    ensures book { IfOk result (λ outcome. IsBookOf settings.now.scoring
-        (all_tasks settings.now.scoring settings.now.max_empties (texts_of files.now)) outcome.book) }
+    ensures book { IfOk result (λ outcome. IsBookOf settings.now.scoring (all_tasks
+        settings.now.scoring settings.now.max_empties (texts_of files.now)) outcome.book) }
 {
     run_threads(rt, alloc, files, settings, claims, gate)
 }

@@ -131,9 +131,10 @@ fn write_reason<E: Write>(errors: &mut E, stop: &Stop<'_>) -> io::Result<()>
 }
 
 // Why standard input, or a file of this name, can't be read: it has failed, or there was no memory for its bytes.
-pub(crate) fn unread<'a>(fault: &io::Error, name: &'a str) -> Stop<'a>
+pub(crate) fn read_stop<'a>(fault: &io::Error, name: &'a str) -> Stop<'a>
     ensures memory { error_kind fault.now ≡ ErrorKind.OutOfMemory → result ≡ Run Memory }
-    ensures name { (error_kind fault.now ≡ ErrorKind.OutOfMemory → ⊥) → result ≡ CannotRead name.entry }
+    ensures name { (error_kind fault.now ≡ ErrorKind.OutOfMemory → ⊥)
+        → result ≡ CannotRead name.entry }
     ensures status { (status_of result ≡ 1) ⊎ (status_of result ≡ 3) }
     ensures silent { IsSilent result }
 {
@@ -144,7 +145,7 @@ pub(crate) fn unread<'a>(fault: &io::Error, name: &'a str) -> Stop<'a>
 }
 
 // Why the command line can't be read: a word is no text, or there was no memory for it.
-pub(crate) fn unread_words(fault: &io::Error) -> Stop<'static>
+pub(crate) fn words_stop(fault: &io::Error) -> Stop<'static>
     ensures { (status_of result ≡ 1) ⊎ (status_of result ≡ 2) }
 {
     match fault.kind() {

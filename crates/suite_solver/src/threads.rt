@@ -1,12 +1,12 @@
 //! A run's threads: a client for each file, and workers.
 
 ghost use Rattle.std.specs.Prelude.{◌≡◌, ◌<◌, ◌≤◌, ◌+◌, ◌++◌, ◌∷◌, length, map, IfOk, IfErr, Some, None, [], vec_len, vec_capacity};
-ghost use Rattle.suite_solver.specs.Parts.{GivesPart, GivesParts, worse};
+ghost use Rattle.suite_solver.specs.Parts.{GivesPart, GivesParts, worse_fault};
 ghost use Rattle.suite_solver.specs.Runs.{first_large, texts_of};
 ghost use Rattle.suite_solver.specs.Threads.{AreJoined, assignment};
 
 use crate::clients::{client_part, work};
-use crate::faults::{RunFault, worse};
+use crate::faults::{RunFault, worse_fault};
 use crate::gates::Gate;
 use crate::limits::Settings;
 use crate::parts::Part;
@@ -95,13 +95,13 @@ struct Started<'a> {
 }
 
 impl<'a> Model for Started<'a> {
-    ghost use Rattle.suite_solver.specs.Threads.{Assignment, IsFor, assigned};
+    ghost use Rattle.suite_solver.specs.Threads.{Assignment, IsFor, assignment_of};
 
     ghost Value = { Assignment };
 
-    ghost view = { λ s. assigned s.promise };
+    ghost view = { λ s. assignment_of s.promise };
 
-    ghost invariant = { λ s. IsFor (assigned s.promise) s.progress };
+    ghost invariant = { λ s. IsFor (assignment_of s.promise) s.progress };
 }
 
 impl<'a> Started<'a> {
@@ -141,7 +141,8 @@ fn start<'a, E, R: Threads + Wait + Sync, G: Gate>(
         promise,
         move || -> Result<Part, RunFault>
             requires { length text.now ≤ 1048576 }
-            ensures { GivesPart site.entry.now.table.scoring site.entry.now.settings.max_empties text.entry.now result }
+            ensures { GivesPart site.entry.now.table.scoring site.entry.now.settings.max_empties
+                text.entry.now result }
         { site.part(rt, claims, gate, sender, text) },
     );
     let progress = match spawned {
@@ -165,7 +166,8 @@ fn start_all<'a, E, R: Threads + Wait + Sync, G: Gate>(
     requires small { first_large (texts_of files.now) ≡ None }
     requires none { clients.old.items ≡ [] }
     requires room { length files.now ≤ vec_capacity clients.old }
-    ensures { clients.new.items ≡ map (assignment site.now.table.scoring site.now.settings.max_empties) (texts_of files.now) }
+    ensures { clients.new.items
+        ≡ map (assignment site.now.table.scoring site.now.settings.max_empties) (texts_of files.now) }
 {
     let mut sender: u32 = 0;
     for file in files {
@@ -198,14 +200,15 @@ impl Joined {
     // Keeps a part, or the worse of the faults.
     fn take(&mut self, given: Result<Part, RunFault>)
         requires { vec_len self.old.parts < vec_capacity self.old.parts }
-        ensures part { IfOk given (λ part. (self.new.parts.items ≡ self.old.parts.items ++ part ∷ []) × (self.new.fault ≡ self.old.fault)) }
-        ensures fault { IfErr given (λ fault. self.new.fault ≡ Some (worse self.old.fault fault)) }
+        ensures part { IfOk given (λ part. (self.new.parts.items ≡ self.old.parts.items ++ part ∷ [])
+            × (self.new.fault ≡ self.old.fault)) }
+        ensures fault { IfErr given (λ fault. self.new.fault ≡ Some (worse_fault self.old.fault fault)) }
         ensures room { vec_capacity self.new.parts ≡ vec_capacity self.old.parts }
         ensures len { vec_len self.new.parts ≤ vec_len self.old.parts + 1 }
     {
         match given {
             Ok(part) => self.parts.push_reserved(part),
-            Err(fault) => self.fault = Some(worse(self.fault, fault)),
+            Err(fault) => self.fault = Some(worse_fault(self.fault, fault)),
         }
     }
 
@@ -245,7 +248,8 @@ fn parts_in<'a, E, R: Threads + Wait + Sync, G: Gate>(
 ) -> Result<Vec<Part>, RunFault>
     requires few { length files.now ≤ 64 }
     requires small { first_large (texts_of files.now) ≡ None }
-    ensures { GivesParts site.now.table.scoring site.now.settings.max_empties (texts_of files.now) result }
+    ensures { GivesParts site.now.table.scoring site.now.settings.max_empties
+        (texts_of files.now) result }
 {
     let mut clients = Vec::with_capacity(site.alloc, files.len())?;
     let parts = Vec::with_capacity(site.alloc, files.len())?;
@@ -266,14 +270,16 @@ pub(crate) fn threaded_parts<R: Threads + Wait + Sync, G: Gate>(
 ) -> Result<Vec<Part>, RunFault>
     requires few { length files.now ≤ 64 }
     requires small { first_large (texts_of files.now) ≡ None }
-    ensures { GivesParts site.now.table.scoring site.now.settings.max_empties (texts_of files.now) result }
+    ensures { GivesParts site.now.table.scoring site.now.settings.max_empties
+        (texts_of files.now) result }
 {
     thread::scope(
         thread::scope_env(),
         rt,
         |scope| -> Result<Vec<Part>, RunFault>
             requires { (length files.now ≤ 64) × (first_large (texts_of files.now) ≡ None) }
-            ensures { GivesParts site.entry.now.table.scoring site.entry.now.settings.max_empties (texts_of files.entry.now) result }
+            ensures { GivesParts site.entry.now.table.scoring site.entry.now.settings.max_empties
+                (texts_of files.entry.now) result }
         { parts_in(scope, rt, site, claims, gate, files) },
     )
 }

@@ -1,9 +1,8 @@
 //! The program with books: what it writes, what it reads, and what it refuses.
 
-use super::{ONE, Run, TWO, TWO_BY_WINNER, assert_run, run};
+use super::{ONE, Run, TWO, TWO_BY_WINNER, all_end_so, ends_so, run};
 use std::alloc::Global;
 use std::fs;
-use std::process::Abort;
 use std::rt::Files;
 use std::sync::Wait;
 use std::test::Fail;
@@ -70,10 +69,9 @@ const WRITTEN: [(&str, &[u8], &[u8]); 4] = [
 #[test]
 fn writes_and_reads_books(rt: HostRuntime) -> Result<(), Fail> {
     for (line, report, book) in &WRITTEN {
-        assert_run(&rt, rt.alloc(), &(*line, ONE, 0, *report, b""))?;
+        assert!(rt; ends_so(&rt, rt.alloc(), &(*line, ONE, 0, *report, b""))?);
         let written = fs::read(&rt, "out.book")?;
-        assert!(rt; written.as_slice() == *book, "{line}");
-        assert!(rt; !fs::exists(&rt, "out.book.0.part")?);
+        assert!(rt; written.as_slice() == *book && !fs::exists(&rt, "out.book.0.part")?);
     }
     fs::remove_file(&rt, "out.book")?;
     Ok(())
@@ -138,37 +136,38 @@ XXXXXXXXXXXXXXXXXXXXXXXXXXXXXXXXXXXXXXXXXXXXXXXXXXXXXXXXXOOOOO-- X; G8:+64;\n",
     ),
 ];
 
-// A book is read before the files, and what it claims changes no report.
-fn assert_text<T: Abort + Files + Threads + Wait + Sync>(
+const READ: [Run; 2] = [
+    ("ffosolve --book-in in.book", ONE, 0, ONE_REPORT, b""),
+    ("ffosolve --book-in in.book", TWO, 0, TWO_BY_WINNER, b""),
+];
+
+// Whether a book is read before the files and what it claims changes no report, or what is told of it.
+fn is_told_so<T: Files + Threads + Wait + Sync>(
     rt: &T,
     alloc: Global,
     text: &[u8],
     told: &[u8],
-) -> Result<(), Fail> {
+) -> Result<bool, Fail> {
     fs::write(rt, "in.book", text)?;
     if told.is_empty() {
-        assert_run(
-            rt,
-            alloc,
-            &("ffosolve --book-in in.book", ONE, 0, ONE_REPORT, b""),
-        )?;
-        return assert_run(
-            rt,
-            alloc,
-            &("ffosolve --book-in in.book", TWO, 0, TWO_BY_WINNER, b""),
-        );
+        return Ok(all_end_so(rt, alloc, &READ)?);
     }
-    assert_run(
-        rt,
-        alloc,
-        &("ffosolve --book-in in.book no-such.obf", ONE, 3, b"", told),
-    )
+    let wanted = (
+        "ffosolve --book-in in.book no-such.obf",
+        ONE,
+        3,
+        NOTHING,
+        told,
+    );
+    Ok(ends_so(rt, alloc, &wanted)?)
 }
+
+const NOTHING: &[u8] = b"";
 
 #[test]
 fn refuses_books(rt: HostRuntime) -> Result<(), Fail> {
     for (text, told) in &TEXTS {
-        assert_text(&rt, rt.alloc(), text, told)?;
+        assert!(rt; is_told_so(&rt, rt.alloc(), text, told)?);
     }
     fs::remove_file(&rt, "in.book")?;
     Ok(())
@@ -186,18 +185,28 @@ const FRONTS: [(usize, bool); 8] = [
     (236, true),
 ];
 
+// Whether the program reads the front of a book, and then reports as ever.
+fn is_read<T: Files + Threads + Wait + Sync>(
+    rt: &T,
+    alloc: Global,
+    front: &[u8],
+) -> Result<bool, Fail> {
+    fs::write(rt, "cut.book", front)?;
+    let mut input = ONE;
+    let ended = run(
+        rt,
+        alloc,
+        &["ffosolve", "--book-in", "cut.book"],
+        &mut input,
+    );
+    Ok(ended.status == 0 && ended.output.as_slice() == ONE_REPORT)
+}
+
 // A book that was cut off is refused, or what is left of it changes no report.
 #[test]
 fn reads_cut_off_books(rt: HostRuntime) -> Result<(), Fail> {
-    for (count, is_read) in FRONTS {
-        fs::write(&rt, "cut.book", &BOOK[19..19 + count])?;
-        let mut input = ONE;
-        let words = ["ffosolve", "--book-in", "cut.book"];
-        let ended = run(&rt, rt.alloc(), &words, &mut input);
-        assert!(rt;
-            (ended.status == 0) == is_read && (ended.output.as_slice() == ONE_REPORT) == is_read,
-            "{count}"
-        );
+    for (count, wanted) in FRONTS {
+        assert!(rt; is_read(&rt, rt.alloc(), &BOOK[19..19 + count])? == wanted);
     }
     fs::remove_file(&rt, "cut.book")?;
     Ok(())
@@ -245,8 +254,6 @@ const PLACES: [Run; 6] = [
 
 #[test]
 fn tells_places_of_books(rt: HostRuntime) -> Result<(), Fail> {
-    for place in &PLACES {
-        assert_run(&rt, rt.alloc(), place)?;
-    }
+    assert!(rt; all_end_so(&rt, rt.alloc(), &PLACES)?);
     Ok(())
 }

@@ -12,13 +12,12 @@ use job_board::{Client, Desk, JobId, SubmitFault};
 use othello_bits::Pos;
 use othello_rules::Scoring;
 use std::alloc::{AllocError, Global};
-use std::process::Abort;
 use std::sync::atomic::{AtomicU32, Ordering};
 use std::sync::{Mutex, Wait};
 use std::test::Fail;
 
-// Writes the report of one client's part.
-fn report_part<R: Wait + Abort, G: Gate>(
+// Writes the report of one client's part, and tells whether its answers are as many as its rows.
+fn report_part<R: Wait, G: Gate>(
     rt: &R,
     alloc: Global,
     output: &mut Vec<u8>,
@@ -26,14 +25,13 @@ fn report_part<R: Wait + Abort, G: Gate>(
     gate: &G,
     sender: u32,
     text: &[u8],
-) -> Result<(), Fail>
+) -> Result<bool, Fail>
     requires { length text.now ≤ 1048576 }
 {
     let table = BoundTable::new(alloc, 16, Scoring::Winner)?;
     let part = client_part(rt, alloc, text, sender, 20, desk, &table, None, gate)?;
-    assert_eq!(rt; part.solved.len(), part.rows.len());
     write_report(output, sender, &part.rows)?;
-    Ok(())
+    Ok(part.solved.len() == part.rows.len())
 }
 
 #[test]
@@ -41,10 +39,9 @@ fn clients_serve_themselves(rt: HostRuntime) -> Result<(), Fail> {
     let desk = Desk::new(rt.alloc(), 2)?;
     let gate = CountingGate::new();
     let mut output = Vec::new(rt.alloc());
-    report_part(&rt, rt.alloc(), &mut output, &desk, &gate, 0, ONE)?;
-    report_part(&rt, rt.alloc(), &mut output, &desk, &gate, 1, TWO)?;
-    assert_eq!(rt; output.as_slice(), BOTH);
-    assert_eq!(rt; gate.counts(), (6, 6));
+    assert!(rt; report_part(&rt, rt.alloc(), &mut output, &desk, &gate, 0, ONE)?);
+    assert!(rt; report_part(&rt, rt.alloc(), &mut output, &desk, &gate, 1, TWO)?);
+    assert!(rt; output.as_slice() == BOTH && gate.counts() == (6, 6));
     assert!(rt; desk.take_or_wait(&rt).is_none());
     Ok(())
 }
@@ -58,27 +55,29 @@ fn is_mixed(part: &Result<Part, RunFault>) -> Result<bool, AllocError> {
     }
 }
 
-// A job of another scoring is given back, and a sender that is not the desk's is refused.
+// Whether the parts of two clients are refused: one that takes a job of another scoring, and one whose sender is not the
+// desk's.
+fn are_mixed<R: Wait>(rt: &R, alloc: Global, desk: &Desk) -> Result<bool, AllocError> {
+    let table = NoTable::new(Scoring::Winner);
+    let taker = client_part(rt, alloc, ONE, 1, 20, desk, &table, None, &NoGate);
+    let stranger = client_part(rt, alloc, ONE, 2, 20, desk, &table, None, &NoGate);
+    Ok(is_mixed(&taker)? && is_mixed(&stranger)?)
+}
+
+const FIRST_JOB: JobId = JobId {
+    sender: 0,
+    number: 0,
+};
+
+// A job of another scoring is given back.
 #[test]
 fn clients_are_refused(rt: HostRuntime) -> Result<(), Fail> {
-    let alloc = rt.alloc();
-    let desk = Desk::new(alloc, 2)?;
-    let table = NoTable::new(Scoring::Winner);
+    let desk = Desk::new(rt.alloc(), 2)?;
     let position = Pos::new(!0xff, 0x7e).expect(&rt, "no square is taken twice");
-    let mut other = Client::new(alloc, 0);
+    let mut other = Client::new(rt.alloc(), 0);
     desk.submit(&rt, &mut other, Task::new(position, 20, Scoring::Discs)?)?;
-    for sender in [1, 2] {
-        let part = client_part(&rt, alloc, ONE, sender, 20, &desk, &table, None, &NoGate);
-        assert!(rt; is_mixed(&part)?);
-    }
-    let job = desk.take_or_wait(&rt).expect(&rt, "the job waits again");
-    assert_eq!(rt;
-        job.id,
-        JobId {
-            sender: 0,
-            number: 0
-        }
-    );
+    assert!(rt; are_mixed(&rt, rt.alloc(), &desk)?);
+    assert!(rt; desk.take_or_wait(&rt).map(|job| job.id) == Some(FIRST_JOB));
     Ok(())
 }
 

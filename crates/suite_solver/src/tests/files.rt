@@ -1,9 +1,8 @@
 //! Files by their names, and their limits.
 
-use super::{BOTH, EMPTY_REPORT, NO_FILE, ONE, Run, TOO_LARGE, TWO, assert_run};
+use super::{BOTH, EMPTY_REPORT, NO_FILE, ONE, Run, TOO_LARGE, TWO, all_end_so, ends_so};
 use std::alloc::{AllocError, Global};
 use std::fs;
-use std::process::Abort;
 use std::rt::Files;
 use std::sync::Wait;
 use std::test::Fail;
@@ -49,40 +48,43 @@ fn write_files<T: Files>(rt: &T, alloc: Global) -> Result<(), Fail> {
     Ok(())
 }
 
-// Behind the 65th file none is read, and that one can't be opened is told before there being too many.
-fn refuses_many_files<T: Abort + Files + Threads + Wait + Sync>(
+// From the 66th file on none is read, and that one can't be opened is told before there being too many.
+fn refuses_many_files<T: Files + Threads + Wait + Sync>(
     rt: &T,
     alloc: Global,
-) -> Result<(), Fail> {
+) -> Result<bool, AllocError> {
     let mut line = line_of_files(alloc, 66)?;
-    assert_run(rt, alloc, &(line.as_str(), b"", 1, b"", MANY_FILES))?;
+    let many = ends_so(rt, alloc, &(line.as_str(), b"", 1, b"", MANY_FILES))?;
     line.push_str(" no-such.obf")?;
-    assert_run(rt, alloc, &(line.as_str(), b"", 3, b"", NO_FILE))
+    Ok(many && ends_so(rt, alloc, &(line.as_str(), b"", 3, b"", NO_FILE))?)
 }
 
 #[test]
 fn runs_on_files(rt: HostRuntime) -> Result<(), Fail> {
-    let alloc = rt.alloc();
-    write_files(&rt, alloc)?;
-    for run in &FILE_RUNS {
-        assert_run(&rt, alloc, run)?;
-    }
-    refuses_many_files(&rt, alloc)?;
+    write_files(&rt, rt.alloc())?;
+    assert!(rt; all_end_so(&rt, rt.alloc(), &FILE_RUNS)? && refuses_many_files(&rt, rt.alloc())?);
     for name in ["first.obf", "second.obf", "large.obf"] {
         fs::remove_file(&rt, name)?;
     }
     Ok(())
 }
 
-// Files of as many bytes as may be, all the same, and of one more.
+// Whether a file of as many bytes as may be is read, all of them the same, and one byte more refused.
+fn is_measured<T: Files + Threads + Wait + Sync>(
+    rt: &T,
+    alloc: Global,
+    byte: u8,
+    report: &[u8],
+) -> Result<bool, AllocError> {
+    let mut text = vec![in alloc; byte; 1_048_576]?;
+    let fits = ends_so(rt, alloc, &("ffosolve", &text, 0, report, b""))?;
+    text.push(byte)?;
+    Ok(fits && ends_so(rt, alloc, &("ffosolve", &text, 1, b"", TOO_LARGE))?)
+}
+
 #[test]
 fn measures_input(rt: HostRuntime) -> Result<(), Fail> {
-    let alloc = rt.alloc();
-    for (byte, report) in [(b' ', EMPTY_REPORT), (b'X', FULL_REPORT)] {
-        let mut text = vec![in alloc; byte; 1_048_576]?;
-        assert_run(&rt, alloc, &("ffosolve", &text, 0, report, b""))?;
-        text.push(byte)?;
-        assert_run(&rt, alloc, &("ffosolve", &text, 1, b"", TOO_LARGE))?;
-    }
+    assert!(rt; is_measured(&rt, rt.alloc(), b' ', EMPTY_REPORT)?);
+    assert!(rt; is_measured(&rt, rt.alloc(), b'X', FULL_REPORT)?);
     Ok(())
 }

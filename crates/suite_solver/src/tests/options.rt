@@ -1,9 +1,9 @@
 //! The command line.
 
-use super::{Ended, Run, TWO, WANT_OF_MEMORY, assert_ended, assert_run, words_of};
+use super::{Ended, Run, TWO, WANT_OF_MEMORY, all_end_so, ended_so, words_of};
 use crate::{Options, Settings, options, program_of};
 use othello_rules::Scoring;
-use std::alloc::Global;
+use std::alloc::{AllocError, Global};
 use std::io;
 use std::rt::Files;
 use std::sync::Wait;
@@ -68,53 +68,56 @@ const REFUSED: [Run; 6] = [
 
 #[test]
 fn refuses_words(rt: HostRuntime) -> Result<(), Fail> {
-    for run in &REFUSED {
-        assert_run(&rt, rt.alloc(), run)?;
-    }
+    assert!(rt; all_end_so(&rt, rt.alloc(), &REFUSED)?);
     Ok(())
 }
 
-fn asked(alloc: Global, line: &str) -> Result<Options, Fail> {
+fn options_of(alloc: Global, line: &str) -> Result<Options, Fail> {
     let words = words_of(alloc, line)?;
     Ok(options(alloc, &words)?)
 }
 
+// Whether the options hold no more than the settings.
+fn names_nothing(found: &Options) -> bool {
+    found.files.is_empty() && found.book_in.is_none() && found.book_out.is_none()
+}
+
 #[test]
 fn reads_no_options(rt: HostRuntime) -> Result<(), Fail> {
-    let found = asked(rt.alloc(), "ffosolve")?;
-    assert_eq!(rt; found.settings, Settings::default());
-    assert!(rt; found.files.is_empty() && found.book_in.is_none() && found.book_out.is_none());
+    let found = options_of(rt.alloc(), "ffosolve")?;
+    assert!(rt; found.settings == Settings::default() && names_nothing(&found));
     Ok(())
+}
+
+const LINE: &str =
+    "ffosolve a --max-empties=60 --workers 64 --table 4194304 --scoring sign --book-in b --book-out=c -- --help";
+
+// Whether the options hold the names of LINE.
+fn names_all(alloc: Global, found: &Options) -> Result<bool, AllocError> {
+    let named = found.files.join(alloc, " ")?;
+    let books = (found.book_in.as_deref(), found.book_out.as_deref());
+    Ok(named.as_str() == "a --help" && books == (Some("b"), Some("c")))
 }
 
 #[test]
 fn reads_options(rt: HostRuntime) -> Result<(), Fail> {
-    let line =
-        "ffosolve a --max-empties=60 --workers 64 --table 4194304 --scoring sign --book-in b --book-out=c -- --help";
-    let found = asked(rt.alloc(), line)?;
+    let found = options_of(rt.alloc(), LINE)?;
     let wanted = Settings::new(60, 64, 4_194_304, Scoring::Sign);
-    assert_eq!(rt; Some(found.settings), wanted);
-    let named = found.files.join(rt.alloc(), " ")?;
-    assert_eq!(rt; named.as_str(), "a --help");
-    assert_eq!(rt; found.book_in.as_deref(), Some("b"));
-    assert_eq!(rt; found.book_out.as_deref(), Some("c"));
+    assert!(rt; Some(found.settings) == wanted && names_all(rt.alloc(), &found)?);
     Ok(())
+}
+
+const BEYOND: [(u8, u8, u32); 3] = [(61, 2, 0), (20, 65, 0), (20, 2, 4_194_305)];
+
+fn are_limits(settings: Settings) -> bool {
+    settings.max_empties() == 60 && settings.workers() == 64 && settings.table() == 4_194_304
 }
 
 #[test]
 fn keeps_limits(rt: HostRuntime) {
     let scoring = Scoring::Winner;
-    for (max_empties, workers, table) in [(61, 2, 0), (20, 65, 0), (20, 2, 4_194_305)] {
-        assert!(rt; Settings::new(max_empties, workers, table, scoring).is_none());
-    }
-    let most = Settings::new(60, 64, 4_194_304, scoring).expect(&rt, "the limits");
-    let found = (
-        most.max_empties(),
-        most.workers(),
-        most.table(),
-        most.scoring(),
-    );
-    assert_eq!(rt; found, (60, 64, 4_194_304, scoring));
+    assert!(rt; BEYOND.iter().all(|row| Settings::new(row.0, row.1, row.2, scoring).is_none()));
+    assert!(rt; Settings::new(60, 64, 4_194_304, scoring).is_some_and(are_limits));
 }
 
 // Words as the system gives them.
@@ -134,6 +137,13 @@ fn run_words<T: Files + Threads + Wait + Sync>(
     }
 }
 
+fn helps(ended: &Ended) -> Result<bool, AllocError> {
+    if ended.output.starts_with(HELP) && ended.output.ends_with(HELP_END) {
+        return Ok(ended.status == 0 && ended.errors.is_empty());
+    }
+    ended_so(ended, (0, HELP, b""))
+}
+
 #[test]
 fn reads_words(rt: HostRuntime) -> Result<(), Fail> {
     let alloc = rt.alloc();
@@ -142,10 +152,7 @@ fn reads_words(rt: HostRuntime) -> Result<(), Fail> {
         words.push(String::from_str(alloc, word)?)?;
     }
     let ended = run_words(&rt, alloc, Ok(words));
-    if !ended.output.starts_with(HELP) || !ended.output.ends_with(HELP_END) {
-        return assert_ended(&rt, &ended, (0, HELP, b""), "ffosolve --help");
-    }
-    assert_eq!(rt; (ended.status, ended.errors.len()), (0, 0));
+    assert!(rt; helps(&ended)?);
     Ok(())
 }
 
@@ -154,8 +161,9 @@ fn reads_words(rt: HostRuntime) -> Result<(), Fail> {
 fn tells_failing_words(rt: HostRuntime) -> Result<(), Fail> {
     let no_text = Err(io::Error::from(io::ErrorKind::InvalidData));
     let ended = run_words(&rt, rt.alloc(), no_text);
-    assert_ended(&rt, &ended, (2, b"", NO_WORDS), "no text")?;
+    assert!(rt; ended_so(&ended, (2, b"", NO_WORDS))?);
     let no_memory = Err(io::Error::from(io::ErrorKind::OutOfMemory));
     let ended = run_words(&rt, rt.alloc(), no_memory);
-    assert_ended(&rt, &ended, WANT_OF_MEMORY, "no memory")
+    assert!(rt; ended_so(&ended, WANT_OF_MEMORY)?);
+    Ok(())
 }

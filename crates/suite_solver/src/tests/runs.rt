@@ -3,11 +3,10 @@
 ghost use Rattle.std.specs.Prelude.{◌<◌, ◌^◌};
 
 use super::{BOTH, CountingGate, ONE, TWO, TWO_JOBS};
-use crate::{Gate, NoGate, RunFault, Settings, run_serial};
+use crate::{Gate, NoGate, Outcome, RunFault, Settings, run_serial};
 use othello_rules::Scoring;
-use solved_book::{Book, Claims};
+use solved_book::Claims;
 use std::alloc::{AllocError, Global};
-use std::process::Abort;
 use std::sync::{Mutex, Wait};
 use std::test::Fail;
 use std::thread::Threads;
@@ -20,37 +19,20 @@ fn empty_files(alloc: Global, count: u32) -> Result<Vec<Vec<u8>>, AllocError> {
     Ok(files)
 }
 
-fn assert_empty_report(
-    rt: &impl Abort,
-    alloc: Global,
-    report: &[u8],
-    number: u32,
-) -> Result<(), Fail> {
-    let wanted = format!(in alloc; "[{number}]\nsolved 0 refused 0\n")?;
-    assert_eq!(rt; report, wanted.as_bytes());
-    Ok(())
+// The last report of so many empty files.
+fn last_report(alloc: Global, count: u32) -> Result<Option<Vec<u8>>, Fail> {
+    let files = empty_files(alloc, count)?;
+    let outcome = run_serial(alloc, &files, &Settings::default(), None)?;
+    Ok(outcome.reports.into_vec().pop())
 }
 
-fn assert_empty_reports(rt: &impl Abort, alloc: Global, reports: &[Vec<u8>]) -> Result<(), Fail> {
-    for (report, number) in reports.iter().zip(1..65u32) {
-        assert_empty_report(rt, alloc, report, number)?;
-    }
-    Ok(())
-}
+const LAST_REPORT: &[u8] = b"[64]\nsolved 0 refused 0\n";
 
-fn reports_of(alloc: Global, files: &[Vec<u8>]) -> Result<Vec<Vec<u8>>, Fail> {
-    let outcome = run_serial(alloc, files, &Settings::default(), None)?;
-    Ok(outcome.reports.into_vec())
-}
-
+// No file, and as many as may be.
 #[test]
 fn counts_files(rt: HostRuntime) -> Result<(), Fail> {
-    for count in [0, 64] {
-        let files = empty_files(rt.alloc(), count)?;
-        let reports = reports_of(rt.alloc(), &files)?;
-        assert_eq!(rt; reports.len(), files.len());
-        assert_empty_reports(&rt, rt.alloc(), &reports)?;
-    }
+    assert!(rt; last_report(rt.alloc(), 0)?.is_none());
+    assert!(rt; last_report(rt.alloc(), 64)?.as_deref() == Some(LAST_REPORT));
     Ok(())
 }
 
@@ -73,16 +55,25 @@ const LIMITS: [(u32, usize, RunFault); 3] = [
     (1, 1_048_577, RunFault::FileTooLarge(1)),
 ];
 
-// Limits are refused alike by both runs, before the gate is told anything.
+// Whether limits are refused alike by both runs, before the gate is told anything.
+fn are_refused<R: Threads + Wait + Sync>(
+    rt: &R,
+    alloc: Global,
+    files: &[Vec<u8>],
+    fault: RunFault,
+) -> bool {
+    let settings = Settings::default();
+    let gate = CountingGate::new();
+    let serial = run_serial(alloc, files, &settings, None).err();
+    let threaded = crate::run(rt, alloc, files, &settings, None, &gate).err();
+    serial == Some(fault) && threaded == Some(fault) && gate.counts() == (0, 0)
+}
+
 #[test]
 fn refuses_limits(rt: HostRuntime) -> Result<(), Fail> {
-    let settings = Settings::default();
     for (count, spaces, fault) in LIMITS {
         let files = files_with_spaces(rt.alloc(), count, spaces)?;
-        let gate = CountingGate::new();
-        let serial = run_serial(rt.alloc(), &files, &settings, None).err();
-        let threaded = crate::run(&rt, rt.alloc(), &files, &settings, None, &gate).err();
-        assert!(rt; serial == Some(fault) && threaded == Some(fault) && gate.counts() == (0, 0));
+        assert!(rt; are_refused(&rt, rt.alloc(), &files, fault));
     }
     Ok(())
 }
@@ -155,22 +146,32 @@ fn text_of(alloc: Global, text: &[u8]) -> Result<Vec<u8>, AllocError> {
     Vec::from_slice(alloc, text)
 }
 
+// Files of these texts.
+fn files_of(alloc: Global, texts: &[&[u8]]) -> Result<Vec<Vec<u8>>, AllocError> {
+    let mut files = Vec::new(alloc);
+    for text in texts {
+        files.push(text_of(alloc, text)?)?;
+    }
+    Ok(files)
+}
+
+fn settings_of(workers: u8, table: u32) -> Settings {
+    Settings::new(20, workers, table, Scoring::Winner).unwrap_or_default()
+}
+
+const TOLD: Told = Told {
+    entered: [1, 1],
+    left: [1, 1],
+    seen: true,
+};
+
 #[test]
 fn two_threads_solve(rt: HostRuntime) -> Result<(), Fail> {
-    let alloc = rt.alloc();
-    let mut files = Vec::new(alloc);
-    files.push(text_of(alloc, TWO_JOBS)?)?;
-    let settings = Settings::new(20, 1, 16, Scoring::Winner).expect(&rt, "the limits");
+    let files = files_of(rt.alloc(), &[TWO_JOBS])?;
     let gate = HoldingGate::new();
-    let outcome = crate::run(&rt, alloc, &files, &settings, None, &gate)?;
-    let report = outcome.reports.into_vec().concat(alloc)?;
-    assert_eq!(rt; report.as_slice(), TWO_JOBS_REPORT);
-    let wanted = Told {
-        entered: [1, 1],
-        left: [1, 1],
-        seen: true,
-    };
-    assert_eq!(rt; gate.told.into_inner(), wanted);
+    let outcome = crate::run(&rt, rt.alloc(), &files, &settings_of(1, 16), None, &gate)?;
+    let report = outcome.reports.into_vec().concat(rt.alloc())?;
+    assert!(rt; report.as_slice() == TWO_JOBS_REPORT && gate.told.into_inner() == TOLD);
     Ok(())
 }
 
@@ -180,49 +181,45 @@ const TWO_JOBS_REPORT: &[u8] = b"[1]
 solved 2 refused 0
 ";
 
-fn book_text(alloc: Global, book: &Book) -> Result<Vec<u8>, AllocError> {
+// The reports of a run, and its book's text.
+fn texts_of(alloc: Global, outcome: Outcome) -> Result<(Vec<u8>, Vec<u8>), AllocError> {
+    let Outcome { reports, book } = outcome;
     let mut text = Vec::new(alloc);
-    match book.write(&mut text) {
-        Ok(()) => Ok(text),
-        Err(_) => Err(AllocError),
+    if book.write(&mut text).is_err() {
+        return Err(AllocError);
     }
+    Ok((reports.into_vec().concat(alloc)?, text))
+}
+
+// Whether both runs give the reports of both texts, and the same book.
+fn give_both<R: Threads + Wait + Sync>(
+    rt: &R,
+    alloc: Global,
+    settings: &Settings,
+    claims: Option<&Claims>,
+) -> Result<bool, Fail> {
+    let files = files_of(alloc, &[ONE, TWO])?;
+    let serial = texts_of(alloc, run_serial(alloc, &files, settings, claims)?)?;
+    let threaded = crate::run(rt, alloc, &files, settings, claims, &NoGate)?;
+    let threaded = texts_of(alloc, threaded)?;
+    Ok(serial == threaded && serial.0.as_slice() == BOTH)
 }
 
 // The same bytes on threads and on one thread, with and without claims.
-fn assert_same<R: Threads + Wait + Sync + Abort>(
-    rt: &R,
-    alloc: Global,
-    files: &[Vec<u8>],
-    settings: &Settings,
-    claims: Option<&Claims>,
-) -> Result<(), Fail> {
-    let serial = run_serial(alloc, files, settings, claims)?;
-    let threaded = crate::run(rt, alloc, files, settings, claims, &NoGate)?;
-    let wanted = book_text(alloc, &serial.book)?;
-    let found = book_text(alloc, &threaded.book)?;
-    assert_eq!(rt; found.as_slice(), wanted.as_slice());
-    let serial = serial.reports.into_vec();
-    let threaded = threaded.reports.into_vec();
-    let text = threaded.concat(alloc)?;
-    assert_eq!(rt; text.as_slice(), BOTH);
-    assert!(rt; serial == threaded);
-    Ok(())
-}
-
 #[test]
 fn runs_on_threads(rt: HostRuntime) -> Result<(), Fail> {
-    let alloc = rt.alloc();
-    let mut files = Vec::new(alloc);
-    files.push(text_of(alloc, ONE)?)?;
-    files.push(text_of(alloc, TWO)?)?;
-    let lies = Claims::read(alloc, LYING_BOOK)?;
-    for workers in [0, 1, 4] {
-        for table in [0, 65_536] {
-            let settings = Settings::new(20, workers, table, Scoring::Winner);
-            let settings = settings.expect(&rt, "the limits");
-            assert_same(&rt, alloc, &files, &settings, None)?;
-            assert_same(&rt, alloc, &files, &settings, Some(&lies))?;
-        }
+    let lies = Claims::read(rt.alloc(), LYING_BOOK)?;
+    for (workers, table) in [
+        (0, 0),
+        (0, 65_536),
+        (1, 0),
+        (1, 65_536),
+        (4, 0),
+        (4, 65_536),
+    ] {
+        let settings = settings_of(workers, table);
+        assert!(rt; give_both(&rt, rt.alloc(), &settings, None)?);
+        assert!(rt; give_both(&rt, rt.alloc(), &settings, Some(&lies))?);
     }
     Ok(())
 }
@@ -232,14 +229,8 @@ const LYING_BOOK: &[u8] =
 
 #[test]
 fn runs_many_files(rt: HostRuntime) -> Result<(), Fail> {
-    let alloc = rt.alloc();
-    let mut files = Vec::new(alloc);
-    for _ in 0..64 {
-        files.push(text_of(alloc, TWO)?)?;
-    }
-    let settings = Settings::new(20, 64, 16, Scoring::Winner).expect(&rt, "the limits");
-    let outcome = crate::run(&rt, alloc, &files, &settings, None, &NoGate)?;
-    assert_eq!(rt; outcome.reports.into_vec().len(), 64);
-    assert_eq!(rt; outcome.book.len(), 3);
+    let files = files_of(rt.alloc(), &[TWO; 64])?;
+    let outcome = crate::run(&rt, rt.alloc(), &files, &settings_of(64, 16), None, &NoGate)?;
+    assert!(rt; outcome.reports.into_vec().len() == 64 && outcome.book.len() == 3);
     Ok(())
 }

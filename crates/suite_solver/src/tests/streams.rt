@@ -1,12 +1,9 @@
 //! Streams that fail or never end.
 
-use super::{
-    Ended, FailingWriter, NO_INPUT, NO_OUTPUT, TOO_LARGE, TWO, assert_ended, run, words_of,
-};
+use super::{Ended, FailingWriter, NO_INPUT, NO_OUTPUT, TOO_LARGE, TWO, ended_so, run, words_of};
 use crate::program;
-use std::alloc::Global;
+use std::alloc::{AllocError, Global};
 use std::io::{Read, Write};
-use std::process::Abort;
 use std::rt::Files;
 use std::sync::Wait;
 use std::test::Fail;
@@ -31,8 +28,7 @@ impl Read for EndlessReader {
 fn reads_no_more_than_it_may(rt: HostRuntime) -> Result<(), Fail> {
     let mut input = EndlessReader { given: 0 };
     let ended = run(&rt, rt.alloc(), &["ffosolve"], &mut input);
-    assert_ended(&rt, &ended, (1, b"", TOO_LARGE), "ffosolve")?;
-    assert_eq!(rt; input.given, 1_048_577);
+    assert!(rt; ended_so(&ended, (1, b"", TOO_LARGE))? && input.given == 1_048_577);
     Ok(())
 }
 
@@ -58,30 +54,46 @@ impl Read for FailingReader<'_> {
     }
 }
 
+fn tells_input<T: Files + Threads + Wait + Sync>(
+    rt: &T,
+    alloc: Global,
+    calls_left: u32,
+) -> Result<bool, AllocError> {
+    let mut input = FailingReader {
+        bytes: TWO,
+        calls_left,
+    };
+    let ended = run(rt, alloc, &["ffosolve"], &mut input);
+    ended_so(&ended, (3, b"", NO_INPUT))
+}
+
 #[test]
 fn tells_failing_input(rt: HostRuntime) -> Result<(), Fail> {
     for calls_left in 0..8 {
-        let mut input = FailingReader {
-            bytes: TWO,
-            calls_left,
-        };
-        let ended = run(&rt, rt.alloc(), &["ffosolve"], &mut input);
-        assert_ended(&rt, &ended, (3, b"", NO_INPUT), "ffosolve")?;
+        assert!(rt; tells_input(&rt, rt.alloc(), calls_left)?);
     }
     Ok(())
+}
+
+// The status, and how many bytes were printed, where standard error fails after so many calls.
+fn end_without_errors<T: Files + Threads + Wait + Sync>(
+    rt: &T,
+    alloc: Global,
+    calls_left: u32,
+) -> (u8, usize) {
+    let mut input = EndlessReader { given: 0 };
+    let mut output = Vec::new(alloc);
+    let mut errors = FailingWriter { calls_left };
+    let words = ["ffosolve"];
+    let status = program(rt, alloc, &words, &mut input, &mut output, &mut errors);
+    (status, output.len())
 }
 
 // A standard error that fails, whenever it does, changes no status.
 #[test]
 fn ends_though_errors_fail(rt: HostRuntime) {
-    let alloc = rt.alloc();
     for calls_left in 0..3 {
-        let mut input = EndlessReader { given: 0 };
-        let mut output = Vec::new(alloc);
-        let mut errors = FailingWriter { calls_left };
-        let words = ["ffosolve"];
-        let status = program(&rt, alloc, &words, &mut input, &mut output, &mut errors);
-        assert_eq!(rt; (status, output.len()), (1, 0));
+        assert!(rt; end_without_errors(&rt, rt.alloc(), calls_left) == (1, 0));
     }
 }
 
@@ -105,7 +117,7 @@ fn end_of<T: Files + Threads + Wait + Sync, W: Write>(
     alloc: Global,
     line: &str,
     output: &mut W,
-) -> Result<Ended, Fail> {
+) -> Result<Ended, AllocError> {
     let mut input = TWO;
     let mut errors = Vec::new(alloc);
     let words = words_of(alloc, line)?;
@@ -119,37 +131,35 @@ fn end_of<T: Files + Threads + Wait + Sync, W: Write>(
 
 const UNWRITTEN: &str = "ffosolve --book-out unwritten.book";
 
-// A standard output that fails after so many calls: no book is written.
-fn assert_fails<T: Abort + Files + Threads + Wait + Sync>(
+// Whether a standard output that fails after so many calls is told.
+fn tells_output<T: Files + Threads + Wait + Sync>(
     rt: &T,
     alloc: Global,
+    line: &str,
     calls_left: u32,
-) -> Result<(), Fail> {
-    for line in [UNWRITTEN, "ffosolve --help"] {
-        let mut output = FailingWriter { calls_left };
-        let ended = end_of(rt, alloc, line, &mut output)?;
-        assert_ended(rt, &ended, (3, b"", NO_OUTPUT), line)?;
-    }
-    assert!(rt; !fs::exists(rt, "unwritten.book")?);
-    Ok(())
+) -> Result<bool, AllocError> {
+    let ended = end_of(rt, alloc, line, &mut FailingWriter { calls_left })?;
+    ended_so(&ended, (3, b"", NO_OUTPUT))
 }
 
-// The report has 77 bytes, which are 26 writes of three bytes and less. Help has more.
+// The report has 77 bytes, which are 26 writes of three bytes and less. Help has more. No book is written.
 #[test]
 fn tells_failing_output(rt: HostRuntime) -> Result<(), Fail> {
     for calls_left in 0..26 {
-        assert_fails(&rt, rt.alloc(), calls_left)?;
+        assert!(rt; tells_output(&rt, rt.alloc(), UNWRITTEN, calls_left)?);
+        assert!(rt; tells_output(&rt, rt.alloc(), "ffosolve --help", calls_left)?);
+        assert!(rt; !fs::exists(&rt, "unwritten.book")?);
     }
     let mut output = FailingWriter { calls_left: 26 };
     let ended = end_of(&rt, rt.alloc(), "ffosolve", &mut output)?;
-    assert_ended(&rt, &ended, (0, b"", b""), "ffosolve")
+    assert!(rt; ended_so(&ended, (0, b"", b""))?);
+    Ok(())
 }
 
 #[test]
 fn tells_unflushed_output(rt: HostRuntime) -> Result<(), Fail> {
-    let mut output = HoldingWriter {};
-    let ended = end_of(&rt, rt.alloc(), UNWRITTEN, &mut output)?;
-    assert_ended(&rt, &ended, (3, b"", NO_OUTPUT), UNWRITTEN)?;
+    let ended = end_of(&rt, rt.alloc(), UNWRITTEN, &mut HoldingWriter {})?;
+    assert!(rt; ended_so(&ended, (3, b"", NO_OUTPUT))?);
     assert!(rt; !fs::exists(&rt, "unwritten.book")?);
     Ok(())
 }

@@ -1,6 +1,6 @@
 //! Texts and the reports of the program on them.
 
-use super::{EMPTY_REPORT, FailingWriter, Run, TWO, TWO_BY_WINNER, assert_run};
+use super::{EMPTY_REPORT, FailingWriter, Run, TWO, TWO_BY_WINNER, all_end_so};
 use crate::{Refusal, ReportRow, RowResult, write_report};
 use std::alloc::AllocError;
 use std::test::Fail;
@@ -188,7 +188,7 @@ const FFO_40: &[u8] = b"O--OOOOX-OOOOOOXOOXXOOOXOOXOOOXXOOOOOOXX---OOOOX----O--X
 
 const FFO_40_REFUSED: &[u8] = b"[1]\n1 refused: 20 empties, limit 19\nsolved 0 refused 1\n";
 
-const POSITION_RUNS: [Run; 3] = [
+const RUNS: [Run; 12] = [
     ("ffosolve --scoring winner", POSITIONS, 0, BY_WINNER, b""),
     ("ffosolve --scoring discs", POSITIONS, 0, BY_DISCS, b""),
     (
@@ -198,9 +198,6 @@ const POSITION_RUNS: [Run; 3] = [
         BY_SIGN,
         b"",
     ),
-];
-
-const RUNS: [Run; 9] = [
     ("ffosolve", b"", 0, EMPTY_REPORT, b""),
     ("ffosolve --max-empties 2", IMAGES, 0, IMAGES_REPORT, b""),
     ("ffosolve", LISTED, 0, LISTED_REPORT, b""),
@@ -214,35 +211,30 @@ const RUNS: [Run; 9] = [
 
 #[test]
 fn runs_by_words(rt: HostRuntime) -> Result<(), Fail> {
-    for run in &POSITION_RUNS {
-        assert_run(&rt, rt.alloc(), run)?;
-    }
-    for run in &RUNS {
-        assert_run(&rt, rt.alloc(), run)?;
-    }
+    assert!(rt; all_end_so(&rt, rt.alloc(), &RUNS)?);
     Ok(())
+}
+
+const ROWS: [ReportRow; 1] = [ReportRow {
+    line: u32::MAX,
+    result: RowResult::Refused(Refusal::Empties(61, 60)),
+}];
+
+// It has 73 bytes, which are 25 writes of three bytes and more.
+const GREATEST_REPORT: &[u8] =
+    b"[4294967296]\n4294967295 refused: 61 empties, limit 60\nsolved 0 refused 1\n";
+
+fn is_written_by(calls_left: u32) -> bool {
+    write_report(&mut FailingWriter { calls_left }, u32::MAX, &ROWS).is_ok()
 }
 
 #[test]
 fn writes_reports(rt: HostRuntime) -> Result<(), Fail> {
-    let alloc = rt.alloc();
-    let result = RowResult::Refused(Refusal::Empties(61, 60));
-    let rows = [ReportRow {
-        line: u32::MAX,
-        result,
-    }];
-    let mut report = Vec::new(alloc);
-    if write_report(&mut report, u32::MAX, &rows).is_err() {
+    let mut report = Vec::new(rt.alloc());
+    if write_report(&mut report, u32::MAX, &ROWS).is_err() {
         return Err(Fail::from(AllocError));
     }
-    let wanted = b"[4294967296]\n4294967295 refused: 61 empties, limit 60\nsolved 0 refused 1\n";
-    assert_eq!(rt; report.as_slice(), wanted.as_slice());
-    // The report has 73 bytes, which are 25 writes and more.
-    for calls_left in 0..25 {
-        let mut writer = FailingWriter { calls_left };
-        assert!(rt; write_report(&mut writer, u32::MAX, &rows).is_err());
-    }
-    let mut writer = FailingWriter { calls_left: 100 };
-    assert!(rt; write_report(&mut writer, u32::MAX, &rows).is_ok());
+    assert!(rt; report.as_slice() == GREATEST_REPORT && is_written_by(100));
+    assert!(rt; !(0..25u32).any(|calls_left| is_written_by(calls_left)));
     Ok(())
 }

@@ -4,7 +4,7 @@ use Rattle.std.specs.Slice.Iter.{iter_rest}
 use Rattle.std.proofs.lemmas.List.{map_more}
 use Rattle.suite_solver.specs.Readings.{row_in, task_in}
 use Rattle.suite_solver.specs.declared.rows.ReportRow.{ReportRow}
-use Rattle.suite_solver.specs.Rows.{numbered}
+use Rattle.suite_solver.specs.Rows.{report_row}
 use Rattle.suite_solver.specs.declared.texts.NumberedReading.{NumberedReading}
 use Rattle.suite_solver.proofs.TaskLemmas.{answers_left, next_answer}
 use Rattle.suite_solver.proofs.texts.rows_of.Goals as goal
@@ -21,7 +21,7 @@ loop-numbered-preserved c =
     let i = c.loop-numbered.numbered-index in
     let item = c.numbered-item.result in
     let later = iter_rest c.result.new.answers in
-    let row = ap (numbered item.line) c.result.ensures.result ∙ ap row_in c.numbered-item.is in
+    let row = ap (report_row item.line) c.result.ensures.result ∙ ap row_in c.numbered-item.is in
     record {
       rows = c.in_ok-push.ensures.items ∙ ap₂ (λ l (r : ReportRow). l ++ r ∷ []) c.loop-numbered.invariant.rows row
           ∙ sym (map_more row_in readings i item c.loop-numbered-test.true);
