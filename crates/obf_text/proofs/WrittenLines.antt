@@ -13,7 +13,7 @@ use Rattle.othello_rules.specs.Rules.{Position}
 use Rattle.othello_rules.specs.Solution.{IsScore, Solution}
 use Rattle.obf_text.specs.Bytes.{is_cell, cell_of, side_of}
 use Rattle.obf_text.specs.Fields.{Field}
-use Rattle.obf_text.specs.Written.{best_fields_text, board_text, cell_byte, fields_text, line_text, answer_fields, side_byte, line_with_end}
+use Rattle.obf_text.specs.Written.{answer_text, board_text, cell_byte, fields_text, line_text, answer_fields, side_byte, line_with_end}
 use Rattle.obf_text.specs.LineText.{lines_of, without_empty_last}
 use Rattle.obf_text.specs.Obf.{Holds, Says}
 use Rattle.obf_text.proofs.LineLemmas.{has_first_part, keeps_first}
@@ -43,7 +43,7 @@ same_length [] = refl
 same_length (c ∷ cells) = ap suc (same_length cells)
 
 line_parts : (P : Position) (A : Solution) → line_text P A ≡ map cell_byte P.cells ++ (32 ∷ side_byte P.mover ∷ 59 ∷ fields_text (answer_fields A))
-unfolding line_text board_text best_fields_text
+unfolding line_text board_text answer_text
 line_parts P A = append_assoc (map cell_byte P.cells) (32 ∷ side_byte P.mover ∷ 59 ∷ []) (fields_text (answer_fields A))
 
 pub written_says : (P : Position) (A : Solution) → length P.cells ≡ 64 → IsScore A.score → Says (line_text P A) (Holds (record { position = P; listed = answer_fields A }))

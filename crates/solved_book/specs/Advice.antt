@@ -74,18 +74,15 @@ LineOutcome = Result (Option PositionClaim) BookFault
 
 -- the claim of line n, or the first of its faults: it lists nothing, it is not behind, it is not canonical
 abbrev pub claim_or_fault : ℕ → Bool → Bool → Bool → PositionClaim → LineOutcome
-claim_or_fault n nothing behind canonical claim =
+claim_or_fault n nothing behind canonical c =
     if nothing then Err (fault.NoMoves n)
-    else (if behind then (if canonical then Ok (Some claim) else Err (fault.NotCanonical n)) else Err (fault.Unsorted n))
+    else (if behind then (if canonical then Ok (Some c) else Err (fault.NotCanonical n)) else Err (fault.Unsorted n))
 
 -- what an entry gives that stands in line n behind a position
 abbrev pub claim_in_entry : ℕ → Option bits.Discs → Entry → LineOutcome
-claim_in_entry n before entry =
-    claim_or_fault n
-    (lists_nothing entry)
-    (is_behind before (discs_of entry.position))
-    (is_canonical_entry entry.position)
-    (discs_of entry.position, claim_of entry.listed)
+claim_in_entry n before e =
+    claim_or_fault n (lists_nothing e) (is_behind before (discs_of e.position)) (is_canonical_entry e.position)
+    (discs_of e.position, claim_of e.listed)
 
 -- a line gives nothing where it is skipped
 abbrev pub claim_in_line : ℕ → Option bits.Discs → Meaning → LineOutcome
