@@ -204,6 +204,7 @@ fn search_sole<T: Bounds>(
 }
 
 // The same with two empty squares, where the mover has a move.
+#[inline(never)]
 pub(crate) fn search_two<T: Bounds>(
     table: &T,
     position: Pos,
