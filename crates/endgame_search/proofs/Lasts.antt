@@ -60,7 +60,7 @@ play_free p q i h =
     let after : has (rules.play P q) cell.Empty i ≡ true = subst (λ Q. has Q cell.Empty i ≡ true) e (free-either side.Black side.White (play_of p q) i h) in
     let low : i < 64 = on_board side.Black (play_of p q) i h in
     let within : i < length P.cells = subst (λ n. i < n) (sym (length-cells_of side.Black p)) low in
-    let painted : get_or (rules.painted (own P) qs P.cells) i cell.Empty ≡ cond (list_any (nat_eq i) qs) (own P) (get_or P.cells i cell.Empty) = get_or-painted (own P) qs P.cells i cell.Empty within in
+    let painted : get_or (rules.painted_cells (own P) qs P.cells) i cell.Empty ≡ cond (list_any (nat_eq i) qs) (own P) (get_or P.cells i cell.Empty) = get_or-painted (own P) qs P.cells i cell.Empty within in
     let there : same_cell cell.Empty (cond (list_any (nat_eq i) qs) (own P) (get_or P.cells i cell.Empty)) ≡ true = ap (same_cell cell.Empty) (sym painted) ∙ counts.has_get_or (rules.play P q) cell.Empty i cell.Empty after in
     elim (cases_Bool (list_any (nat_eq i) qs)) [
       | inl b ↦ absurd (both_ways (same_cell cell.Empty (own P)) (disc-no_empty side.Black) (subst (λ t. same_cell cell.Empty (cond t (own P) (get_or P.cells i cell.Empty)) ≡ true) b there))

@@ -7,7 +7,7 @@ use Rattle.std.proofs.lemmas.List.Elements.{All-more, All-weaker, All-contains, 
 use Rattle.othello_rules.specs.declared.scorings.Scoring.{Scoring}
 use Rattle.othello_rules.specs.Masks.{in_mask}
 use Rattle.othello_rules.specs.Solution.{IsScore}
-use Rattle.othello_bits.specs.Discs.{Discs, mask_where, moves_of, play_of, value_of, is_best, IsMove}
+use Rattle.othello_bits.specs.Discs.{Discs, mask_where, moves_of, play_of, value_of, is_best_move, IsMove}
 use Rattle.othello_bits.proofs.Bits.{none_from_zero}
 use Rattle.othello_bits.proofs.GameLaws.{value_score}
 use Rattle.othello_bits.proofs.Wheres.{is_where}
@@ -138,12 +138,12 @@ module _ (g : Scoring) (p : Discs) (items : List Child) (score : ℤ) (moves : �
       let b = best_of_all g p items score some children held.most in
       omega (arith, ints)
 
-  is_best_there : (q : ℕ) → in_mask moves q ≡ true → is_best g p q ≡ true
+  is_best_there : (q : ℕ) → in_mask moves q ≡ true → is_best_move g p q ≡ true
   is_best_there q m =
       and_from (in_mask (moves_of p) q) _ (held.made q m)
       ((Decides-int_eq (neg_ℤ (value_of g (play_of p q))) (value_of g p)).1 (held.worth q m ∙ lead_value))
 
-  is_there : (q : ℕ) → is_best g p q ≡ true → in_mask moves q ≡ true
+  is_there : (q : ℕ) → is_best_move g p q ≡ true → in_mask moves q ≡ true
   is_there q b =
       let parts = and_parts (in_mask (moves_of p) q) _ b in
       let worth : neg_ℤ (value_of g (play_of p q)) ≡ value_of g p = (Decides-int_eq (neg_ℤ (value_of g (play_of p q))) (value_of g p)).0 parts.1 in
@@ -153,10 +153,10 @@ module _ (g : Scoring) (p : Discs) (items : List Child) (score : ℤ) (moves : �
       (All-map (λ r. neg_ℤ (value_of g (play_of p r)) ≡ score → in_mask moves r ≡ true) (λ (c : Child). c.square) items by_square)
       (children.every q parts.0) (worth ∙ sym lead_value)
 
-  pub lead_best : moves ≡ mask_where (is_best g p)
+  pub lead_best : moves ≡ mask_where (is_best_move g p)
   lead_best =
-      is_where moves (is_best g p) held.small (λ q h.
-      elim (cases_Bool (is_best g p q)) [
+      is_where moves (is_best_move g p) held.small (λ q h.
+      elim (cases_Bool (is_best_move g p q)) [
         | inl b ↦ is_there q b ∙ sym b
-        | inr n ↦ false_from_ne_true (in_mask moves q) (λ m. both_ways (is_best g p q) n (is_best_there q m)) ∙ sym n
+        | inr n ↦ false_from_ne_true (in_mask moves q) (λ m. both_ways (is_best_move g p q) n (is_best_there q m)) ∙ sym n
       ])

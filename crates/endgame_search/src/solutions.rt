@@ -5,8 +5,8 @@ ghost use Rattle.othello_rules.specs.declared.scorings.Scoring.TheVariants.{Sign
 ghost use Rattle.othello_rules.specs.Solution.{IsScore};
 ghost use Rattle.std.proofs.Common.{sym};
 ghost use Rattle.endgame_search.specs.Problems.{Problem};
-ghost use Rattle.othello_bits.specs.Discs.{moves_of, play_of, value_of, answer_of, best_of};
-ghost use Rattle.othello_bits.specs.Discs.{is_best, mask_where, IsMove};
+ghost use Rattle.othello_bits.specs.Discs.{moves_of, play_of, value_of, answer_of, best_answer};
+ghost use Rattle.othello_bits.specs.Discs.{is_best_move, mask_where, IsMove};
 
 use crate::ranges::{decide, greatest_score, store};
 use crate::roots::leading_moves;
@@ -158,7 +158,7 @@ fn solved_at<T: Bounds>(table: &T, task: Task, score: i8) -> Solved
 // The task's position with its answer, where both parts of it are known.
 fn solved_as(task: Task, score: i8, best: Best) -> Solved
     requires value { score ≡ value_of task.scoring task.position }
-    requires best { best ≡ best_of task.scoring task.position }
+    requires best { best ≡ best_answer task.scoring task.position }
     ensures { result ≡ task }
 {
     Solved {
@@ -171,7 +171,7 @@ fn solved_as(task: Task, score: i8, best: Best) -> Solved
 // What attains the value, where it is known.
 fn best_from<T: Bounds>(table: &T, position: Pos, score: i8) -> Best
     requires { score ≡ value_of (T.scoring table.now) position }
-    ensures { result ≡ best_of (T.scoring table.now) position }
+    ensures { result ≡ best_answer (T.scoring table.now) position }
 {
     let moves = position.moves();
     if moves != 0 {
@@ -188,7 +188,7 @@ fn best_from<T: Bounds>(table: &T, position: Pos, score: i8) -> Best
 fn best_moves<T: Bounds>(table: &T, position: Pos, moves: u64, score: i8) -> u64
     requires moves { moves ≡ moves_of position }
     requires value { score ≡ value_of (T.scoring table.now) position }
-    ensures { result ≡ mask_where (is_best (T.scoring table.now) position) }
+    ensures { result ≡ mask_where (is_best_move (T.scoring table.now) position) }
 {
     let mut best = moves;
     let squares = squares_in(moves);

@@ -28,13 +28,13 @@ pub record Parts (text : List ℕ) (f : Field) : Type 0 where
   pub move : List ℕ
   pub score : List ℕ
   pub whole : text ≡ move ++ 58 ∷ score
-  pub is_move : IsMoveText move f.0
-  pub is_score : IsScoreText score f.1
+  pub is_move_text : IsMoveText move f.0
+  pub is_score_text : IsScoreText score f.1
 
 parts_at : (a b colon : ℕ) (score : List ℕ) (f : Field) (t : Bool) → (colon == 58) ≡ t → cond t (field_by (move_of a b) (score_of_text score)) None ≡ Some f → Parts (a ∷ b ∷ colon ∷ score) f
 parts_at a b colon score f true e h =
     let parts = both_from (move_of a b) (score_of_text score) f h in
-    record { move = a ∷ b ∷ []; score = score; whole = ap (λ c. a ∷ b ∷ c ∷ score) (eqb-true colon 58 e); is_move = move_from a b f.0 parts.0; is_score = score_from score f.1 parts.1 }
+    record { move = a ∷ b ∷ []; score = score; whole = ap (λ c. a ∷ b ∷ c ∷ score) (eqb-true colon 58 e); is_move_text = move_from a b f.0 parts.0; is_score_text = score_from score f.1 parts.1 }
 parts_at a b colon score f false e h = absurd (none-some f h)
 
 parts_from : (text : List ℕ) (f : Field) → field_of_text text ≡ Some f → Parts text f
@@ -54,8 +54,8 @@ field_from piece f h =
       whole = trimmed_whole piece ∙ ap (λ t. take (position_or_len is_content piece) piece ++ (t ++ dropped_behind piece)) parts.whole;
       before_blank = front_blank piece;
       after_blank = back_blank piece;
-      is_move = parts.is_move;
-      is_score = parts.is_score;
+      is_move_text = parts.is_move_text;
+      is_score_text = parts.is_score_text;
     }
 
 last_is : (front digits : List ℕ) → 0 < length digits → get_or (front ++ digits) (length (front ++ digits) - 1) 0 ≡ get_or digits (length digits - 1) 0
@@ -66,15 +66,15 @@ starts_in_content move score after m r = rw r.whole (rw r.content refl, omega ar
 
 pub field_is : (piece : List ℕ) (f : Field) → IsField piece f → field_of piece ≡ Some f
 field_is piece f s =
-    let start = starts_in_content s.move s.score s.after f.0 (move_is s.move f.0 s.is_move) in
-    let number = number_last s.is_score.digits s.is_score.size s.is_score.number in
-    let whole : s.move ++ 58 ∷ s.score ≡ (s.move ++ 58 ∷ s.is_score.sign) ++ s.is_score.digits =
-    ap (λ t. s.move ++ 58 ∷ t) s.is_score.whole ∙ sym (append_assoc s.move (58 ∷ s.is_score.sign) s.is_score.digits) in
+    let start = starts_in_content s.move s.score s.after f.0 (move_is s.move f.0 s.is_move_text) in
+    let number = number_last s.is_score_text.digits s.is_score_text.size s.is_score_text.number in
+    let whole : s.move ++ 58 ∷ s.score ≡ (s.move ++ 58 ∷ s.is_score_text.sign) ++ s.is_score_text.digits =
+    ap (λ t. s.move ++ 58 ∷ t) s.is_score_text.whole ∙ sym (append_assoc s.move (58 ∷ s.is_score_text.sign) s.is_score_text.digits) in
     let last : is_blank (get_or (s.move ++ 58 ∷ s.score) (length (s.move ++ 58 ∷ s.score) - 1) 0) ≡ false =
-    ap (λ t. is_blank (get_or t (length t - 1) 0)) whole ∙ ap is_blank (last_is (s.move ++ 58 ∷ s.is_score.sign) s.is_score.digits number.0) ∙ number.1 in
+    ap (λ t. is_blank (get_or t (length t - 1) 0)) whole ∙ ap is_blank (last_is (s.move ++ 58 ∷ s.is_score_text.sign) s.is_score_text.digits number.0) ∙ number.1 in
     ap field_of s.whole
     ∙ ap field_of_text (trimmed_is s.before (s.move ++ 58 ∷ s.score) s.after s.before_blank s.after_blank start.0 start.1 last)
-    ∙ text_is s.move s.score f s.is_move s.is_score
+    ∙ text_is s.move s.score f s.is_move_text s.is_score_text
 
 pub none_is : (piece : List ℕ) → IsNoField piece → field_of piece ≡ None
 none_is piece h = none_at (field_of piece) refl

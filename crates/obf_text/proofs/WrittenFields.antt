@@ -81,8 +81,8 @@ piece_back f h = record {
   whole = ap (λ t. 32 ∷ t) (sym (append-nil (move_text f.0 ++ 58 ∷ score_text f.1)));
   before_blank = gap_is_blank;
   after_blank = none_blank;
-  is_move = move_back f.0 h.0;
-  is_score = score_back f.1 h.1;
+  is_move_text = move_back f.0 h.0;
+  is_score_text = score_back f.1 h.1;
 }
 
 move_onto : (c : ℕ) (m : ListedMove) (tail : List ℕ) → IsMove m → IsMark c → Lacks c tail → Lacks c (move_text m ++ tail)

@@ -79,8 +79,8 @@ pub record IsField (piece : List ℕ) (field : Field) : Type 0 where
   pub whole : piece ≡ before ++ ((move ++ 58 ∷ score) ++ after)
   pub before_blank : AllPass is_blank before
   pub after_blank : AllPass is_blank after
-  pub is_move : IsMoveText move field.0
-  pub is_score : IsScoreText score field.1
+  pub is_move_text : IsMoveText move field.0
+  pub is_score_text : IsScoreText score field.1
 
 abbrev pub IsNoField : List ℕ → Type 0
 IsNoField piece = (field : Field) → IsField piece field → ⊥

@@ -10,7 +10,7 @@ use Rattle.othello_rules.specs.Rules.{Position}
 use Rattle.othello_rules.specs.Renamed.{image_by}
 use Rattle.othello_rules.proofs.Renaming.{length-moved_cells, image_by-back}
 use Rattle.othello_bits.specs.Discs.{Discs, discs, discs_of, position_of}
-use Rattle.othello_bits.specs.Symmetries.{sent, inverse, image, others, symmetries, place, pair_of, image_pair, first_symmetry, canonical}
+use Rattle.othello_bits.specs.Symmetries.{target, inverse, image, others, symmetries, place, pair_of, image_pair, first_symmetry, canonical}
 use Rattle.othello_bits.specs.declared.symmetries.Sym.{Sym}
 use Rattle.othello_bits.specs.declared.symmetries.Sym.TheVariants.{Identity}
 use Rattle.othello_bits.proofs.Wheres.{where_lt}
@@ -87,10 +87,10 @@ is_first_symmetry P s least before =
 
 -- all images of a position have one canonical position
 pub length-image : (s : Sym) (P : Position) → length (image s P).cells ≡ 64
-length-image s P = length-moved_cells (sent (inverse s)) P.cells
+length-image s P = length-moved_cells (target (inverse s)) P.cells
 
 pub image-back : (t : Sym) (P : Position) → length P.cells ≡ 64 → image (inverse t) (image t P) ≡ P
-image-back t P full = ap (λ u. image_by (sent u) (image t P)) (inverse-inverse t) ∙ image_by-back (renaming t) P full
+image-back t P full = ap (λ u. image_by (target u) (image t P)) (inverse-inverse t) ∙ image_by-back (renaming t) P full
 
 no_more : (t : Sym) (P : Position) → pair_of (discs_of (canonical P)) ≤ pair_of (discs_of (canonical (image t P)))
 no_more t P =

@@ -9,7 +9,7 @@ use Rattle.othello_rules.specs.Rules as rules
 use Rattle.othello_rules.specs.Rules.{Position, disc, other, is_nonempty}
 use Rattle.othello_rules.specs.Value as worth
 use Rattle.othello_rules.specs.declared.scorings.Scoring.{Scoring}
-use Rattle.othello_rules.specs.Colours.{swap_cell, swapped}
+use Rattle.othello_rules.specs.Colours.{swap_cell, colour_swap}
 use Rattle.othello_rules.proofs.ColourAnswers.{answer-swapped}
 use Rattle.othello_rules.proofs.ColourLaws.{flips-swapped, value-swapped}
 use Rattle.othello_rules.specs.Masks.{in_mask}
@@ -24,14 +24,14 @@ swap-cell true b = refl
 swap-cell false true = refl
 swap-cell false false = refl
 
-swapped-position : (p : Discs) → swapped (position_of side.Black p) ≡ position_of side.White p
+swapped-position : (p : Discs) → colour_swap (position_of side.Black p) ≡ position_of side.White p
 unfolding cells_of
 swapped-position p =
     let each : (λ i. swap_cell (cell_at side.Black p i)) ≡ cell_at side.White p = λ k i. swap-cell (in_mask p.own i) (in_mask p.opp i) k in
     let cells : map swap_cell (map (cell_at side.Black p) squares) ≡ map (cell_at side.White p) squares = map_twice swap_cell (cell_at side.Black p) squares ∙ ap (λ (f : ℕ → Cell). map f squares) each in
     λ k. record { cells = cells k; mover = side.White }
 
-as_black : {X : Type 0} (f : Position → X) → ((P : Position) → f (swapped P) ≡ f P) → (s : Side) (p : Discs) → f (position_of s p) ≡ f (position_of side.Black p)
+as_black : {X : Type 0} (f : Position → X) → ((P : Position) → f (colour_swap P) ≡ f P) → (s : Side) (p : Discs) → f (position_of s p) ≡ f (position_of side.Black p)
 as_black f same side.Black p = refl
 as_black f same side.White p = sym (ap f (swapped-position p)) ∙ same (position_of side.Black p)
 
@@ -44,5 +44,5 @@ answer-either g s t p = as_black (worth.answer g) (answer-swapped g) s p ∙ sym
 
 pub is_move-either : (s t : Side) (p : Discs) (q : ℕ) → rules.is_move (position_of s p) q ≡ rules.is_move (position_of t p) q
 is_move-either s t p q =
-    let each : (P : Position) → rules.is_move (swapped P) q ≡ rules.is_move P q = λ P. ap is_nonempty (flips-swapped P q) in
+    let each : (P : Position) → rules.is_move (colour_swap P) q ≡ rules.is_move P q = λ P. ap is_nonempty (flips-swapped P q) in
     as_black (λ P. rules.is_move P q) each s p ∙ sym (as_black (λ P. rules.is_move P q) each t p)

@@ -15,7 +15,7 @@ use Rattle.othello_rules.proofs.ImageValue.{value-image_by, answer-image_by_move
 use Rattle.othello_rules.specs.declared.discs.Cell.TheVariants.{Empty}
 use Rattle.othello_rules.proofs.Renaming.{get_or-moved_cells}
 use Rattle.othello_bits.specs.Discs.{Discs, position_of, discs_of, value_of, answer_of}
-use Rattle.othello_bits.specs.Symmetries.{sent, inverse, image, mask_image, best_image, place, pair_of, image_pair, first_symmetry, canonical, image_of, canonical_of}
+use Rattle.othello_bits.specs.Symmetries.{target, inverse, image, mask_image, best_image, place, pair_of, image_pair, first_symmetry, canonical, image_of, canonical_of}
 use Rattle.othello_bits.specs.declared.symmetries.Sym.{Sym}
 use Rattle.othello_bits.proofs.Wheres.{filter_again}
 use Rattle.othello_bits.proofs.AnswerLaws.{filter-filter}
@@ -39,8 +39,8 @@ unfolding worth.answer
 answer-image g s P full =
     elim (cases_Bool (worth.can_move P)) [
       | inl h ↦
-          let e : mask_image s (mask_of (worth.best_moves g P)) ≡ mask_of (map (sent s) (worth.best_moves g P)) = image_of_squares s (worth.best_moves g P) (squares_of-best g P) in
-          let b : best_image s (worth.best g P) ≡ Moves (mask_of (map (sent s) (worth.best_moves g P))) = ap (best_image s) (best_is_moves g P h) ∙ ap Moves e in
+          let e : mask_image s (mask_of (worth.best_moves g P)) ≡ mask_of (map (target s) (worth.best_moves g P)) = image_of_squares s (worth.best_moves g P) (squares_of-best g P) in
+          let b : best_image s (worth.best g P) ≡ Moves (mask_of (map (target s) (worth.best_moves g P))) = ap (best_image s) (best_is_moves g P h) ∙ ap Moves e in
           answer-image_by_moves g (renaming s) P full h ∙ (λ k. record { score = worth.value g P; best = sym b k })
       | inr h ↦
           let b : best_image s (worth.best g P) ≡ worth.best g P =
@@ -87,9 +87,9 @@ answer_of-back g p =
     ap (worth.answer g) (sym (image-back s P (length-cells_of Black p))) ∙ answer-image g (inverse s) (image s P) (length-image s P) in
     here ∙ (λ k. record { score = sym (value-discs_of g (image s P) (length-image s P)) k; best = best_image (inverse s) (sym (answer-discs_of g (image s P) (length-image s P)) k).best })
 
-pub cell-placed : (s : Sym) (P : Position) (q : ℕ) → q < 64 → get_or (image s P).cells (sent s q) Empty ≡ get_or P.cells q Empty
+pub cell-placed : (s : Sym) (P : Position) (q : ℕ) → q < 64 → get_or (image s P).cells (target s q) Empty ≡ get_or P.cells q Empty
 cell-placed s P q h =
-    get_or-moved_cells (sent (inverse s)) P.cells (sent s q) Empty ((kept s).on_board q h) ∙ ap (λ k. get_or P.cells k Empty) ((kept s).comes_back q h)
+    get_or-moved_cells (target (inverse s)) P.cells (target s q) Empty ((kept s).on_board q h) ∙ ap (λ k. get_or P.cells k Empty) ((kept s).comes_back q h)
 
-pub mask-placed : (s : Sym) (m q : ℕ) → q < 64 → in_mask (mask_image s m) (sent s q) ≡ in_mask m q
-mask-placed s m q h = in_mask-image s m (sent s q) ((kept s).on_board q h) ∙ ap (in_mask m) ((kept s).comes_back q h)
+pub mask-placed : (s : Sym) (m q : ℕ) → q < 64 → in_mask (mask_image s m) (target s q) ≡ in_mask m q
+mask-placed s m q h = in_mask-image s m (target s q) ((kept s).on_board q h) ∙ ap (in_mask m) ((kept s).comes_back q h)

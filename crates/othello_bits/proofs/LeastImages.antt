@@ -3,7 +3,7 @@ use Rattle.std.proofs.Common.{◌≡◌, ℕ, suc, ◌+◌, ◌*◌, ◌^◌, �
 use Rattle.std.proofs.lemmas.Bool.{cases_lt, ltb-true, ltb-false}
 use Rattle.othello_rules.specs.declared.discs.Side.{Side}
 use Rattle.othello_bits.specs.Discs.{Discs, discs, discs_of, position_of}
-use Rattle.othello_bits.specs.Images.{image_by, key, is_less}
+use Rattle.othello_bits.specs.Images.{image_with, key, is_less}
 use Rattle.othello_bits.specs.Symmetries.{image, mask_image, symmetries, place, image_pair, first_symmetry, canonical}
 use Rattle.othello_bits.specs.declared.images.Image.{Image}
 use Rattle.othello_bits.specs.declared.symmetries.Sym.{Sym}
@@ -16,21 +16,21 @@ use Rattle.othello_bits.proofs.CanonicalLaws.{is_first_symmetry}
 
 -- x is the least of the images from place `from` up to `to`, by the first symmetry that gives it
 pub record IsLeast (own opp from to : ℕ) (x : Image) : Type 0 where
-  pub leads : x ≡ image_by own opp x.sym
+  pub leads : x ≡ image_with own opp x.sym
   pub after : from ≤ place x.sym
   pub before : place x.sym < to
-  pub least : (s : Sym) → from ≤ place s → place s < to → key x ≤ key (image_by own opp s)
-  pub first : (s : Sym) → from ≤ place s → place s < place x.sym → key x < key (image_by own opp s)
+  pub least : (s : Sym) → from ≤ place s → place s < to → key x ≤ key (image_with own opp s)
+  pub first : (s : Sym) → from ≤ place s → place s < place x.sym → key x < key (image_with own opp s)
 
 same_place : (s t : Sym) → place s ≡ place t → s ≡ t
 same_place s t e = sym (at_place s Identity) ∙ ap (λ k. get_or symmetries k Identity) e ∙ at_place t Identity
 
-pub one : (own opp : ℕ) (s : Sym) → IsLeast own opp (place s) (suc (place s)) (image_by own opp s)
+pub one : (own opp : ℕ) (s : Sym) → IsLeast own opp (place s) (suc (place s)) (image_with own opp s)
 one own opp s = record {
   leads = refl;
   after = omega arith;
   before = omega arith;
-  least = λ t h k. let same : s ≡ t = same_place s t (omega arith) in subst (λ u. key (image_by own opp s) ≤ key (image_by own opp u)) same (omega arith);
+  least = λ t h k. let same : s ≡ t = same_place s t (omega arith) in subst (λ u. key (image_with own opp s) ≤ key (image_with own opp u)) same (omega arith);
   first = λ t h k. absurd (omega arith);
 }
 
@@ -66,19 +66,19 @@ apart-both s p fine = apart-from (mask_image s p.own) (mask_image s p.opp) (mask
 discs_of-image : (s : Sym) (m : Side) (p : Discs) → AreApart p → discs_of (image s (position_of m p)) ≡ both_images s p
 discs_of-image s m p fine = ap discs_of (image-position_of s m p) ∙ discs_of-position_of m (both_images s p) (apart-both s p fine)
 
-key-pair : (s : Sym) (m : Side) (p : Discs) → AreApart p → image_pair (position_of m p) s ≡ key (image_by p.own p.opp s)
+key-pair : (s : Sym) (m : Side) (p : Discs) → AreApart p → image_pair (position_of m p) s ≡ key (image_with p.own p.opp s)
 key-pair s m p fine = (λ k. (discs_of-image s m p fine k).own * 2 ^ 64 + (discs_of-image s m p fine k).opp)
 
 module _ (m : Side) (p : Discs) (fine : AreApart p) (x : Image)
-    (leads : x ≡ image_by p.own p.opp x.sym)
-    (least : (s : Sym) → key x ≤ key (image_by p.own p.opp s))
-    (first : (s : Sym) → place s < place x.sym → key x < key (image_by p.own p.opp s))
+    (leads : x ≡ image_with p.own p.opp x.sym)
+    (least : (s : Sym) → key x ≤ key (image_with p.own p.opp s))
+    (first : (s : Sym) → place s < place x.sym → key x < key (image_with p.own p.opp s))
   where
     pub first-is : x.sym ≡ first_symmetry (position_of m p)
     first-is =
         sym (is_first_symmetry (position_of m p) x.sym
-        (λ s. rw (key-pair x.sym m p fine, key-pair s m p fine) (subst (λ y. key y ≤ key (image_by p.own p.opp s)) leads (least s)))
-        (λ s h. rw (key-pair x.sym m p fine, key-pair s m p fine) (subst (λ y. key y < key (image_by p.own p.opp s)) leads (first s h))))
+        (λ s. rw (key-pair x.sym m p fine, key-pair s m p fine) (subst (λ y. key y ≤ key (image_with p.own p.opp s)) leads (least s)))
+        (λ s h. rw (key-pair x.sym m p fine, key-pair s m p fine) (subst (λ y. key y < key (image_with p.own p.opp s)) leads (first s h))))
 
     masks_are : discs x.own x.opp ≡ both_images x.sym p
     masks_are = λ k. discs ((leads k).own) ((leads k).opp)

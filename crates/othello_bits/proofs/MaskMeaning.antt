@@ -14,7 +14,7 @@ use Rattle.othello_rules.proofs.ListLaws.{Contains-nil}
 use Rattle.othello_rules.proofs.MoveLaws.{Contains-moves, flips_occupied}
 use Rattle.othello_rules.proofs.BoundLaws.{can_move_none, can_move_with, moves_none}
 use Rattle.othello_rules.specs.Masks.{in_mask}
-use Rattle.othello_bits.specs.Shifts.{is_move, is_turned}
+use Rattle.othello_bits.specs.Shifts.{turns_any, is_turned}
 use Rattle.othello_bits.proofs.TurnedMasks.{own_after, opp_after, zero_from_none, some_of, not_empty, after_own, after_opp, after_apart}
 use Rattle.othello_bits.specs.Discs.{mem, mask_where, Discs, discs, position_of, moves_of, flips_of, pass_of, play_of, discs_of, IsMove, IsOver}
 use Rattle.othello_bits.proofs.Wheres.{in_mask-where, where_lt, is_where}
@@ -58,7 +58,7 @@ pub is_move-from_IsMove : (p : Discs) (q : ℕ) → IsMove p q → rules.is_move
 unfolding moves_of rules.moves
 is_move-from_IsMove p q m = sym (in_mask-where (rules.is_move (position_of Black p)) q (IsMove-on_board p q m)) ∙ m
 
-pub moves_of-is : (p : Discs) (m : ℕ) → m < 2 ^ 64 → AreApart p → ((q : ℕ) → q < 64 → in_mask m q ≡ is_move (in_mask p.own) (in_mask p.opp) q) → m ≡ moves_of p
+pub moves_of-is : (p : Discs) (m : ℕ) → m < 2 ^ 64 → AreApart p → ((q : ℕ) → q < 64 → in_mask m q ≡ turns_any (in_mask p.own) (in_mask p.opp) q) → m ≡ moves_of p
 unfolding moves_of rules.moves
 moves_of-is p m h fine e = is_where m (rules.is_move (position_of Black p)) h (λ q l. e q l ∙ is_move-meaning Black p fine q l)
 

@@ -9,7 +9,7 @@ use Rattle.othello_rules.specs.Rules.{Position, disc, other, is_nonempty, turned
 use Rattle.othello_rules.proofs.MoveLaws.{flips_empty, flips_occupied}
 use Rattle.othello_rules.specs.Masks.{in_mask}
 use Rattle.othello_rules.specs.Board.{directions}
-use Rattle.othello_bits.specs.Shifts.{is_move, is_turned, lines}
+use Rattle.othello_bits.specs.Shifts.{turns_any, is_turned, lines}
 use Rattle.othello_bits.specs.Discs.{mem, Discs, position_of}
 use Rattle.othello_bits.proofs.CellLaws.{AreApart, has_own, has_opposing, has_empty}
 use Rattle.othello_bits.proofs.TurnedMasks.{move_free}
@@ -28,7 +28,7 @@ module _ (s : Side) (p : Discs) (fine : AreApart p) where
   any_is : (q : ℕ) → q < 64 → is_nonempty (flat_map (rules.turned (position_of s p) q) directions) ≡ list_any (λ met. is_nonempty (turned_on (in_mask p.own) (in_mask p.opp) met)) (lines q)
   any_is q h = nonempty-flips (position_of s p) q ∙ (λ k. list_any (λ met. is_nonempty (turned_on (own_is k) (opposing_is k) met)) (lines q))
 
-  pub is_move-meaning : (q : ℕ) → q < 64 → is_move (in_mask p.own) (in_mask p.opp) q ≡ rules.is_move (position_of s p) q
+  pub is_move-meaning : (q : ℕ) → q < 64 → turns_any (in_mask p.own) (in_mask p.opp) q ≡ rules.is_move (position_of s p) q
   is_move-meaning q h =
       let free : rules.has (position_of s p) Empty q ≡ not (in_mask p.own q || in_mask p.opp q) = has_empty s p q h in
       elim (cases_Bool (rules.has (position_of s p) Empty q)) [

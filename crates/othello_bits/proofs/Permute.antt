@@ -4,7 +4,7 @@ use Rattle.std.specs.Bool.{beq}
 use Rattle.std.proofs.lemmas.Bool.{false≢true, and_parts, eqb-true, ltb-true, leb-true, agree_below, agree_below_at}
 use Rattle.std.proofs.lemmas.Nat.Bits.{bit_at_xor, bit_at-lt}
 use Rattle.othello_rules.specs.Masks.{in_mask}
-use Rattle.othello_bits.specs.Exchanges.{exchanged, exchanges, swapped, swaps}
+use Rattle.othello_bits.specs.Exchanges.{exchange_source, exchanges, swap_source, swaps}
 use Rattle.othello_bits.proofs.Bits.{in_mask-and, in_mask-or, in_mask-shr, in_mask-shl_low}
 
 abbrev differ : Bool → Bool → Bool
@@ -49,8 +49,8 @@ exchange_bit b k i false true false e = absurd (false≢true e)
 exchange_bit b k i false false n e = absurd (false≢true e)
 
 pub exchange_at : (b m k i : ℕ) → i < 64 → exchanges m k i ≡ true
-    → in_mask (bit_or (bit_and (b / 2 ^ k) m) (bit_and b m * 2 ^ k % 2 ^ 64)) i ≡ in_mask b (exchanged m k i)
-unfolding exchanged exchanges
+    → in_mask (bit_or (bit_and (b / 2 ^ k) m) (bit_and b m * 2 ^ k % 2 ^ 64)) i ≡ in_mask b (exchange_source m k i)
+unfolding exchange_source exchanges
 exchange_at b m k i h e =
     rw (in_mask-or (bit_and (b / 2 ^ k) m) (bit_and b m * 2 ^ k % 2 ^ 64) i, in_mask-and (b / 2 ^ k) m i, in_mask-shr b k i, in_mask-shl_low (bit_and b m) k i h, in_mask-and b m (i - k))
     (exchange_bit b k i (in_mask m i) (leb k i) (in_mask m (i - k)) e)
@@ -117,8 +117,8 @@ difference_at : (b m k i : ℕ) → in_mask (difference b m k) i ≡ (differ (in
 difference_at b m k i = rw (in_mask-and (bit_xor b (b / 2 ^ k)) m i, in_mask-xor b (b / 2 ^ k) i, in_mask-shr b k i)
 
 pub swap_at : (b m k i : ℕ) → i < 64 → swaps m k i ≡ true
-    → in_mask (bit_xor (bit_xor b (difference b m k)) (difference b m k * 2 ^ k % 2 ^ 64)) i ≡ in_mask b (swapped m k i)
-unfolding swapped swaps
+    → in_mask (bit_xor (bit_xor b (difference b m k)) (difference b m k * 2 ^ k % 2 ^ 64)) i ≡ in_mask b (swap_source m k i)
+unfolding swap_source swaps
 swap_at b m k i h e =
     rw (in_mask-xor (bit_xor b (difference b m k)) (difference b m k * 2 ^ k % 2 ^ 64) i, in_mask-xor b (difference b m k) i, in_mask-shl_low (difference b m k) k i h, difference_at b m k i, difference_at b m k (i - k))
     (swap_bit (in_mask b) k i (in_mask m i) (leb k i) (in_mask m (i - k)) refl e)

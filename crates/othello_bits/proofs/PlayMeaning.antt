@@ -99,9 +99,9 @@ module _ (s : Side) (p r : Discs) (q : ℕ) (fine : AreApart p) (on_board : q < 
     unfolding t
     painted_is i = any-is_mem i (rules.flips (position_of s p) q) ∙ sym (is_turned-meaning s p fine q i on_board)
 
-    cells_are : cells_of (other s) r ≡ rules.painted (disc s) (q ∷ rules.flips (position_of s p) q) (cells_of s p)
+    cells_are : cells_of (other s) r ≡ rules.painted_cells (disc s) (q ∷ rules.flips (position_of s p) q) (cells_of s p)
     cells_are =
-        same_lists (cells_of (other s) r) (rules.painted (disc s) (q ∷ rules.flips (position_of s p) q) (cells_of s p))
+        same_lists (cells_of (other s) r) (rules.painted_cells (disc s) (q ∷ rules.flips (position_of s p) q) (cells_of s p))
         (length-cells_of (other s) r ∙ sym (length-painted (disc s) (q ∷ rules.flips (position_of s p) q) (cells_of s p) ∙ length-cells_of s p))
         (λ k d h.
         let low : k < 64 = rw length-cells_of at h in

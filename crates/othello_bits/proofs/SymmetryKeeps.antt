@@ -6,22 +6,22 @@ use Rattle.othello_rules.specs.Board.{squares, directions, ray}
 use Rattle.othello_rules.specs.Rules.{Position}
 use Rattle.othello_rules.proofs.Reorder.{same_list, without, reordered, member-list_any, list_all-member}
 use Rattle.othello_rules.proofs.Renaming.{Keeps, Keeps-from_tests, Renaming, image_by-image_by}
-use Rattle.othello_bits.specs.Symmetries.{sent, inverse, image, others, symmetries}
+use Rattle.othello_bits.specs.Symmetries.{target, inverse, image, others, symmetries}
 use Rattle.othello_bits.specs.declared.symmetries.Sym.{Sym}
 use Rattle.othello_bits.specs.declared.symmetries.Sym.TheVariants.{Identity, FlipColumns, FlipRows, HalfTurn, Transpose, TurnRight, TurnLeft, AntiTranspose}
 
-pub kept : (s : Sym) → Keeps (sent s) (sent (inverse s))
+pub kept : (s : Sym) → Keeps (target s) (target (inverse s))
 unfolding ray directions squares same_list without reordered
-kept Identity = Keeps-from_tests (sent Identity) (sent Identity) refl refl
-kept FlipColumns = Keeps-from_tests (sent FlipColumns) (sent FlipColumns) refl refl
-kept FlipRows = Keeps-from_tests (sent FlipRows) (sent FlipRows) refl refl
-kept HalfTurn = Keeps-from_tests (sent HalfTurn) (sent HalfTurn) refl refl
-kept Transpose = Keeps-from_tests (sent Transpose) (sent Transpose) refl refl
-kept TurnRight = Keeps-from_tests (sent TurnRight) (sent TurnLeft) refl refl
-kept TurnLeft = Keeps-from_tests (sent TurnLeft) (sent TurnRight) refl refl
-kept AntiTranspose = Keeps-from_tests (sent AntiTranspose) (sent AntiTranspose) refl refl
+kept Identity = Keeps-from_tests (target Identity) (target Identity) refl refl
+kept FlipColumns = Keeps-from_tests (target FlipColumns) (target FlipColumns) refl refl
+kept FlipRows = Keeps-from_tests (target FlipRows) (target FlipRows) refl refl
+kept HalfTurn = Keeps-from_tests (target HalfTurn) (target HalfTurn) refl refl
+kept Transpose = Keeps-from_tests (target Transpose) (target Transpose) refl refl
+kept TurnRight = Keeps-from_tests (target TurnRight) (target TurnLeft) refl refl
+kept TurnLeft = Keeps-from_tests (target TurnLeft) (target TurnRight) refl refl
+kept AntiTranspose = Keeps-from_tests (target AntiTranspose) (target AntiTranspose) refl refl
 
-pub kept_back : (s : Sym) → Keeps (sent (inverse s)) (sent s)
+pub kept_back : (s : Sym) → Keeps (target (inverse s)) (target s)
 kept_back Identity = kept Identity
 kept_back FlipColumns = kept FlipColumns
 kept_back FlipRows = kept FlipRows
@@ -32,7 +32,7 @@ kept_back TurnLeft = kept TurnRight
 kept_back AntiTranspose = kept AntiTranspose
 
 abbrev pub renaming : Sym → Renaming
-renaming s = record { to = sent s; back = sent (inverse s); there = kept s; here = kept_back s }
+renaming s = record { to = target s; back = target (inverse s); there = kept s; here = kept_back s }
 
 pub inverse-inverse : (s : Sym) → inverse (inverse s) ≡ s
 inverse-inverse Identity = refl
@@ -57,7 +57,7 @@ Contains-symmetries AntiTranspose = (7, omega arith, refl)
 
 -- each symmetry after another is one of the eight
 abbrev composes : Sym → Sym → Sym → Bool
-composes s t u = agree_below (λ q. eqb (sent (inverse t) (sent (inverse s) q)) (sent (inverse u) q)) (λ q. true) 64
+composes s t u = agree_below (λ q. eqb (target (inverse t) (target (inverse s) q)) (target (inverse u) q)) (λ q. true) 64
 
 composed : (s t : Sym) → (u : Sym) × Contains symmetries u × (composes s t u ≡ true)
 unfolding others
@@ -71,6 +71,6 @@ pub image-image : (s t : Sym) → (u : Sym) × ((P : Position) → image s (imag
 image-image s t =
     let c : (u : Sym) × Contains symmetries u × (composes s t u ≡ true) = composed s t in (
       c.0,
-      λ P. image_by-image_by (sent (inverse s)) (sent (inverse t)) (sent (inverse c.0)) P (kept_back s).on_board
-          (λ q b. eqb-true (sent (inverse t) (sent (inverse s) q)) (sent (inverse c.0) q) (agree_below_at (λ q. eqb (sent (inverse t) (sent (inverse s) q)) (sent (inverse c.0) q)) (λ q. true) 64 q c.2 b)),
+      λ P. image_by-image_by (target (inverse s)) (target (inverse t)) (target (inverse c.0)) P (kept_back s).on_board
+          (λ q b. eqb-true (target (inverse t) (target (inverse s) q)) (target (inverse c.0) q) (agree_below_at (λ q. eqb (target (inverse t) (target (inverse s) q)) (target (inverse c.0) q)) (λ q. true) 64 q c.2 b)),
     )

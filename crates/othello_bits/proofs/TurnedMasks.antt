@@ -10,7 +10,7 @@ use Rattle.othello_rules.specs.Masks.{in_mask}
 use Rattle.othello_bits.proofs.Numbers.{count_below, same_mask, is_number, ones_number}
 use Rattle.othello_rules.specs.Board.{squares}
 use Rattle.othello_rules.specs.Rules.{turned_on, is_nonempty}
-use Rattle.othello_bits.specs.Shifts.{is_move, is_turned, lines}
+use Rattle.othello_bits.specs.Shifts.{turns_any, is_turned, lines}
 use Rattle.othello_bits.specs.Discs.{mem}
 use Rattle.othello_bits.proofs.Bits.{in_mask-and, in_mask-or, in_mask-not, in_mask-zero, in_mask-pow, eqb_sym}
 
@@ -37,7 +37,7 @@ not_or false false e = refl
 not_or false true e = absurd (false≢true e)
 not_or true b e = absurd (false≢true e)
 
-pub move_free : (own opp : ℕ → Bool) (q : ℕ) → is_move own opp q ≡ true → opp q ≡ false
+pub move_free : (own opp : ℕ → Bool) (q : ℕ) → turns_any own opp q ≡ true → opp q ≡ false
 move_free own opp q e = not_or (own q) (opp q) (and_parts (not (own q || opp q)) (list_any (λ met. is_nonempty (turned_on own opp met)) (lines q)) e).0
 
 module _ (own opp flips q : ℕ) (hown : own < 2 ^ 64) (hopp : opp < 2 ^ 64) (hflips : flips < 2 ^ 64) (on_board : q < 64) where

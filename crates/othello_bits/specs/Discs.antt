@@ -1,5 +1,5 @@
 -- What two masks mean (bitboards): a position of the rules, for either side to move.
-use Rattle.std.specs.Prelude.{◌≡◌, ℕ, Bool, true, cond, ◌&&◌, nat_eq, ◌==◌, List, map, ℤ, neg_ℤ, if◌then◌else◌}
+use Rattle.std.specs.Prelude.{◌≡◌, ℕ, Bool, true, ◌&&◌, nat_eq, ◌==◌, List, map, ℤ, neg_ℤ, if◌then◌else◌}
 use Rattle.std.specs.List.{filter, list_any}
 use Rattle.std.specs.Ordering.{int_eq}
 use Rattle.othello_rules.specs.declared.answers.Best.{Best}
@@ -27,7 +27,7 @@ discs a b = record { own = a; opp = b }
 
 -- what stands on square i where side s is the mover
 abbrev pub cell_at : Side → Discs → ℕ → Cell
-cell_at s p i = cond (in_mask p.own i) (disc s) (cond (in_mask p.opp i) (disc (other s)) Empty)
+cell_at s p i = if in_mask p.own i then disc s else (if in_mask p.opp i then disc (other s) else Empty)
 
 unfoldable pub cells_of : Side → Discs → List Cell
 cells_of s p = map (cell_at s p) squares
@@ -89,11 +89,11 @@ unfoldable pub answer_of : Scoring → Discs → Solution
 answer_of g p = worth.answer g (position_of Black p)
 
 -- q is a move that attains the value; and what attains it: all such moves, or a pass, or that the game is over
-abbrev pub is_best : Scoring → Discs → ℕ → Bool
-is_best g p q = in_mask (moves_of p) q && int_eq (neg_ℤ (value_of g (play_of p q))) (value_of g p)
+abbrev pub is_best_move : Scoring → Discs → ℕ → Bool
+is_best_move g p q = in_mask (moves_of p) q && int_eq (neg_ℤ (value_of g (play_of p q))) (value_of g p)
 
-unfoldable pub best_of : Scoring → Discs → Best
-best_of g p =
+unfoldable pub best_answer : Scoring → Discs → Best
+best_answer g p =
     if nat_eq (moves_of p) 0
     then (if nat_eq (moves_of (pass_of p)) 0 then Over else Pass)
-    else Moves (mask_where (is_best g p))
+    else Moves (mask_where (is_best_move g p))

@@ -1,18 +1,18 @@
 -- Where a step of a permutation of bits takes bit i from.
-use Rattle.std.specs.Prelude.{ℕ, ◌+◌, ◌-◌, Bool, cond, not, ◌&&◌, nat_le, if◌then◌else◌}
+use Rattle.std.specs.Prelude.{ℕ, ◌+◌, ◌-◌, Bool, not, ◌&&◌, nat_le, if◌then◌else◌}
 use Rattle.std.specs.Bool.{beq}
 use Rattle.othello_rules.specs.Masks.{in_mask}
 
 -- the squares of `mask` and those k above them change places, and there are no others
-unfoldable pub exchanged : ℕ → ℕ → ℕ → ℕ
-exchanged mask k i = cond (in_mask mask i) (i + k) (i - k)
+unfoldable pub exchange_source : ℕ → ℕ → ℕ → ℕ
+exchange_source mask k i = if in_mask mask i then i + k else i - k
 
 unfoldable pub exchanges : ℕ → ℕ → ℕ → Bool
 exchanges mask k i = beq (in_mask mask i) (not (nat_le k i && in_mask mask (i - k)))
 
 -- the squares of `mask` and those k above them change places, and the others stay
-unfoldable pub swapped : ℕ → ℕ → ℕ → ℕ
-swapped mask k i =
+unfoldable pub swap_source : ℕ → ℕ → ℕ → ℕ
+swap_source mask k i =
     if in_mask mask i
     then i + k
     else (if nat_le k i && in_mask mask (i - k) then i - k else i)

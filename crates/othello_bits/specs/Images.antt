@@ -4,8 +4,8 @@ use Rattle.othello_bits.specs.Symmetries.{mask_image}
 use Rattle.othello_bits.specs.declared.images.Image.{Image}
 use Rattle.othello_bits.specs.declared.symmetries.Sym.{Sym}
 
-abbrev pub image_by : ℕ → ℕ → Sym → Image
-image_by own opp s = record { own = mask_image s own; opp = mask_image s opp; sym = s }
+abbrev pub image_with : ℕ → ℕ → Sym → Image
+image_with own opp s = record { own = mask_image s own; opp = mask_image s opp; sym = s }
 
 -- the pair of its masks as one number
 abbrev pub key : Image → ℕ

@@ -23,8 +23,8 @@ sends TurnRight c r = square_at (7 - r) c
 sends TurnLeft c r = square_at r (7 - c)
 sends AntiTranspose c r = square_at (7 - r) (7 - c)
 
-abbrev pub sent : Sym → ℕ → ℕ
-sent s q = sends s (column q) (row q)
+abbrev pub target : Sym → ℕ → ℕ
+target s q = sends s (column q) (row q)
 
 abbrev pub inverse : Sym → Sym
 inverse Identity = Identity
@@ -55,11 +55,11 @@ place AntiTranspose = 7
 
 -- the cell of P on a square stands where the symmetry sends that square; the same side is to move
 abbrev pub image : Sym → Position → Position
-image s P = image_by (sent (inverse s)) P
+image s P = image_by (target (inverse s)) P
 
 -- the mask of the images of the squares of a mask
 unfoldable pub mask_image : Sym → ℕ → ℕ
-mask_image s m = mask_of (map (sent s) (squares_of m))
+mask_image s m = mask_of (map (target s) (squares_of m))
 
 -- the images of the best moves
 abbrev pub best_image : Sym → Best → Best

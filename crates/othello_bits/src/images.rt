@@ -1,8 +1,8 @@
 //! The least of a position's eight images.
 
-ghost use Rattle.std.specs.Prelude.{◌≡◌, ◌≤◌, ◌<◌, cond};
+ghost use Rattle.std.specs.Prelude.{◌≡◌, ◌≤◌, ◌<◌, if◌then◌else◌};
 ghost use Rattle.othello_bits.specs.Symmetries.{place};
-ghost use Rattle.othello_bits.specs.Images.{image_by, key, is_less};
+ghost use Rattle.othello_bits.specs.Images.{image_with, key, is_less};
 ghost use Rattle.othello_bits.specs.declared.symmetries.Sym.{Sym};
 
 use crate::symmetries::Sym;
@@ -18,7 +18,7 @@ pub(crate) struct Image {
 impl Image {
     #[inline(always)]
     fn new(own: u64, opp: u64, sym: Sym) -> Image
-        ensures { result ≡ image_by own opp sym }
+        ensures { result ≡ image_with own opp sym }
     {
         Image {
             own: sym.mask(own),
@@ -30,7 +30,7 @@ impl Image {
     // The other image where it is less as a pair (own, opp), else this one.
     #[inline(always)]
     fn least(self, other: Image) -> Image
-        ensures { result ≡ cond (is_less other self) other self }
+        ensures { result ≡ (if is_less other self then other else self) }
     {
         if other.own < self.own || (other.own == self.own && other.opp < self.opp) {
             other
@@ -42,8 +42,8 @@ impl Image {
     // The lesser of two images, the first where they are equal.
     #[inline(always)]
     fn lesser(own: u64, opp: u64, first: Sym, second: Sym) -> Image
-        ensures { let one = image_by own opp first in let other = image_by own opp second in
-            result ≡ cond (is_less other one) other one }
+        ensures { let one = image_with own opp first in let other = image_with own opp second in
+            result ≡ (if is_less other one then other else one) }
     {
         Image::new(own, opp, first).least(Image::new(own, opp, second))
     }
@@ -52,10 +52,10 @@ impl Image {
     // the order of the symmetries.
     #[inline(always)]
     pub(crate) fn canonical(own: u64, opp: u64) -> Image
-        ensures leads { result ≡ image_by own opp result.sym }
-        ensures least { (s : Sym) → key result ≤ key (image_by own opp s) }
+        ensures leads { result ≡ image_with own opp result.sym }
+        ensures least { (s : Sym) → key result ≤ key (image_with own opp s) }
         ensures first { (s : Sym) → place s < place result.sym
-            → key result < key (image_by own opp s) }
+            → key result < key (image_with own opp s) }
     {
         let straight = Image::lesser(own, opp, Sym::Identity, Sym::FlipColumns);
         let turned = Image::lesser(own, opp, Sym::FlipRows, Sym::HalfTurn);

@@ -2,7 +2,7 @@
 //! is the law.
 
 ghost use Rattle.std.specs.Prelude.{◌≡◌, ◌≢◌, ◌≤ℤ◌, ◌≤◌, ◌<◌, ◌-◌, ◌^◌, ◌↔◌, ◌⊎◌, ℕ, [], ◌∷◌};
-ghost use Rattle.std.specs.Prelude.{neg_ℤ, length, get_or};
+ghost use Rattle.std.specs.Prelude.{neg_ℤ, length, slice_index_or};
 ghost use Rattle.std.specs.List.{Contains};
 ghost use Rattle.othello_rules.specs.declared.discs.Side.{Side};
 ghost use Rattle.othello_rules.specs.declared.discs.Side.TheVariants as side;
@@ -15,8 +15,8 @@ ghost use Rattle.othello_rules.specs.Solution.{IsScore};
 ghost use Rattle.othello_rules.specs.Value.{value, answer, best_moves};
 ghost use Rattle.othello_bits.specs.Discs.{Discs, IsMove, HasNoMove, IsOver};
 ghost use Rattle.othello_bits.specs.Discs.{position_of, discs_of, moves_of, play_of, pass_of};
-ghost use Rattle.othello_bits.specs.Discs.{empties_of, final_of, value_of, answer_of, best_of};
-ghost use Rattle.othello_bits.specs.Symmetries.{sent, inverse, symmetries, place};
+ghost use Rattle.othello_bits.specs.Discs.{empties_of, final_of, value_of, answer_of, best_answer};
+ghost use Rattle.othello_bits.specs.Symmetries.{target, inverse, symmetries, place};
 ghost use Rattle.othello_bits.specs.Symmetries.{image, mask_image, best_image, image_of};
 ghost use Rattle.othello_bits.specs.Symmetries.{pair_of, image_pair, first_symmetry};
 ghost use Rattle.othello_bits.specs.Symmetries.{canonical, canonical_of};
@@ -52,7 +52,7 @@ pub fn colours_are_alike()
 /// is over.
 pub fn answer_is_gathered()
     ensures { (g : Scoring) (p : Discs)
-        → answer_of g p ≡ record { score = value_of g p; best = best_of g p } }
+        → answer_of g p ≡ record { score = value_of g p; best = best_answer g p } }
 {}
 
 /// The symmetries stand in the order of their places. Three of them turn the columns round, turn
@@ -60,33 +60,33 @@ pub fn answer_is_gathered()
 pub fn symmetries_are_in_order()
     ensures order { symmetries ≡ sym.Identity ∷ sym.FlipColumns ∷ sym.FlipRows ∷ sym.HalfTurn
         ∷ sym.Transpose ∷ sym.TurnRight ∷ sym.TurnLeft ∷ sym.AntiTranspose ∷ [] }
-    ensures places { (s : Sym) → get_or symmetries (place s) sym.Identity ≡ s }
-    ensures identity { (q : ℕ) → q < 64 → sent sym.Identity q ≡ q }
+    ensures places { (s : Sym) → slice_index_or symmetries (place s) sym.Identity ≡ s }
+    ensures identity { (q : ℕ) → q < 64 → target sym.Identity q ≡ q }
     ensures columns { (c r : ℕ) → c < 8 → r < 8
-        → sent sym.FlipColumns (square_at c r) ≡ square_at (7 - c) r }
+        → target sym.FlipColumns (square_at c r) ≡ square_at (7 - c) r }
     ensures rows { (c r : ℕ) → c < 8 → r < 8
-        → sent sym.FlipRows (square_at c r) ≡ square_at c (7 - r) }
+        → target sym.FlipRows (square_at c r) ≡ square_at c (7 - r) }
     ensures exchanged { (c r : ℕ) → c < 8 → r < 8
-        → sent sym.Transpose (square_at c r) ≡ square_at r c }
+        → target sym.Transpose (square_at c r) ≡ square_at r c }
     ensures half { (q : ℕ) → q < 64
-        → sent sym.HalfTurn q ≡ sent sym.FlipRows (sent sym.FlipColumns q) }
+        → target sym.HalfTurn q ≡ target sym.FlipRows (target sym.FlipColumns q) }
     ensures right { (q : ℕ) → q < 64
-        → sent sym.TurnRight q ≡ sent sym.FlipColumns (sent sym.Transpose q) }
+        → target sym.TurnRight q ≡ target sym.FlipColumns (target sym.Transpose q) }
     ensures left { (q : ℕ) → q < 64
-        → sent sym.TurnLeft q ≡ sent sym.FlipRows (sent sym.Transpose q) }
+        → target sym.TurnLeft q ≡ target sym.FlipRows (target sym.Transpose q) }
     ensures anti { (q : ℕ) → q < 64
-        → sent sym.AntiTranspose q ≡ sent sym.HalfTurn (sent sym.Transpose q) }
+        → target sym.AntiTranspose q ≡ target sym.HalfTurn (target sym.Transpose q) }
 {}
 
 /// The image of a position of 64 cells has the cell of each square where the symmetry sends that
 /// square; the inverse leads back, and one symmetry after another is one of the eight.
 pub fn images_are_placed()
-    ensures on_board { (s : Sym) (q : ℕ) → q < 64 → sent s q < 64 }
-    ensures back { (s : Sym) (q : ℕ) → q < 64 → sent (inverse s) (sent s q) ≡ q }
+    ensures on_board { (s : Sym) (q : ℕ) → q < 64 → target s q < 64 }
+    ensures back { (s : Sym) (q : ℕ) → q < 64 → target (inverse s) (target s q) ≡ q }
     ensures placed { (s : Sym) (P : Position) (q : ℕ) → q < 64
-        → get_or (image s P).cells (sent s q) Empty ≡ get_or P.cells q Empty }
+        → slice_index_or (image s P).cells (target s q) Empty ≡ slice_index_or P.cells q Empty }
     ensures mask { (s : Sym) (m : ℕ) (q : ℕ) → q < 64
-        → in_mask (mask_image s m) (sent s q) ≡ in_mask m q }
+        → in_mask (mask_image s m) (target s q) ≡ in_mask m q }
     ensures whole { (s : Sym) (P : Position) → length (image s P).cells ≡ 64 }
     ensures undone { (s : Sym) (P : Position) → length P.cells ≡ 64
         → image (inverse s) (image s P) ≡ P }
@@ -98,14 +98,14 @@ pub fn images_are_placed()
 /// those of the image.
 pub fn images_are_alike()
     ensures moved { (s : Sym) (P : Position) (q : ℕ) → length P.cells ≡ 64 → q < 64
-        → is_move (image s P) (sent s q) ≡ is_move P q }
+        → is_move (image s P) (target s q) ≡ is_move P q }
     ensures played { (s : Sym) (P : Position) (q : ℕ) → length P.cells ≡ 64 → q < 64
-        → play (image s P) (sent s q) ≡ image s (play P q) }
+        → play (image s P) (target s q) ≡ image s (play P q) }
     ensures value { (g : Scoring) (s : Sym) (P : Position) → length P.cells ≡ 64
         → value g (image s P) ≡ value g P }
     ensures best { (g : Scoring) (s : Sym) (P : Position) (q : ℕ)
         → length P.cells ≡ 64 → q < 64
-        → Contains (best_moves g (image s P)) (sent s q) ↔ Contains (best_moves g P) q }
+        → Contains (best_moves g (image s P)) (target s q) ↔ Contains (best_moves g P) q }
     ensures answer { (g : Scoring) (s : Sym) (P : Position) → length P.cells ≡ 64
         → answer g (image s P)
         ≡ record { score = value g P; best = best_image s (answer g P).best } }

@@ -8,7 +8,7 @@ use Rattle.std.proofs.lemmas.Int.{fold-int_max_bounds, fold-int_max_reached}
 use Rattle.std.proofs.lemmas.List.Elements.{All-contains}
 use Rattle.othello_rules.specs.declared.scorings.Scoring.{Scoring}
 use Rattle.othello_rules.specs.Rules.{Position, moves, is_nonempty, is_move}
-use Rattle.othello_rules.specs.Value.{greatest, can_move, worth, best_of, value}
+use Rattle.othello_rules.specs.Value.{greatest, can_move, worth, best_worth, value}
 use Rattle.othello_rules.proofs.ListLaws.{Contains-head, Contains-cons, Contains-cons_cases, Contains-nil}
 use Rattle.othello_rules.proofs.ValueLaws.{value-move, some_move}
 
@@ -59,14 +59,14 @@ can_move_with P q h = nonempty_with (moves P) q h
 
 -- no move is worth more than the value
 pub worth-le-value : (g : Scoring) (P : Position) (q : ℕ) → Contains (moves P) q → worth (value g) P q ≤ℤ value g P
-unfolding best_of
+unfolding best_worth
 worth-le-value g P q h =
     subst (λ z. worth (value g) P q ≤ℤ z) (sym (value-move g P (can_move_with P q h)))
     (le-greatest (map (worth (value g) P) (moves P)) (worth (value g) P q) (Contains-map (worth (value g) P) (moves P) q h))
 
 -- some move is worth the value
 pub value_reached : (g : Scoring) (P : Position) → can_move P ≡ true → (q : ℕ) × Contains (moves P) q × (worth (value g) P q ≡ value g P)
-unfolding best_of
+unfolding best_worth
 value_reached g P h =
     let s : (q : ℕ) × Contains (moves P) q = some_move P h in
     let r : (q : ℕ) × Contains (moves P) q × (worth (value g) P q ≡ greatest (map (worth (value g) P) (moves P))) =

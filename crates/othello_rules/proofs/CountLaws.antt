@@ -11,7 +11,7 @@ use Rattle.othello_rules.specs.declared.discs.Side.{Side}
 use Rattle.othello_rules.specs.declared.discs.Side.TheVariants as side
 use Rattle.othello_rules.specs.declared.discs.Cell.{Cell}
 use Rattle.othello_rules.specs.declared.discs.Cell.TheVariants as cell
-use Rattle.othello_rules.specs.Rules.{Position, has, own, opposing, other, disc, same_cell, is_some_cell, flips, moves, pass, play, painted}
+use Rattle.othello_rules.specs.Rules.{Position, has, own, opposing, other, disc, same_cell, is_some_cell, flips, moves, pass, play, painted_cells}
 use Rattle.othello_rules.specs.Value.{empties}
 use Rattle.othello_rules.proofs.MoveLaws.{is_move-from_Contains, move_empty, opposing_in_flips}
 use Rattle.othello_rules.proofs.PaintLaws.{length-painted, get_or-painted}
@@ -58,9 +58,9 @@ pub empties-pass : (P : Position) → empties (pass P) ≡ empties P
 empties-pass P = refl
 
 -- the cells after a move are empty where those with a disc put on q alone are
-played_like_set : (P : Position) (q : ℕ) → has P cell.Empty q ≡ true → (k : ℕ) → k < length P.cells → same_cell cell.Empty (get_or (painted (own P) (q ∷ flips P q) P.cells) k cell.Empty) ≡ same_cell cell.Empty (get_or (set P.cells q (own P)) k cell.Empty)
+played_like_set : (P : Position) (q : ℕ) → has P cell.Empty q ≡ true → (k : ℕ) → k < length P.cells → same_cell cell.Empty (get_or (painted_cells (own P) (q ∷ flips P q) P.cells) k cell.Empty) ≡ same_cell cell.Empty (get_or (set P.cells q (own P)) k cell.Empty)
 played_like_set P q vacant k h =
-    let after : get_or (painted (own P) (q ∷ flips P q) P.cells) k cell.Empty ≡ cond (nat_eq k q || list_any (nat_eq k) (flips P q)) (own P) (get_or P.cells k cell.Empty) =
+    let after : get_or (painted_cells (own P) (q ∷ flips P q) P.cells) k cell.Empty ≡ cond (nat_eq k q || list_any (nat_eq k) (flips P q)) (own P) (get_or P.cells k cell.Empty) =
     get_or-painted (own P) (q ∷ flips P q) P.cells k cell.Empty h in
     elim (cases_eq k q) [
       | inl same ↦
@@ -84,8 +84,8 @@ pub empties-play : (P : Position) (q : ℕ) → Contains (moves P) q → empties
 unfolding play
 empties-play P q h =
     let vacant : has P cell.Empty q ≡ true = move_empty P q (is_move-from_Contains P q h) in
-    let like_set : count_by (same_cell cell.Empty) (painted (own P) (q ∷ flips P q) P.cells) ≡ count_by (same_cell cell.Empty) (set P.cells q (own P)) =
-    count-agree (same_cell cell.Empty) (painted (own P) (q ∷ flips P q) P.cells) (set P.cells q (own P))
+    let like_set : count_by (same_cell cell.Empty) (painted_cells (own P) (q ∷ flips P q) P.cells) ≡ count_by (same_cell cell.Empty) (set P.cells q (own P)) =
+    count-agree (same_cell cell.Empty) (painted_cells (own P) (q ∷ flips P q) P.cells) (set P.cells q (own P))
     (simp (length-painted, length-set))
     (λ k b. played_like_set P q vacant k (rw length-painted at b)) in
     let written : count_by (same_cell cell.Empty) (set P.cells q (own P)) + cond (same_cell cell.Empty (get_or P.cells q cell.Empty)) 1 0 ≡ count_by (same_cell cell.Empty) P.cells + cond (same_cell cell.Empty (own P)) 1 0 =

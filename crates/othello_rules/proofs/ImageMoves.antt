@@ -10,7 +10,7 @@ use Rattle.std.proofs.lemmas.List.{same_lists}
 use Rattle.othello_rules.specs.declared.directions.Direction.{Direction}
 use Rattle.othello_rules.specs.declared.discs.Cell.TheVariants.{Empty}
 use Rattle.othello_rules.specs.Board.{directions, ray}
-use Rattle.othello_rules.specs.Rules.{Position, has, own, opposing, run, closes, turned_on, turned, flips, is_move, moves, painted, play}
+use Rattle.othello_rules.specs.Rules.{Position, has, own, opposing, run, closes, turned_on, turned, flips, is_move, moves, painted_cells, play}
 use Rattle.othello_rules.specs.Value.{can_move}
 use Rattle.othello_rules.specs.Renamed.{moved_cells, image_by}
 use Rattle.othello_rules.proofs.ListLaws.{Contains-head, Contains-cons, Contains-cons_cases, Contains-nil}
@@ -132,8 +132,8 @@ play-sent r P q full b =
     let ours : List ℕ = q ∷ flips P q in
     let theirs : List ℕ = r.to q ∷ flips (image_by r.back P) (r.to q) in
     same_position (play (image_by r.back P) (r.to q)) (image_by r.back (play P q)) refl
-    (same_lists (painted (own P) theirs (moved_cells r.back P.cells)) (moved_cells r.back (painted (own P) ours P.cells))
-    (length-painted (own P) theirs (moved_cells r.back P.cells) ∙ length-moved_cells r.back P.cells ∙ sym (length-moved_cells r.back (painted (own P) ours P.cells)))
+    (same_lists (painted_cells (own P) theirs (moved_cells r.back P.cells)) (moved_cells r.back (painted_cells (own P) ours P.cells))
+    (length-painted (own P) theirs (moved_cells r.back P.cells) ∙ length-moved_cells r.back P.cells ∙ sym (length-moved_cells r.back (painted_cells (own P) ours P.cells)))
     (λ k d h.
     let l : k < 64 = rw (length-painted, length-moved_cells) at h in
     let inside : k < length (moved_cells r.back P.cells) = rw length-moved_cells l in
@@ -141,4 +141,4 @@ play-sent r P q full b =
     get_or-painted (own P) theirs (moved_cells r.back P.cells) k d inside
     ∙ (λ i. cond (is_touched r P q k full b l i) (own P) (get_or-moved_cells r.back P.cells k d l i))
     ∙ sym (get_or-painted (own P) ours P.cells (r.back k) Empty behind)
-    ∙ sym (get_or-moved_cells r.back (painted (own P) ours P.cells) k d l)))
+    ∙ sym (get_or-moved_cells r.back (painted_cells (own P) ours P.cells) k d l)))

@@ -11,7 +11,7 @@ use Rattle.othello_rules.specs.Board.{squares}
 use Rattle.othello_rules.specs.Rules.{Position, own, opposing, is_move, moves, pass, play, count_of, IsOver}
 use Rattle.othello_rules.specs.Scores.{score_of, final}
 use Rattle.othello_rules.specs.Masks.{mask_of}
-use Rattle.othello_rules.specs.Value.{greatest, can_move, worth, best_of, empties, value_at, value, is_best, best_moves, best, answer}
+use Rattle.othello_rules.specs.Value.{greatest, can_move, worth, best_worth, empties, value_at, value, is_best, best_moves, best, answer}
 use Rattle.othello_rules.specs.declared.answers.Best.TheVariants.{Moves}
 use Rattle.othello_rules.proofs.MaskLaws.{best_is_moves, best_is_pass, best_is_over}
 use Rattle.othello_rules.specs.Renamed.{image_by}
@@ -39,8 +39,8 @@ full-play P q full = length-play P q ∙ full
 worth-sent : (r : Renaming) (v : Position → ℤ) (P : Position) (q : ℕ) → length P.cells ≡ 64 → q < 64 → ((Q : Position) → length Q.cells ≡ 64 → v (image_by r.back Q) ≡ v Q) → worth v (image_by r.back P) (r.to q) ≡ worth v P q
 worth-sent r v P q full b same = ap (λ Q. neg_ℤ (v Q)) (play-sent r P q full b) ∙ ap neg_ℤ (same (play P q) (full-play P q full))
 
-best_of-le : (r : Renaming) (v : Position → ℤ) (P : Position) → length P.cells ≡ 64 → can_move P ≡ true → ((Q : Position) → length Q.cells ≡ 64 → v (image_by r.back Q) ≡ v Q) → best_of v P ≤ℤ best_of v (image_by r.back P)
-unfolding best_of
+best_of-le : (r : Renaming) (v : Position → ℤ) (P : Position) → length P.cells ≡ 64 → can_move P ≡ true → ((Q : Position) → length Q.cells ≡ 64 → v (image_by r.back Q) ≡ v Q) → best_worth v P ≤ℤ best_worth v (image_by r.back P)
+unfolding best_worth
 best_of-le r v P full h same =
     let s : (q : ℕ) × Contains (moves P) q = some_move P h in
     let t : (q : ℕ) × Contains (moves P) q × (worth v P q ≡ greatest (map (worth v P) (moves P))) =
@@ -54,14 +54,14 @@ best_of-le r v P full h same =
 both_le : (x y : ℤ) → x ≤ℤ y → y ≤ℤ x → x ≡ y
 both_le x y a b = omega (arith, ints)
 
-best_of-image_by : (r : Renaming) (v : Position → ℤ) (P : Position) → length P.cells ≡ 64 → can_move P ≡ true → ((Q : Position) → length Q.cells ≡ 64 → v (image_by r.back Q) ≡ v Q) → best_of v (image_by r.back P) ≡ best_of v P
+best_of-image_by : (r : Renaming) (v : Position → ℤ) (P : Position) → length P.cells ≡ 64 → can_move P ≡ true → ((Q : Position) → length Q.cells ≡ 64 → v (image_by r.back Q) ≡ v Q) → best_worth v (image_by r.back P) ≡ best_worth v P
 best_of-image_by r v P full h same =
     let back : (Q : Position) → length Q.cells ≡ 64 → v (image_by r.to Q) ≡ v Q =
     λ Q l. sym (same (image_by r.to Q) (length-moved_cells r.to Q.cells)) ∙ ap v (image_by-back (flipped r) Q l) in
-    let less : best_of v (image_by r.back P) ≤ℤ best_of v (image_by r.to (image_by r.back P)) =
+    let less : best_worth v (image_by r.back P) ≤ℤ best_worth v (image_by r.to (image_by r.back P)) =
     best_of-le (flipped r) v (image_by r.back P) (length-moved_cells r.back P.cells) (can_move-image_by r P full ∙ h) back in
-    both_le (best_of v (image_by r.back P)) (best_of v P)
-    (subst (λ Q. best_of v (image_by r.back P) ≤ℤ best_of v Q) (image_by-back r P full) less)
+    both_le (best_worth v (image_by r.back P)) (best_worth v P)
+    (subst (λ Q. best_worth v (image_by r.back P) ≤ℤ best_worth v Q) (image_by-back r P full) less)
     (best_of-le r v P full h same)
 
 value_at-image_by : (g : Scoring) (r : Renaming) (n : ℕ) (P : Position) → length P.cells ≡ 64 → value_at g n (image_by r.back P) ≡ value_at g n P

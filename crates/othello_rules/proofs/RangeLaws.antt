@@ -15,7 +15,7 @@ use Rattle.othello_rules.specs.Rules.{Position, own, opposing, other, disc, same
 use Rattle.othello_rules.specs.Scores.{score_of, final}
 use Rattle.othello_rules.specs.declared.scorings.Scoring.TheVariants.{Winner, Discs, Sign}
 use Rattle.othello_rules.specs.Solution.{IsScore}
-use Rattle.othello_rules.specs.Value.{greatest, can_move, worth, best_of, empties, value_at, value}
+use Rattle.othello_rules.specs.Value.{greatest, can_move, worth, best_worth, empties, value_at, value}
 use Rattle.othello_rules.proofs.CountLaws.{length-play}
 use Rattle.othello_rules.proofs.ValueLaws.{some_move}
 use Rattle.othello_rules.proofs.BoundLaws.{greatest_reached, Contains-map, Contains-from_map}
@@ -60,8 +60,8 @@ final-IsScore g P h = score_of-IsScore g (count_of P (own P)) (count_of P (oppos
 pub neg-IsScore : (z : ℤ) → IsScore z → IsScore (neg_ℤ z)
 neg-IsScore z h = record { low = omega (arith, ints); high = omega (arith, ints) }
 
-best_of-IsScore : (v : Position → ℤ) (P : Position) → can_move P ≡ true → ((q : ℕ) → IsScore (v (play P q))) → IsScore (best_of v P)
-unfolding best_of
+best_of-IsScore : (v : Position → ℤ) (P : Position) → can_move P ≡ true → ((q : ℕ) → IsScore (v (play P q))) → IsScore (best_worth v P)
+unfolding best_worth
 best_of-IsScore v P h each =
     let s : (q : ℕ) × Contains (moves P) q = some_move P h in
     let r : (q : ℕ) × Contains (moves P) q × (worth v P q ≡ greatest (map (worth v P) (moves P))) =
@@ -77,7 +77,7 @@ value_at-IsScore g (suc n) P h =
       | inl b ↦ rw (b, value_at) (best_of-IsScore (value_at g n) P b (λ q. value_at-IsScore g n (play P q) (rw length-play h)))
       | inr b ↦
           elim (cases_Bool (can_move (pass P))) [
-            | inl d ↦ rw (b, d, value_at) (neg-IsScore (best_of (value_at g n) (pass P)) (best_of-IsScore (value_at g n) (pass P) d (λ q. value_at-IsScore g n (play (pass P) q) (rw length-play h))))
+            | inl d ↦ rw (b, d, value_at) (neg-IsScore (best_worth (value_at g n) (pass P)) (best_of-IsScore (value_at g n) (pass P) d (λ q. value_at-IsScore g n (play (pass P) q) (rw length-play h))))
             | inr d ↦ rw (b, d, value_at) (final-IsScore g P h)
           ]
     ]

@@ -12,7 +12,7 @@ use Rattle.othello_rules.specs.declared.scorings.Scoring.TheVariants.{Winner, Di
 use Rattle.othello_rules.specs.declared.discs.Cell.TheVariants.{Empty}
 use Rattle.othello_rules.specs.Rules.{Position, own, opposing, count_of, moves, pass, play}
 use Rattle.othello_rules.specs.Scores.{score_of, final}
-use Rattle.othello_rules.specs.Value.{greatest, can_move, worth, best_of, empties, value_at, value, is_best, best_moves}
+use Rattle.othello_rules.specs.Value.{greatest, can_move, worth, best_worth, empties, value_at, value, is_best, best_moves}
 use Rattle.othello_rules.proofs.ListLaws.{Contains-filter, Contains-from_filter, passes_in_filter}
 use Rattle.othello_rules.proofs.ValueLaws.{value_at-zero, value_at-over, value_at-move, value_at-pass}
 use Rattle.othello_rules.proofs.MaskLaws.{is_best_yes}
@@ -64,8 +64,8 @@ map_twice f h (q ∷ qs) = ap (λ t. f (h q) ∷ t) (map_twice f h qs)
 signum-worth : (v w : Position → ℤ) (P : Position) (q : ℕ) → int_signum (v (play P q)) ≡ w (play P q) → int_signum (worth v P q) ≡ worth w P q
 signum-worth v w P q same = signum-neg (v (play P q)) ∙ ap neg_ℤ same
 
-signum-best_of : (v w : Position → ℤ) (P : Position) → ((Q : Position) → int_signum (v Q) ≡ w Q) → int_signum (best_of v P) ≡ best_of w P
-unfolding best_of
+signum-best_of : (v w : Position → ℤ) (P : Position) → ((Q : Position) → int_signum (v Q) ≡ w Q) → int_signum (best_worth v P) ≡ best_worth w P
+unfolding best_worth
 signum-best_of v w P same =
     let each : (λ q. int_signum (worth v P q)) ≡ worth w P = λ k q. signum-worth v w P q (same (play P q)) k in
     signum-greatest (map (worth v P) (moves P)) ∙ ap greatest (map_twice int_signum (worth v P) (moves P) ∙ ap (λ (f : ℕ → ℤ). map f (moves P)) each)
@@ -118,7 +118,7 @@ signum-value_at g (suc n) P =
           elim (cases_Bool (can_move (pass P))) [
             | inl k ↦
                 ap int_signum (value_at-pass g n P h k)
-                ∙ signum-neg (best_of (value_at g n) (pass P))
+                ∙ signum-neg (best_worth (value_at g n) (pass P))
                 ∙ ap neg_ℤ (signum-best_of (value_at g n) (value_at Sign n) (pass P) (signum-value_at g n))
                 ∙ sym (value_at-pass Sign n P h k)
             | inr k ↦

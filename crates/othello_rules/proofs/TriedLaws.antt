@@ -10,7 +10,7 @@ use Rattle.othello_rules.specs.Rules.{Position, moves, is_move, is_nonempty, pla
 use Rattle.othello_rules.proofs.SquareLaws.{first_squares, first_squares_none, first_squares_yes, first_squares_no, first_squares_all}
 use Rattle.othello_rules.proofs.CountLaws.{empties-play, empties-pass}
 use Rattle.othello_rules.proofs.BoundLaws.{can_move_with}
-use Rattle.othello_rules.specs.Value.{greatest, can_move, worth, best_of, empties, value}
+use Rattle.othello_rules.specs.Value.{greatest, can_move, worth, best_worth, empties, value}
 use Rattle.std.specs.Option.{option_map_or}
 
 -- the moves among the first n squares
@@ -68,8 +68,8 @@ unfolding best_so_far
 by_none f [] h = refl
 by_none f (q ∷ qs) h = cc
 
-pub tried_all_some : (g : Scoring) (P : Position) (n : ℕ) (b : ℤ) → 64 ≤ n → tried g P n ≡ Some b → (can_move P ≡ true) × (b ≡ best_of (value g) P)
-unfolding tried can_move best_of
+pub tried_all_some : (g : Scoring) (P : Position) (n : ℕ) (b : ℤ) → 64 ≤ n → tried g P n ≡ Some b → (can_move P ≡ true) × (b ≡ best_worth (value g) P)
+unfolding tried can_move best_worth
 tried_all_some g P n b h e = by_best (worth (value g) P) (moves P) b (rw (first_moves_all P n h) at e)
 
 pub tried_all_none : (g : Scoring) (P : Position) (n : ℕ) → 64 ≤ n → tried g P n ≡ None → can_move P ≡ false

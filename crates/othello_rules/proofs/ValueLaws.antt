@@ -5,7 +5,7 @@ use Rattle.std.proofs.lemmas.Bool.{true≢false}
 use Rattle.othello_rules.specs.declared.scorings.Scoring.{Scoring}
 use Rattle.othello_rules.specs.Rules.{Position, moves, pass, play, is_nonempty}
 use Rattle.othello_rules.specs.Scores.{final}
-use Rattle.othello_rules.specs.Value.{greatest, can_move, worth, best_of, empties, value_at, value}
+use Rattle.othello_rules.specs.Value.{greatest, can_move, worth, best_worth, empties, value_at, value}
 use Rattle.othello_rules.proofs.ListLaws.{Contains-head, Contains-cons}
 use Rattle.othello_rules.proofs.CountLaws.{empties-play}
 
@@ -31,8 +31,8 @@ map-agree f g (x ∷ xs) h =
     rw (first, rest) refl
 
 -- with the right number of empty squares the moves are worth what they are by `value`
-best_of-value_at : (g : Scoring) (P : Position) (m : ℕ) → empties P ≡ suc m → best_of (value_at g m) P ≡ best_of (value g) P
-unfolding best_of value
+best_of-value_at : (g : Scoring) (P : Position) (m : ℕ) → empties P ≡ suc m → best_worth (value_at g m) P ≡ best_worth (value g) P
+unfolding best_worth value
 best_of-value_at g P m e =
     ap greatest (map-agree (worth (value_at g m) P) (worth (value g) P) (moves P)
     (λ q c. let less : m ≡ empties (play P q) = omega (arith, empties-play P q c) in ap (λ n. neg_ℤ (value_at g n (play P q))) less))
@@ -46,11 +46,11 @@ unfolding value_at
 value_at-over g zero P h k = refl
 value_at-over g (suc n) P h k = rw (h, k, value_at) refl
 
-pub value_at-move : (g : Scoring) (m : ℕ) (P : Position) → can_move P ≡ true → value_at g (suc m) P ≡ best_of (value_at g m) P
+pub value_at-move : (g : Scoring) (m : ℕ) (P : Position) → can_move P ≡ true → value_at g (suc m) P ≡ best_worth (value_at g m) P
 unfolding value_at
 value_at-move g m P h = rw (h, value_at) refl
 
-pub value_at-pass : (g : Scoring) (m : ℕ) (P : Position) → can_move P ≡ false → can_move (pass P) ≡ true → value_at g (suc m) P ≡ neg_ℤ (best_of (value_at g m) (pass P))
+pub value_at-pass : (g : Scoring) (m : ℕ) (P : Position) → can_move P ≡ false → can_move (pass P) ≡ true → value_at g (suc m) P ≡ neg_ℤ (best_worth (value_at g m) (pass P))
 unfolding value_at
 value_at-pass g m P h k = rw (h, k, value_at) refl
 
@@ -59,7 +59,7 @@ pub value-over : (g : Scoring) (P : Position) → can_move P ≡ false → can_m
 unfolding value
 value-over g P h k = value_at-over g (empties P) P h k
 
-pub value-move : (g : Scoring) (P : Position) → can_move P ≡ true → value g P ≡ best_of (value g) P
+pub value-move : (g : Scoring) (P : Position) → can_move P ≡ true → value g P ≡ best_worth (value g) P
 unfolding value
 value-move g P h =
     let e : (m : ℕ) × (empties P ≡ suc m) = empties_if_move P h in

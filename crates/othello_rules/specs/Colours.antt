@@ -9,5 +9,5 @@ swap_cell Empty = Empty
 swap_cell Black = White
 swap_cell White = Black
 
-abbrev pub swapped : Position → Position
-swapped P = record { cells = map swap_cell P.cells; mover = other P.mover }
+abbrev pub colour_swap : Position → Position
+colour_swap P = record { cells = map swap_cell P.cells; mover = other P.mover }

@@ -1,5 +1,5 @@
 -- What a renaming of the squares makes of a position (the symmetries of the board are such renamings).
-use Rattle.std.specs.Prelude.{ℕ, List, map, get_or}
+use Rattle.std.specs.Prelude.{ℕ, List, map, slice_index_or}
 use Rattle.othello_rules.specs.declared.discs.Cell.{Cell}
 use Rattle.othello_rules.specs.declared.discs.Cell.TheVariants.{Empty}
 use Rattle.othello_rules.specs.Board.{squares}
@@ -7,7 +7,7 @@ use Rattle.othello_rules.specs.Rules.{Position}
 
 -- the cells with each square holding what was on the square that `back` names
 unfoldable pub moved_cells : (ℕ → ℕ) → List Cell → List Cell
-moved_cells back cells = map (λ q. get_or cells (back q) Empty) squares
+moved_cells back cells = map (λ q. slice_index_or cells (back q) Empty) squares
 
 -- the same side is to move
 abbrev pub image_by : (ℕ → ℕ) → Position → Position

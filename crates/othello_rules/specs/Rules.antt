@@ -91,12 +91,12 @@ abbrev pub painted_cell : Cell → List ℕ → ℕ × Cell → Cell
 painted_cell c qs (s, old) = if list_any (nat_eq s) qs then c else old
 
 -- the cells with those on the squares qs made c
-unfoldable pub painted : Cell → List ℕ → List Cell → List Cell
-painted c qs cells = map (painted_cell c qs) (enumerate_from 0 cells)
+unfoldable pub painted_cells : Cell → List ℕ → List Cell → List Cell
+painted_cells c qs cells = map (painted_cell c qs) (enumerate_from 0 cells)
 
 -- q and all that the move turns become the mover's, and the other side is to move
 unfoldable pub play : Position → ℕ → Position
-play P q = record { cells = painted (own P) (q ∷ flips P q) P.cells; mover = other P.mover }
+play P q = record { cells = painted_cells (own P) (q ∷ flips P q) P.cells; mover = other P.mover }
 
 -- neither side has a move
 abbrev pub IsOver : Position → Type 0

@@ -1,5 +1,5 @@
 -- The value of a position by full minimax, and its answer, under each scoring.
-use Rattle.std.specs.Prelude.{ℕ, zero, suc, Bool, true, false, List, [], ◌∷◌, map, ℤ, pos, neg_ℤ}
+use Rattle.std.specs.Prelude.{ℕ, zero, suc, Bool, List, [], ◌∷◌, map, ℤ, pos, neg_ℤ, if◌then◌else◌}
 use Rattle.std.specs.List.{filter, fold}
 use Rattle.std.specs.Int.{int_max}
 use Rattle.std.specs.Ordering.{int_eq}
@@ -25,8 +25,8 @@ abbrev pub worth : (Position → ℤ) → Position → ℕ → ℤ
 worth v P q = neg_ℤ (v (play P q))
 
 -- what the best move is worth
-unfoldable pub best_of : (Position → ℤ) → Position → ℤ
-best_of v P = greatest (map (worth v P) (moves P))
+unfoldable pub best_worth : (Position → ℤ) → Position → ℤ
+best_worth v P = greatest (map (worth v P) (moves P))
 
 abbrev pub empties : Position → ℕ
 empties P = count_of P Empty
@@ -35,10 +35,9 @@ empties P = count_of P Empty
 unfoldable pub value_at : Scoring → ℕ → Position → ℤ
 value_at g zero P = final g P
 value_at g (suc n) P =
-    elim (can_move P) [
-      | true ↦ best_of (value_at g n) P
-      | false ↦ elim (can_move (pass P)) [ true ↦ neg_ℤ (best_of (value_at g n) (pass P)) | false ↦ final g P ]
-    ]
+    if can_move P
+    then best_worth (value_at g n) P
+    else (if can_move (pass P) then neg_ℤ (best_worth (value_at g n) (pass P)) else final g P)
 
 unfoldable pub value : Scoring → Position → ℤ
 value g P = value_at g (empties P) P
@@ -52,10 +51,9 @@ best_moves g P = filter (is_best g P) (moves P)
 
 unfoldable pub best : Scoring → Position → Best
 best g P =
-    elim (can_move P) [
-      | true ↦ Moves (mask_of (best_moves g P))
-      | false ↦ elim (can_move (pass P)) [ true ↦ Pass | false ↦ Over ]
-    ]
+    if can_move P
+    then Moves (mask_of (best_moves g P))
+    else (if can_move (pass P) then Pass else Over)
 
 -- the value, and all moves that attain it; or a pass; or that the game is over
 unfoldable pub answer : Scoring → Position → Solution

@@ -13,7 +13,7 @@ ghost use Rattle.othello_rules.specs.Neighbours.{neighbour};
 ghost use Rattle.othello_rules.specs.Rules.{Position, IsOver, moves, pass, play};
 ghost use Rattle.othello_rules.specs.Scores.{final};
 ghost use Rattle.othello_rules.specs.Value.{greatest, value, best_moves, answer};
-ghost use Rattle.othello_rules.specs.Colours.{swapped};
+ghost use Rattle.othello_rules.specs.Colours.{colour_swap};
 ghost use Rattle.othello_rules.specs.Solution.{IsScore};
 
 /// A ray goes step by step: it is empty where the square has no neighbour in the direction, and
@@ -45,9 +45,9 @@ pub fn value_is_minimax()
 
 /// Swapping all discs and the side to move keeps the moves, the value and the answer.
 pub fn colours_are_alike()
-    ensures moves { (P : Position) → moves (swapped P) ≡ moves P }
-    ensures value { (g : Scoring) (P : Position) → value g (swapped P) ≡ value g P }
-    ensures answer { (g : Scoring) (P : Position) → answer g (swapped P) ≡ answer g P }
+    ensures moves { (P : Position) → moves (colour_swap P) ≡ moves P }
+    ensures value { (g : Scoring) (P : Position) → value g (colour_swap P) ≡ value g P }
+    ensures answer { (g : Scoring) (P : Position) → answer g (colour_swap P) ≡ answer g P }
 {}
 
 /// The sign of a value is the value under `Scoring::Sign`, and a best move under any scoring is

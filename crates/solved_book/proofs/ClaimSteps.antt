@@ -17,7 +17,7 @@ use Rattle.othello_bits.specs.declared.symmetries.Sym.{Sym}
 use Rattle.obf_text.specs.LineText.{room_of}
 use Rattle.obf_text.specs.Obf.{Meaning, Skipped, Holds, Faulty, item_of}
 use Rattle.endgame_search.specs.declared.solutions.Claim.{Claim}
-use Rattle.solved_book.specs.Advice.{Advice, PositionClaim, GivesAdvice, advice, claim_or_fault, claim_at, claims_from, found_in, image_claim, is_behind, is_canonical_entry, claim_in_line, lists_nothing, claims_after, claims_with}
+use Rattle.solved_book.specs.Advice.{Advice, PositionClaim, GivesAdvice, advice, claim_or_fault, claim_at, claims_from, claim_for, image_claim, is_behind, is_canonical_entry, claim_in_line, lists_nothing, claims_after, claims_with}
 use Rattle.solved_book.specs.Books.{Masks, position_at, positions_in}
 use Rattle.solved_book.specs.Listing.{claim_of}
 use Rattle.solved_book.specs.Reading.{GivesLine, GivesMap, position_claim, claimed_positions}
@@ -38,7 +38,7 @@ claim_kept p k es e = ap (λ q. claim_at q (map position_claim es)) (sym e) ∙ 
 
 -- what a look-up of the canonical position gives, on the image that was asked
 pub found_claim : (a : Advice) (g : Scoring) (p : Discs) (k : Masks) (s : Sym) (es : List (Masks × Claim)) (found : Option Claim) → record { scoring = g; claims = map position_claim es } ≡ a
-    → position_at k ≡ canonical_of p → s ≡ first_symmetry (position_of Black p) → found ≡ lookup (λ q. is_eq (masks_cmp k q)) es → option_map (image_claim (inverse s)) found ≡ found_in a p
+    → position_at k ≡ canonical_of p → s ≡ first_symmetry (position_of Black p) → found ≡ lookup (λ q. is_eq (masks_cmp k q)) es → option_map (image_claim (inverse s)) found ≡ claim_for a p
 found_claim a g p k s es found ea ek same e =
     ap (option_map (image_claim (inverse s))) (e ∙ sym (claim_kept (canonical_of p) k es ek))
     ∙ (λ i. option_map (image_claim (inverse (same i))) (claim_at (canonical_of p) (ea i).claims))

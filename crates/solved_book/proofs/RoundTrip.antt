@@ -16,7 +16,7 @@ use Rattle.othello_rules.specs.declared.scorings.Scoring.{Scoring}
 use Rattle.othello_rules.specs.declared.scorings.Scoring.TheVariants as scoring
 use Rattle.othello_rules.specs.Solution.{Solution}
 use Rattle.othello_rules.proofs.ListLaws.{Contains-cons, Contains-cons_cases, Contains-head, Contains-nil}
-use Rattle.othello_bits.specs.Discs.{Discs, answer_of, best_of, discs_of, is_best, mask_where, moves_of, pass_of, position_of}
+use Rattle.othello_bits.specs.Discs.{Discs, answer_of, best_answer, discs_of, is_best_move, mask_where, moves_of, pass_of, position_of}
 use Rattle.othello_bits.specs.Symmetries.{best_image, canonical, canonical_of, first_symmetry, image_of, inverse}
 use Rattle.othello_bits.specs.declared.symmetries.Sym.{Sym}
 use Rattle.othello_bits.proofs.AnswerLaws.{answer-is}
@@ -32,7 +32,7 @@ use Rattle.obf_text.proofs.LineLemmas.{has_first_part, keeps_first}
 use Rattle.obf_text.proofs.OnlyMeaning.{says_only}
 use Rattle.obf_text.proofs.WrittenLines.{written_line, written_says}
 use Rattle.endgame_search.specs.declared.solutions.Claim.{Claim}
-use Rattle.solved_book.specs.Advice.{Advice, advice, advice_under, answer_claim, claim_or_fault, claim_at, claim_by, claims_from, claims_of, found_in, image_claim, is_behind, is_canonical_entry, claim_in_line, claims_after, same_discs, scoring_in, scoring_of_lines}
+use Rattle.solved_book.specs.Advice.{Advice, advice, advice_under, answer_claim, claim_or_fault, claim_at, claim_by, claims_from, claims_of, claim_for, image_claim, is_behind, is_canonical_entry, claim_in_line, claims_after, same_discs, scoring_in, scoring_of_lines}
 use Rattle.solved_book.specs.Books.{book_text, entry_text, header, position_at}
 use Rattle.solved_book.specs.Order.{IsCanonical, AreBookPositions, by_masks}
 use Rattle.solved_book.proofs.Answers.{answer_best, answer_score, canonical_apart}
@@ -67,8 +67,8 @@ narrow_by true false f = tt
 narrow_by false b f = where_lt f
 
 answer_narrow : (g : Scoring) (p : Discs) → IsNarrow (answer_of g p).best
-unfolding best_of
-answer_narrow g p = subst IsNarrow (ap (λ (r : Solution). r.best) (sym (answer-is g p))) (narrow_by (nat_eq (moves_of p) 0) (nat_eq (moves_of (pass_of p)) 0) (is_best g p))
+unfolding best_answer
+answer_narrow g p = subst IsNarrow (ap (λ (r : Solution). r.best) (sym (answer-is g p))) (narrow_by (nat_eq (moves_of p) 0) (nat_eq (moves_of (pass_of p)) 0) (is_best_move g p))
 
 -- ---- a line
 
@@ -184,20 +184,20 @@ claim_missing g c (p ∷ ps) h = by (by_masks c p) refl (claim_missing g c ps (�
 read_is : (g : Scoring) (ps : List Discs) (a : Advice) → AreBookPositions ps → claims_of (book_text g ps) ≡ Ok a → record { scoring = g; claims = map (answer_claim g) ps } ≡ a
 read_is g ps a h e = let same = sym (claims_back g ps h) ∙ e in cc
 
-pub found_back : (g : Scoring) (ps : List Discs) (a : Advice) (p : Discs) → AreBookPositions ps → claims_of (book_text g ps) ≡ Ok a → Contains ps (canonical_of p) → found_in a p ≡ Some (claim_by (answer_of g p))
+pub found_back : (g : Scoring) (ps : List Discs) (a : Advice) (p : Discs) → AreBookPositions ps → claims_of (book_text g ps) ≡ Ok a → Contains ps (canonical_of p) → claim_for a p ≡ Some (claim_by (answer_of g p))
 found_back g ps a p h e held =
     let s = inverse (first_symmetry (position_of Black p)) in
     let c = canonical_of p in
     let score = ap (λ (r : Solution). r.score) (answer-is g c) in
     let there : image_claim s (claim_by (answer_of g c)) ≡ claim_by (answer_of g p) =
     (λ k. let x : Claim = record { score = score k; best = best_image s (answer_of g c).best } in x) ∙ ap claim_by (sym (answer_of-back g p)) in
-    ap (λ (b : Advice). found_in b p) (sym (read_is g ps a h e)) ∙ ap (option_map (image_claim s)) (claim_held g c ps held) ∙ ap (λ x. Some x) there
+    ap (λ (b : Advice). claim_for b p) (sym (read_is g ps a h e)) ∙ ap (option_map (image_claim s)) (claim_held g c ps held) ∙ ap (λ x. Some x) there
 
 pub found_on_images : (g : Scoring) (ps : List Discs) (a : Advice) (p : Discs) (s : Sym) → AreBookPositions ps → claims_of (book_text g ps) ≡ Ok a → Contains ps (canonical_of p)
-    → found_in a (image_of s p) ≡ Some (claim_by (answer_of g (image_of s p)))
+    → claim_for a (image_of s p) ≡ Some (claim_by (answer_of g (image_of s p)))
 found_on_images g ps a p s h e held = found_back g ps a (image_of s p) h e (subst (λ c. Contains ps c) (sym (canonical_of-image_of s p)) held)
 
-pub missing_back : (g : Scoring) (ps : List Discs) (a : Advice) (p : Discs) → AreBookPositions ps → claims_of (book_text g ps) ≡ Ok a → (Contains ps (canonical_of p) → ⊥) → found_in a p ≡ None
+pub missing_back : (g : Scoring) (ps : List Discs) (a : Advice) (p : Discs) → AreBookPositions ps → claims_of (book_text g ps) ≡ Ok a → (Contains ps (canonical_of p) → ⊥) → claim_for a p ≡ None
 missing_back g ps a p h e none =
-    ap (λ (b : Advice). found_in b p) (sym (read_is g ps a h e))
+    ap (λ (b : Advice). claim_for b p) (sym (read_is g ps a h e))
     ∙ ap (option_map (image_claim (inverse (first_symmetry (position_of Black p))))) (claim_missing g (canonical_of p) ps none)

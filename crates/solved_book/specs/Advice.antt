@@ -151,8 +151,8 @@ abbrev pub image_claim : Sym → Claim → Claim
 image_claim s c = record { score = c.score; best = best_image s c.best }
 
 -- the claim of the canonical position, its squares moved by the inverse of the symmetry that leads to it
-abbrev pub found_in : Advice → bits.Discs → Option Claim
-found_in a p =
+abbrev pub claim_for : Advice → bits.Discs → Option Claim
+claim_for a p =
     option_map (image_claim (inverse (first_symmetry (position_of Black p)))) (claim_at (canonical_of p) a.claims)
 
 -- an answer as a claim

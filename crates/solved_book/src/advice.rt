@@ -2,7 +2,7 @@
 
 ghost use Rattle.std.specs.Prelude.{◌≡◌, [], IfOk, None, length};
 ghost use Rattle.obf_text.specs.LineText.{lines_of};
-ghost use Rattle.solved_book.specs.Advice.{GivesAdvice, claims_from, claims_of, found_in};
+ghost use Rattle.solved_book.specs.Advice.{GivesAdvice, claims_from, claims_of, claim_for};
 ghost use Rattle.solved_book.specs.Books.{positions_in};
 ghost use Rattle.solved_book.specs.Order.{AreRising};
 ghost use Rattle.solved_book.specs.Reading.{GivesMap, claimed_positions};
@@ -112,7 +112,7 @@ impl Claims {
     /// The claim of a position, if there is one: that of its canonical position, with the squares
     /// moved back.
     pub fn find(&self, position: &Pos) -> Option<Claim>
-        ensures { result ≡ found_in self.now position.now }
+        ensures { result ≡ claim_for self.now position.now }
     {
         let (canonical, sym) = position.canonical();
         let mut claim = *self.claims.get(&masks_of(canonical))?;

@@ -12,7 +12,7 @@ ghost use Rattle.obf_text.specs.LineText.{lines_of};
 ghost use Rattle.obf_text.specs.Obf.{item_of};
 ghost use Rattle.solved_book.specs.declared.faults.BookFault.{BookFault};
 ghost use Rattle.solved_book.specs.Advice.{Advice, PositionClaim, answer_claim, claim_by};
-ghost use Rattle.solved_book.specs.Advice.{claims_from, claims_of, entry_claim, found_in};
+ghost use Rattle.solved_book.specs.Advice.{claims_from, claims_of, entry_claim, claim_for};
 ghost use Rattle.solved_book.specs.Advice.{last_position, claim_in_line};
 ghost use Rattle.solved_book.specs.Books.{book_text};
 ghost use Rattle.solved_book.specs.Order.{AreRising, AreBookPositions};
@@ -28,12 +28,12 @@ pub fn book_is_read_again()
         → AreBookPositions positions
         → claims_of (book_text g positions) ≡ Ok a
         → Contains positions (canonical_of p)
-        → found_in a (image_of s p) ≡ Some (claim_by (answer_of g (image_of s p))) }
+        → claim_for a (image_of s p) ≡ Some (claim_by (answer_of g (image_of s p))) }
     ensures missing { (g : Scoring) (positions : List Discs) (a : Advice) (p : Discs)
         → AreBookPositions positions
         → claims_of (book_text g positions) ≡ Ok a
         → (Contains positions (canonical_of p) → ⊥)
-        → found_in a p ≡ None }
+        → claim_for a p ≡ None }
 {}
 
 /// Where a text has no fault, its claims are those of its entries, in their order.

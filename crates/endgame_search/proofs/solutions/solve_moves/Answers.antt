@@ -1,7 +1,7 @@
 use Rattle.std.proofs.Common.{◌≢◌, ◌∙◌, sym, ap, arith}
 use Rattle.std.proofs.lemmas.Int.{ints}
 use Rattle.othello_rules.specs.declared.answers.Best.TheVariants.{Moves}
-use Rattle.othello_bits.specs.Discs.{moves_of, is_best, mask_where}
+use Rattle.othello_bits.specs.Discs.{moves_of, is_best_move, mask_where}
 use Rattle.othello_bits.proofs.GameLaws.{value_score}
 use Rattle.endgame_search.proofs.Windows.{exact}
 use Rattle.endgame_search.proofs.BestOf.{best_of-moves}
@@ -18,5 +18,5 @@ store-score-requires-clause-places g c =
 pub solved_as-requires-clause-best : goal.solved_as-requires-clause-best
 solved_as-requires-clause-best g c =
     let some : moves_of c.args.task.position ≢ 0 = λ z. c.requires.some (c.requires.moves ∙ z) in
-    ap Moves (c.leading_moves-leaders.ensures.best ∙ (λ k. mask_where (is_best (sym c.requires.scoring k) (c.pos-position.ensures.value k))))
+    ap Moves (c.leading_moves-leaders.ensures.best ∙ (λ k. mask_where (is_best_move (sym c.requires.scoring k) (c.pos-position.ensures.value k))))
     ∙ sym (best_of-moves c.args.task.scoring c.args.task.position some)

@@ -1,6 +1,6 @@
 use Rattle.std.proofs.Common.{◌≡◌, ◌∙◌, sym, arith}
 use Rattle.std.proofs.lemmas.Int.{ints}
-use Rattle.othello_bits.specs.Discs.{value_of, best_of}
+use Rattle.othello_bits.specs.Discs.{value_of, best_answer}
 use Rattle.endgame_search.proofs.Windows.{shown}
 use Rattle.endgame_search.proofs.solutions.solved_at.Goals as goal
 
@@ -11,4 +11,4 @@ best_from-best-requires g c =
 
 pub solved_as-requires-clause-best : goal.solved_as-requires-clause-best
 solved_as-requires-clause-best g c =
-    c.best_from-best.ensures ∙ (λ k. best_of (sym c.requires.scoring k) (c.pos.ensures.value k))
+    c.best_from-best.ensures ∙ (λ k. best_answer (sym c.requires.scoring k) (c.pos.ensures.value k))

@@ -4,7 +4,7 @@ use Rattle.std.proofs.lemmas.Bool.{false≢true, false_from_ne_true}
 use Rattle.std.proofs.lemmas.Int.{ints}
 use Rattle.othello_rules.specs.Rules.{moves, play, pass, is_move}
 use Rattle.othello_rules.specs.Solution.{IsScore}
-use Rattle.othello_rules.specs.Value.{can_move, value, worth, best_of}
+use Rattle.othello_rules.specs.Value.{can_move, value, worth, best_worth}
 use Rattle.othello_rules.proofs.SquareLaws.{item_of_squares}
 use Rattle.othello_rules.proofs.MoveLaws.{is_move-from_Contains, Contains-moves}
 use Rattle.othello_rules.proofs.ValueLaws.{value-over, value-move, value-pass}
@@ -57,7 +57,7 @@ plain_value-theirs-requires t c =
 
 pub returns-in-Some-clause-value : goal.returns-in-Some-clause-value
 returns-in-Some-clause-value t c =
-    let found : (can_move c.args.self.now ≡ true) × (c.in-Some.greatest ≡ best_of (value c.args.scoring) c.args.self.now) =
+    let found : (can_move c.args.self.now ≡ true) × (c.in-Some.greatest ≡ best_worth (value c.args.scoring) c.args.self.now) =
     tried_all_some c.args.scoring c.args.self.now c.loop-square.square-index c.in-Some.greatest c.loop-square-test.false (sym c.loop-square.invariant ∙ c.in-Some.is) in
     let value_is : c.in-Some.greatest ≡ value c.args.scoring c.args.self.now = found.1 ∙ sym (value-move c.args.scoring c.args.self.now found.0) in
     let length_is : length c.args.self.now.cells ≤ 64 = omega (arith, ap (λ p. length p.cells) c.self.view_is, c.self.invariant) in
@@ -67,7 +67,7 @@ returns-in-Some-clause-value t c =
 
 pub returns-in-Some-clause-in_range : goal.returns-in-Some-clause-in_range
 returns-in-Some-clause-in_range t c =
-    let found : (can_move c.args.self.now ≡ true) × (c.in-Some.greatest ≡ best_of (value c.args.scoring) c.args.self.now) =
+    let found : (can_move c.args.self.now ≡ true) × (c.in-Some.greatest ≡ best_worth (value c.args.scoring) c.args.self.now) =
     tried_all_some c.args.scoring c.args.self.now c.loop-square.square-index c.in-Some.greatest c.loop-square-test.false (sym c.loop-square.invariant ∙ c.in-Some.is) in
     let value_is : c.in-Some.greatest ≡ value c.args.scoring c.args.self.now = found.1 ∙ sym (value-move c.args.scoring c.args.self.now found.0) in
     let length_is : length c.args.self.now.cells ≤ 64 = omega (arith, ap (λ p. length p.cells) c.self.view_is, c.self.invariant) in

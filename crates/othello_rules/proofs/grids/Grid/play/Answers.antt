@@ -1,7 +1,7 @@
 use Rattle.std.proofs.Common.{◌≡◌, ◌+◌, ◌++◌, ◌∷◌, [], length, take, not, sym, ap, ◌∙◌, refl}
 use Rattle.std.proofs.lemmas.Bool.{false≢true}
 use Rattle.std.proofs.lemmas.List.{take_more, take_all}
-use Rattle.othello_rules.specs.Rules.{is_move, play, flips, painted, own, other}
+use Rattle.othello_rules.specs.Rules.{is_move, play, flips, painted_cells, own, other}
 use Rattle.othello_rules.proofs.MoveLaws.{Contains-moves, is_move-from_Contains, is_move-is_empty, move_empty}
 use Rattle.othello_rules.proofs.PaintLaws.{length-painted, set-painted, set-is_painted}
 use Rattle.othello_rules.proofs.grids.Grid.play.Goals as goal
@@ -41,7 +41,7 @@ returns-clause-ok c =
     take_all c.loop-turned.turned-index c.deref-turned-items.result.now c.loop-turned-test.false ∙ c.deref-turned-items.ensures.0 ∙ c.flips-flips.ensures.value in
     let own_is : c.disc-own.result ≡ own c.args.self.now = rw (c.disc-own.ensures, mover_is) refl in
     let side_is : c.other.result ≡ other c.args.self.now.mover = rw (c.other.ensures, mover_is) refl in
-    let cells_are : c.loop-turned.cells ≡ painted (own c.args.self.now) (c.args.square ∷ flips c.args.self.now c.args.square) c.args.self.now.cells =
+    let cells_are : c.loop-turned.cells ≡ painted_cells (own c.args.self.now) (c.args.square ∷ flips c.args.self.now c.args.square) c.args.self.now.cells =
     c.loop-turned.invariant ∙ rw (all, own_is) refl in
     rw (cells_are, side_is) refl
 
