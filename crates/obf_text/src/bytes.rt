@@ -58,7 +58,7 @@ pub(crate) fn side_of(byte: u8) -> Option<Side>
     }
 }
 
-// Where the first byte stands that is no blank. Apart, so that a contract states what the search finds.
+// Where the first byte stands that is no blank. Apart, so that a contract states what is found.
 fn first_content(bytes: &[u8]) -> Option<usize>
     ensures { result ≡ position is_content bytes.now }
 {
@@ -74,7 +74,7 @@ pub(crate) fn blank_count(bytes: &[u8]) -> usize
     first_content(bytes).unwrap_or(bytes.len())
 }
 
-// Where the first byte stands that is no cell. Apart, so that a contract states what the search finds.
+// Where the first byte stands that is no cell. Apart, so that a contract states what is found.
 fn first_no_cell(bytes: &[u8]) -> Option<usize>
     ensures { result ≡ position is_no_cell bytes.now }
 {

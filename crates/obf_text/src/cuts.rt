@@ -51,7 +51,7 @@ fn line_end(text: &[u8]) -> usize
     first_line_feed(text).unwrap_or(text.len())
 }
 
-// Where the first line feed stands. Apart, so that a contract states what the search finds.
+// Where the first line feed stands. Apart, so that a contract states what is found.
 fn first_line_feed(text: &[u8]) -> Option<usize>
     ensures { result ≡ position (λ b. b == 10) text.now }
 {

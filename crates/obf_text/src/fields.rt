@@ -125,7 +125,7 @@ fn field_of(piece: &[u8]) -> Option<(ListedMove, i8)>
     field_of_text(without_last_blanks(without_first_blanks(piece)))
 }
 
-// Where the first `%` stands. Apart, so that a contract states what the search finds.
+// Where the first `%` stands. Apart, so that a contract states what is found.
 fn first_percent(rest: &[u8]) -> Option<usize>
     ensures { result ≡ position (λ b. b == 37) rest.now }
 {
