@@ -2,7 +2,7 @@
 
 use crate::split_lines;
 
-const TEXTS: [(&[u8], &[&[u8]]); 7] = [
+const TEXTS: &[(&[u8], &[&[u8]])] = &[
     (b"", &[]),
     (b"\n", &[b""]),
     (b"a", &[b"a"]),

@@ -8,7 +8,7 @@ use std::alloc::{AllocError, Global};
 // the line is skipped.
 type Row = (&'static [u8], usize, &'static [u8], Option<LineFault>);
 
-const ROWS: [Row; 22] = [
+const ROWS: &[Row] = &[
     (b"", 63, b"", Some(LineFault::Short(63))),
     (b"", 0, b"", None),
     (b"XXXX?", 59, b" X", Some(LineFault::BadCell(5))),

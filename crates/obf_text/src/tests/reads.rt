@@ -32,7 +32,7 @@ fn says(item: Result<Item, LineFault>, grid: &Grid, fields: &[Field]) -> bool {
 }
 
 // What stands behind the cells, and the fields that it lists.
-const FIELDS: [(&[u8], &[Field]); 23] = [
+const FIELDS: &[(&[u8], &[Field])] = &[
     (b" X;H1:+62;", &[(*b"H1", 62)]),
     (b" X;H1:+60;", &[(*b"H1", 60)]),
     (b" X;", &[]),
@@ -83,7 +83,7 @@ fn reads_fields(rt: HostRuntime) {
 }
 
 // A letter for each cell and for the side, and what they stand for.
-const LETTERS: [(u8, Cell, u8, Side); 11] = [
+const LETTERS: &[(u8, Cell, u8, Side)] = &[
     (b'X', Cell::Black, b'X', Side::Black),
     (b'x', Cell::Black, b'x', Side::Black),
     (b'*', Cell::Black, b'*', Side::Black),

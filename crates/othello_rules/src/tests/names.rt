@@ -3,7 +3,7 @@
 use crate::{RuleFault, Scoring};
 use std::alloc::{AllocError, Global};
 
-const SCORINGS: [(&str, Scoring); 3] = [
+const SCORINGS: &[(&str, Scoring)] = &[
     ("winner", Scoring::Winner),
     ("discs", Scoring::Discs),
     ("sign", Scoring::Sign),

@@ -12,7 +12,7 @@ fn squares_are_in_the_order_of_their_numbers(rt: HostRuntime) {
     assert!(rt; numbers.into_iter().eq(0..64));
 }
 
-const NAMES: [(&[u8], Option<u8>); 9] = [
+const NAMES: &[(&[u8], Option<u8>)] = &[
     (b"A1", Some(0)),
     (b"h1", Some(7)),
     (b"a8", Some(56)),

@@ -17,7 +17,7 @@ const H1: Best = Best::Moves(0x80);
 // The position, its mover, the scores under Winner, Discs and Sign, and what attains each of them.
 type Row = (Board, Side, [i8; 3], Best);
 
-const ROWS: [Row; 8] = [
+const ROWS: &[Row] = &[
     (BLACK_BOARD, Side::White, [-64, -64, -1], Best::Over),
     (LEVEL_HALVES, Side::Black, [0, 0, 0], Best::Over),
     (UNEQUAL_HALVES, Side::Black, [32, 16, 1], Best::Over),

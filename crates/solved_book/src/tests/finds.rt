@@ -12,7 +12,7 @@ use othello_rules::{Best, Scoring, Side};
 use std::alloc::Global;
 
 // Positions of the three lines, with their best moves.
-const FOUND: [(Discs, u64); 3] = [
+const FOUND: &[(Discs, u64)] = &[
     (LAST_CORNER, A1),
     (CORNER_LEFT_OVER, B1),
     (EQUAL_CORNERS, A1 | H1),
@@ -50,7 +50,7 @@ fn finds_all_images(rt: HostRuntime) {
 // A position, a line that claims less or something false of it, the claimed moves, and its answer.
 type Row = (Discs, [&'static [u8]; 2], u64, i8, u64);
 
-const LIES: [Row; 3] = [
+const LIES: &[Row] = &[
     (UNEQUAL_CORNERS, [UNEQUAL_ROWS, b" X; H8:+64;"], A1, 62, H1),
     (
         EQUAL_CORNERS,

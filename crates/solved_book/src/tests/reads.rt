@@ -56,7 +56,7 @@ fn tells_the_first_line(alloc: Global) -> bool {
 }
 
 // Texts of one line that is no line of a book.
-const BAD_LINES: [(&[u8], BookFault); 6] = [
+const BAD_LINES: &[(&[u8], BookFault)] = &[
     (b"\xEF", BookFault::Line(1, LineFault::BadCell(1))),
     (b"\0", BookFault::Line(1, LineFault::BadCell(1))),
     (b"% ffobook 3 winner\n", BookFault::Header),
@@ -78,7 +78,7 @@ fn names_the_first_fault(rt: HostRuntime) {
 }
 
 // Texts without a claim, and their scorings.
-const FIRST_LINES: [(&[u8], Scoring); 9] = [
+const FIRST_LINES: &[(&[u8], Scoring)] = &[
     (b"", Scoring::Winner),
     (b"% ffobook 2 winner\n", Scoring::Winner),
     (b"% ffobook 2 discs\r\n", Scoring::Discs),
@@ -105,7 +105,7 @@ fn reads_the_first_line(rt: HostRuntime) {
 }
 
 // How many bytes of the three lines are left, and how many claims or which fault they give.
-const CUTS: [(usize, Result<usize, BookFault>); 19] = [
+const CUTS: &[(usize, Result<usize, BookFault>)] = &[
     (0, Ok(0)),
     (1, Err(BookFault::Line(1, LineFault::Short(1)))),
     (63, Err(BookFault::Line(1, LineFault::Short(63)))),
@@ -128,7 +128,7 @@ const CUTS: [(usize, Result<usize, BookFault>); 19] = [
 ];
 
 // How many bytes are left, a position, and the score and the moves that they claim of it.
-const CUT_CLAIMS: [(usize, Discs, i8, u64); 5] = [
+const CUT_CLAIMS: &[(usize, Discs, i8, u64)] = &[
     (73, CORNER_LEFT_OVER, 6, B1),
     (74, CORNER_LEFT_OVER, 64, B1),
     (75, CORNER_LEFT_OVER, 64, B1),
@@ -165,7 +165,7 @@ fn reads_what_is_cut_off(rt: HostRuntime) {
 }
 
 // What is listed for a position, and what that claims.
-const LISTED: [(&[u8], i8, Best); 6] = [
+const LISTED: &[(&[u8], i8, Best)] = &[
     (b"H8:+3; PS:+3; G8:+2; --:+3;", 3, Best::Moves(A1)),
     (b"H8:-3; G8:-3; H8:-3;", -3, Best::Moves(A1 | B1)),
     (b"H8:-4; G8:-3; H8:-3", -3, Best::Moves(A1 | B1)),

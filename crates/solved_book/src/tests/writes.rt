@@ -57,7 +57,7 @@ fn holds_three(book: &mut Book) -> bool {
 }
 
 // Under each scoring the header, and the line of the position whose score differs.
-const FIRST_LINES: [(Scoring, &[u8], &[u8]); 2] = [
+const FIRST_LINES: &[(Scoring, &[u8], &[u8])] = &[
     (
         Scoring::Winner,
         b"% ffobook 2 winner\n",
@@ -98,7 +98,7 @@ fn holds_one_of_all_images(rt: HostRuntime) {
 // A position, a scoring, and the text of its book.
 type Row = (Discs, Side, Scoring, [&'static [u8]; 3]);
 
-const ANSWERS: [Row; 5] = [
+const ANSWERS: &[Row] = &[
     (
         BLACK_BOARD,
         Side::White,
