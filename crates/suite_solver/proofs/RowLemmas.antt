@@ -31,18 +31,20 @@ unfolding rows_from
 rows_no g limit n line lines e = rw e refl
 
 -- a line with a result adds its row
-pub rows_more : (g : Scoring) (limit n : ℕ) (line : List ℕ) (left lines : List (List ℕ)) (r : Reading) (made : List NumberedReading) (all : List ReportRow)
-    → left ≡ line ∷ lines → result_of g limit (item_of line) ≡ Some (result_in r) → map row_in made ++ rows_from g limit n left ≡ all
-    → map row_in (made ++ (record { line = n; reading = r }) ∷ []) ++ rows_from g limit (n + 1) lines ≡ all
-rows_more g limit n line left lines r made all cut e h =
+pub rows_more : (g : Scoring) (limit n next : ℕ) (line : List ℕ) (left lines : List (List ℕ)) (r : Reading) (made : List NumberedReading) (all : List ReportRow)
+    → next ≡ n + 1 → left ≡ line ∷ lines → result_of g limit (item_of line) ≡ Some (result_in r) → map row_in made ++ rows_from g limit n left ≡ all
+    → map row_in (made ++ (record { line = n; reading = r }) ∷ []) ++ rows_from g limit next lines ≡ all
+rows_more g limit n next line left lines r made all counted cut e h =
     let k = rw (cut, rows_yes g limit n line lines (result_in r) e) at h in
-    rw (map-append, append_assoc) k
+    rw (map-append, append_assoc, counted) k
 
 -- a line that is skipped adds none
-pub rows_skip : (g : Scoring) (limit n : ℕ) (line : List ℕ) (left lines : List (List ℕ)) (made all : List ReportRow)
-    → left ≡ line ∷ lines → result_of g limit (item_of line) ≡ None → made ++ rows_from g limit n left ≡ all
-    → made ++ rows_from g limit (n + 1) lines ≡ all
-rows_skip g limit n line left lines made all cut e h = rw (cut, rows_no g limit n line lines e) at h
+pub rows_skip : (g : Scoring) (limit n next : ℕ) (line : List ℕ) (left lines : List (List ℕ)) (made all : List ReportRow)
+    → next ≡ n + 1 → left ≡ line ∷ lines → result_of g limit (item_of line) ≡ None → made ++ rows_from g limit n left ≡ all
+    → made ++ rows_from g limit next lines ≡ all
+rows_skip g limit n next line left lines made all counted cut e h =
+    let k = rw (cut, rows_no g limit n line lines e) at h in
+    rw counted k
 
 pub rows_all : (g : Scoring) (limit n : ℕ) (left : List (List ℕ)) (made all : List ReportRow)
     → left ≡ [] → made ++ rows_from g limit n left ≡ all → made ≡ all

@@ -40,7 +40,7 @@ loop-bytes-preserved c =
           let result = sym c.in_ok-reading.ensures.result ∙ ap (option_map result_in) w.in-Some-2.is in
           let task = sym (ap (option_and_then task_in) w.in-Some-2.is) ∙ c.in_ok-reading.ensures.task in
           record {
-            rows = rw items (rows_more g limit n line left lines r made (rows g limit c.args.text.now) cut result kept.rows);
+            rows = rw items (rows_more g limit n _ line left lines r made (rows g limit c.args.text.now) (omega arith) cut result kept.rows);
             tasks = rw items (tasks_more g limit line left lines cut made (tasks g limit c.args.text.now) kept.tasks
                 (record { line = n; reading = r }) task);
             first = omega arith;
@@ -52,7 +52,7 @@ loop-bytes-preserved c =
           let result = sym c.in_ok-reading.ensures.result ∙ ap (option_map result_in) none in
           let task = sym (ap (option_and_then task_in) none) ∙ c.in_ok-reading.ensures.task in
           record {
-            rows = rw items (rows_skip g limit n line left lines _ (rows g limit c.args.text.now) cut result kept.rows);
+            rows = rw items (rows_skip g limit n _ line left lines _ (rows g limit c.args.text.now) (omega arith) cut result kept.rows);
             tasks = rw items (tasks_skip g limit line left lines cut made (tasks g limit c.args.text.now) kept.tasks task);
             first = omega arith;
             room = room;

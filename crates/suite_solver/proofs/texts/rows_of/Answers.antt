@@ -1,4 +1,4 @@
-use Rattle.std.proofs.Common.{◌∷◌, [], ◌++◌, sym, ◌∙◌, ap, ap₂}
+use Rattle.std.proofs.Common.{rules, ◌∷◌, [], ◌++◌, sym, ◌∙◌, ap, ap₂}
 use Rattle.std.specs.List.{cons_option}
 use Rattle.std.specs.Slice.Iter.{iter_rest}
 use Rattle.std.proofs.lemmas.List.{map_more}
@@ -8,6 +8,9 @@ use Rattle.suite_solver.specs.Rows.{report_row}
 use Rattle.suite_solver.specs.declared.texts.NumberedReading.{NumberedReading}
 use Rattle.suite_solver.proofs.TaskLemmas.{answers_left, next_answer}
 use Rattle.suite_solver.proofs.texts.rows_of.Goals as goal
+
+pub loop-numbered-init : goal.loop-numbered-init
+loop-numbered-init c = search rules
 
 pub result-requires : goal.result-requires
 result-requires c = λ task e.
