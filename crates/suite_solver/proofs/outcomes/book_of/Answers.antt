@@ -1,4 +1,4 @@
-use Rattle.std.proofs.Common.{◌∙◌, ap, map, subst}
+use Rattle.std.proofs.Common.{rules, ◌∙◌, ap, map, subst}
 use Rattle.std.proofs.lemmas.List.{take_all}
 use Rattle.std.proofs.lemmas.List.Elements.{All-same}
 use Rattle.suite_solver.specs.declared.parts.Part.{Part}
@@ -6,6 +6,9 @@ use Rattle.suite_solver.specs.Parts.{IsBookOf, yield_of, yield_tasks}
 use Rattle.suite_solver.proofs.PartLemmas.{book_more, scored_at}
 use Rattle.suite_solver.proofs.TaskLemmas.{HasScoring}
 use Rattle.suite_solver.proofs.outcomes.book_of.Goals as goal
+
+pub loop-part-init : goal.loop-part-init
+loop-part-init c = search rules
 
 pub add_all-requires : goal.add_all-requires
 add_all-requires c =
