@@ -8,7 +8,7 @@ mod steps;
 mod texts;
 mod waits;
 
-use crate::{Client, Desk, JobId, SubmitFault};
+use crate::{Client, Desk, Job, JobId, SubmitFault, Turn};
 use bound_table::NoTable;
 use endgame_search::{Solved, Task, solve};
 use othello_bits::Pos;
@@ -66,4 +66,17 @@ fn sends<R: Wait>(rt: &R, desk: &Desk, client: &mut Client, task: Task, number: 
         sent = desk.submit(rt, client, task);
     }
     sent == Ok(number)
+}
+
+// Whether the client's turn gives this.
+fn turns_to<R: Wait>(rt: &R, desk: &Desk, client: &mut Client, turn: Turn) -> bool {
+    desk.turn(rt, client) == Ok(turn)
+}
+
+fn finishes<R: Wait>(rt: &R, desk: &Desk, job: Job) -> bool {
+    desk.finish(rt, job.id, solved(job.task)) == Ok(())
+}
+
+fn gives_back<R: Wait>(rt: &R, desk: &Desk, id: JobId) -> bool {
+    desk.give_back(rt, id) == Ok(())
 }

@@ -4,7 +4,8 @@
 //! ends all the same, and fails.
 
 use super::{
-    CORNER_LEFT_OVER, EQUAL_CORNERS, LAST_CORNER, SECOND, UNEQUAL_CORNERS, sends, solved, task_of,
+    CORNER_LEFT_OVER, EQUAL_CORNERS, LAST_CORNER, SECOND, UNEQUAL_CORNERS, finishes, gives_back,
+    sends, solved, task_of,
 };
 use crate::{Client, Desk, Job, JobId, Turn};
 use endgame_search::Task;
@@ -55,7 +56,7 @@ struct Crowd {
 // Takes a job, gives it back and leaves.
 fn leave<R: Wait>(rt: &R, crowd: &Crowd) -> bool {
     match crowd.desk.take_or_wait(rt) {
-        Some(job) => crowd.desk.give_back(rt, job.id) == Ok(()),
+        Some(job) => gives_back(rt, &crowd.desk, job.id),
         None => true,
     }
 }
@@ -65,9 +66,9 @@ fn serve<R: Wait>(rt: &R, crowd: &Crowd, job: Job, last: &mut JobId) -> bool {
     crowd.served.fetch_add(1, Ordering::SeqCst);
     if job.id.number % GIVEN_BACK == 0 && *last != job.id {
         *last = job.id;
-        return crowd.desk.give_back(rt, job.id) == Ok(());
+        return gives_back(rt, &crowd.desk, job.id);
     }
-    crowd.desk.finish(rt, job.id, solved(job.task)) == Ok(())
+    finishes(rt, &crowd.desk, job)
 }
 
 // Whether all jobs that the worker took were accepted again.

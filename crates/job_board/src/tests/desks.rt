@@ -1,6 +1,9 @@
 //! A desk on one thread.
 
-use super::{CORNER_LEFT_OVER, EQUAL_CORNERS, FIRST, SECOND, sends, solved, task_of};
+use super::{
+    CORNER_LEFT_OVER, EQUAL_CORNERS, FIRST, SECOND, finishes, gives_back, sends, solved, task_of,
+    turns_to,
+};
 use crate::{Client, Delivery, Desk, Job, JobFault, JobId, Mixed, NoSender, SubmitFault, Turn};
 use endgame_search::Task;
 use std::alloc::Global;
@@ -42,10 +45,10 @@ fn next_of(number: u32, task: Task) -> Turn {
 // Whether the call has its answer.
 fn is_answered<R: Wait>(rt: &R, desk: &Desk, client: &mut Client, call: Call, job: Job) -> bool {
     match call {
-        Call::Work => desk.turn(rt, client) == Ok(Turn::Work(job)),
-        Call::Next => desk.turn(rt, client) == Ok(next_of(job.id.number, job.task)),
-        Call::Finish => desk.finish(rt, job.id, solved(job.task)) == Ok(()),
-        Call::GiveBack => desk.give_back(rt, job.id) == Ok(()),
+        Call::Work => turns_to(rt, desk, client, Turn::Work(job)),
+        Call::Next => turns_to(rt, desk, client, next_of(job.id.number, job.task)),
+        Call::Finish => finishes(rt, desk, job),
+        Call::GiveBack => gives_back(rt, desk, job.id),
         Call::NotTaken => desk.give_back(rt, job.id) == Err(JobFault::NotTaken),
     }
 }
@@ -62,7 +65,7 @@ fn are_answered<R: Wait>(rt: &R, desk: &Desk, client: &mut Client, tasks: &[Task
 
 // Whether the client's sender is closed, and all came back.
 fn is_served<R: Wait>(rt: &R, desk: &Desk, client: &mut Client, tasks: &[Task; 2]) -> bool {
-    desk.turn(rt, client) == Ok(Turn::Drained)
+    turns_to(rt, desk, client, Turn::Drained)
         && desk.take_or_wait(rt).is_none()
         && desk.close(rt, client) == Ok(false)
         && desk.submit(rt, client, tasks[0]) == Err(SubmitFault::Closed)
@@ -103,8 +106,8 @@ fn tells_mixed<R: Wait>(rt: &R, alloc: Global, tasks: &[Task; 2]) -> bool {
     let task = tasks[0];
     sends(rt, &desk, &mut Client::new(alloc, 0), task, 0)
         && sends(rt, &desk, &mut other, tasks[1], 1)
-        && desk.turn(rt, &mut other) == Ok(Turn::Work(Job { id: FIRST, task }))
-        && desk.finish(rt, FIRST, solved(task)) == Ok(())
+        && turns_to(rt, &desk, &mut other, Turn::Work(Job { id: FIRST, task }))
+        && finishes(rt, &desk, Job { id: FIRST, task })
         && desk.turn(rt, &mut other) == Err(Mixed)
 }
 

@@ -1,7 +1,7 @@
 //! Who waits at a desk is woken. The thread that wakes it does so again by other calls if it sees
 //! no answer for some seconds, so that a test whose wake-up is lost ends all the same, and fails.
 
-use super::{FIRST, UNEQUAL_CORNERS, sends, solved, task_of};
+use super::{FIRST, UNEQUAL_CORNERS, finishes, gives_back, sends, solved, task_of, turns_to};
 use crate::{Client, Delivery, Desk, Job, Turn};
 use endgame_search::Task;
 use std::alloc::{AllocError, Global};
@@ -30,7 +30,8 @@ struct Scene {
     desk: Desk,
     // Of the thread that waits.
     client: Mutex<Client>,
-    task: Task,
+    // The client's first job.
+    job: Job,
     event: Event,
     woken: AtomicBool,
 }
@@ -47,7 +48,7 @@ fn scene_of<R: Wait>(rt: &R, alloc: Global, task: Task, event: Event) -> Result<
     Ok(Scene {
         desk,
         client: Mutex::new(client),
-        task,
+        job: Job { id: FIRST, task },
         event,
         woken: AtomicBool::new(false),
     })
@@ -65,18 +66,17 @@ fn stand_by<R: Wait>(rt: &R, scene: &Scene) -> bool {
 // Whether the turn of the waiting client gives this.
 fn is_told<R: Wait>(rt: &R, scene: &Scene, wanted: Turn) -> bool {
     let mut client = scene.client.lock(rt);
-    scene.desk.turn(rt, &mut client) == Ok(wanted)
+    turns_to(rt, &scene.desk, &mut client, wanted)
 }
 
 // Whether the waiting thread gets what the event lets it have.
 fn is_given<R: Wait>(rt: &R, scene: &Scene) -> bool {
-    let (id, task) = (FIRST, scene.task);
     let next = Delivery {
         number: 0,
-        solved: solved(task),
+        solved: solved(scene.job.task),
     };
     match scene.event {
-        Event::Submit | Event::GiveBack => scene.desk.take_or_wait(rt) == Some(Job { id, task }),
+        Event::Submit | Event::GiveBack => scene.desk.take_or_wait(rt) == Some(scene.job),
         Event::Finish => is_told(rt, scene, Turn::Next(next)),
         Event::Close => is_told(rt, scene, Turn::Drained),
     }
@@ -92,9 +92,9 @@ fn wait<R: Wait + Clock>(rt: &R, scene: &Scene) -> bool {
 // Whether the call of the event is accepted.
 fn call<R: Wait>(rt: &R, scene: &Scene, client: &mut Client) -> bool {
     match scene.event {
-        Event::Submit => sends(rt, &scene.desk, client, scene.task, 0),
-        Event::GiveBack => scene.desk.give_back(rt, FIRST) == Ok(()),
-        Event::Finish => scene.desk.finish(rt, FIRST, solved(scene.task)) == Ok(()),
+        Event::Submit => sends(rt, &scene.desk, client, scene.job.task, 0),
+        Event::GiveBack => gives_back(rt, &scene.desk, scene.job.id),
+        Event::Finish => finishes(rt, &scene.desk, scene.job),
         Event::Close => scene.desk.close(rt, client) == Ok(true),
     }
 }
@@ -117,8 +117,9 @@ fn wake<R: Wait + Clock>(rt: &R, alloc: Global, scene: &Scene) -> bool {
     let called = call(rt, scene, &mut Client::new(alloc, 0));
     let woken = is_woken(rt, scene);
     let mut other = Client::new(alloc, 1);
-    let ended = sends(rt, &scene.desk, &mut other, scene.task, 0)
-        && sends(rt, &scene.desk, &mut other, scene.task, 1)
+    let task = scene.job.task;
+    let ended = sends(rt, &scene.desk, &mut other, task, 0)
+        && sends(rt, &scene.desk, &mut other, task, 1)
         && scene.desk.close(rt, &other) == Ok(true);
     called && woken && ended
 }
