@@ -84,6 +84,19 @@ listed_more items grown x e q h =
       | inr i ↦ subst (λ y. Contains (squares_of items ++ x.square ∷ []) y) (sym i) (Contains-push (squares_of items) x.square)
     ])
 
+-- a square of the mask or of the list, where r is taken out of the mask and a child by that move is put into the list
+pub still_held : (old new r : ℕ) → in_mask old r ≡ true → ((i : ℕ) → in_mask new i ≡ (in_mask old i && not (nat_eq r i)))
+    → (items grown : List Child) (x : Child) → grown ≡ items ++ x ∷ [] → x.square ≡ r
+    → (q : ℕ) → (in_mask old q ≡ true) ⊎ Contains (squares_of items) q → (in_mask new q ≡ true) ⊎ Contains (squares_of grown) q
+still_held old new r here taken items grown x e made q h =
+    elim h [
+      | inl b ↦ elim (still_there old new r here taken q b) [
+        | inl s ↦ inr (listed_more items grown x e q (inr (s ∙ sym made)))
+        | inr n ↦ inl n
+      ]
+      | inr l ↦ inr (listed_more items grown x e q (inl l))
+    ]
+
 -- where taking one square leaves nothing, there is no other
 pub only_square : (old new r q : ℕ) → new ≡ 0 → ((i : ℕ) → in_mask new i ≡ (in_mask old i && not (nat_eq r i))) → in_mask old q ≡ true → q ≡ r
 only_square old new r q none taken here =
@@ -96,9 +109,13 @@ only_square old new r q none taken here =
 pub sorted_each : (P : Child → Type 0) (items sorted : List Child) → IsPermutation items sorted → All P items → All P sorted
 sorted_each P items sorted permuted h = All-permutation P items sorted permuted h
 
-pub sorted_listed : (items sorted : List Child) → IsPermutation items sorted → (q : ℕ) → Contains (squares_of items) q → Contains (squares_of sorted) q
-sorted_listed items sorted permuted q h =
-    Contains-permutation (squares_of items) (squares_of sorted) q (IsPermutation-map (λ (c : Child). c.square) items sorted permuted) h
+pub sorted_listed : (items sorted : List Child) → IsPermutation items sorted → (rest : ℕ) → rest ≡ 0
+    → (q : ℕ) → (in_mask rest q ≡ true) ⊎ Contains (squares_of items) q → Contains (squares_of sorted) q
+sorted_listed items sorted permuted rest none q h =
+    elim h [
+      | inl b ↦ absurd (both_ways (in_mask rest q) (none_from_zero rest none q) b)
+      | inr l ↦ Contains-permutation (squares_of items) (squares_of sorted) q (IsPermutation-map (λ (c : Child). c.square) items sorted permuted) l
+    ]
 
 -- an empty list
 pub no_items : (v : ArrayVec Child) → v.items ≡ [] → array_vec_len v ≡ 0
