@@ -241,7 +241,8 @@ fn free_of(position: Pos) -> u64
 // The two empty squares of a position that has two, the lower first.
 #[inline(always)]
 pub(crate) fn last_two(position: Pos) -> Option<(Square, Square)>
-    ensures { IfSome result (λ squares. AreLast position squares.0 squares.1) }
+    ensures last { IfSome result (λ squares. AreLast position squares.0 squares.1) }
+    ensures lower_first { IfSome result (λ squares. squares.0 < squares.1) }
 {
     let free = free_of(position);
     if free == 0 {
