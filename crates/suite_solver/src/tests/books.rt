@@ -46,7 +46,7 @@ solved 3 refused 0
 ";
 
 // The words, the report of ONE that they ask for, and the book.
-const WRITTEN: [(&str, &[u8], &[u8]); 4] = [
+const WRITTEN: &[(&str, &[u8], &[u8])] = &[
     ("ffosolve --book-out out.book", ONE_REPORT, BOOK),
     (
         "ffosolve --book-in out.book --workers 0 --book-out out.book",
@@ -68,7 +68,7 @@ const WRITTEN: [(&str, &[u8], &[u8]); 4] = [
 // A book takes the place of the one that was read, and nothing is left beside it.
 #[test]
 fn writes_and_reads_books(rt: HostRuntime) -> Result<(), Fail> {
-    for (line, report, book) in &WRITTEN {
+    for (line, report, book) in WRITTEN {
         assert!(rt; ends_so(&rt, rt.alloc(), &(*line, ONE, 0, *report, b""))?);
         let written = fs::read(&rt, "out.book")?;
         assert!(rt; written.as_slice() == *book && !fs::exists(&rt, "out.book.0.part")?);
@@ -83,7 +83,7 @@ XXXXXXXXXXXXXXXXXXXXXXXXXXXXXXXXXXXXXXXXXXXXXXXXXXXXXXXX-OOXXOO- X; A8:+64;\n\
 XXXXXXXXXXXXXXXXXXXXXXXXXXXXOXXXXXXXXXXXXXXXXXXXOXXXXXXX-XXXXXO- X; H8:+64; D4:+10;\n";
 
 // The bytes of a book, and the words of the line on standard error; none where it is read.
-const TEXTS: [(&[u8], &[u8]); 15] = [
+const TEXTS: &[(&[u8], &[u8])] = &[
     (b"", b""),
     (LIES, b""),
     (b"% ffobook 2 sign\n% ffobook 3 winner\n", b""),
@@ -136,7 +136,7 @@ XXXXXXXXXXXXXXXXXXXXXXXXXXXXXXXXXXXXXXXXXXXXXXXXXXXXXXXXXOOOOO-- X; G8:+64;\n",
     ),
 ];
 
-const READ: [Run; 2] = [
+const READ: &[Run] = &[
     ("ffosolve --book-in in.book", ONE, 0, ONE_REPORT, b""),
     ("ffosolve --book-in in.book", TWO, 0, TWO_BY_WINNER, b""),
 ];
@@ -166,7 +166,7 @@ const NOTHING: &[u8] = b"";
 
 #[test]
 fn refuses_books(rt: HostRuntime) -> Result<(), Fail> {
-    for (text, told) in &TEXTS {
+    for (text, told) in TEXTS {
         assert!(rt; is_told_so(&rt, rt.alloc(), text, told)?);
     }
     fs::remove_file(&rt, "in.book")?;
@@ -174,7 +174,7 @@ fn refuses_books(rt: HostRuntime) -> Result<(), Fail> {
 }
 
 // The first front of the book's entries by their bytes, and whether it is read.
-const FRONTS: [(usize, bool); 8] = [
+const FRONTS: &[(usize, bool)] = &[
     (1, false),
     (64, false),
     (72, false),
@@ -206,14 +206,14 @@ fn is_read<T: Files + Threads + Wait + Sync>(
 #[test]
 fn reads_cut_off_books(rt: HostRuntime) -> Result<(), Fail> {
     for (count, wanted) in FRONTS {
-        assert!(rt; is_read(&rt, rt.alloc(), &BOOK[19..19 + count])? == wanted);
+        assert!(rt; is_read(&rt, rt.alloc(), &BOOK[19..19 + *count])? == *wanted);
     }
     fs::remove_file(&rt, "cut.book")?;
     Ok(())
 }
 
 // Books that can't be read, and ones that can't be written, which is told behind the reports.
-const PLACES: [Run; 6] = [
+const PLACES: &[Run] = &[
     (
         "ffosolve --book-in no.book",
         ONE,

@@ -108,7 +108,7 @@ impl Gate for NotingGate<'_> {
     }
 }
 
-const TOLD: [Told; 4] = [(1, 0, false), (1, 0, true), (1, 1, false), (1, 1, true)];
+const TOLD: &[Told] = &[(1, 0, false), (1, 0, true), (1, 1, false), (1, 1, true)];
 
 // A gate is told of the client's own jobs, and that one is left after its finish was answered.
 #[test]
@@ -121,7 +121,7 @@ fn gates_are_told_of_each_job(rt: HostRuntime) -> Result<(), Fail> {
         told: Mutex::new(ArrayVec::new()),
     };
     let part = client_part(&rt, alloc, TWO_JOBS, 1, 20, &desk, &table, None, &gate)?;
-    assert!(rt; part.solved.len() == 2 && gate.told.into_inner().as_slice() == TOLD.as_slice());
+    assert!(rt; part.solved.len() == 2 && gate.told.into_inner().as_slice() == TOLD);
     Ok(())
 }
 

@@ -12,7 +12,7 @@ const MANY_FILES: &[u8] = b"ffosolve: more than 64 files\n";
 
 const FULL_REPORT: &[u8] = b"[1]\n1 +64 -- unlisted\nsolved 1 refused 0\n";
 
-const FILE_RUNS: [Run; 5] = [
+const FILE_RUNS: &[Run] = &[
     ("ffosolve no-such.obf", b"", 3, b"", NO_FILE),
     ("ffosolve first.obf second.obf", TWO, 0, BOTH, b""),
     ("ffosolve first.obf --table 0 second.obf", b"", 0, BOTH, b""),

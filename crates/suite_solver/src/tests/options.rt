@@ -57,7 +57,7 @@ error: invalid value '65' for '--workers <N>': 65 is not in 0..=64
 For more information, try '--help'.
 ";
 
-const REFUSED: [Run; 6] = [
+const REFUSED: &[Run] = &[
     ("ffosolve --max-empties 61", b"", 2, b"", BAD_EMPTIES),
     ("ffosolve --workers 65", b"", 2, b"", BAD_WORKERS),
     ("ffosolve --table x", b"", 2, b"", BAD_TABLE),
@@ -107,7 +107,7 @@ fn reads_options(rt: HostRuntime) -> Result<(), Fail> {
     Ok(())
 }
 
-const BEYOND: [(u8, u8, u32); 3] = [(61, 2, 0), (20, 65, 0), (20, 2, 4_194_305)];
+const BEYOND: &[(u8, u8, u32)] = &[(61, 2, 0), (20, 65, 0), (20, 2, 4_194_305)];
 
 fn are_limits(settings: Settings) -> bool {
     settings.max_empties() == 60 && settings.workers() == 64 && settings.table() == 4_194_304

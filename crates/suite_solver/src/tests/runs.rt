@@ -49,7 +49,7 @@ fn files_with_spaces(alloc: Global, count: u32, spaces: usize) -> Result<Vec<Vec
 }
 
 // The files of one text, the spaces of the last file, and the refusal.
-const LIMITS: [(u32, usize, RunFault); 3] = [
+const LIMITS: &[(u32, usize, RunFault)] = &[
     (64, 0, RunFault::TooManyFiles),
     (64, 1_048_577, RunFault::TooManyFiles),
     (1, 1_048_577, RunFault::FileTooLarge(1)),
@@ -72,8 +72,8 @@ fn are_refused<R: Threads + Wait + Sync>(
 #[test]
 fn refuses_limits(rt: HostRuntime) -> Result<(), Fail> {
     for (count, spaces, fault) in LIMITS {
-        let files = files_with_spaces(rt.alloc(), count, spaces)?;
-        assert!(rt; are_refused(&rt, rt.alloc(), &files, fault));
+        let files = files_with_spaces(rt.alloc(), *count, *spaces)?;
+        assert!(rt; are_refused(&rt, rt.alloc(), &files, *fault));
     }
     Ok(())
 }

@@ -188,7 +188,7 @@ const FFO_40: &[u8] = b"O--OOOOX-OOOOOOXOOXXOOOXOOXOOOXXOOOOOOXX---OOOOX----O--X
 
 const FFO_40_REFUSED: &[u8] = b"[1]\n1 refused: 20 empties, limit 19\nsolved 0 refused 1\n";
 
-const RUNS: [Run; 12] = [
+const RUNS: &[Run] = &[
     ("ffosolve --scoring winner", POSITIONS, 0, BY_WINNER, b""),
     ("ffosolve --scoring discs", POSITIONS, 0, BY_DISCS, b""),
     (
