@@ -9,7 +9,7 @@ use std::test::Fail;
 use std::thread::Threads;
 
 // The canonical positions of -OOOOOOX, --OOOOOX and -OOXXOO- above seven rows of black discs, in the order of a book.
-const BOOK: &[u8] = b"% ffobook 2 winner\n\
+pub(super) const BOOK: &[u8] = b"% ffobook 2 winner\n\
 XXXXXXXXXXXXXXXXXXXXXXXXXXXXXXXXXXXXXXXXXXXXXXXXXXXXXXXXXOOOOO-- X; G8:+64;\n\
 XXXXXXXXXXXXXXXXXXXXXXXXXXXXXXXXXXXXXXXXXXXXXXXXXXXXXXXXXOOOOOO- X; H8:+64;\n\
 XXXXXXXXXXXXXXXXXXXXXXXXXXXXXXXXXXXXXXXXXXXXXXXXXXXXXXXX-OOXXOO- X; A8:+64; H8:+64;\n";

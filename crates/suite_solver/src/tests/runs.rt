@@ -2,6 +2,7 @@
 
 ghost use Rattle.std.specs.Prelude.{◌<◌, ◌^◌};
 
+use super::books::BOOK;
 use super::{BOTH, CountingGate, ONE, TWO, TWO_JOBS};
 use crate::{Gate, NoGate, Outcome, RunFault, Settings, run_serial};
 use othello_rules::Scoring;
@@ -78,7 +79,8 @@ fn refuses_limits(rt: HostRuntime) -> Result<(), Fail> {
     Ok(())
 }
 
-// What a gate was told: how often each of two jobs was entered and left, and whether the first saw the second's end.
+// What a gate was told: how often each of two jobs was entered and left, and whether the first saw the second's end. They
+// are the first two of a client, or the first ones of two.
 #[derive(Clone, Copy, PartialEq, Eq, Debug)]
 struct Told {
     entered: [u32; 2],
@@ -121,18 +123,16 @@ impl HoldingGate {
 
 impl Gate for HoldingGate {
     fn enter<R: Wait>(&self, rt: &R, sender: u32, number: u32) {
-        if sender == 0 && number < 2 {
-            count_call(&mut self.told.lock(rt).entered, number as usize);
-        }
-        if number == 0 {
+        let job = sender.saturating_add(number);
+        count_call(&mut self.told.lock(rt).entered, job as usize);
+        if job == 0 {
             self.hold(rt);
         }
     }
 
     fn leave<R: Wait>(&self, rt: &R, sender: u32, number: u32) {
-        if sender == 0 && number < 2 {
-            count_call(&mut self.told.lock(rt).left, number as usize);
-        }
+        let job = sender.saturating_add(number);
+        count_call(&mut self.told.lock(rt).left, job as usize);
     }
 }
 
@@ -165,15 +165,43 @@ const TOLD: Told = Told {
     seen: true,
 };
 
+// Whether two threads are at work on two jobs at once, and give these reports.
+fn solve_at_once<R: Threads + Wait + Sync>(
+    rt: &R,
+    alloc: Global,
+    texts: &[&[u8]],
+    workers: u8,
+    reports: &[u8],
+) -> Result<bool, Fail> {
+    let files = files_of(alloc, texts)?;
+    let gate = HoldingGate::new();
+    let outcome = crate::run(rt, alloc, &files, &settings_of(workers, 16), None, &gate)?;
+    let given = outcome.reports.into_vec().concat(alloc)?;
+    Ok(given.as_slice() == reports && gate.told.into_inner() == TOLD)
+}
+
+// A client and a worker.
 #[test]
 fn two_threads_solve(rt: HostRuntime) -> Result<(), Fail> {
-    let files = files_of(rt.alloc(), &[TWO_JOBS])?;
-    let gate = HoldingGate::new();
-    let outcome = crate::run(&rt, rt.alloc(), &files, &settings_of(1, 16), None, &gate)?;
-    let report = outcome.reports.into_vec().concat(rt.alloc())?;
-    assert!(rt; report.as_slice() == TWO_JOBS_REPORT && gate.told.into_inner() == TOLD);
+    assert!(rt; solve_at_once(&rt, rt.alloc(), &[TWO_JOBS], 1, TWO_JOBS_REPORT)?);
     Ok(())
 }
+
+// Two clients, and no worker.
+#[test]
+fn two_clients_solve(rt: HostRuntime) -> Result<(), Fail> {
+    let texts = [&TWO_JOBS[..67], &TWO_JOBS[67..]];
+    assert!(rt; solve_at_once(&rt, rt.alloc(), &texts, 0, TWO_CLIENTS_REPORTS)?);
+    Ok(())
+}
+
+const TWO_CLIENTS_REPORTS: &[u8] = b"[1]
+1 +64 B1 unlisted
+solved 1 refused 0
+[2]
+1 +64 A1,H1 unlisted
+solved 1 refused 0
+";
 
 const TWO_JOBS_REPORT: &[u8] = b"[1]
 1 +64 B1 unlisted
@@ -232,5 +260,44 @@ fn runs_many_files(rt: HostRuntime) -> Result<(), Fail> {
     let files = files_of(rt.alloc(), &[TWO; 64])?;
     let outcome = crate::run(&rt, rt.alloc(), &files, &settings_of(64, 16), None, &NoGate)?;
     assert!(rt; outcome.reports.into_vec().len() == 64 && outcome.book.len() == 3);
+    Ok(())
+}
+
+// The book of both texts.
+const BOTH_BOOK: &[u8] = b"% ffobook 2 winner\n\
+OOOOOOOOOOOOOOOOOOOOOOOOOOOOOOOOOOOOOOOOOOOOOOOOOOOOOOOOOOOOOOOO X; --:-64;\n\
+-XOOOOO-OOOOOOOXOOOOOOOOOOOOOOOOOOOXOOOOOOOOOOOOOOOOOOOOOOOOOOOO X; H1:-40;\n\
+XXXXXXXXXXXXXXXXXXXXXXXXXXXXXXXXXXXXXXXXXXXXXXXXXXXXXXXXXOOOOO-- X; G8:+64;\n\
+XXXXXXXXXXXXXXXXXXXXXXXXXXXXXXXXXXXXXXXXXXXXXXXXXXXXXXXXXOOOOOO- X; H8:+64;\n\
+XXXXXXXXXXXXXXXXXXXXXXXXXXXXXXXXXXXXXXXXXXXXXXXXXXXXXXXX-OOXXOO- X; A8:+64; H8:+64;\n\
+XXXXXXXXXXXXXXXXXXXXXXXXXXXXOXXXXXXXXXXXXXXXXXXXOXXXXXXX-XXXXXO- X; A8:+62;\n";
+
+// Runs on both texts, with the claims of the first one's book, on one thread or with so many workers. Whether it gives
+// their reports and their book, wherever an allocation is refused that the run can do without.
+fn gives_book<R: Threads + Wait + Sync>(
+    rt: &R,
+    alloc: Global,
+    workers: Option<u8>,
+) -> Result<bool, Fail> {
+    let files = files_of(alloc, &[ONE, TWO])?;
+    let claims = Claims::read(alloc, BOOK)?;
+    let settings = settings_of(workers.unwrap_or(0), 16);
+    let outcome = match workers {
+        None => run_serial(alloc, &files, &settings, Some(&claims))?,
+        Some(_) => crate::run(rt, alloc, &files, &settings, Some(&claims), &NoGate)?,
+    };
+    let (reports, book) = texts_of(alloc, outcome)?;
+    Ok(reports.as_slice() == BOTH && book.as_slice() == BOTH_BOOK)
+}
+
+#[test]
+fn gives_a_book_serially(rt: HostRuntime) -> Result<(), Fail> {
+    assert!(rt; gives_book(&rt, rt.alloc(), None)?);
+    Ok(())
+}
+
+#[test]
+fn gives_a_book_on_threads(rt: HostRuntime) -> Result<(), Fail> {
+    assert!(rt; gives_book(&rt, rt.alloc(), Some(2))?);
     Ok(())
 }

@@ -158,8 +158,10 @@ fn tells_failing_output(rt: HostRuntime) -> Result<(), Fail> {
 
 #[test]
 fn tells_unflushed_output(rt: HostRuntime) -> Result<(), Fail> {
-    let ended = end_of(&rt, rt.alloc(), UNWRITTEN, &mut HoldingWriter {})?;
-    assert!(rt; ended_so(&ended, (3, b"", NO_OUTPUT))?);
+    for line in [UNWRITTEN, "ffosolve --help"] {
+        let ended = end_of(&rt, rt.alloc(), line, &mut HoldingWriter {})?;
+        assert!(rt; ended_so(&ended, (3, b"", NO_OUTPUT))?);
+    }
     assert!(rt; !fs::exists(&rt, "unwritten.book")?);
     Ok(())
 }
