@@ -3,6 +3,7 @@
 mod books;
 mod clients;
 mod files;
+mod limits;
 mod options;
 mod runs;
 mod streams;
