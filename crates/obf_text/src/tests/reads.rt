@@ -64,10 +64,18 @@ const FIELDS: &[(&[u8], &[Field])] = &[
     (b" XX;G8:+64;", &[(*b"G8", 64)]),
 ];
 
+// What a line says, read again where memory is refused.
+fn read_again(alloc: Global, line: &[u8]) -> Result<Item, LineFault> {
+    match read_line(alloc, line) {
+        Err(LineFault::Memory) => read_line(alloc, line),
+        item => item,
+    }
+}
+
 fn are_read(alloc: Global, rest: &[u8], fields: &[Field]) -> bool {
     let line = join(TWO_EMPTY, b' ', 0, rest);
     says(
-        read_line(alloc, &line),
+        read_again(alloc, &line),
         &grid_of(TWO_EMPTY, Side::Black),
         fields,
     )
