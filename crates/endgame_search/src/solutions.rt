@@ -8,7 +8,7 @@ ghost use Rattle.endgame_search.specs.Problems.{Problem};
 ghost use Rattle.othello_bits.specs.Discs.{moves_of, play_of, value_of, answer_of, best_answer};
 ghost use Rattle.othello_bits.specs.Discs.{is_best_move, mask_where, IsMove};
 
-use crate::ranges::{decide, greatest_score, store};
+use crate::ranges::{decide, score_limit, store};
 use crate::roots::leading_moves;
 use crate::searches::value_in;
 use crate::tasks::Task;
@@ -105,7 +105,7 @@ fn solve_moves<T: Bounds>(table: &T, task: Task, moves: u64) -> Solved
     ensures { result ≡ task }
 {
     let position = task.pos();
-    let most = greatest_score(table.scoring());
+    let most = score_limit(table.scoring());
     if let Some(score) = decide(table, position, -most, most) {
         return solved_at(table, task, score);
     }

@@ -57,7 +57,7 @@ fn claimed_best(claim: FfosolveAnswer) -> Option<Best> {
 }
 
 /// The claim; None where it can't be right, by its kind or by a score that is none.
-pub fn claim_of(claim: FfosolveAnswer) -> Option<Claim> {
+pub fn possible_claim(claim: FfosolveAnswer) -> Option<Claim> {
     if claim.score < -64 || claim.score > 64 {
         return None;
     }

@@ -26,7 +26,7 @@ ghost use Rattle.ffosolve_c.specs.Exports.{discs_at, first_refused, c_position, 
 ghost use Rattle.ffosolve_c.specs.Exports.{refusal_of_all, status_of, AreAnswers, IsAnswer};
 ghost use Rattle.ffosolve_c.specs.Exports.{IsOfPosition, IsStatus};
 
-use crate::answers::claim_of;
+use crate::answers::possible_claim;
 use crate::lists::answer_all;
 use crate::positions::{play_move, position_of};
 use crate::requests::answer_one;
@@ -74,7 +74,7 @@ pub extern "C" fn ffosolve_confirm(
     ensures answer { result ≡ pos 0 → IsAnswer scoring position answer.new }
     ensures unchanged { result ≢ pos 0 → answer.new ≡ answer.old }
 {
-    match answer_one(alloc, position, scoring, entries, claim_of(claim)) {
+    match answer_one(alloc, position, scoring, entries, possible_claim(claim)) {
         Ok(found) => {
             *answer = found;
             0

@@ -22,7 +22,7 @@ use Rattle.job_board.specs.declared.faults.SubmitFault.TheVariants as fault
 use Rattle.job_board.specs.declared.faults.JobFault.{JobFault}
 use Rattle.job_board.specs.Queues.{is_id_of, id_count}
 use Rattle.job_board.specs.Contents.{State, Content, content_with, content_by, stage_in, stage_at, task_in, is_waiting, is_taken, is_finished, with_stage, with_task, with_one_handed, empty_state, empty_content}
-use Rattle.job_board.specs.Boards.{IsState, IsContent, bit, Lists, taken_in, taken_count, IsBoard, AllDone}
+use Rattle.job_board.specs.Boards.{IsState, IsContent, bit, ListsWaiting, taken_in, taken_count, IsBoard, AllDone}
 use Rattle.job_board.specs.Replies.{Submits, SubmitAs, submit_refusal, task_count, FinishAs, Finishes, give_back_reply_at, deliver_reply_at, deliver_reply_of, state_after_handed, after_deliver}
 
 pub slice_get-set_same : {X : Type 0} (xs : List X) (i : ℕ) (y : X) → i < length xs → slice_get (set xs i y) i ≡ Some y
@@ -67,10 +67,10 @@ content_set c s state h kept new s' state' at =
 
 -- the list of waiting jobs and one state change together
 pub lists_set : (c : Content) (s : ℕ) (state new : State) (ids ids' : List JobId) → slice_get c s ≡ Some state
-    → Lists ids c
+    → ListsWaiting ids c
     → ((k : ℕ) → id_count s k ids' + bit (is_waiting (slice_get state.stages k)) ≡ id_count s k ids + bit (is_waiting (slice_get new.stages k)))
     → ((s' k : ℕ) → s' ≢ s → id_count s' k ids' ≡ id_count s' k ids)
-    → Lists ids' (set c s new)
+    → ListsWaiting ids' (set c s new)
 lists_set c s state new ids ids' at kept here there s' k =
     elim (cases_eq s' s) [
       | inl e ↦
@@ -120,10 +120,10 @@ keeps c ids taken room s state new b at same is_state = record {
 
 -- one stage changes, and the list of waiting jobs with it
 pub lists_restaged : (c : Content) (s k : ℕ) (state : State) (old new : Stage) (ids ids' : List JobId) → slice_get c s ≡ Some state → slice_get state.stages k ≡ Some old
-    → Lists ids c
+    → ListsWaiting ids c
     → id_count s k ids' + bit (is_waiting (Some old)) ≡ id_count s k ids + bit (is_waiting (Some new))
     → ((s' k' : ℕ) → (s' ≢ s) ⊎ (k' ≢ k) → id_count s' k' ids' ≡ id_count s' k' ids)
-    → Lists ids' (set c s (with_stage k new state))
+    → ListsWaiting ids' (set c s (with_stage k new state))
 lists_restaged c s k state old new ids ids' at was kept here there =
     lists_set c s state (with_stage k new state) ids ids' at kept
     (λ k'. elim (cases_eq k' k) [

@@ -25,8 +25,8 @@ abbrev pub bit : Bool → ℕ
 bit b = if b then 1 else 0
 
 -- the queue names just the waiting jobs, each once
-abbrev pub Lists : List JobId → Content → Type 0
-Lists ids c = (s k : ℕ) → id_count s k ids ≡ bit (is_waiting (stage_at c s k))
+abbrev pub ListsWaiting : List JobId → Content → Type 0
+ListsWaiting ids c = (s k : ℕ) → id_count s k ids ≡ bit (is_waiting (stage_at c s k))
 
 abbrev pub taken_in : State → ℕ
 taken_in state = count_by is_taken state.stages
@@ -40,7 +40,7 @@ taken_count c = sum_by taken_in c
 pub record IsBoard (c : Content) (ids : List JobId) (taken room : ℕ) : Type 0 where
   pub few : length c ≤ 64
   pub content : IsContent c
-  pub lists : Lists ids c
+  pub lists : ListsWaiting ids c
   pub counts : taken ≡ taken_count c
   pub has_room : length ids + taken ≤ room
 

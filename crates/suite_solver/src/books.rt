@@ -49,7 +49,7 @@ fn read_book<'a, T: Files>(rt: &T, alloc: Global, name: &'a str) -> Result<Claim
 }
 
 /// What the book that is asked for claims, where one is.
-pub(crate) fn read_claims<'a, T: Files>(
+pub(crate) fn read_advice<'a, T: Files>(
     rt: &T,
     alloc: Global,
     name: &'a Option<String>,

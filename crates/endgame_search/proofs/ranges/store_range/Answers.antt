@@ -9,7 +9,7 @@ use Rattle.endgame_search.proofs.ranges.store_range.Goals as goal
 pub store-requires : goal.store-requires
 store-requires g c =
     let r = g.T.Bounds.scoring c.args.table.now in
-    let t = c.range_of.ensures in
+    let t = c.proved_range.ensures in
     let w = c.requires.window in
     let p = c.requires.places in
     let l = p.least in
@@ -17,5 +17,5 @@ store-requires g c =
     let a : c.args.low ≡ shown c.args.low = omega (arith, ints, w.0, w.1, w.2) in
     let b : c.args.high ≡ shown c.args.high = omega (arith, ints, w.0, w.1, w.2) in
     let d : c.args.score ≡ shown c.args.score = omega (arith, ints) in
-    told_true (shown c.args.low) (shown c.args.high) (value_of r c.args.position) (shown c.args.score) c.range_of.result
+    told_true (shown c.args.low) (shown c.args.high) (value_of r c.args.position) (shown c.args.score) c.proved_range.result
     (recast c.args.low c.args.high _ _ _ c.args.score _ a b d p) (value_score r c.args.position) t.at_most t.at_least t.exact (omega (arith, ints, a, b, w.1))

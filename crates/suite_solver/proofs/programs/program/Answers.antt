@@ -1,14 +1,14 @@
 use Rattle.std.proofs.Common.{rules}
 use Rattle.suite_solver.proofs.programs.program.Goals as goal
 
-pub returns-in-Ok-solve-clause-answered : goal.returns-in-Ok-solve-clause-answered
-returns-in-Ok-solve-clause-answered g c = search rules
+pub returns-in-Ok-carry_out-clause-answered : goal.returns-in-Ok-carry_out-clause-answered
+returns-in-Ok-carry_out-clause-answered g c = search rules
 
-pub returns-in-Ok-solve-clause-taken : goal.returns-in-Ok-solve-clause-taken
-returns-in-Ok-solve-clause-taken g c = search rules
+pub returns-in-Ok-carry_out-clause-taken : goal.returns-in-Ok-carry_out-clause-taken
+returns-in-Ok-carry_out-clause-taken g c = search rules
 
-pub returns-in-Ok-solve-clause-unwritten : goal.returns-in-Ok-solve-clause-unwritten
-returns-in-Ok-solve-clause-unwritten g c = search rules
+pub returns-in-Ok-carry_out-clause-unwritten : goal.returns-in-Ok-carry_out-clause-unwritten
+returns-in-Ok-carry_out-clause-unwritten g c = search rules
 
 pub returns-in-Ok-clause-answered : goal.returns-in-Ok-clause-answered
 returns-in-Ok-clause-answered g c = search rules

@@ -3,7 +3,7 @@ use Rattle.suite_solver.specs.CommandLine.{names_of}
 use Rattle.suite_solver.specs.Runs.{texts_of}
 use Rattle.suite_solver.specs.Programs.{Prints}
 use Rattle.suite_solver.proofs.ProgramLemmas.{not_refused, on_ok, told_late, whole_texts}
-use Rattle.suite_solver.proofs.programs.solve.Goals as goal
+use Rattle.suite_solver.proofs.programs.carry_out.Goals as goal
 
 pub returns-in-Ok-clause-reported : goal.returns-in-Ok-clause-reported
 returns-in-Ok-clause-reported g c =

@@ -1,5 +1,5 @@
 use Rattle.std.proofs.Common.{rules}
-use Rattle.suite_solver.proofs.solvers.Solver.claim_of.Goals as goal
+use Rattle.suite_solver.proofs.solvers.Solver.find_claim.Goals as goal
 
 pub returns : goal.returns
 returns g c = search rules
