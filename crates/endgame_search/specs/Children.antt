@@ -27,9 +27,11 @@ pub record AreUpTo (p : Discs) (s : Stuck) (cs : List Child) : Type 0 where
   pub stuck : s.child.replies ≡ 0
   pub rest : (q : ℕ) → in_mask s.rest q ≡ true → IsMove p q
   pub each : All (IsChildOf p) cs
-  pub every : (q : ℕ) → IsMove p q → (q ≡ s.child.square) ⊎ ((in_mask s.rest q ≡ true) ⊎ Contains (squares_of cs) q)
+  pub every : (q : ℕ) → IsMove p q
+      → (q ≡ s.child.square) ⊎ ((in_mask s.rest q ≡ true) ⊎ Contains (squares_of cs) q)
 
 -- the list holds children of p, and a move of p that leads to none of them is worth at most best
 pub record AreOthersOf (g : Scoring) (p : Discs) (best : ℤ) (cs : List Child) : Type 0 where
   pub each : All (IsChildOf p) cs
-  pub every : (q : ℕ) → IsMove p q → Contains (squares_of cs) q ⊎ (neg_ℤ (value_of g (play_of p q)) ≤ℤ best)
+  pub every : (q : ℕ) → IsMove p q
+      → Contains (squares_of cs) q ⊎ (neg_ℤ (value_of g (play_of p q)) ≤ℤ best)

@@ -12,8 +12,7 @@ ghost use Rattle.endgame_search.specs.Lasts.{IsFree, IsLast, AreLast};
 
 use crate::ranges::decide;
 use bound_table::Bounds;
-use othello_bits::Pos;
-use othello_bits::masks::{lowest, without};
+use othello_bits::{Pos, lowest, without};
 use othello_rules::{Scoring, Square};
 
 // How many discs a disc on the square turns: none where that is no move.

@@ -13,8 +13,7 @@ use crate::roots::leading_moves;
 use crate::searches::value_in;
 use crate::tasks::Task;
 use bound_table::Bounds;
-use othello_bits::Pos;
-use othello_bits::masks::without;
+use othello_bits::{Pos, without};
 use othello_rules::{Answer, Best, Scoring, Square, squares_in};
 use std::marker::Model;
 

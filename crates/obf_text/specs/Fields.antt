@@ -97,7 +97,8 @@ Lists (piece ∷ pieces) (field ∷ fields) =
 
 -- a byte as a number from 0 to last, where the digits, or letters, begin at first
 abbrev pub offset_of : ℕ → ℕ → ℕ → Option ℕ
-offset_of first last b = if nat_le first b && nat_le b (first + last) then Some (b - first) else None
+offset_of first last b =
+    if nat_le first b && nat_le b (first + last) then Some (b - first) else None
 
 abbrev pub digit_of : ℕ → Option ℕ
 digit_of b = offset_of 48 9 b
@@ -119,7 +120,8 @@ is_pass a b = ((a == 80) || (a == 112)) && ((b == 83) || (b == 115))
 abbrev pub move_of : ℕ → ℕ → Option ListedMove
 move_of a b =
     if is_pass a b then Some Pass
-    else (if (a == 45) && (b == 45) then Some Over else square_in (column_of_letter a) (row_of_digit b))
+    else (if (a == 45) && (b == 45) then Some Over
+    else square_in (column_of_letter a) (row_of_digit b))
 
 abbrev pub at_most_64 : ℕ → Option ℕ
 at_most_64 n = if nat_le n 64 then Some n else None

@@ -129,7 +129,8 @@ gap_item place cells rest =
 abbrev pub board_item : ℕ → ℕ → List ℕ → Meaning
 board_item start count rest =
     if nat_lt count 64
-    then (if count == length rest then Faulty (Short count) else Faulty (BadCell (start + (count + 1))))
+    then (if count == length rest then Faulty (Short count)
+    else Faulty (BadCell (start + (count + 1))))
     else gap_item (start + 64) (map cell_of (take 64 rest)) (drop 64 rest)
 
 abbrev pub content_item : ℕ → List ℕ → Meaning

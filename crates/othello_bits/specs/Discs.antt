@@ -27,7 +27,8 @@ discs a b = record { own = a; opp = b }
 
 -- what stands on square i where side s is the mover
 abbrev pub cell_at : Side → Discs → ℕ → Cell
-cell_at s p i = if in_mask p.own i then disc s else (if in_mask p.opp i then disc (other s) else Empty)
+cell_at s p i =
+    if in_mask p.own i then disc s else (if in_mask p.opp i then disc (other s) else Empty)
 
 unfoldable pub cells_of : Side → Discs → List Cell
 cells_of s p = map (cell_at s p) squares
@@ -90,7 +91,8 @@ answer_of g p = worth.answer g (position_of Black p)
 
 -- q is a move that attains the value; and what attains it: all such moves, or a pass, or that the game is over
 abbrev pub is_best_move : Scoring → Discs → ℕ → Bool
-is_best_move g p q = in_mask (moves_of p) q && int_eq (neg_ℤ (value_of g (play_of p q))) (value_of g p)
+is_best_move g p q =
+    in_mask (moves_of p) q && int_eq (neg_ℤ (value_of g (play_of p q))) (value_of g p)
 
 unfoldable pub best_answer : Scoring → Discs → Best
 best_answer g p =

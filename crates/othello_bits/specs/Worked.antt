@@ -29,7 +29,8 @@ canonical-last_corner = refl
 corner_left_over : Discs
 corner_left_over = discs 0xffffffffffffff80 0x7c
 
-canonical-corner_left_over : canonical_of corner_left_over ≡ discs 0x01ffffffffffffff 0x3e00000000000000
+canonical-corner_left_over :
+    canonical_of corner_left_over ≡ discs 0x01ffffffffffffff 0x3e00000000000000
 unfolding corner_left_over canonical_of first_symmetry others discs_of cells_of moved_cells squares in_mask mask_of
 canonical-corner_left_over = refl
 
@@ -49,6 +50,7 @@ canonical-equal_corners = refl
 unequal_corners : Discs
 unequal_corners = discs 0xfffffff7ffff7f7c 0x800008002
 
-canonical-unequal_corners : canonical_of unequal_corners ≡ discs 0x3efeffffefffffff 0x4001000010000000
+canonical-unequal_corners :
+    canonical_of unequal_corners ≡ discs 0x3efeffffefffffff 0x4001000010000000
 unfolding unequal_corners canonical_of first_symmetry others discs_of cells_of moved_cells squares in_mask mask_of
 canonical-unequal_corners = refl

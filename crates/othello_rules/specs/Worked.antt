@@ -37,7 +37,8 @@ corner_left_over = replicate 2 Empty ++ replicate 5 White ++ replicate 57 Black
 
 -- -OOXXOO-, and seven rows X: two moves are best
 equal_corners : List Cell
-equal_corners = Empty ∷ replicate 2 White ++ replicate 2 Black ++ replicate 2 White ++ Empty ∷ replicate 56 Black
+equal_corners =
+    Empty ∷ replicate 2 White ++ replicate 2 Black ++ replicate 2 White ++ Empty ∷ replicate 56 Black
 
 -- -OXXXXX-, XXXXXXXO, two rows X, XXXOXXXX, three rows X: after Black's move on A1 White takes H1
 unequal_corners : List Cell
@@ -49,7 +50,8 @@ abbrev to_move : Side → List Cell → Position
 to_move s cells = record { cells = cells; mover = s }
 
 -- H1 for White: south-west G2, F3, E4, then west G1 to C1
-flips-unequal_corners : flips (to_move side.White unequal_corners) 7 ≡ 14 ∷ 21 ∷ 28 ∷ 6 ∷ 5 ∷ 4 ∷ 3 ∷ 2 ∷ []
+flips-unequal_corners :
+    flips (to_move side.White unequal_corners) 7 ≡ 14 ∷ 21 ∷ 28 ∷ 6 ∷ 5 ∷ 4 ∷ 3 ∷ 2 ∷ []
 unfolding unequal_corners flips turned run closes ray directions
 flips-unequal_corners = refl
 
@@ -114,7 +116,8 @@ unfolding unequal_corners moves flips turned run closes ray directions squares p
 answers-unequal_corners-black = refl
 
 answers-unequal_corners-white : answers (to_move side.White unequal_corners)
-    ≡ scored (negsuc 39) (Moves 128) ∷ scored (negsuc 38) (Moves 128) ∷ scored (negsuc 0) (Moves 128) ∷ []
+    ≡ scored (negsuc 39) (Moves 128) ∷ scored (negsuc 38) (Moves 128)
+    ∷ scored (negsuc 0) (Moves 128) ∷ []
 unfolding unequal_corners moves flips turned run closes ray directions squares play painted_cells final greatest can_move
     best_worth value_at value best_moves mask_of best answer
 answers-unequal_corners-white = refl

@@ -76,12 +76,14 @@ LineOutcome = Result (Option PositionClaim) BookFault
 abbrev pub claim_or_fault : ℕ → Bool → Bool → Bool → PositionClaim → LineOutcome
 claim_or_fault n nothing behind canonical c =
     if nothing then Err (fault.NoMoves n)
-    else (if behind then (if canonical then Ok (Some c) else Err (fault.NotCanonical n)) else Err (fault.Unsorted n))
+    else (if behind then (if canonical then Ok (Some c) else Err (fault.NotCanonical n))
+    else Err (fault.Unsorted n))
 
 -- what an entry gives that stands in line n behind a position
 abbrev pub claim_in_entry : ℕ → Option bits.Discs → Entry → LineOutcome
 claim_in_entry n before e =
-    claim_or_fault n (lists_nothing e) (is_behind before (discs_of e.position)) (is_canonical_entry e.position)
+    claim_or_fault n (lists_nothing e) (is_behind before (discs_of e.position))
+    (is_canonical_entry e.position)
     (discs_of e.position, claim_of e.listed)
 
 -- a line gives nothing where it is skipped
@@ -108,7 +110,8 @@ claims_after front (Ok claims) = Ok (front ++ claims)
 claims_after front (Err f) = Err f
 
 -- what a line gives, and the lines behind it by the position of the last claim
-abbrev pub claims_with : Option bits.Discs → LineOutcome → (Option bits.Discs → LinesOutcome) → LinesOutcome
+abbrev pub claims_with : Option bits.Discs → LineOutcome → (Option bits.Discs → LinesOutcome)
+    → LinesOutcome
 claims_with before (Err f) behind = Err f
 claims_with before (Ok None) behind = behind before
 claims_with before (Ok (Some c)) behind = claims_after (c ∷ []) (behind (Some c.0))
@@ -117,7 +120,8 @@ claims_with before (Ok (Some c)) behind = claims_after (c ∷ []) (behind (Some 
 unfoldable pub claims_from : ℕ → Option bits.Discs → List (List ℕ) → LinesOutcome
 claims_from n before [] = Ok []
 claims_from n before (line ∷ lines) =
-    claims_with before (claim_in_line n before (item_of line)) (λ last. claims_from (n + 1) last lines)
+    claims_with before (claim_in_line n before (item_of line))
+    (λ last. claims_from (n + 1) last lines)
 
 -- the position of the last claim, or the one before all of them
 abbrev pub last_position : Option bits.Discs → List PositionClaim → Option bits.Discs
@@ -153,7 +157,8 @@ image_claim s c = record { score = c.score; best = best_image s c.best }
 -- the claim of the canonical position, its squares moved by the inverse of the symmetry that leads to it
 abbrev pub claim_for : Advice → bits.Discs → Option Claim
 claim_for a p =
-    option_map (image_claim (inverse (first_symmetry (position_of Black p)))) (claim_at (canonical_of p) a.claims)
+    option_map (image_claim (inverse (first_symmetry (position_of Black p))))
+    (claim_at (canonical_of p) a.claims)
 
 -- an answer as a claim
 abbrev pub claim_by : Solution → Claim

@@ -12,12 +12,14 @@ use Rattle.solved_book.specs.declared.faults.BookFault.TheVariants.{Memory}
 abbrev pub position_claim : Masks × Claim → PositionClaim
 position_claim (masks, claim) = (position_at masks, claim)
 
-abbrev pub GivesLine : Result (Option (Masks × Claim)) BookFault → Result (Option PositionClaim) BookFault → Type 0
+abbrev pub GivesLine : Result (Option (Masks × Claim)) BookFault
+    → Result (Option PositionClaim) BookFault → Type 0
 GivesLine (Ok given) meaning = meaning ≡ Ok (option_map position_claim given)
 GivesLine (Err Memory) meaning = Unit {0}
 GivesLine (Err f) meaning = meaning ≡ Err f
 
-abbrev pub GivesMap : Result (BTreeMap Masks Claim) BookFault → Result (List PositionClaim) BookFault → Type 0
+abbrev pub GivesMap : Result (BTreeMap Masks Claim) BookFault
+    → Result (List PositionClaim) BookFault → Type 0
 GivesMap (Ok kept) meaning = meaning ≡ Ok (map position_claim kept.entries)
 GivesMap (Err Memory) meaning = Unit {0}
 GivesMap (Err f) meaning = meaning ≡ Err f

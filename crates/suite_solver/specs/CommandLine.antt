@@ -36,7 +36,8 @@ NameList = Bor (List (Bor Text))
 
 abbrev pub NamesScorings : NameList → Type 0
 NamesScorings names =
-    map (λ name. name.now) names.now ≡ scoring_name Winner ∷ scoring_name Discs ∷ scoring_name Sign ∷ []
+    map (λ name. name.now) names.now
+    ≡ scoring_name Winner ∷ scoring_name Discs ∷ scoring_name Sign ∷ []
 
 -- an option with one of these names
 abbrev pub scoring_rule : NameList → Rule
@@ -136,4 +137,5 @@ IsFaultOf words (Refused error) = HasFault words (kind_of error)
 -- clap's own want of memory is want of memory
 abbrev pub IsFaultBy : Error → OptionFault → Type 0
 IsFaultBy error fault =
-    ((kind_of error ≡ OutOfMemory) × (fault ≡ Memory)) ⊎ ((kind_of error ≢ OutOfMemory) × (fault ≡ Refused error))
+    ((kind_of error ≡ OutOfMemory) × (fault ≡ Memory))
+    ⊎ ((kind_of error ≢ OutOfMemory) × (fault ≡ Refused error))

@@ -30,13 +30,15 @@ AreFrontsOf (name ∷ names) given fronts = length fronts ≡ min 65 (length (na
 
 -- A run refuses none of the texts, and their reports were written to standard output, one after the other: it held
 -- `old` before and holds `new` now.
-pub record PrintsReports (c : Configuration) (texts : List (List ℕ)) (old new : Option (List ℕ)) : Type 0 where
+pub record PrintsReports (c : Configuration) (texts : List (List ℕ)) (old new : Option (List ℕ))
+    : Type 0 where
   pub few : length texts ≤ 64
   pub small : first_large texts ≡ None
   pub written : Appends old new (concat (reports c.scoring c.max_empties texts))
 
 -- the reports of the texts that were named
-pub record Prints (c : Configuration) (names : List (List ℕ)) (given old new : Option (List ℕ)) : Type 0 where
+pub record Prints (c : Configuration) (names : List (List ℕ)) (given old new : Option (List ℕ))
+    : Type 0 where
   pub texts : List (List ℕ)
   pub read : AreTextsOf names given texts
   pub printed : PrintsReports c texts old new
@@ -62,7 +64,8 @@ line_fault_text (line.BadSide column) = codes "bad side at column " ++ decimal c
 line_fault_text line.Memory = codes "out of memory"
 
 unfoldable pub book_fault_text : BookFault → List ℕ
-book_fault_text (book.Line n fault) = codes "book line " ++ (decimal n ++ (codes ": " ++ line_fault_text fault))
+book_fault_text (book.Line n fault) =
+    codes "book line " ++ (decimal n ++ (codes ": " ++ line_fault_text fault))
 book_fault_text (book.NoMoves n) = codes "book line " ++ (decimal n ++ codes ": no moves")
 book_fault_text (book.Unsorted n) = codes "book line " ++ (decimal n ++ codes ": not in order")
 book_fault_text (book.NotCanonical n) = codes "book line " ++ (decimal n ++ codes ": not canonical")

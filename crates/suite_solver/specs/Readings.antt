@@ -18,7 +18,8 @@ task_in (reading.Refused refusal) = None
 -- the answer of the task with its check, or the refusal
 abbrev pub result_in : Reading → RowResult
 result_in (reading.Asked task listed) =
-    Solved (answer_of task.scoring task.position) (check listed (answer_of task.scoring task.position))
+    Solved (answer_of task.scoring task.position)
+    (check listed (answer_of task.scoring task.position))
 result_in (reading.Refused refusal) = Refused refusal
 
 -- the row of a line

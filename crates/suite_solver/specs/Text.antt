@@ -65,7 +65,9 @@ head_text sender = codes "[" ++ (decimal (sender + 1) ++ (codes "]" ++ 10 ∷ []
 
 -- how many rows are solved, and how many refused
 unfoldable pub last_text : List ReportRow → List ℕ
-last_text rows = codes "solved " ++ (decimal (solved_count rows) ++ (codes " refused " ++ (decimal (length rows - solved_count rows) ++ 10 ∷ [])))
+last_text rows =
+    codes "solved " ++ (decimal (solved_count rows)
+    ++ (codes " refused " ++ (decimal (length rows - solved_count rows) ++ 10 ∷ [])))
 
 -- the sender, a line for each row, and the two sums
 unfoldable pub report_text : ℕ → List ReportRow → List ℕ

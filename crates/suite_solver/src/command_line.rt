@@ -180,8 +180,8 @@ fn book_of(alloc: Global, matches: &ArgMatches<'_>, id: &str) -> Result<Option<S
 }
 
 fn files_of(alloc: Global, matches: &ArgMatches<'_>) -> Result<Vec<String>, AllocError>
-    ensures { IfOk result (λ all. names_of all.items
-        ≡ unwrap_or (option_map raw_values (matched_of (found_of matches.now) (codes "FILES"))) []) }
+    ensures { IfOk result (λ all. names_of all.items ≡ unwrap_or
+        (option_map raw_values (matched_of (found_of matches.now) (codes "FILES"))) []) }
 {
     match matches.get_strs("FILES") {
         Some(names) => copy_names(alloc, names),

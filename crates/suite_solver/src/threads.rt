@@ -166,8 +166,8 @@ fn start_all<'a, E, R: Threads + Wait + Sync, G: Gate>(
     requires small { first_large (texts_of files.now) ≡ None }
     requires none { clients.old.items ≡ [] }
     requires room { length files.now ≤ vec_capacity clients.old }
-    ensures { clients.new.items
-        ≡ map (assignment site.now.table.scoring site.now.settings.max_empties) (texts_of files.now) }
+    ensures { clients.new.items ≡ map
+        (assignment site.now.table.scoring site.now.settings.max_empties) (texts_of files.now) }
 {
     let mut sender: u32 = 0;
     for file in files {
@@ -200,9 +200,11 @@ impl Joined {
     // Keeps a part, or the worse of the faults.
     fn take(&mut self, given: Result<Part, RunFault>)
         requires { vec_len self.old.parts < vec_capacity self.old.parts }
-        ensures part { IfOk given (λ part. (self.new.parts.items ≡ self.old.parts.items ++ part ∷ [])
+        ensures part { IfOk given (λ part.
+            (self.new.parts.items ≡ self.old.parts.items ++ part ∷ [])
             × (self.new.fault ≡ self.old.fault)) }
-        ensures fault { IfErr given (λ fault. self.new.fault ≡ Some (worse_fault self.old.fault fault)) }
+        ensures fault { IfErr given (λ fault.
+            self.new.fault ≡ Some (worse_fault self.old.fault fault)) }
         ensures room { vec_capacity self.new.parts ≡ vec_capacity self.old.parts }
         ensures len { vec_len self.new.parts ≤ vec_len self.old.parts + 1 }
     {

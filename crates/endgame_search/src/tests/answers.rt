@@ -10,79 +10,57 @@ use othello_bits::{Pos, Sym};
 use othello_rules::{Best, Scoring, Side, Square};
 use std::process::Abort;
 
-// A position, its mover, and its answers as Winner, Discs and Sign score it.
-struct Row {
-    discs: Discs,
-    side: Side,
-    answers: [(i8, Best); 3],
-}
+// A position, its mover, its scores as Winner, Discs and Sign count them, what attains the first two, and the third.
+type Row = (Discs, Side, [i8; 3], Best, Best);
 
-const ROWS: [Row; 9] = [
-    Row {
-        discs: BLACK_BOARD,
-        side: Side::White,
-        answers: [(-64, Best::Over), (-64, Best::Over), (-1, Best::Over)],
-    },
-    Row {
-        discs: LEVEL_HALVES,
-        side: Side::Black,
-        answers: [(0, Best::Over), (0, Best::Over), (0, Best::Over)],
-    },
-    Row {
-        discs: UNEQUAL_HALVES,
-        side: Side::Black,
-        answers: [(32, Best::Over), (16, Best::Over), (1, Best::Over)],
-    },
-    Row {
-        discs: LAST_CORNER,
-        side: Side::Black,
-        answers: [
-            (64, Best::Moves(A1)),
-            (64, Best::Moves(A1)),
-            (1, Best::Moves(A1)),
-        ],
-    },
-    Row {
-        discs: LAST_CORNER,
-        side: Side::White,
-        answers: [(-64, Best::Pass), (-64, Best::Pass), (-1, Best::Pass)],
-    },
-    Row {
-        discs: CORNER_LEFT_OVER,
-        side: Side::Black,
-        answers: [
-            (64, Best::Moves(B1)),
-            (63, Best::Moves(B1)),
-            (1, Best::Moves(B1)),
-        ],
-    },
-    Row {
-        discs: EQUAL_CORNERS,
-        side: Side::Black,
-        answers: [
-            (64, Best::Moves(CORNERS)),
-            (64, Best::Moves(CORNERS)),
-            (1, Best::Moves(CORNERS)),
-        ],
-    },
-    Row {
-        discs: UNEQUAL_CORNERS,
-        side: Side::Black,
-        answers: [
-            (62, Best::Moves(H1)),
-            (62, Best::Moves(H1)),
-            (1, Best::Moves(CORNERS)),
-        ],
-    },
-    Row {
-        discs: UNEQUAL_CORNERS,
-        side: Side::White,
-        answers: [
-            (-40, Best::Moves(H1)),
-            (-39, Best::Moves(H1)),
-            (-1, Best::Moves(H1)),
-        ],
-    },
+const BOTH_CORNERS: Best = Best::Moves(CORNERS);
+
+const AT_A1: Best = Best::Moves(A1);
+
+const AT_B1: Best = Best::Moves(B1);
+
+const AT_H1: Best = Best::Moves(H1);
+
+const ROWS: &[Row] = &[
+    (
+        BLACK_BOARD,
+        Side::White,
+        [-64, -64, -1],
+        Best::Over,
+        Best::Over,
+    ),
+    (LEVEL_HALVES, Side::Black, [0, 0, 0], Best::Over, Best::Over),
+    (
+        UNEQUAL_HALVES,
+        Side::Black,
+        [32, 16, 1],
+        Best::Over,
+        Best::Over,
+    ),
+    (LAST_CORNER, Side::Black, [64, 64, 1], AT_A1, AT_A1),
+    (
+        LAST_CORNER,
+        Side::White,
+        [-64, -64, -1],
+        Best::Pass,
+        Best::Pass,
+    ),
+    (CORNER_LEFT_OVER, Side::Black, [64, 63, 1], AT_B1, AT_B1),
+    (
+        EQUAL_CORNERS,
+        Side::Black,
+        [64, 64, 1],
+        BOTH_CORNERS,
+        BOTH_CORNERS,
+    ),
+    (
+        UNEQUAL_CORNERS,
+        Side::Black,
+        [62, 62, 1],
+        AT_H1,
+        BOTH_CORNERS,
+    ),
+    (UNEQUAL_CORNERS, Side::White, [-40, -39, -1], AT_H1, AT_H1),
 ];
 
 // Whether the position is answered so under the scoring, with this outcome.
@@ -90,7 +68,8 @@ fn is_answered(
     rt: &impl Abort,
     position: Pos,
     scoring: Scoring,
-    (score, best): (i8, Best),
+    score: i8,
+    best: Best,
     outcome: i8,
 ) -> bool {
     let task = task_of(rt, position, scoring);
@@ -102,17 +81,17 @@ fn is_answered(
         && solved.outcome() == outcome
 }
 
-fn has_answers(rt: &impl Abort, row: &Row) -> bool {
-    let position = pos_of(rt, row.discs, row.side);
-    let [winner, discs, sign] = row.answers;
-    is_answered(rt, position, Scoring::Winner, winner, sign.0)
-        && is_answered(rt, position, Scoring::Discs, discs, sign.0)
-        && is_answered(rt, position, Scoring::Sign, sign, sign.0)
+fn is_right(rt: &impl Abort, row: &Row) -> bool {
+    let (discs, side, [by_winner, by_discs, outcome], best, best_by_sign) = *row;
+    let position = pos_of(rt, discs, side);
+    is_answered(rt, position, Scoring::Winner, by_winner, best, outcome)
+        && is_answered(rt, position, Scoring::Discs, by_discs, best, outcome)
+        && is_answered(rt, position, Scoring::Sign, outcome, best_by_sign, outcome)
 }
 
 #[test]
 fn answers_under_each_scoring(rt: HostRuntime) {
-    assert!(rt; ROWS.iter().all(|row| has_answers(&rt, row)));
+    assert_eq!(rt; ROWS.iter().position(|row| !is_right(&rt, row)), None);
 }
 
 // Whether the image of the position has the value 62, by a move to this square alone.
@@ -127,7 +106,7 @@ fn is_best_of_image(rt: &impl Abort, sym: Sym, name: &[u8; 2]) -> bool {
     answer.score == 62 && answer.best == Best::Moves(1 << square.number())
 }
 
-const BEST_OF_IMAGES: [&[u8; 2]; 8] = [b"H1", b"A1", b"H8", b"A8", b"A8", b"H8", b"A1", b"H1"];
+const BEST_OF_IMAGES: &[&[u8; 2]] = &[b"H1", b"A1", b"H8", b"A8", b"A8", b"H8", b"A1", b"H1"];
 
 #[test]
 fn windows_and_images(rt: HostRuntime) {
@@ -145,7 +124,7 @@ fn windows_and_images(rt: HostRuntime) {
     );
 }
 
-const CLAIMED: [Best; 6] = [
+const CLAIMED: &[Best] = &[
     Best::Moves(0),
     Best::Moves(A1),
     Best::Moves(H1),

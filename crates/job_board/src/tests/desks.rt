@@ -23,7 +23,7 @@ enum Call {
 }
 
 // The calls about the first job and the second, in their order.
-const CALLS: [(Call, JobId); 11] = [
+const CALLS: &[(Call, JobId)] = &[
     (Call::Work, FIRST),
     (Call::Work, SECOND),
     (Call::GiveBack, FIRST),
@@ -56,7 +56,7 @@ fn is_answered<R: Wait>(rt: &R, desk: &Desk, client: &mut Client, call: Call, jo
 fn are_answered<R: Wait>(rt: &R, desk: &Desk, client: &mut Client, tasks: &[Task; 2]) -> bool {
     for (call, id) in CALLS {
         let task = tasks[id.number as usize % 2];
-        if !is_answered(rt, desk, client, call, Job { id, task }) {
+        if !is_answered(rt, desk, client, *call, Job { id: *id, task }) {
             return false;
         }
     }

@@ -1,8 +1,7 @@
 //! Moves, the discs that they turn, and what stands after them.
 
-use crate::Pos;
-use crate::masks::{including, lowest, without};
 use crate::tests::{Discs, LAST_CORNER, UNEQUAL_CORNERS, pos_of};
+use crate::{Pos, including, lowest, without};
 use othello_rules::{Side, Square};
 
 const A1: u8 = 0;
@@ -12,7 +11,7 @@ const G1: u8 = 6;
 const H1: u8 = 7;
 
 // The position, its mover, the moves, and what A1 and H1 turn.
-const ROWS: [(Discs, Side, u64, u64, u64); 4] = [
+const ROWS: &[(Discs, Side, u64, u64, u64)] = &[
     (UNEQUAL_CORNERS, Side::Black, 0x81, 0x2, 0x8000),
     (UNEQUAL_CORNERS, Side::White, 0x80, 0, 0x1020_407c),
     (LAST_CORNER, Side::Black, 0x1, 0x7e, 0),
@@ -27,12 +26,10 @@ fn turns(pos: Pos, moves: u64, from_a1: u64, from_h1: u64) -> bool {
 
 #[test]
 fn moves_and_flips(rt: HostRuntime) {
-    for (discs, side, moves, from_a1, from_h1) in ROWS {
-        assert!(rt;
-            turns(pos_of(&rt, discs, side), moves, from_a1, from_h1),
-            "{discs:?}"
-        );
-    }
+    let wrong = ROWS.iter().position(|(discs, side, moves, from_a1, from_h1)| {
+        !turns(pos_of(&rt, *discs, *side), *moves, *from_a1, *from_h1)
+    });
+    assert_eq!(rt; wrong, None);
 }
 
 #[test]

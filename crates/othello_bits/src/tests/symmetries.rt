@@ -13,7 +13,7 @@ const A8: u8 = 56;
 const H8: u8 = 63;
 
 // Where H1 goes under each symmetry, and which one undoes it.
-const ROWS: [(u8, Sym); 8] = [
+const ROWS: &[(u8, Sym)] = &[
     (H1, Sym::Identity),
     (A1, Sym::FlipColumns),
     (H8, Sym::FlipRows),
@@ -35,13 +35,15 @@ fn sends(pos: Pos, sym: Sym, to: u8, inverse: Sym) -> bool {
 #[test]
 fn symmetries_and_images(rt: HostRuntime) {
     let pos = pos_of(&rt, UNEQUAL_CORNERS, Side::Black);
-    for (sym, (to, inverse)) in Sym::all().into_iter().zip(ROWS) {
-        assert!(rt; sends(pos, sym, to, inverse), "{sym:?}");
-    }
+    let wrong = Sym::all()
+        .iter()
+        .zip(ROWS)
+        .position(|(sym, (to, inverse))| !sends(pos, *sym, *to, *inverse));
+    assert_eq!(rt; wrong, None);
 }
 
 // The position, its mover, the first symmetry, and the masks of its canonical position.
-const CANONICAL: [(Discs, Side, Sym, Discs); 5] = [
+const CANONICAL: &[(Discs, Side, Sym, Discs)] = &[
     (
         LAST_CORNER,
         Side::Black,
@@ -80,7 +82,10 @@ fn leads(pos: Pos, first: Sym, (own, opp): Discs) -> bool {
 
 #[test]
 fn canonical_positions(rt: HostRuntime) {
-    for (discs, side, first, least) in CANONICAL {
-        assert!(rt; leads(pos_of(&rt, discs, side), first, least), "{discs:?}");
-    }
+    let wrong = CANONICAL.iter().position(|(discs, side, first, least)| !leads(
+        pos_of(&rt, *discs, *side),
+        *first,
+        *least,
+    ));
+    assert_eq!(rt; wrong, None);
 }
