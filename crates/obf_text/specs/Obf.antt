@@ -125,12 +125,11 @@ gap_item place cells rest =
     side_item (place + position_or_len is_content rest) cells
     (drop (position_or_len is_content rest) rest)
 
--- from the first cell on, with `count` cells in front
+-- from the first cell on, with n cells in front
 abbrev pub board_item : ℕ → ℕ → List ℕ → Meaning
-board_item start count rest =
-    if nat_lt count 64
-    then (if count == length rest then Faulty (Short count)
-    else Faulty (BadCell (start + (count + 1))))
+board_item start n rest =
+    if nat_lt n 64
+    then (if n == length rest then Faulty (Short n) else Faulty (BadCell (start + (n + 1))))
     else gap_item (start + 64) (map cell_of (take 64 rest)) (drop 64 rest)
 
 abbrev pub content_item : ℕ → List ℕ → Meaning

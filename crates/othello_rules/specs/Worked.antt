@@ -38,7 +38,8 @@ corner_left_over = replicate 2 Empty ++ replicate 5 White ++ replicate 57 Black
 -- -OOXXOO-, and seven rows X: two moves are best
 equal_corners : List Cell
 equal_corners =
-    Empty ∷ replicate 2 White ++ replicate 2 Black ++ replicate 2 White ++ Empty ∷ replicate 56 Black
+    Empty ∷ replicate 2 White ++ replicate 2 Black ++ replicate 2 White
+    ++ Empty ∷ replicate 56 Black
 
 -- -OXXXXX-, XXXXXXXO, two rows X, XXXOXXXX, three rows X: after Black's move on A1 White takes H1
 unequal_corners : List Cell

@@ -31,14 +31,26 @@ impl Model for Settings {
 
     ghost Value = { Configuration };
 
-    ghost view = { λ s. record
-        { max_empties = s.max_empties; workers = s.workers; table = s.table; scoring = s.scoring } };
+    ghost view = { λ s. record {
+      max_empties = s.max_empties;
+      workers = s.workers;
+      table = s.table;
+      scoring = s.scoring;
+    } };
 
-    ghost invariant = { λ s. IsWithinLimits (record
-        { max_empties = s.max_empties; workers = s.workers; table = s.table; scoring = s.scoring }) };
+    ghost invariant = { λ s. IsWithinLimits (record {
+      max_empties = s.max_empties;
+      workers = s.workers;
+      table = s.table;
+      scoring = s.scoring;
+    }) };
 
-    ghost inverse = { λ c. record
-        { max_empties = c.max_empties; workers = c.workers; table = c.table; scoring = c.scoring } };
+    ghost inverse = { λ c. record {
+      max_empties = c.max_empties;
+      workers = c.workers;
+      table = c.table;
+      scoring = c.scoring;
+    } };
 }
 
 impl Settings {

@@ -77,7 +77,8 @@ struct PartOf<'a> {
 }
 
 impl<'a> Promise<Result<Part, RunFault>> for PartOf<'a> {
-    ghost kept_by = { λ promise result. GivesPart promise.scoring promise.limit promise.text.now result };
+    ghost kept_by = { λ promise result.
+        GivesPart promise.scoring promise.limit promise.text.now result };
 }
 
 // A client in a thread, or what came of it where no thread could be started.
