@@ -44,7 +44,7 @@ fn answer_at(table: &BoundTable, position: FfosolvePosition) -> FfosolveAnswer
 }
 
 // The answers of positions, in their order.
-fn fill(table: &BoundTable, positions: &[FfosolvePosition], answers: &mut [FfosolveAnswer])
+fn fill_answers(table: &BoundTable, positions: &[FfosolvePosition], answers: &mut [FfosolveAnswer])
     requires good { AreSolvable positions.now }
     requires lengths { length answers.old ≡ length positions.now }
     ensures { answers.new ≡ map (answer_at table.now.scoring) positions.now }
@@ -85,6 +85,6 @@ pub fn answer_all(
         return Err(refusal);
     }
     let table = table_of(alloc, entries, scoring)?;
-    fill(&table, positions, answers);
+    fill_answers(&table, positions, answers);
     Ok(())
 }

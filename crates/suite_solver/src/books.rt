@@ -152,7 +152,7 @@ impl<'a> ReadyBook<'a> {
             OpenOptions::new().write(true).open(rt, self.name)?;
         }
         let mut beside = fs::File::create_new(rt, self.beside.as_str())?;
-        let placed = match self.fill::<T>(&mut beside, permissions) {
+        let placed = match self.fill_file::<T>(&mut beside, permissions) {
             Ok(()) => fs::rename(rt, self.beside.as_str(), self.name),
             Err(fault) => Err(fault),
         };
@@ -162,7 +162,7 @@ impl<'a> ReadyBook<'a> {
         placed
     }
 
-    fn fill<T: Files>(
+    fn fill_file<T: Files>(
         &self,
         file: &mut T::File,
         permissions: Option<fs::Permissions>,
