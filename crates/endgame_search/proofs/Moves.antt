@@ -87,3 +87,6 @@ others_left g p s items more best up worth each every =
         | inr l ↦ inl (every q l)
       ];
     }
+
+pub above_zero : (n : ℕ) → n ≢ 0 → 0 < n
+above_zero n h = omega arith

@@ -6,11 +6,13 @@ mod probes;
 mod tasks;
 
 ghost use Rattle.std.specs.Prelude.{◌≡◌};
+ghost use Rattle.othello_rules.specs.declared.scorings.Scoring.TheVariants.{Winner};
 
-use crate::Task;
+use crate::{Task, value_in};
 use bound_table::{BoundTable, Bounds, Range};
 use othello_bits::Pos;
-use othello_rules::{Scoring, Side};
+use othello_rules::{Scoring, Side, Square};
+use std::alloc::Global;
 use std::cell::Cell;
 use std::process::Abort;
 
@@ -99,11 +101,8 @@ impl Bounds for ProbeCounter {
 
     fn probe(&self, position: &Pos) -> Option<Range> {
         self.probes.set(self.probes.get().wrapping_add(1));
-        for (watched, seen) in self.watched.iter().zip(self.seen.iter()) {
-            if watched == position {
-                seen.set(true);
-            }
-        }
+        note(&self.watched[0], &self.seen[0], position);
+        note(&self.watched[1], &self.seen[1], position);
         self.table.probe(position)
     }
 
@@ -112,13 +111,40 @@ impl Bounds for ProbeCounter {
     }
 }
 
-fn count_probes(table: BoundTable, watched: [Pos; 2]) -> ProbeCounter
-    ensures { result.table ≡ table }
+// Notes where a watched position is the one probed.
+fn note(watched: &Pos, seen: &Cell<bool>, probed: &Pos) {
+    if watched == probed {
+        seen.set(true);
+    }
+}
+
+// With a new table of so many entries.
+fn count_probes(rt: &impl Abort, alloc: Global, entries: usize, watched: [Pos; 2]) -> ProbeCounter
+    ensures { result.table ≡ record { scoring = Winner; entries = entries } }
 {
     ProbeCounter {
-        table,
+        table: BoundTable::new(alloc, entries, Scoring::Winner).expect(rt, "memory"),
         watched,
         probes: Cell::new(0),
         seen: [Cell::new(false), Cell::new(false)],
     }
+}
+
+fn after(rt: &impl Abort, position: Pos, square: Square) -> Pos {
+    position.play(square).expect(rt, "a move")
+}
+
+// Whether the move to the first of two squares is enough for a window from 0 to 1, and the second
+// is not looked at.
+fn is_first_enough(
+    rt: &impl Abort,
+    alloc: Global,
+    discs: Discs,
+    first: Square,
+    second: Square,
+) -> bool {
+    let position = pos_of(rt, discs, Side::Black);
+    let watched = [after(rt, position, first), after(rt, position, second)];
+    let counter = count_probes(rt, alloc, 0, watched);
+    value_in(&counter, position, 0, 1) >= 1 && counter.seen[0].get() && !counter.seen[1].get()
 }

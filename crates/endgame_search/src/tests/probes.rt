@@ -1,14 +1,32 @@
 //! What a search stores, and what it ends by.
 
+ghost use Rattle.std.specs.Prelude.{◌≡◌};
 ghost use Rattle.endgame_search.specs.Windows.{IsWindow};
 
 use crate::tests::{
-    H1, ProbeCounter, TEN_EMPTY_SQUARES, UNEQUAL_CORNERS, count_probes, pos_of, task_of,
+    H1, ProbeCounter, TEN_EMPTY_SQUARES, UNEQUAL_CORNERS, count_probes, is_first_enough, pos_of,
+    task_of,
 };
-use crate::{solve, value_in};
+use crate::{Task, solve, value_in};
 use bound_table::{BoundTable, Bounds, NoTable, Range};
 use othello_bits::Pos;
 use othello_rules::{Best, Scoring, Side, Square};
+use std::alloc::Global;
+use std::process::Abort;
+
+#[test]
+fn cut_offs(rt: HostRuntime) {
+    // H1 leaves White no move and A1 one, so H1 is searched first.
+    assert!(rt;
+        is_first_enough(
+            &rt,
+            rt.alloc(),
+            UNEQUAL_CORNERS,
+            Square::at(7),
+            Square::at(0)
+        )
+    );
+}
 
 // Stores the value of a position.
 fn store_value(table: &BoundTable, position: Pos) {
@@ -17,40 +35,42 @@ fn store_value(table: &BoundTable, position: Pos) {
     table.store(&position, exact);
 }
 
-#[test]
-fn probes_and_cut_offs(rt: HostRuntime) {
-    let position = pos_of(&rt, UNEQUAL_CORNERS, Side::Black);
-    let after_h1 = position.play(Square::at(7)).expect(&rt, "a move");
-    let after_a1 = position.play(Square::at(0)).expect(&rt, "a move");
-    // H1 leaves White no move and A1 one, so H1 is searched first; it is enough for a window from 0
-    // to 1.
-    let table = BoundTable::new(rt.alloc(), 0, Scoring::Winner).expect(&rt, "memory");
-    let counter = count_probes(table, [after_h1, after_a1]);
-    assert!(rt; value_in(&counter, position, 0, 1) >= 1);
-    assert!(rt; counter.seen[0].get());
-    assert!(rt; !counter.seen[1].get());
-    // Once the value was stored, one probe shows it.
-    let table = BoundTable::new(rt.alloc(), 1, Scoring::Winner).expect(&rt, "memory");
-    let counter = count_probes(table, [after_h1, after_a1]);
+// Whether one probe shows the value 62, and the best move, H1, takes more.
+fn is_62_at_h1(counter: &ProbeCounter, task: Task) -> bool
+    requires { task.scoring ≡ counter.now.table.scoring }
+{
+    value_in(counter, task.pos(), -65, 65) == 62
+        && counter.probes.get() == 1
+        && solve(counter, task).answer().best == Best::Moves(H1)
+        && counter.probes.get() > 1
+}
+
+fn is_stored_value_told(rt: &impl Abort, alloc: Global, position: Pos) -> bool {
+    let counter = count_probes(rt, alloc, 1, [position, position]);
     store_value(&counter.table, position);
-    assert_eq!(rt; value_in(&counter, position, -65, 65), 62);
-    assert_eq!(rt; counter.probes.get(), 1);
-    let task = task_of(&rt, position, Scoring::Winner);
-    assert_eq!(rt; solve(&counter, task).answer().best, Best::Moves(H1));
-    assert!(rt; counter.probes.get() > 1);
+    is_62_at_h1(&counter, task_of(rt, position, Scoring::Winner))
+}
+
+#[test]
+fn a_stored_value_is_told(rt: HostRuntime) {
+    let position = pos_of(&rt, UNEQUAL_CORNERS, Side::Black);
+    assert!(rt; is_stored_value_told(&rt, rt.alloc(), position));
+}
+
+// Whether a search takes more than one probe and stores the position last: one probe more shows its
+// value.
+fn is_value_stored(counter: &ProbeCounter, position: Pos) -> bool {
+    let score = value_in(counter, position, -65, 65);
+    counter.probes.replace(0) > 1
+        && value_in(counter, position, -65, 65) == score
+        && counter.probes.get() == 1
 }
 
 #[test]
 fn values_are_stored(rt: HostRuntime) {
     let position = pos_of(&rt, TEN_EMPTY_SQUARES, Side::White);
-    let table = BoundTable::new(rt.alloc(), 1, Scoring::Winner).expect(&rt, "memory");
-    let counter = count_probes(table, [position, position.pass()]);
-    let score = value_in(&counter, position, -65, 65);
-    // The position was stored last, and one probe more shows its value.
-    let probes = counter.probes.replace(0);
-    assert!(rt; probes > 1);
-    assert_eq!(rt; value_in(&counter, position, -65, 65), score);
-    assert_eq!(rt; counter.probes.get(), 1);
+    let counter = count_probes(&rt, rt.alloc(), 1, [position, position.pass()]);
+    assert!(rt; is_value_stored(&counter, position));
 }
 
 // Whether one probe ends the search of the window.
@@ -62,23 +82,23 @@ fn ends_at_once(counter: &ProbeCounter, position: Pos, low: i8, high: i8) -> boo
     counter.probes.get() == 1
 }
 
+// Whether a range of scores no less than the value 62 ends it, and one of scores no greater.
+fn do_ranges_end(counter: &ProbeCounter, position: Pos) -> bool {
+    let value = value_in(counter, position, -65, 65);
+    let table = &counter.table;
+    table.store(&position, Range::new(value, 64).unwrap());
+    if !ends_at_once(counter, position, 0, 62) || !ends_at_once(counter, position, 0, 60) {
+        return false;
+    }
+    table.store(&position, Range::new(-64, value).unwrap());
+    ends_at_once(counter, position, 62, 64) && ends_at_once(counter, position, 63, 65)
+}
+
 #[test]
 fn ranges_beyond_the_window_end_a_search(rt: HostRuntime) {
     let position = pos_of(&rt, UNEQUAL_CORNERS, Side::Black);
-    let table = BoundTable::new(rt.alloc(), 1, Scoring::Winner).expect(&rt, "memory");
-    let counter = count_probes(table, [position, position]);
-    // The value is 62.
-    let value = value_in(&counter, position, -65, 65);
-    counter
-        .table
-        .store(&position, Range::new(value, 64).unwrap());
-    assert!(rt; ends_at_once(&counter, position, 0, 62) && ends_at_once(&counter, position, 0, 60));
-    counter
-        .table
-        .store(&position, Range::new(-64, value).unwrap());
-    assert!(rt;
-        ends_at_once(&counter, position, 62, 64) && ends_at_once(&counter, position, 63, 65)
-    );
+    let counter = count_probes(&rt, rt.alloc(), 1, [position, position]);
+    assert!(rt; do_ranges_end(&counter, position));
 }
 
 // Whether a search of the window is stored: the same search then ends at its first probe.
@@ -89,12 +109,15 @@ fn is_stored(counter: &ProbeCounter, position: Pos, low: i8, high: i8) -> bool
     ends_at_once(counter, position, low, high)
 }
 
+// Whether searches of the windows beside the value are.
+fn are_cut_offs_stored(counter: &ProbeCounter, position: Pos) -> bool {
+    let value = value_in(&NoTable::new(Scoring::Winner), position, -65, 65);
+    is_stored(counter, position, value - 1, value) && is_stored(counter, position, value, value + 1)
+}
+
 #[test]
 fn cut_offs_are_stored(rt: HostRuntime) {
     let position = pos_of(&rt, TEN_EMPTY_SQUARES, Side::Black);
-    let value = value_in(&NoTable::new(Scoring::Winner), position, -65, 65);
-    let table = BoundTable::new(rt.alloc(), 1, Scoring::Winner).expect(&rt, "memory");
-    let counter = count_probes(table, [position, position]);
-    assert!(rt; is_stored(&counter, position, value - 1, value));
-    assert!(rt; is_stored(&counter, position, value, value + 1));
+    let counter = count_probes(&rt, rt.alloc(), 1, [position, position]);
+    assert!(rt; are_cut_offs_stored(&counter, position));
 }

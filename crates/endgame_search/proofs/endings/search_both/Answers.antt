@@ -1,3 +1,4 @@
+-- Goals that a search would prove are answered too: the search takes longer.
 use Rattle.std.proofs.Common.{◌≡◌, ◌∙◌, ℕ, pos, ◌-ℤ◌, neg_ℤ, sym, subst}
 use Rattle.std.specs.Int.{int_max}
 use Rattle.othello_rules.specs.declared.scorings.Scoring.{Scoring}
@@ -5,7 +6,7 @@ use Rattle.othello_bits.specs.Discs.{Discs, play_of, value_of, IsMove}
 use Rattle.endgame_search.specs.Lasts.{AreLast}
 use Rattle.endgame_search.specs.Windows.{Places}
 use Rattle.endgame_search.proofs.Lasts.{both_worth, swapped}
-use Rattle.endgame_search.proofs.Windows.{shown, same_window, shown_second, turned_whole, first_places}
+use Rattle.endgame_search.proofs.Windows.{shown, same_window, shown_second, turned_whole, first_places, shown_window, turned_window}
 use Rattle.endgame_search.proofs.endings.search_both.Goals as goal
 
 -- the value by the positions that the two moves lead to
@@ -45,3 +46,15 @@ returns g c =
     let r = g.T.Bounds.scoring c.args.table.now in
     subst (λ z. Places c.args.low c.args.high z (shown c.search_in_order-2.result)) (worth r c.args.position c.after-this.result.position c.after-that-2.result.position c.args.first c.args.second c.requires.last c.requires.first c.requires.second c.after-this.ensures.position c.after-that-2.ensures.position)
     (same_window c.args.low c.args.high _ c.search_in_order-2.result c.requires.window c.search_in_order-2.ensures)
+
+pub search_last_pass-score-requires-clause-window : goal.search_last_pass-score-requires-clause-window
+search_last_pass-score-requires-clause-window g c = turned_window c.args.low c.args.high (pos 0) (pos 0) c.requires.window
+
+pub search_second-requires-clause-window : goal.search_second-requires-clause-window
+search_second-requires-clause-window g c = shown_window c.args.low c.args.high c.requires.window
+
+pub search_in_order-requires-clause-window : goal.search_in_order-requires-clause-window
+search_in_order-requires-clause-window g c = shown_window c.args.low c.args.high c.requires.window
+
+pub search_in_order-requires-2-clause-window : goal.search_in_order-requires-2-clause-window
+search_in_order-requires-2-clause-window g c = shown_window c.args.low c.args.high c.requires.window

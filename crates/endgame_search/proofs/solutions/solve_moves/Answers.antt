@@ -3,7 +3,7 @@ use Rattle.std.proofs.lemmas.Int.{ints}
 use Rattle.othello_rules.specs.declared.answers.Best.TheVariants.{Moves}
 use Rattle.othello_bits.specs.Discs.{moves_of, is_best_move, mask_where}
 use Rattle.othello_bits.proofs.GameLaws.{value_score}
-use Rattle.endgame_search.proofs.Windows.{exact}
+use Rattle.endgame_search.proofs.Windows.{exact, limit_window}
 use Rattle.endgame_search.proofs.BestOf.{best_of-moves}
 use Rattle.endgame_search.proofs.solutions.solve_moves.Goals as goal
 
@@ -20,3 +20,8 @@ solved_as-requires-clause-best g c =
     let some : moves_of c.args.task.position ≢ 0 = λ z. c.requires.some (c.requires.moves ∙ z) in
     ap Moves (c.leading_moves-leaders.ensures.best ∙ (λ k. mask_where (is_best_move (sym c.requires.scoring k) (c.pos-position.ensures.value k))))
     ∙ sym (best_of-moves c.args.task.scoring c.args.task.position some)
+
+pub decide-requires : goal.decide-requires
+decide-requires g c =
+    let limit = c.score_limit-most.ensures in
+    limit_window c.score_limit-most.result limit.some limit.most
