@@ -1,7 +1,7 @@
 //! What the thread of one sender knows: what it sent, and how much of it came back.
 
 ghost use Rattle.std.specs.Prelude.{◌≡◌, ◌≢◌, ◌<◌, ◌+◌, length, IfOk, IfErr, IfSome, IfNone, OnOk};
-ghost use Rattle.std.specs.Prelude.{OnErr, Err};
+ghost use Rattle.std.specs.Prelude.{OnErr, Err, slice_get};
 ghost use Rattle.job_board.specs.declared.faults.SubmitFault.TheVariants as fault;
 ghost use Rattle.job_board.specs.declared.clients.Turn.TheVariants.{Next, Drained};
 
@@ -129,6 +129,13 @@ impl Client {
         }
     }
 
+    // The task whose answer comes next, if it was sent.
+    fn awaited(&self) -> Option<Task>
+        ensures { result ≡ slice_get self.now.sent self.now.received }
+    {
+        self.sent.get(self.received as usize).copied()
+    }
+
     // Counts a delivery, if it is the next.
     fn accept(&mut self, delivery: Delivery) -> Result<Turn, Mixed>
         requires { delivery.number < 65535 }
@@ -136,7 +143,7 @@ impl Client {
             (turn ≡ Next delivery) × TurnGives self.old self.new turn) }
         ensures err { OnErr result ((IsNext self.old delivery → ⊥) × (self.new ≡ self.old)) }
     {
-        let Some(task) = self.sent.get(self.received as usize).copied() else {
+        let Some(task) = self.awaited() else {
             return Err(Mixed);
         };
         if delivery.number != self.received || !is_answer_of(delivery.solved, task) {

@@ -1,7 +1,8 @@
 //! The order of `take`, and the limits of a board.
 
+use super::steps::{gives_at_last, took};
 use super::{FIRST, LAST_CORNER, NO_DISCS, SECOND, UNEQUAL_CORNERS, task_of};
-use crate::{Board, BoardFault, JobId, SubmitFault};
+use crate::{Board, BoardFault, JobId, Reply, Step, SubmitFault};
 use endgame_search::Task;
 use std::alloc::Global;
 
@@ -11,40 +12,46 @@ const OTHER: JobId = JobId {
     number: 0,
 };
 
-// Whether this job is taken next.
-fn takes(board: &mut Board, id: JobId) -> bool {
-    match board.take() {
-        Some(job) => job.id == id,
-        None => false,
-    }
+fn steps_of_three_jobs(short: Task, long: Task) -> [Step; 11] {
+    [
+        Step::Submit(1, long),
+        Step::Submit(0, short),
+        Step::Submit(0, long),
+        Step::Take,
+        Step::Take,
+        Step::Take,
+        Step::Take,
+        Step::GiveBack(OTHER),
+        Step::GiveBack(SECOND),
+        Step::Take,
+        Step::Take,
+    ]
 }
 
-fn gives_back(board: &mut Board, id: JobId) -> bool {
-    board.give_back(id) == Ok(())
-}
-
-// Whether the longest jobs are taken first, then those of the first sender.
-fn is_in_order(alloc: Global, short: Task, long: Task) -> bool {
-    let Ok(mut board) = Board::new(alloc, 2) else {
-        return false;
-    };
-    let board = &mut board;
-    let sent = board.submit(1, long) == Ok(0)
-        && board.submit(0, short) == Ok(0)
-        && board.submit(0, long) == Ok(1);
-    let taken = takes(board, SECOND) && takes(board, OTHER) && takes(board, FIRST);
-    let given_back = board.take().is_none()
-        && gives_back(board, OTHER)
-        && gives_back(board, SECOND);
-    sent && taken && given_back && takes(board, SECOND) && takes(board, OTHER)
+// The longest jobs are taken first, then those of the first sender.
+fn replies_to_three_jobs(short: Task, long: Task) -> [Reply; 11] {
+    [
+        Reply::Submitted(Ok(0)),
+        Reply::Submitted(Ok(0)),
+        Reply::Submitted(Ok(1)),
+        took(SECOND, long),
+        took(OTHER, long),
+        took(FIRST, short),
+        Reply::Took(None),
+        Reply::GaveBack(Ok(())),
+        Reply::GaveBack(Ok(())),
+        took(SECOND, long),
+        took(OTHER, long),
+    ]
 }
 
 #[test]
 fn longest_jobs_first(rt: HostRuntime) {
-    let alloc = rt.alloc();
     let short = task_of(&rt, LAST_CORNER);
     let long = task_of(&rt, UNEQUAL_CORNERS);
-    assert!(rt; is_in_order(alloc, short, long) || is_in_order(alloc, short, long));
+    let steps = steps_of_three_jobs(short, long);
+    let wanted = replies_to_three_jobs(short, long);
+    assert!(rt; gives_at_last(rt.alloc(), 2, &steps, &wanted, false));
 }
 
 // Whether the last of the most senders may have 65,535 jobs, and no more.
@@ -63,13 +70,12 @@ fn is_filled(alloc: Global, task: Task) -> bool {
 }
 
 fn is_refused(alloc: Global, senders: u32) -> bool {
-    matches!(Board::new(alloc, senders), Err(BoardFault::TooManySenders))
+    Board::new(alloc, senders).err() == Some(BoardFault::TooManySenders)
 }
 
 #[test]
 fn most_senders_and_jobs(rt: HostRuntime) {
     let alloc = rt.alloc();
     let task = task_of(&rt, NO_DISCS);
-    assert!(rt; is_filled(alloc, task) || is_filled(alloc, task));
-    assert!(rt; is_refused(alloc, 65));
+    assert!(rt; (is_filled(alloc, task) || is_filled(alloc, task)) && is_refused(alloc, 65));
 }

@@ -44,6 +44,8 @@ fn task_at(load: &Load, number: u32) -> Task {
 #[derive(Drop)]
 struct Crowd {
     desk: Desk,
+    // Of a sender that is closed.
+    idle: Client,
     load: Load,
     // Of the threads that are watched.
     threads: u32,
@@ -154,9 +156,9 @@ fn goes_on<R: Clock>(rt: &R, crowd: &Crowd) -> bool {
 }
 
 // Wakes all until they have ended, by closes of a sender that is closed.
-fn wake_all<R: Wait + Clock>(rt: &R, crowd: &Crowd, idle: &Client) {
+fn wake_all<R: Wait + Clock>(rt: &R, crowd: &Crowd) {
     for _ in 0..10_000 {
-        if have_ended(crowd) || crowd.desk.close(rt, idle).is_err() {
+        if have_ended(crowd) || crowd.desk.close(rt, &crowd.idle).is_err() {
             return;
         }
         thread::sleep(rt, Duration::from_millis(1));
@@ -164,13 +166,13 @@ fn wake_all<R: Wait + Clock>(rt: &R, crowd: &Crowd, idle: &Client) {
 }
 
 // Whether the others end by themselves.
-fn watch<R: Wait + Clock>(rt: &R, alloc: Global, crowd: &Crowd) -> bool {
+fn watch<R: Wait + Clock>(rt: &R, crowd: &Crowd) -> bool {
     for _ in rt.forever() {
         if have_ended(crowd) {
             return true;
         }
         if !goes_on(rt, crowd) {
-            wake_all(rt, crowd, &Client::new(alloc, crowd.threads / 2));
+            wake_all(rt, crowd);
             return false;
         }
     }
@@ -185,7 +187,7 @@ fn take_part<R: Wait + Clock>(rt: &R, alloc: Global, crowd: &Crowd, thread: usiz
             crowd.ended.fetch_add(1, Ordering::SeqCst);
             played
         }
-        _ => watch(rt, alloc, crowd),
+        _ => watch(rt, crowd),
     }
 }
 
@@ -194,9 +196,11 @@ fn crowd_of<R: Wait>(rt: &R, alloc: Global, load: Load, threads: u32) -> Result<
     let Ok(desk) = Desk::new(alloc, threads / 2 + 1) else {
         return Err(AllocError);
     };
-    let _ = desk.close(rt, &Client::new(alloc, threads / 2));
+    let idle = Client::new(alloc, threads / 2);
+    let _ = desk.close(rt, &idle);
     Ok(Crowd {
         desk,
+        idle,
         load,
         threads,
         served: AtomicU32::new(0),

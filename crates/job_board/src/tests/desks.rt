@@ -12,30 +12,90 @@ use std::sync::Wait;
 // A call at a desk about a job, and its answer.
 #[derive(Clone, Copy)]
 enum Call {
+    // A submit of the job's task, which gets the job's number.
+    Send,
+    // A submit that is refused so.
+    Refused(SubmitFault),
     // A turn that gives the job to solve.
     Work,
     // A turn that gives the job's answer.
     Next,
+    // A turn that says so.
+    Drained,
+    Mixed,
     Finish,
     GiveBack,
     // A give back of a job that is not taken.
     NotTaken,
+    // No job is left to take.
+    AllDone,
+    Close(Result<bool, NoSender>),
 }
 
-// The calls about the first job and the second, in their order.
-const CALLS: &[(Call, JobId)] = &[
-    (Call::Work, FIRST),
-    (Call::Work, SECOND),
-    (Call::GiveBack, FIRST),
-    (Call::NotTaken, FIRST),
-    (Call::Work, FIRST),
-    (Call::GiveBack, SECOND),
-    (Call::Finish, FIRST),
-    (Call::Next, FIRST),
-    (Call::Work, SECOND),
-    (Call::Finish, SECOND),
-    (Call::Next, SECOND),
-];
+// Calls about the first job and the second, in their order.
+type Calls = &'static [(Call, JobId)];
+
+// What a client of this sender calls at a desk of one sender, after a first client made its calls.
+#[derive(Clone, Copy)]
+struct Case {
+    first: Calls,
+    sender: u32,
+    calls: Calls,
+    // Whether both tasks are sent and both answers received.
+    served: bool,
+}
+
+// A client that sends two tasks is served.
+const SERVED: Case = Case {
+    first: &[],
+    sender: 0,
+    calls: &[
+        (Call::Send, FIRST),
+        (Call::Send, SECOND),
+        (Call::Close(Ok(true)), FIRST),
+        (Call::Work, FIRST),
+        (Call::Work, SECOND),
+        (Call::GiveBack, FIRST),
+        (Call::NotTaken, FIRST),
+        (Call::Work, FIRST),
+        (Call::GiveBack, SECOND),
+        (Call::Finish, FIRST),
+        (Call::Next, FIRST),
+        (Call::Work, SECOND),
+        (Call::Finish, SECOND),
+        (Call::Next, SECOND),
+        (Call::Drained, FIRST),
+        (Call::AllDone, FIRST),
+        (Call::Close(Ok(false)), FIRST),
+        (Call::Refused(SubmitFault::Closed), FIRST),
+    ],
+    served: true,
+};
+
+// A client of a sender that the desk doesn't have is refused all.
+const REFUSED: Case = Case {
+    first: &[],
+    sender: 1,
+    calls: &[
+        (Call::Refused(SubmitFault::NoSender), FIRST),
+        (Call::Close(Err(NoSender)), FIRST),
+        (Call::Mixed, FIRST),
+    ],
+    served: false,
+};
+
+// The second of two clients of one sender is told that their answers are mixed.
+const MIXED: Case = Case {
+    first: &[(Call::Send, FIRST)],
+    sender: 0,
+    calls: &[
+        (Call::Send, SECOND),
+        (Call::Work, FIRST),
+        (Call::Finish, FIRST),
+        (Call::Mixed, FIRST),
+    ],
+    served: false,
+};
 
 fn next_of(number: u32, task: Task) -> Turn {
     let solved = solved(task);
@@ -45,16 +105,28 @@ fn next_of(number: u32, task: Task) -> Turn {
 // Whether the call has its answer.
 fn is_answered<R: Wait>(rt: &R, desk: &Desk, client: &mut Client, call: Call, job: Job) -> bool {
     match call {
+        Call::Send => sends(rt, desk, client, job.task, job.id.number),
+        Call::Refused(fault) => desk.submit(rt, client, job.task) == Err(fault),
         Call::Work => turns_to(rt, desk, client, Turn::Work(job)),
         Call::Next => turns_to(rt, desk, client, next_of(job.id.number, job.task)),
+        Call::Drained => turns_to(rt, desk, client, Turn::Drained),
+        Call::Mixed => desk.turn(rt, client) == Err(Mixed),
         Call::Finish => finishes(rt, desk, job),
         Call::GiveBack => gives_back(rt, desk, job.id),
         Call::NotTaken => desk.give_back(rt, job.id) == Err(JobFault::NotTaken),
+        Call::AllDone => desk.take_or_wait(rt).is_none(),
+        Call::Close(closed) => desk.close(rt, client) == closed,
     }
 }
 
-fn are_answered<R: Wait>(rt: &R, desk: &Desk, client: &mut Client, tasks: &[Task; 2]) -> bool {
-    for (call, id) in CALLS {
+fn are_answered<R: Wait>(
+    rt: &R,
+    desk: &Desk,
+    client: &mut Client,
+    calls: Calls,
+    tasks: &[Task; 2],
+) -> bool {
+    for (call, id) in calls {
         let task = tasks[id.number as usize % 2];
         if !is_answered(rt, desk, client, *call, Job { id: *id, task }) {
             return false;
@@ -63,59 +135,26 @@ fn are_answered<R: Wait>(rt: &R, desk: &Desk, client: &mut Client, tasks: &[Task
     true
 }
 
-// Whether the client's sender is closed, and all came back.
-fn is_served<R: Wait>(rt: &R, desk: &Desk, client: &mut Client, tasks: &[Task; 2]) -> bool {
-    turns_to(rt, desk, client, Turn::Drained)
-        && desk.take_or_wait(rt).is_none()
-        && desk.close(rt, client) == Ok(false)
-        && desk.submit(rt, client, tasks[0]) == Err(SubmitFault::Closed)
-        && client.sent() == tasks.as_slice()
-        && client.received() == 2
+fn is_served(client: &Client, tasks: &[Task; 2]) -> bool {
+    client.sent() == tasks.as_slice() && client.received() == 2
 }
 
-// Whether a client sends two tasks, and is served.
-fn serves<R: Wait>(rt: &R, alloc: Global, tasks: &[Task; 2]) -> bool {
+// Whether the case has its answers at a new desk.
+fn passes<R: Wait>(rt: &R, alloc: Global, case: &Case, tasks: &[Task; 2]) -> bool {
     let Ok(desk) = Desk::new(alloc, 1) else {
         return false;
     };
-    let mut client = Client::new(alloc, 0);
-    sends(rt, &desk, &mut client, tasks[0], 0)
-        && sends(rt, &desk, &mut client, tasks[1], 1)
-        && desk.close(rt, &client) == Ok(true)
-        && are_answered(rt, &desk, &mut client, tasks)
-        && is_served(rt, &desk, &mut client, tasks)
-}
-
-// Whether a client of a sender that the desk doesn't have is refused all.
-fn refuses<R: Wait>(rt: &R, alloc: Global, task: Task) -> bool {
-    let Ok(desk) = Desk::new(alloc, 1) else {
-        return false;
-    };
-    let mut stranger = Client::new(alloc, 1);
-    desk.submit(rt, &mut stranger, task) == Err(SubmitFault::NoSender)
-        && desk.close(rt, &stranger) == Err(NoSender)
-        && desk.turn(rt, &mut stranger) == Err(Mixed)
-}
-
-// Whether the second of two clients of one sender is told that their answers are mixed.
-fn tells_mixed<R: Wait>(rt: &R, alloc: Global, tasks: &[Task; 2]) -> bool {
-    let Ok(desk) = Desk::new(alloc, 1) else {
-        return false;
-    };
-    let mut other = Client::new(alloc, 0);
-    let task = tasks[0];
-    sends(rt, &desk, &mut Client::new(alloc, 0), task, 0)
-        && sends(rt, &desk, &mut other, tasks[1], 1)
-        && turns_to(rt, &desk, &mut other, Turn::Work(Job { id: FIRST, task }))
-        && finishes(rt, &desk, Job { id: FIRST, task })
-        && desk.turn(rt, &mut other) == Err(Mixed)
+    let mut first = Client::new(alloc, 0);
+    let mut client = Client::new(alloc, case.sender);
+    are_answered(rt, &desk, &mut first, case.first, tasks)
+        && are_answered(rt, &desk, &mut client, case.calls, tasks)
+        && is_served(&client, tasks) == case.served
 }
 
 #[test]
 fn a_desk_on_one_thread(rt: HostRuntime) {
-    let alloc = rt.alloc();
     let tasks = [task_of(&rt, CORNER_LEFT_OVER), task_of(&rt, EQUAL_CORNERS)];
-    assert!(rt; serves(&rt, alloc, &tasks) || serves(&rt, alloc, &tasks));
-    assert!(rt; refuses(&rt, alloc, tasks[0]) || refuses(&rt, alloc, tasks[0]));
-    assert!(rt; tells_mixed(&rt, alloc, &tasks) || tells_mixed(&rt, alloc, &tasks));
+    for case in &[SERVED, REFUSED, MIXED] {
+        assert!(rt; passes(&rt, rt.alloc(), case, &tasks) || passes(&rt, rt.alloc(), case, &tasks));
+    }
 }

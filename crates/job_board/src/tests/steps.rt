@@ -10,9 +10,9 @@ use endgame_search::{Solved, Task};
 use othello_rules::Scoring;
 use std::alloc::Global;
 
-// Whether a new board of one sender gives these replies, and then is done, or is not.
-fn gives(alloc: Global, steps: &[Step], wanted: &[Reply], done: bool) -> bool {
-    let Ok(mut board) = Board::new(alloc, 1) else {
+// Whether a new board of so many senders gives these replies, and then is done, or is not.
+fn gives(alloc: Global, senders: u32, steps: &[Step], wanted: &[Reply], done: bool) -> bool {
+    let Ok(mut board) = Board::new(alloc, senders) else {
         return false;
     };
     let Ok(replies) = run_steps(alloc, &mut board, steps) else {
@@ -22,12 +22,18 @@ fn gives(alloc: Global, steps: &[Step], wanted: &[Reply], done: bool) -> bool {
 }
 
 // The same, where memory may be refused once.
-fn gives_at_last(alloc: Global, steps: &[Step], wanted: &[Reply], done: bool) -> bool {
-    gives(alloc, steps, wanted, done) || gives(alloc, steps, wanted, done)
+pub(super) fn gives_at_last(
+    alloc: Global,
+    senders: u32,
+    steps: &[Step],
+    wanted: &[Reply],
+    done: bool,
+) -> bool {
+    gives(alloc, senders, steps, wanted, done) || gives(alloc, senders, steps, wanted, done)
 }
 
 // The reply to a take that gives this job.
-fn took(id: JobId, task: Task) -> Reply {
+pub(super) fn took(id: JobId, task: Task) -> Reply {
     Reply::Took(Some(Job { id, task }))
 }
 
@@ -86,8 +92,10 @@ fn two_jobs_of_one_sender(rt: HostRuntime) {
     let steps = steps_of_two_jobs(first, second, by_discs);
     let wanted = replies_to_two_jobs(first, second);
     // Before the close, and after it.
-    assert!(rt; gives_at_last(rt.alloc(), &steps[..13], &wanted[..13], false));
-    assert!(rt; gives_at_last(rt.alloc(), &steps, &wanted, true));
+    assert!(rt;
+        gives_at_last(rt.alloc(), 1, &steps[..13], &wanted[..13], false)
+            && gives_at_last(rt.alloc(), 1, &steps, &wanted, true)
+    );
 }
 
 fn steps_round_a_close(task: Task) -> [Step; 17] {
@@ -144,6 +152,8 @@ fn a_close_before_any_job_and_after_one(rt: HostRuntime) {
     let task = task_of(&rt, UNEQUAL_CORNERS);
     let steps = steps_round_a_close(task);
     let wanted = replies_round_a_close(task);
-    assert!(rt; gives_at_last(rt.alloc(), &steps, &wanted, true));
-    assert!(rt; gives_at_last(rt.alloc(), &CLOSE, &CLOSED, true));
+    assert!(rt;
+        gives_at_last(rt.alloc(), 1, &steps, &wanted, true)
+            && gives_at_last(rt.alloc(), 1, &CLOSE, &CLOSED, true)
+    );
 }

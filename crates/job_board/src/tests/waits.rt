@@ -24,6 +24,8 @@ enum Event {
     Close,
 }
 
+const EVENTS: &[Event] = &[Event::Submit, Event::GiveBack, Event::Finish, Event::Close];
+
 // One thread waits at the desk for the event, and says when it goes on.
 #[derive(Drop)]
 struct Scene {
@@ -155,8 +157,7 @@ fn wakes<R: Threads + Wait + Clock + Abort + Sync>(rt: &R, alloc: Global, event:
 
 #[test]
 fn who_waits_is_woken(rt: HostRuntime) {
-    assert!(rt; wakes(&rt, rt.alloc(), Event::Submit));
-    assert!(rt; wakes(&rt, rt.alloc(), Event::GiveBack));
-    assert!(rt; wakes(&rt, rt.alloc(), Event::Finish));
-    assert!(rt; wakes(&rt, rt.alloc(), Event::Close));
+    for event in EVENTS {
+        assert!(rt; wakes(&rt, rt.alloc(), *event));
+    }
 }

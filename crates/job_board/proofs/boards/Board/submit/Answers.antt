@@ -48,3 +48,26 @@ pub returns-clause-content : goal.returns-clause-content
 returns-clause-content c =
     let at = slice_get_read c.self.inside.senders.items (vec_len c.self.inside.senders) c.args.sender c.in-Some.jobs.now (omega (arith, c.self.inside.senders.ok.0)) (c.in-Some.ensures.variant.0 refl) c.in-Some.ensures.value in
     rw (← c.self.view_is, c.in-Ok-push.ensures.ok) (sym (change_at c.self.inside.senders.items c.args.sender c.in-Some.jobs.now (with_task c.args.task) at))
+
+pub invariant_of-self-in-Some-refusal : goal.invariant_of-self-in-Some-refusal
+invariant_of-self-in-Some-refusal c =
+    let at = slice_get_read c.self.inside.senders.items (vec_len c.self.inside.senders) c.args.sender c.in-Some.jobs.now (omega (arith, c.self.inside.senders.ok.0)) (c.in-Some.ensures.variant.0 refl) c.in-Some.ensures.value in
+    rw (set_same c.self.inside.senders.items c.args.sender c.in-Some.jobs.now at) c.self.invariant
+
+pub returns-in-Some-refusal-clause-content : goal.returns-in-Some-refusal-clause-content
+returns-in-Some-refusal-clause-content c =
+    let at = slice_get_read c.self.inside.senders.items (vec_len c.self.inside.senders) c.args.sender c.in-Some.jobs.now (omega (arith, c.self.inside.senders.ok.0)) (c.in-Some.ensures.variant.0 refl) c.in-Some.ensures.value in
+    set_same c.self.inside.senders.items c.args.sender c.in-Some.jobs.now at ∙ c.self.view_is
+
+pub overflow_cast-number : goal.overflow_cast-number
+overflow_cast-number c = omega (arith, few_tasks c.in-Some.jobs.now (sym c.refusal.ensures ∙ c.in_default-refusal.is), c.len-number.ensures)
+
+pub returns-in_default-reserve-clause-content : goal.returns-in_default-reserve-clause-content
+returns-in_default-reserve-clause-content c =
+    let at = slice_get_read c.self.inside.senders.items (vec_len c.self.inside.senders) c.args.sender c.in-Some.jobs.now (omega (arith, c.self.inside.senders.ok.0)) (c.in-Some.ensures.variant.0 refl) c.in-Some.ensures.value in
+    set_same c.self.inside.senders.items c.args.sender c.in-Some.jobs.now at ∙ c.self.view_is
+
+pub returns-in_default-push-clause-content : goal.returns-in_default-push-clause-content
+returns-in_default-push-clause-content c =
+    let at = slice_get_read c.self.inside.senders.items (vec_len c.self.inside.senders) c.args.sender c.in-Some.jobs.now (omega (arith, c.self.inside.senders.ok.0)) (c.in-Some.ensures.variant.0 refl) c.in-Some.ensures.value in
+    rw c.in_default-push.ensures.err (set_same c.self.inside.senders.items c.args.sender c.in-Some.jobs.now at ∙ c.self.view_is)
