@@ -21,15 +21,11 @@ const ALL_BLACK: &[u8; 64] = &[b'X'; 64];
 // Some bytes, a byte repeated, and some bytes.
 fn join(front: &[u8], byte: u8, count: usize, back: &[u8]) -> ArrayVec<u8, 160> {
     let mut line = ArrayVec::new();
-    for byte in front {
-        let _ = line.try_push(*byte);
-    }
+    let _ = line.try_extend_from_slice(front);
     for _ in 0..count {
         let _ = line.try_push(byte);
     }
-    for byte in back {
-        let _ = line.try_push(*byte);
-    }
+    let _ = line.try_extend_from_slice(back);
     line
 }
 

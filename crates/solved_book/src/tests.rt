@@ -63,16 +63,10 @@ const THREE_LINES: &[&[u8]] = &[
 
 type Text = ArrayVec<u8, 512>;
 
-fn push_all(text: &mut Text, piece: &[u8]) {
-    for byte in piece {
-        let _ = text.try_push(*byte);
-    }
-}
-
 fn join(pieces: &[&[u8]]) -> Text {
     let mut text = ArrayVec::new();
     for piece in pieces {
-        push_all(&mut text, piece);
+        let _ = text.try_extend_from_slice(piece);
     }
     text
 }
@@ -111,6 +105,15 @@ fn read_again(alloc: Global, text: &[u8]) -> Result<Claims, BookFault> {
     match Claims::read(alloc, text) {
         Err(BookFault::Memory) => Claims::read(alloc, text),
         read => read,
+    }
+}
+
+// The claim that a text makes of a position where Black is to move.
+fn claim_in(alloc: Global, text: &[u8], discs: Discs) -> Option<Claim> {
+    let position = pos_of(discs, Side::Black)?;
+    match read_again(alloc, text) {
+        Ok(claims) => claims.find(&position),
+        Err(_) => None,
     }
 }
 

@@ -44,20 +44,26 @@ fn is_right(alloc: Global, row: &Row) -> bool {
 
 #[test]
 fn names_the_first_fault(rt: HostRuntime) {
-    let alloc = rt.alloc();
-    assert_eq!(rt; ROWS.iter().position(|row| !is_right(alloc, row)), None);
+    for row in ROWS {
+        assert!(rt; is_right(rt.alloc(), row));
+    }
 }
 
 fn has_text(alloc: Global, fault: LineFault, text: &str) -> Result<bool, AllocError> {
     Ok(format!(in alloc; "{fault}")?.as_str() == text)
 }
 
+const TEXTS: &[(LineFault, &str)] = &[
+    (LineFault::Short(63), "board has 63 of 64 squares"),
+    (LineFault::BadCell(5), "bad square at column 5"),
+    (LineFault::BadSide(66), "bad side at column 66"),
+    (LineFault::Memory, "out of memory"),
+];
+
 #[test]
 fn texts_of_faults(rt: HostRuntime) -> Result<(), AllocError> {
-    let alloc = rt.alloc();
-    assert!(rt; has_text(alloc, LineFault::Short(63), "board has 63 of 64 squares")?);
-    assert!(rt; has_text(alloc, LineFault::BadCell(5), "bad square at column 5")?);
-    assert!(rt; has_text(alloc, LineFault::BadSide(66), "bad side at column 66")?);
-    assert!(rt; has_text(alloc, LineFault::Memory, "out of memory")?);
+    for (fault, text) in TEXTS {
+        assert!(rt; has_text(rt.alloc(), *fault, text)?);
+    }
     Ok(())
 }

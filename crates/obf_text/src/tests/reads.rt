@@ -83,11 +83,9 @@ fn are_read(alloc: Global, rest: &[u8], fields: &[Field]) -> bool {
 
 #[test]
 fn reads_fields(rt: HostRuntime) {
-    let alloc = rt.alloc();
-    let wrong = FIELDS
-        .iter()
-        .position(|(rest, fields)| !are_read(alloc, rest, fields));
-    assert_eq!(rt; wrong, None);
+    for (rest, fields) in FIELDS {
+        assert!(rt; are_read(rt.alloc(), rest, fields));
+    }
 }
 
 // A letter for each cell and for the side, and what they stand for.
@@ -113,19 +111,24 @@ fn is_letter(alloc: Global, row: &(u8, Cell, u8, Side)) -> bool {
 
 #[test]
 fn reads_letters(rt: HostRuntime) {
-    let alloc = rt.alloc();
-    let wrong = LETTERS.iter().position(|row| !is_letter(alloc, row));
-    assert_eq!(rt; wrong, None);
+    for row in LETTERS {
+        assert!(rt; is_letter(rt.alloc(), row));
+    }
+}
+
+// Whether the text is one line, which says the grid.
+fn is_one_line(alloc: Global, text: &[u8], grid: &Grid) -> bool {
+    let mut lines = split_lines(text);
+    let Some(line) = lines.next() else {
+        return false;
+    };
+    says(read_line(alloc, line), grid, &[]) && lines.next().is_none()
 }
 
 #[test]
 fn reads_lenient_bytes(rt: HostRuntime) {
     let text = join(b"  .owOoWO*", b'x', 56, b"\tb\r\n");
-    let mut lines = split_lines(&text);
-    let item = lines.next().map(|line| read_line(rt.alloc(), line));
-    let grid = grid_of(A1_EMPTY, Side::Black);
-    assert!(rt; item.is_some_and(|item| says(item, &grid, &[])));
-    assert!(rt; lines.next().is_none());
+    assert!(rt; is_one_line(rt.alloc(), &text, &grid_of(A1_EMPTY, Side::Black)));
 }
 
 #[test]

@@ -17,50 +17,59 @@ fn is_written_in(room: usize, grid: &Grid, answer: &Answer, whole: &[u8]) -> boo
     }
 }
 
-fn is_written(board: &[u8; 64], side: Side, answer: &Answer, rest: &[u8]) -> bool {
+fn is_written(board: &[u8; 64], side: Side, answer: Answer, rest: &[u8]) -> bool {
     let grid = grid_of(board, side);
     let whole = join(board, b' ', 0, rest);
-    (0..160).all(|room| is_written_in(room, &grid, answer, &whole))
+    for room in 0..160 {
+        if !is_written_in(room, &grid, &answer, &whole) {
+            return false;
+        }
+    }
+    true
 }
+
+const BOTH_CORNERS: Answer = Answer {
+    score: 64,
+    best: Best::Moves(0x81),
+};
+
+const ONE_CORNER: Answer = Answer {
+    score: 62,
+    best: Best::Moves(0x80),
+};
+
+const BOTH_WIN: Answer = Answer {
+    score: 1,
+    best: Best::Moves(0x81),
+};
 
 #[test]
 fn writes_best_moves(rt: HostRuntime) {
-    let corners = Best::Moves(0x81);
-    let h1 = Best::Moves(0x80);
-    let greatest = Answer {
-        score: 64,
-        best: corners,
-    };
     assert!(rt;
         is_written(
             CORNERS_EMPTY,
             Side::Black,
-            &greatest,
+            BOTH_CORNERS,
             b" X; A1:+64; H1:+64;\n"
-        )
+        ) && is_written(TWO_EMPTY, Side::Black, ONE_CORNER, b" X; H1:+62;\n")
+            && is_written(TWO_EMPTY, Side::Black, BOTH_WIN, b" X; A1:+01; H1:+01;\n")
     );
-    let one_move = Answer {
-        score: 62,
-        best: h1,
-    };
-    assert!(rt; is_written(TWO_EMPTY, Side::Black, &one_move, b" X; H1:+62;\n"));
-    let two_moves = Answer {
-        score: 1,
-        best: corners,
-    };
-    assert!(rt; is_written(TWO_EMPTY, Side::Black, &two_moves, b" X; A1:+01; H1:+01;\n"));
 }
+
+const PASS: Answer = Answer {
+    score: -64,
+    best: Best::Pass,
+};
+
+const OVER: Answer = Answer {
+    score: -64,
+    best: Best::Over,
+};
 
 #[test]
 fn writes_a_pass_and_the_end(rt: HostRuntime) {
-    let pass = Answer {
-        score: -64,
-        best: Best::Pass,
-    };
-    assert!(rt; is_written(A1_EMPTY, Side::White, &pass, b" O; PS:-64;\n"));
-    let over = Answer {
-        score: -64,
-        best: Best::Over,
-    };
-    assert!(rt; is_written(ALL_BLACK, Side::White, &over, b" O; --:-64;\n"));
+    assert!(rt;
+        is_written(A1_EMPTY, Side::White, PASS, b" O; PS:-64;\n")
+            && is_written(ALL_BLACK, Side::White, OVER, b" O; --:-64;\n")
+    );
 }

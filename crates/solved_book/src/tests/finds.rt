@@ -3,10 +3,10 @@
 use crate::Claims;
 use crate::tests::{
     A1, B1, CORNER_LEFT_OVER, Discs, EQUAL_CORNERS, H1, LAST_CORNER, SEVEN_ROWS, THREE_LINES,
-    UNEQUAL_CORNERS, UNEQUAL_ROWS, claim_of_moves, join, pos_of, read_again,
+    UNEQUAL_CORNERS, UNEQUAL_ROWS, claim_in, claim_of_moves, join, pos_of, read_again,
 };
 use bound_table::NoTable;
-use endgame_search::{Task, confirm};
+use endgame_search::{Claim, Task, confirm};
 use othello_bits::Sym;
 use othello_rules::{Best, Scoring, Side};
 use std::alloc::Global;
@@ -24,27 +24,48 @@ fn is_found_on(claims: &Claims, row: &(Discs, u64), sym: Sym) -> Option<bool> {
 }
 
 fn is_found(claims: &Claims, row: &(Discs, u64)) -> bool {
-    Sym::all()
-        .iter()
-        .all(|sym| is_found_on(claims, row, *sym) == Some(true))
+    for sym in Sym::all() {
+        if is_found_on(claims, row, sym) != Some(true) {
+            return false;
+        }
+    }
+    true
+}
+
+fn are_found(claims: &Claims, rows: &[(Discs, u64)]) -> bool {
+    for row in rows {
+        if !is_found(claims, row) {
+            return false;
+        }
+    }
+    true
 }
 
 fn is_missing(claims: &Claims, discs: Discs, side: Side) -> bool {
-    pos_of(discs, side).is_some_and(|position| claims.find(&position).is_none())
+    let Some(position) = pos_of(discs, side) else {
+        return false;
+    };
+    claims.find(&position).is_none()
 }
 
 fn finds_three(claims: &Claims) -> bool {
     claims.len() == 3
         && claims.scoring() == Scoring::Winner
-        && FOUND.iter().all(|row| is_found(claims, row))
+        && are_found(claims, FOUND)
         && is_missing(claims, UNEQUAL_CORNERS, Side::Black)
         && is_missing(claims, LAST_CORNER, Side::White)
 }
 
+fn finds_three_in(alloc: Global, text: &[u8]) -> bool {
+    let Ok(claims) = read_again(alloc, text) else {
+        return false;
+    };
+    finds_three(&claims)
+}
+
 #[test]
 fn finds_all_images(rt: HostRuntime) {
-    let claims = read_again(rt.alloc(), &join(THREE_LINES));
-    assert!(rt; claims.is_ok_and(|claims| finds_three(&claims)));
+    assert!(rt; finds_three_in(rt.alloc(), &join(THREE_LINES)));
 }
 
 // A position, a line that claims less or something false of it, the claimed moves, and its answer.
@@ -68,21 +89,22 @@ const LIES: &[Row] = &[
     ),
 ];
 
+// Whether a search that has the claim as advice finds the score and the best moves.
+fn is_answered(discs: Discs, claim: Claim, score: i8, mask: u64) -> Option<bool> {
+    let task = Task::new(pos_of(discs, Side::Black)?, 20, Scoring::Winner).ok()?;
+    let answer = confirm(&NoTable::new(task.scoring()), task, claim).answer();
+    Some(answer.score == score && answer.best == Best::Moves(mask))
+}
+
 fn is_found_out(alloc: Global, row: &Row) -> Option<bool> {
     let (discs, pieces, claimed, score, mask) = *row;
-    let position = pos_of(discs, Side::Black)?;
-    let claim = read_again(alloc, &join(&pieces)).ok()?.find(&position)?;
-    let task = Task::new(position, 20, Scoring::Winner).ok()?;
-    let answer = confirm(&NoTable::new(task.scoring()), task, claim).answer();
-    let is_exact = answer.score == score && answer.best == Best::Moves(mask);
-    Some(is_exact && claim.best == Best::Moves(claimed))
+    let claim = claim_in(alloc, &join(&pieces), discs)?;
+    Some(claim.best == Best::Moves(claimed) && is_answered(discs, claim, score, mask)?)
 }
 
 #[test]
 fn lies_are_found_out(rt: HostRuntime) {
-    let alloc = rt.alloc();
-    let wrong = LIES
-        .iter()
-        .position(|row| is_found_out(alloc, row) != Some(true));
-    assert_eq!(rt; wrong, None);
+    for row in LIES {
+        assert!(rt; is_found_out(rt.alloc(), row) == Some(true));
+    }
 }

@@ -3,7 +3,7 @@
 use crate::BookFault;
 use crate::tests::{
     A1, B1, CORNER_LEFT_OVER, CORNER_LEFT_OVER_LINE, Discs, EQUAL_CORNERS, LAST_CORNER,
-    LAST_CORNER_LINE, SEVEN_ROWS, THREE_LINES, Text, claim_of_moves, join, pos_of, read_again,
+    LAST_CORNER_LINE, SEVEN_ROWS, THREE_LINES, Text, claim_in, claim_of_moves, join, read_again,
 };
 use endgame_search::Claim;
 use obf_text::LineFault;
@@ -56,13 +56,13 @@ fn tells_the_first_line(alloc: Global) -> bool {
 }
 
 // Texts of one line that is no line of a book.
-const BAD_LINES: &[(&[u8], BookFault)] = &[
-    (b"\xEF", BookFault::Line(1, LineFault::BadCell(1))),
-    (b"\0", BookFault::Line(1, LineFault::BadCell(1))),
-    (b"% ffobook 3 winner\n", BookFault::Header),
-    (b"% ffobook 2 winner \n?", BookFault::Header),
-    (b"% ffobook 2 win", BookFault::Header),
-    (b"% ffobook ", BookFault::Header),
+const BAD_LINES: &[(&[&[u8]], BookFault)] = &[
+    (&[b"\xEF"], BookFault::Line(1, LineFault::BadCell(1))),
+    (&[b"\0"], BookFault::Line(1, LineFault::BadCell(1))),
+    (&[b"% ffobook 3 winner\n"], BookFault::Header),
+    (&[b"% ffobook 2 winner \n?"], BookFault::Header),
+    (&[b"% ffobook 2 win"], BookFault::Header),
+    (&[b"% ffobook "], BookFault::Header),
 ];
 
 #[test]
@@ -71,10 +71,9 @@ fn names_the_first_fault(rt: HostRuntime) {
     assert!(rt; tells_wrong_order(alloc));
     assert!(rt; tells_other_images(alloc));
     assert!(rt; tells_the_first_line(alloc));
-    let wrong = BAD_LINES
-        .iter()
-        .position(|(text, fault)| !has_fault(alloc, &[*text], *fault));
-    assert_eq!(rt; wrong, None);
+    for (pieces, fault) in BAD_LINES {
+        assert!(rt; has_fault(alloc, pieces, *fault));
+    }
 }
 
 // Texts without a claim, and their scorings.
@@ -91,17 +90,18 @@ const FIRST_LINES: &[(&[u8], Scoring)] = &[
 ];
 
 fn has_scoring(alloc: Global, text: &[u8], scoring: Scoring) -> bool {
-    let claims = read_again(alloc, text);
-    claims.is_ok_and(|claims| claims.len() == 0 && claims.scoring() == scoring)
+    let Ok(claims) = read_again(alloc, text) else {
+        return false;
+    };
+    claims.len() == 0 && claims.scoring() == scoring
 }
 
 #[test]
 fn reads_the_first_line(rt: HostRuntime) {
     let alloc = rt.alloc();
-    let wrong = FIRST_LINES
-        .iter()
-        .position(|(text, scoring)| !has_scoring(alloc, text, *scoring));
-    assert_eq!(rt; wrong, None);
+    for (text, scoring) in FIRST_LINES {
+        assert!(rt; has_scoring(alloc, text, *scoring));
+    }
 }
 
 // How many bytes of the three lines are left, and how many claims or which fault they give.
@@ -142,26 +142,37 @@ fn front(text: &Text, count: usize) -> &[u8] {
 }
 
 fn gives(alloc: Global, text: &[u8], given: Result<usize, BookFault>) -> bool {
-    read_again(alloc, text).map(|claims| claims.len()) == given
+    match read_again(alloc, text) {
+        Ok(claims) => given == Ok(claims.len()),
+        Err(fault) => given == Err(fault),
+    }
 }
 
-// The claim that a text makes of a position where Black is to move.
-fn claim_in(alloc: Global, text: &[u8], discs: Discs) -> Option<Claim> {
-    let position = pos_of(discs, Side::Black)?;
-    read_again(alloc, text).ok()?.find(&position)
+fn gives_at_each_cut(alloc: Global, text: &Text) -> bool {
+    for (count, given) in CUTS {
+        if !gives(alloc, front(text, *count), *given) {
+            return false;
+        }
+    }
+    true
+}
+
+fn claims_at_each_cut(alloc: Global, text: &Text) -> bool {
+    for (count, discs, score, mask) in CUT_CLAIMS {
+        if claim_in(alloc, front(text, *count), *discs) != claim_of_moves(*score, *mask) {
+            return false;
+        }
+    }
+    true
 }
 
 #[test]
 fn reads_what_is_cut_off(rt: HostRuntime) {
     let alloc = rt.alloc();
     let text = join(THREE_LINES);
-    assert_eq!(rt; text.len(), 236);
-    let wrong = CUTS.iter().position(|(count, given)| !gives(alloc, front(&text, *count), *given));
-    assert_eq!(rt; wrong, None);
-    let wrong = CUT_CLAIMS.iter().position(|(count, discs, score, mask)| {
-        claim_in(alloc, front(&text, *count), *discs) != claim_of_moves(*score, *mask)
-    });
-    assert_eq!(rt; wrong, None);
+    assert!(rt;
+        text.len() == 236 && gives_at_each_cut(alloc, &text) && claims_at_each_cut(alloc, &text)
+    );
 }
 
 // What is listed for a position, and what that claims.
@@ -183,5 +194,7 @@ fn is_claimed(alloc: Global, row: &(&'static [u8], i8, Best)) -> bool {
 #[test]
 fn claims_by_the_greatest_score(rt: HostRuntime) {
     let alloc = rt.alloc();
-    assert_eq!(rt; LISTED.iter().position(|row| !is_claimed(alloc, row)), None);
+    for row in LISTED {
+        assert!(rt; is_claimed(alloc, row));
+    }
 }

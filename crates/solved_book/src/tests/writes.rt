@@ -6,9 +6,9 @@ use crate::tests::{
     LAST_CORNER, LAST_CORNER_LINE, SEVEN_ROWS, SEVEN_WHITE_ROWS, UNEQUAL_CORNERS, UNEQUAL_ROWS,
     add_to, join, pos_of, read_again, solved_of,
 };
-use endgame_search::Claim;
+use endgame_search::{Claim, Solved};
 use othello_bits::Sym;
-use othello_rules::{Scoring, Side};
+use othello_rules::{Answer, Scoring, Side};
 use std::alloc::Global;
 use std::io;
 
@@ -22,6 +22,25 @@ fn is_written_in(room: usize, book: &Book, whole: &[u8]) -> bool {
         Ok(()) => room >= whole.len() && bytes.starts_with(whole),
         Err(error) => room < whole.len() && error.kind() == io::ErrorKind::WriteZero,
     }
+}
+
+// The book of two positions.
+const TWO_LINES: &[&[u8]] = &[
+    b"% ffobook 2 winner\n",
+    SEVEN_ROWS,
+    LAST_CORNER_LINE,
+    SEVEN_ROWS,
+    EQUAL_CORNERS_LINE,
+];
+
+fn is_written_in_each_room(book: &Book) -> bool {
+    let whole = join(TWO_LINES);
+    for room in 0..300 {
+        if !is_written_in(room, book, &whole) {
+            return false;
+        }
+    }
+    true
 }
 
 // Whether the book writes this text and no more.
@@ -40,8 +59,13 @@ fn is_new(book: &mut Book, discs: Discs) -> bool {
     is_added(book, discs, Side::Black, Sym::Identity) == Some(true)
 }
 
-fn is_known(book: &mut Book, discs: Discs, sym: Sym) -> bool {
-    is_added(book, discs, Side::Black, sym) == Some(false)
+fn are_images_known(book: &mut Book, discs: Discs) -> bool {
+    for sym in Sym::all() {
+        if is_added(book, discs, Side::Black, sym) != Some(false) {
+            return false;
+        }
+    }
+    true
 }
 
 // A book of three positions, to which no image of one of them is new.
@@ -50,49 +74,58 @@ fn holds_three(book: &mut Book) -> bool {
         && is_new(book, LAST_CORNER)
         && is_new(book, CORNER_LEFT_OVER)
         && is_new(book, EQUAL_CORNERS)
-        && Sym::all()
-            .iter()
-            .all(|sym| is_known(book, EQUAL_CORNERS, *sym))
+        && are_images_known(book, EQUAL_CORNERS)
         && book.len() == 3
 }
 
-// Under each scoring the header, and the line of the position whose score differs.
-const FIRST_LINES: &[(Scoring, &[u8], &[u8])] = &[
+// A scoring, the text of its empty book, and that of its book of three positions, one of which has
+// another score under each.
+type Three = (Scoring, &'static [u8], &'static [&'static [u8]]);
+
+const BOOKS_OF_THREE: &[Three] = &[
     (
         Scoring::Winner,
         b"% ffobook 2 winner\n",
-        CORNER_LEFT_OVER_LINE,
+        &[
+            b"% ffobook 2 winner\n",
+            SEVEN_ROWS,
+            CORNER_LEFT_OVER_LINE,
+            SEVEN_ROWS,
+            LAST_CORNER_LINE,
+            SEVEN_ROWS,
+            EQUAL_CORNERS_LINE,
+        ],
     ),
     (
         Scoring::Discs,
         b"% ffobook 2 discs\n",
-        b"XOOOOO-- X; G8:+63;\n",
+        &[
+            b"% ffobook 2 discs\n",
+            SEVEN_ROWS,
+            b"XOOOOO-- X; G8:+63;\n",
+            SEVEN_ROWS,
+            LAST_CORNER_LINE,
+            SEVEN_ROWS,
+            EQUAL_CORNERS_LINE,
+        ],
     ),
 ];
 
-fn is_book_of_three(alloc: Global, row: &(Scoring, &'static [u8], &'static [u8])) -> bool {
-    let (scoring, header, first_line) = *row;
+fn is_book_of_three(alloc: Global, row: &Three) -> bool {
+    let (scoring, header, pieces) = *row;
     let mut book = Book::new(alloc, scoring);
-    let is_empty = has_text(&book, header);
-    let whole = join(&[
-        header,
-        SEVEN_ROWS,
-        first_line,
-        SEVEN_ROWS,
-        LAST_CORNER_LINE,
-        SEVEN_ROWS,
-        EQUAL_CORNERS_LINE,
-    ]);
-    is_empty && holds_three(&mut book) && book.scoring() == scoring && has_text(&book, &whole)
+    let whole = join(pieces);
+    has_text(&book, header)
+        && holds_three(&mut book)
+        && book.scoring() == scoring
+        && has_text(&book, &whole)
 }
 
 #[test]
 fn holds_one_of_all_images(rt: HostRuntime) {
-    let alloc = rt.alloc();
-    let wrong = FIRST_LINES
-        .iter()
-        .position(|row| !is_book_of_three(alloc, row));
-    assert_eq!(rt; wrong, None);
+    for row in BOOKS_OF_THREE {
+        assert!(rt; is_book_of_three(rt.alloc(), row));
+    }
 }
 
 // A position, a scoring, and the text of its book.
@@ -143,44 +176,44 @@ const ANSWERS: &[Row] = &[
     ),
 ];
 
+// Whether the book of one solved position has the text.
+fn is_written_as(alloc: Global, solved: &Solved, text: &[u8]) -> bool {
+    let mut book = Book::new(alloc, solved.scoring());
+    add_to(&mut book, solved) == Some(true) && has_text(&book, text)
+}
+
+// Whether the text claims the position's answer.
+fn is_claimed_in(alloc: Global, text: &[u8], solved: Solved) -> bool {
+    let Ok(claims) = read_again(alloc, text) else {
+        return false;
+    };
+    let Answer { score, best } = solved.answer();
+    claims.scoring() == solved.scoring()
+        && claims.find(&solved.pos()) == Some(Claim { score, best })
+}
+
 // Whether the position's book has the text, and the text read again claims the position's answer.
 fn is_read_again(alloc: Global, row: &Row) -> Option<bool> {
     let (discs, side, scoring, pieces) = *row;
-    let position = pos_of(discs, side)?;
-    let mut book = Book::new(alloc, scoring);
-    let solved = solved_of(position, book.scoring())?;
-    let is_new = add_to(&mut book, &solved)?;
+    let solved = solved_of(pos_of(discs, side)?, scoring)?;
     let text = join(&pieces);
-    let claims = read_again(alloc, &text).ok()?;
-    let answer = solved.answer();
-    let claim = Claim {
-        score: answer.score,
-        best: answer.best,
-    };
-    let is_claimed = claims.scoring() == scoring && claims.find(&position) == Some(claim);
-    Some(is_new && has_text(&book, &text) && is_claimed)
+    Some(is_written_as(alloc, &solved, &text) && is_claimed_in(alloc, &text, solved))
 }
 
 #[test]
 fn writes_each_kind_of_answer(rt: HostRuntime) {
-    let alloc = rt.alloc();
-    let wrong = ANSWERS
-        .iter()
-        .position(|row| is_read_again(alloc, row) != Some(true));
-    assert_eq!(rt; wrong, None);
+    for row in ANSWERS {
+        assert!(rt; is_read_again(rt.alloc(), row) == Some(true));
+    }
 }
 
 // After a fault at each place of the text the book can be written still.
 #[test]
 fn can_be_written_again_after_a_fault(rt: HostRuntime) {
     let mut book = Book::new(rt.alloc(), Scoring::Winner);
-    let whole = join(&[
-        b"% ffobook 2 winner\n",
-        SEVEN_ROWS,
-        LAST_CORNER_LINE,
-        SEVEN_ROWS,
-        EQUAL_CORNERS_LINE,
-    ]);
-    assert!(rt; is_new(&mut book, LAST_CORNER) && is_new(&mut book, EQUAL_CORNERS));
-    assert!(rt; (0..300).all(|room| is_written_in(room, &book, &whole)));
+    assert!(rt;
+        is_new(&mut book, LAST_CORNER)
+            && is_new(&mut book, EQUAL_CORNERS)
+            && is_written_in_each_room(&book)
+    );
 }
