@@ -46,7 +46,9 @@ solved 3 refused 0
 ";
 
 // The words, the report of ONE that they ask for, and the book.
-const WRITTEN: &[(&str, &[u8], &[u8])] = &[
+type Written<'a> = (&'a str, &'a [u8], &'a [u8]);
+
+const WRITTEN: &[Written] = &[
     ("ffosolve --book-out out.book", ONE_REPORT, BOOK),
     (
         "ffosolve --book-in out.book --workers 0 --book-out out.book",
@@ -65,13 +67,24 @@ const WRITTEN: &[(&str, &[u8], &[u8])] = &[
     ),
 ];
 
+// Whether a run ends so, and leaves this book and nothing beside it.
+fn is_written<T: Alloc + Files + Threads + Wait + Sync>(
+    rt: &T,
+    alloc: Global,
+    wanted: &Written<'_>,
+) -> Result<bool, Fail> {
+    let (line, report, book) = *wanted;
+    if !ends_so(rt, alloc, &(line, ONE, 0, report, b""))? || fs::exists(rt, "out.book.0.part")? {
+        return Ok(false);
+    }
+    Ok(fs::read(rt, "out.book")?.as_slice() == book)
+}
+
 // A book takes the place of the one that was read, and nothing is left beside it.
 #[test]
 fn writes_and_reads_books(rt: HostRuntime) -> Result<(), Fail> {
-    for (line, report, book) in WRITTEN {
-        assert!(rt; ends_so(&rt, rt.alloc(), &(*line, ONE, 0, *report, b""))?);
-        let written = fs::read(&rt, "out.book")?;
-        assert!(rt; written.as_slice() == *book && !fs::exists(&rt, "out.book.0.part")?);
+    for wanted in WRITTEN {
+        assert!(rt; is_written(&rt, rt.alloc(), wanted)?);
     }
     fs::remove_file(&rt, "out.book")?;
     Ok(())

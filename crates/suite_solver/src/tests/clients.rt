@@ -4,7 +4,7 @@ ghost use Rattle.std.specs.Prelude.{◌≤◌, length};
 
 use super::{BOTH, CountingGate, ONE, TWO, TWO_JOBS};
 use crate::laws::client_part;
-use crate::{Gate, NoGate, Part, RunFault, write_report};
+use crate::{Gate, NoGate, RunFault, write_report};
 use arrayvec::ArrayVec;
 use bound_table::{BoundTable, NoTable};
 use endgame_search::Task;
@@ -34,23 +34,43 @@ fn report_part<R: Wait, G: Gate>(
     Ok(part.solved.len() == part.rows.len())
 }
 
+// Whether two clients, one after the other, write their reports.
+fn report_both<R: Wait, G: Gate>(
+    rt: &R,
+    alloc: Global,
+    desk: &Desk,
+    gate: &G,
+) -> Result<bool, Fail> {
+    let mut output = Vec::new(alloc);
+    let first = report_part(rt, alloc, &mut output, desk, gate, 0, ONE)?;
+    let second = report_part(rt, alloc, &mut output, desk, gate, 1, TWO)?;
+    Ok(first && second && output.as_slice() == BOTH)
+}
+
 #[test]
 fn clients_serve_themselves(rt: HostRuntime) -> Result<(), Fail> {
     let desk = Desk::new(rt.alloc(), 2)?;
     let gate = CountingGate::new();
-    let mut output = Vec::new(rt.alloc());
-    assert!(rt; report_part(&rt, rt.alloc(), &mut output, &desk, &gate, 0, ONE)?);
-    assert!(rt; report_part(&rt, rt.alloc(), &mut output, &desk, &gate, 1, TWO)?);
-    assert!(rt; output.as_slice() == BOTH && gate.counts() == (6, 6));
-    assert!(rt; desk.take_or_wait(&rt).is_none());
+    assert!(rt; report_both(&rt, rt.alloc(), &desk, &gate)?);
+    assert!(rt; gate.counts() == (6, 6) && desk.take_or_wait(&rt).is_none());
     Ok(())
 }
 
-// Whether a client's part ended for another cause than memory.
-fn is_mixed(part: &Result<Part, RunFault>) -> Result<bool, AllocError> {
-    match part {
+// Whether a client's part ends for another cause than memory.
+fn is_mixed_part<R: Wait, G: Gate>(
+    rt: &R,
+    alloc: Global,
+    desk: &Desk,
+    gate: &G,
+    text: &[u8],
+    sender: u32,
+) -> Result<bool, AllocError>
+    requires { length text.now ≤ 1048576 }
+{
+    let table = NoTable::new(Scoring::Winner);
+    match client_part(rt, alloc, text, sender, 20, desk, &table, None, gate) {
         Err(RunFault::Memory) => Err(AllocError),
-        Err(fault) => Ok(*fault == RunFault::Mixed),
+        Err(fault) => Ok(fault == RunFault::Mixed),
         Ok(_) => Ok(false),
     }
 }
@@ -58,10 +78,10 @@ fn is_mixed(part: &Result<Part, RunFault>) -> Result<bool, AllocError> {
 // Whether the parts of two clients are refused: one that takes a job of another scoring, and one whose sender is not the
 // desk's.
 fn are_mixed<R: Wait>(rt: &R, alloc: Global, desk: &Desk) -> Result<bool, AllocError> {
-    let table = NoTable::new(Scoring::Winner);
-    let taker = client_part(rt, alloc, ONE, 1, 20, desk, &table, None, &NoGate);
-    let stranger = client_part(rt, alloc, ONE, 2, 20, desk, &table, None, &NoGate);
-    Ok(is_mixed(&taker)? && is_mixed(&stranger)?)
+    Ok(
+        is_mixed_part(rt, alloc, desk, &NoGate, ONE, 1)?
+            && is_mixed_part(rt, alloc, desk, &NoGate, ONE, 2)?,
+    )
 }
 
 const FIRST_JOB: JobId = JobId {
@@ -146,14 +166,28 @@ impl Gate for MeddlingGate<'_> {
 fn a_refused_finish_ends_the_part(rt: HostRuntime) -> Result<(), Fail> {
     let alloc = rt.alloc();
     let desk = Desk::new(alloc, 1)?;
-    let table = NoTable::new(Scoring::Winner);
     let gate = MeddlingGate {
         desk: &desk,
         entered: AtomicU32::new(0),
     };
-    let part = client_part(&rt, alloc, TWO_JOBS, 0, 20, &desk, &table, None, &gate);
-    assert!(rt; is_mixed(&part)? && gate.entered.into_inner() == 1);
+    let refused = is_mixed_part(&rt, alloc, &desk, &gate, TWO_JOBS, 0)?;
+    assert!(rt; refused && gate.entered.into_inner() == 1);
     Ok(())
+}
+
+// A client of sender 0 that has submitted so many tasks.
+fn sent_client<R: Wait>(
+    rt: &R,
+    alloc: Global,
+    desk: &Desk,
+    task: Task,
+    count: u32,
+) -> Result<Client, SubmitFault> {
+    let mut client = Client::new(alloc, 0);
+    for _ in 0..count {
+        desk.submit(rt, &mut client, task)?;
+    }
+    Ok(client)
 }
 
 // A sender that has all jobs that it may have but one: the part's second task is refused, and the sender is closed.
@@ -161,15 +195,10 @@ fn a_refused_finish_ends_the_part(rt: HostRuntime) -> Result<(), Fail> {
 fn a_refused_submit_closes_the_sender(rt: HostRuntime) -> Result<(), Fail> {
     let alloc = rt.alloc();
     let desk = Desk::new(alloc, 1)?;
-    let table = NoTable::new(Scoring::Winner);
     let position = Pos::new(!0, 0).expect(&rt, "no square is taken twice");
     let task = Task::new(position, 20, Scoring::Winner)?;
-    let mut other = Client::new(alloc, 0);
-    for _ in 0..65_534u32 {
-        desk.submit(&rt, &mut other, task)?;
-    }
-    let part = client_part(&rt, alloc, TWO_JOBS, 0, 20, &desk, &table, None, &NoGate);
-    assert!(rt; is_mixed(&part)?);
+    let mut other = sent_client(&rt, alloc, &desk, task, 65_534)?;
+    assert!(rt; is_mixed_part(&rt, alloc, &desk, &NoGate, TWO_JOBS, 0)?);
     assert!(rt; desk.submit(&rt, &mut other, task) == Err(SubmitFault::Closed));
     Ok(())
 }

@@ -131,6 +131,19 @@ fn end_of<T: Files + Threads + Wait + Sync, W: Write>(
 
 const UNWRITTEN: &str = "ffosolve --book-out unwritten.book";
 
+// Whether a run with this standard output ends so.
+fn ends_with<T: Files + Threads + Wait + Sync, W: Write>(
+    rt: &T,
+    alloc: Global,
+    line: &str,
+    output: &mut W,
+    status: u8,
+    errors: &[u8],
+) -> Result<bool, AllocError> {
+    let ended = end_of(rt, alloc, line, output)?;
+    ended_so(&ended, (status, b"", errors))
+}
+
 // Whether a standard output that fails after so many calls is told.
 fn tells_output<T: Files + Threads + Wait + Sync>(
     rt: &T,
@@ -138,30 +151,51 @@ fn tells_output<T: Files + Threads + Wait + Sync>(
     line: &str,
     calls_left: u32,
 ) -> Result<bool, AllocError> {
-    let ended = end_of(rt, alloc, line, &mut FailingWriter { calls_left })?;
-    ended_so(&ended, (3, b"", NO_OUTPUT))
+    ends_with(
+        rt,
+        alloc,
+        line,
+        &mut FailingWriter { calls_left },
+        3,
+        NO_OUTPUT,
+    )
+}
+
+// Whether it is told of reports and of help, and no book is written.
+fn tells_outputs<T: Files + Threads + Wait + Sync>(
+    rt: &T,
+    alloc: Global,
+    calls_left: u32,
+) -> Result<bool, Fail> {
+    let told = tells_output(rt, alloc, UNWRITTEN, calls_left)?
+        && tells_output(rt, alloc, "ffosolve --help", calls_left)?;
+    Ok(told && !fs::exists(rt, "unwritten.book")?)
 }
 
 // The report has 77 bytes, which are 26 writes of three bytes and less. Help has more. No book is written.
 #[test]
 fn tells_failing_output(rt: HostRuntime) -> Result<(), Fail> {
     for calls_left in 0..26 {
-        assert!(rt; tells_output(&rt, rt.alloc(), UNWRITTEN, calls_left)?);
-        assert!(rt; tells_output(&rt, rt.alloc(), "ffosolve --help", calls_left)?);
-        assert!(rt; !fs::exists(&rt, "unwritten.book")?);
+        assert!(rt; tells_outputs(&rt, rt.alloc(), calls_left)?);
     }
     let mut output = FailingWriter { calls_left: 26 };
-    let ended = end_of(&rt, rt.alloc(), "ffosolve", &mut output)?;
-    assert!(rt; ended_so(&ended, (0, b"", b""))?);
+    assert!(rt; ends_with(&rt, rt.alloc(), "ffosolve", &mut output, 0, b"")?);
     Ok(())
+}
+
+// Whether a standard output that can't be flushed is told.
+fn tells_unflushed<T: Files + Threads + Wait + Sync>(
+    rt: &T,
+    alloc: Global,
+    line: &str,
+) -> Result<bool, AllocError> {
+    ends_with(rt, alloc, line, &mut HoldingWriter {}, 3, NO_OUTPUT)
 }
 
 #[test]
 fn tells_unflushed_output(rt: HostRuntime) -> Result<(), Fail> {
-    for line in [UNWRITTEN, "ffosolve --help"] {
-        let ended = end_of(&rt, rt.alloc(), line, &mut HoldingWriter {})?;
-        assert!(rt; ended_so(&ended, (3, b"", NO_OUTPUT))?);
-    }
+    assert!(rt; tells_unflushed(&rt, rt.alloc(), UNWRITTEN)?);
+    assert!(rt; tells_unflushed(&rt, rt.alloc(), "ffosolve --help")?);
     assert!(rt; !fs::exists(&rt, "unwritten.book")?);
     Ok(())
 }
