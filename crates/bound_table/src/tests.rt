@@ -8,6 +8,7 @@ ghost use Rattle.bound_table.specs.Ranges.{IsTrueOf};
 use crate::{BoundTable, Bounds, NoTable, Range, TableFault};
 use othello_bits::{Pos, Sym};
 use othello_rules::{Scoring, Side};
+use std::alloc::{AllocError, Global};
 use std::process::Abort;
 use std::test::Fail;
 use std::thread;
@@ -53,10 +54,12 @@ fn is_shown_once_stored(table: &BoundTable, exact: &Exact, value: i8) -> bool
 {
     let before = table.probe(&exact.position);
     table.store(&exact.position, exact.range);
+    for sym in Sym::all() {
+        if !shows(table, exact.position.image(sym), value) {
+            return false;
+        }
+    }
     before.is_none()
-        && Sym::all()
-            .iter()
-            .all(|sym| shows(table, exact.position.image(*sym), value))
 }
 
 #[test]
@@ -113,7 +116,12 @@ fn is_shown_truly(table: &BoundTable, exact: &Exact) -> bool {
 }
 
 fn are_shown_truly(table: &BoundTable, one: &Exact, other: &Exact) -> bool {
-    (0..10_000).all(|_| is_shown_truly(table, one) && is_shown_truly(table, other))
+    for _ in 0..10_000u32 {
+        if !is_shown_truly(table, one) || !is_shown_truly(table, other) {
+            return false;
+        }
+    }
+    true
 }
 
 // Stores in one thread while two others probe.
@@ -173,5 +181,22 @@ fn count_shown(rt: &impl Abort, table: &BoundTable) -> usize
 fn positions_have_entries_of_their_own(rt: HostRuntime) -> Result<(), Fail> {
     let table = BoundTable::new(rt.alloc(), 16, Scoring::Winner)?;
     assert!(rt; count_shown(&rt, &table) >= 8);
+    Ok(())
+}
+
+fn has_text(alloc: Global, fault: TableFault, text: &str) -> Result<bool, AllocError> {
+    Ok(format!(in alloc; "{fault}")?.as_str() == text)
+}
+
+#[test]
+fn texts_of_faults(rt: HostRuntime) -> Result<(), AllocError> {
+    assert!(rt;
+        has_text(
+            rt.alloc(),
+            TableFault::TooMany,
+            "more than 4194304 table entries"
+        )?
+    );
+    assert!(rt; has_text(rt.alloc(), TableFault::Memory, "out of memory")?);
     Ok(())
 }

@@ -2,6 +2,7 @@
 
 ghost use Rattle.std.specs.Prelude.{◌≡◌, IfSome};
 
+mod faults;
 mod finds;
 mod reads;
 mod writes;

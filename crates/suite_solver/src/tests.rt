@@ -2,6 +2,7 @@
 
 mod books;
 mod clients;
+mod faults;
 mod files;
 mod limits;
 mod options;

@@ -26,10 +26,9 @@ fn turns(pos: Pos, moves: u64, from_a1: u64, from_h1: u64) -> bool {
 
 #[test]
 fn moves_and_flips(rt: HostRuntime) {
-    let wrong = ROWS.iter().position(|(discs, side, moves, from_a1, from_h1)| {
-        !turns(pos_of(&rt, *discs, *side), *moves, *from_a1, *from_h1)
-    });
-    assert_eq!(rt; wrong, None);
+    for (discs, side, moves, from_a1, from_h1) in ROWS {
+        assert!(rt; turns(pos_of(&rt, *discs, *side), *moves, *from_a1, *from_h1));
+    }
 }
 
 #[test]

@@ -19,10 +19,13 @@ fn positions_differ_in_either_mask(rt: HostRuntime) {
 
 // Whether each symmetry is equal to itself alone.
 fn are_different(symmetries: [Sym; 8]) -> bool {
-    (0..64).all(|pair| {
+    for pair in 0..64 {
         let (first, second) = (pair / 8, pair % 8);
-        (symmetries[first] == symmetries[second]) == (first == second)
-    })
+        if (symmetries[first] == symmetries[second]) != (first == second) {
+            return false;
+        }
+    }
+    true
 }
 
 #[test]

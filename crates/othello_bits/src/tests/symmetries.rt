@@ -35,11 +35,9 @@ fn sends(pos: Pos, sym: Sym, to: u8, inverse: Sym) -> bool {
 #[test]
 fn symmetries_and_images(rt: HostRuntime) {
     let pos = pos_of(&rt, UNEQUAL_CORNERS, Side::Black);
-    let wrong = Sym::all()
-        .iter()
-        .zip(ROWS)
-        .position(|(sym, (to, inverse))| !sends(pos, *sym, *to, *inverse));
-    assert_eq!(rt; wrong, None);
+    for (sym, (to, inverse)) in Sym::all().iter().zip(ROWS) {
+        assert!(rt; sends(pos, *sym, *to, *inverse));
+    }
 }
 
 // The position, its mover, the first symmetry, and the masks of its canonical position.
@@ -82,10 +80,7 @@ fn leads(pos: Pos, first: Sym, (own, opp): Discs) -> bool {
 
 #[test]
 fn canonical_positions(rt: HostRuntime) {
-    let wrong = CANONICAL.iter().position(|(discs, side, first, least)| !leads(
-        pos_of(&rt, *discs, *side),
-        *first,
-        *least,
-    ));
-    assert_eq!(rt; wrong, None);
+    for (discs, side, first, least) in CANONICAL {
+        assert!(rt; leads(pos_of(&rt, *discs, *side), *first, *least));
+    }
 }

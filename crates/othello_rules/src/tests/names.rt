@@ -9,19 +9,20 @@ const SCORINGS: &[(&str, Scoring)] = &[
     ("sign", Scoring::Sign),
 ];
 
+const OTHERS: &[&[u8]] = &[b"", b"Winner", b"sig", b"signs"];
+
 fn is_name(name: &str, scoring: Scoring) -> bool {
     scoring.name() == name && Scoring::from_name(name.as_bytes()) == Some(scoring)
 }
 
 #[test]
 fn names_of_scorings(rt: HostRuntime) {
-    assert!(rt;
-        SCORINGS
-            .iter()
-            .all(|(name, scoring)| is_name(name, *scoring))
-    );
-    let others: [&[u8]; 4] = [b"", b"Winner", b"sig", b"signs"];
-    assert!(rt; others.iter().all(|name| Scoring::from_name(name).is_none()));
+    for (name, scoring) in SCORINGS {
+        assert!(rt; is_name(name, *scoring));
+    }
+    for name in OTHERS {
+        assert!(rt; Scoring::from_name(name).is_none());
+    }
 }
 
 fn has_text(alloc: Global, fault: RuleFault, text: &str) -> Result<bool, AllocError> {

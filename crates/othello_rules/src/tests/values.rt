@@ -43,7 +43,9 @@ fn is_right(row: &Row) -> bool {
 
 #[test]
 fn answers_under_each_scoring(rt: HostRuntime) {
-    assert_eq!(rt; ROWS.iter().position(|row| !is_right(row)), None);
+    for row in ROWS {
+        assert!(rt; is_right(row));
+    }
 }
 
 // One move wins by more than the other, and both win.
