@@ -1,5 +1,6 @@
-use Rattle.std.proofs.Common.{rules}
+use Rattle.std.proofs.Common.{ap, ◌∙◌}
+use Rattle.othello_bits.specs.Discs.{answer_of}
 use Rattle.endgame_search.proofs.solutions.Solved.answer.Goals as goal
 
 pub returns : goal.returns
-returns c = search rules
+returns c = c.self.invariant ∙ ap (λ p. answer_of p.scoring p.position) c.self.view_is

@@ -1,5 +1,4 @@
-use Rattle.std.proofs.Common.{rules}
 use Rattle.endgame_search.proofs.solutions.Solved.scoring.Goals as goal
 
 pub returns : goal.returns
-returns c = search rules
+returns c = search depth 0

@@ -22,3 +22,9 @@ returns-clause-legal c = λ s. (λ e. moving c.args.self c.args.square c.flips-f
 
 pub returns-clause-when : goal.returns-clause-when
 returns-clause-when c = (λ e. a_move c.args.self c.args.square c.flips-flips.result c.flips-flips.type_inv c.flips-flips.ensures.squares c.if-flips-eq0.false, λ m. refl)
+
+pub returns-clause-meaning : goal.returns-clause-meaning
+returns-clause-meaning c = c.after.ensures.meaning
+
+pub returns-clause-value : goal.returns-clause-value
+returns-clause-value c = c.after.ensures.value
