@@ -1,8 +1,7 @@
 use Rattle.std.proofs.Common.{arith}
-use Rattle.std.proofs.lemmas.Grind.{common_steps}
 use Rattle.obf_text.specs.Written.{score_text}
 use Rattle.obf_text.proofs.writes.score_bytes.Goals as goal
 
 pub returns : goal.returns
 unfolding score_text
-returns c = grind (arith, common_steps)
+returns c = grind arith

@@ -1,4 +1,4 @@
-use Rattle.std.proofs.Common.{rules, ◌≡◌, ◌∙◌, Some, ap, codes, option_map, subst, sym}
+use Rattle.std.proofs.Common.{◌≡◌, ◌∙◌, Some, ap, codes, option_map, subst, sym}
 use Rattle.std.proofs.lemmas.Option.{IfSome_then}
 use Rattle.clap.specs.Words.{first_of, found_of, rows_of}
 use Rattle.clap.proofs.WalkLemmas.{first_value-rows}
@@ -10,7 +10,7 @@ use Rattle.suite_solver.proofs.command_line.settings_of.Goals as goal
 pub returns : goal.returns
 returns c =
     let found = found_of c.args.matches.now in
-    let got : c.get_str.result ≡ Some c.in_ok-get_str.field-0 = search rules in
+    let got : c.get_str.result ≡ Some c.in_ok-get_str.field-0 = c.in_ok-get_str.was in
     let named = sym c.as_bytes.ensures.value ∙ c.in_ok-scoring.ensures.named in
     let scoring : first_of (codes "scoring") (rows_of found) ≡ Some (scoring_name c.in_ok-scoring.scoring) =
     sym (first_value-rows found (codes "scoring")) ∙ sym c.get_str.ensures ∙ ap (option_map (λ s. s.now)) got ∙ ap Some named in

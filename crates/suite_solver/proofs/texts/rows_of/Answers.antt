@@ -1,4 +1,4 @@
-use Rattle.std.proofs.Common.{rules, ◌∷◌, [], ◌++◌, sym, ◌∙◌, ap, ap₂}
+use Rattle.std.proofs.Common.{◌∷◌, [], ◌++◌, sym, ◌∙◌, ap, ap₂}
 use Rattle.std.specs.List.{cons_option}
 use Rattle.std.specs.Slice.Iter.{iter_rest}
 use Rattle.std.proofs.lemmas.List.{map_more}
@@ -10,7 +10,7 @@ use Rattle.suite_solver.proofs.TaskLemmas.{answers_left, next_answer}
 use Rattle.suite_solver.proofs.texts.rows_of.Goals as goal
 
 pub loop-numbered-init : goal.loop-numbered-init
-loop-numbered-init c = search rules
+loop-numbered-init c = record { rows = c.new-rows.ensures.items; answers = c.iter-answers.ensures.rest ∙ c.requires }
 
 pub result-requires : goal.result-requires
 result-requires c = λ task e.

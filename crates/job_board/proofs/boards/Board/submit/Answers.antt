@@ -71,3 +71,6 @@ pub returns-in_default-push-clause-content : goal.returns-in_default-push-clause
 returns-in_default-push-clause-content c =
     let at = slice_get_read c.self.inside.senders.items (vec_len c.self.inside.senders) c.args.sender c.in-Some.jobs.now (omega (arith, c.self.inside.senders.ok.0)) (c.in-Some.ensures.variant.0 refl) c.in-Some.ensures.value in
     rw c.in_default-push.ensures.err (set_same c.self.inside.senders.items c.args.sender c.in-Some.jobs.now at ∙ c.self.view_is)
+
+pub push-requires-2 : goal.push-requires-2
+push-requires-2 c = omega (arith, c.in-Ok.ensures.ok)

@@ -3,3 +3,6 @@ use Rattle.job_board.proofs.senders.Sender.refusal.Goals as goal
 
 pub returns-then-len-ge-MOST_JOBS : goal.returns-then-len-ge-MOST_JOBS
 returns-then-len-ge-MOST_JOBS c = search rules
+
+pub returns : goal.returns
+returns c = search rules

@@ -1,5 +1,4 @@
-use Rattle.std.proofs.Common.{rules}
 use Rattle.obf_text.proofs.entries.Listed.into_vec.Goals as goal
 
 pub returns : goal.returns
-returns c = search rules
+returns c = c.self.view_is

@@ -1,5 +1,5 @@
-use Rattle.std.proofs.Common.{rules}
+use Rattle.std.proofs.Common.{refl}
 use Rattle.othello_rules.proofs.discs.Side.disc.Goals as goal
 
 pub returns-in-Black : goal.returns-in-Black
-returns-in-Black c = search rules
+returns-in-Black c = rw c.in-Black.is refl

@@ -1,5 +1,4 @@
-use Rattle.std.proofs.Common.{rules}
 use Rattle.othello_rules.proofs.squares.SquareDefault.default.Goals as goal
 
 pub returns : goal.returns
-returns c = search rules
+returns c = c.at.ensures

@@ -1,9 +1,14 @@
-use Rattle.std.proofs.Common.{subst}
+use Rattle.std.proofs.Common.{ap, sym, ◌∙◌, length, subst}
+use Rattle.std.proofs.lemmas.List.{length-map}
 use Rattle.solved_book.specs.Advice.{Advice}
 use Rattle.solved_book.specs.Order.{AreRising}
-use Rattle.solved_book.specs.Reading.{claimed_positions}
+use Rattle.solved_book.specs.Reading.{claimed_positions, position_claim}
 use Rattle.solved_book.proofs.ClaimSteps.{positions_claimed}
 use Rattle.solved_book.proofs.advice.Claims.len.Goals as goal
+
+pub returns-clause-count : goal.returns-clause-count
+returns-clause-count c =
+    c.len.ensures.len ∙ sym (length-map c.self.inside.claims.entries position_claim) ∙ ap (λ (a : Advice). length a.claims) c.self.view_is
 
 pub returns-clause-rising : goal.returns-clause-rising
 returns-clause-rising c =

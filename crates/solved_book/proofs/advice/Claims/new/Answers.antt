@@ -1,4 +1,6 @@
-use Rattle.std.proofs.Common.{rules}
+use Rattle.std.proofs.Common.{ap, map}
+use Rattle.solved_book.specs.Advice.{Advice}
+use Rattle.solved_book.specs.Reading.{position_claim}
 use Rattle.solved_book.proofs.KeptEntries.{rising_empty}
 use Rattle.solved_book.proofs.advice.Claims.new.Goals as goal
 
@@ -6,4 +8,5 @@ pub invariant_of-result : goal.invariant_of-result
 invariant_of-result c = rw c.new.ensures.empty rising_empty
 
 pub returns : goal.returns
-returns c = search rules
+returns c =
+    ap (λ es. let a : Advice = record { scoring = c.args.scoring; claims = map position_claim es } in a) c.new.ensures.empty
