@@ -1,5 +1,5 @@
 -- The null windows that find the value and the best moves, and the mask of those.
-use Rattle.std.proofs.Common.{◌≡◌, ℕ, ◌+◌, ◌^◌, ◌<◌, ℤ, pos, negsuc, neg_ℤ, ◌+ℤ◌, ◌-ℤ◌, ◌≤ℤ◌, ◌<ℤ◌, true, false, not, ◌&&◌, nat_eq, List, [], take, length, get_or, All, Contains, sym, ◌∙◌, subst, inl, inr, arith}
+use Rattle.std.proofs.Common.{◌≡◌, ℕ, ◌+◌, ◌^◌, ◌<◌, ℤ, pos, negsuc, neg_ℤ, ◌+ℤ◌, ◌-ℤ◌, ◌≤ℤ◌, true, false, not, ◌&&◌, nat_eq, List, [], take, length, get_or, All, Contains, sym, ◌∙◌, subst, inl, inr, arith}
 use Rattle.std.proofs.lemmas.Int.{ints, by_lt_z}
 use Rattle.std.proofs.lemmas.Bool.{cases_Bool, both_ways, and_parts, and_from, false_from_ne_true}
 use Rattle.std.proofs.lemmas.Bool.Decides.{Decides-int_eq}
@@ -11,9 +11,10 @@ use Rattle.othello_rules.specs.Masks.{in_mask, squares_of}
 use Rattle.othello_rules.proofs.ListLaws.{Contains-filter, passes_in_filter}
 use Rattle.othello_rules.proofs.MoveLaws.{Contains-squares}
 use Rattle.othello_bits.specs.Discs.{Discs, mask_where, moves_of, play_of, value_of, is_best_move, IsMove}
-use Rattle.othello_bits.proofs.GameLaws.{value_above, value_score}
+use Rattle.othello_bits.proofs.GameLaws.{value_above}
 use Rattle.othello_bits.proofs.MaskMeaning.{IsMove-on_board}
 use Rattle.othello_bits.proofs.Wheres.{is_where}
+use Rattle.endgame_search.specs.Windows.{Places}
 use Rattle.endgame_search.proofs.Takes.{other, gone}
 
 -- a test of the code, as a fact
@@ -24,31 +25,30 @@ pub le_out : (a b : ℤ) → a ≤ℤ b → le_z a b ≡ true
 le_out a b h = elim (cases_Bool (le_z a b)) [ inl t ↦ t | inr f ↦ absurd (omega (arith, ints)) ]
 
 -- a null window under a move tells whether the move is worth at least the score
-pub gives_told : (low high s v r : ℤ) → low ≡ neg_ℤ s → high ≡ pos 1 -ℤ s → (r ≤ℤ low → v ≤ℤ r) → (high ≤ℤ r → r ≤ℤ v)
+pub gives_told : (low high s v r : ℤ) → low ≡ neg_ℤ s → high ≡ pos 1 -ℤ s → Places low high v r
     → (r ≤ℤ low → s ≤ℤ neg_ℤ v) × (s ≤ℤ neg_ℤ v → r ≤ℤ low)
-gives_told low high s v r l h below above = (
-  λ x. let k = below x in omega (arith, ints),
-  λ x. by_lt_z low r (λ y. let k = above (omega (arith, ints)) in omega (arith, ints)) (λ y. y),
+gives_told low high s v r l h p = (
+  λ x. let k : v ≤ℤ r = p.below (omega (arith, ints)) in omega (arith, ints),
+  λ x. by_lt_z low r (λ y. let k = p.above y in omega (arith, ints)) (λ y. y),
 )
 
 -- two null windows tell whether a score is the value
-pub value_told : (high s v r q : ℤ) → (s ≤ℤ r → r ≤ℤ v) → s ≤ℤ r → high ≡ s +ℤ pos 1 → (q ≤ℤ s → v ≤ℤ q) → (high ≤ℤ q → q ≤ℤ v)
+pub value_told : (low high s v r q : ℤ) → low ≡ s -ℤ pos 1 → high ≡ s +ℤ pos 1 → Places low s v r → s ≤ℤ r → Places s high v q
     → (q ≤ℤ s → s ≡ v) × (s ≡ v → q ≤ℤ s)
-value_told high s v r q first here h below above =
-    let f = first here in (
-      λ x. let k = below x in omega (arith, ints),
-      λ x. by_lt_z s q (λ y. let k = above (omega (arith, ints)) in absurd (omega (arith, ints))) (λ y. y),
+value_told low high s v r q l h first here second =
+    let f : r ≤ℤ v = first.above (omega (arith, ints)) in (
+      λ x. let k : v ≤ℤ q = second.below (omega (arith, ints)) in omega (arith, ints),
+      λ x. by_lt_z s q (λ y. let k : q ≤ℤ v = second.above y in absurd (omega (arith, ints))) (λ y. y),
     )
 
 -- the whole window gives the value
-pub whole_window : (g : Scoring) (p : Discs) (r : ℤ) → (negsuc 64 <ℤ r → r <ℤ pos 65 → r ≡ value_of g p) → (r ≤ℤ negsuc 64 → value_of g p ≤ℤ r) → (pos 65 ≤ℤ r → r ≤ℤ value_of g p) → r ≡ value_of g p
-whole_window g p r inside below above =
-    let v = value_score g p in
-    let v0 = v.low in
-    let v1 = v.high in
-    by_lt_z (negsuc 64) r
-    (λ x. by_lt_z r (pos 65) (λ y. inside x y) (λ y. let k = above y in absurd (omega (arith, ints))))
-    (λ x. let k = below x in absurd (omega (arith, ints)))
+pub whole_window : (v r : ℤ) → Places (negsuc 64) (pos 65) v r → r ≡ v
+whole_window v r p =
+    let l = p.least in
+    let m = p.most in
+    let a = p.above (omega (arith, ints)) in
+    let b = p.below (omega (arith, ints)) in
+    omega (arith, ints)
 
 -- a move is best exactly if it is worth at least the value
 module _ (g : Scoring) (p : Discs) (q : ℕ) (s : ℤ) (move : IsMove p q) (value : s ≡ value_of g p) where

@@ -4,7 +4,7 @@ use Rattle.othello_rules.specs.Masks.{in_mask}
 use Rattle.std.proofs.lemmas.Int.{ints}
 use Rattle.std.proofs.lemmas.List.Elements.{All-map, All-contains, All-more, All-weaker}
 use Rattle.othello_rules.specs.declared.scorings.Scoring.{Scoring}
-use Rattle.othello_bits.specs.Discs.{Discs, moves_of, play_of, pass_of, empties_of, value_of, IsMove, HasNoMove}
+use Rattle.othello_bits.specs.Discs.{Discs, moves_of, play_of, pass_of, empties_of, value_of, HasNoMove}
 use Rattle.othello_bits.proofs.GameLaws.{value_above, value_reached, value-pass, empties_positive, empties-play, empties-pass}
 use Rattle.endgame_search.specs.declared.children.Child.{Child}
 use Rattle.endgame_search.specs.declared.children.Stuck.{Stuck}
@@ -18,13 +18,6 @@ pub child_empties : (p : Discs) (c : Child) → IsChildOf p c → empties_of c.p
 child_empties p c h =
     let e : empties_of c.position ≡ empties_of (play_of p c.square) = ap empties_of h.position in
     omega (arith, e, empties_positive p c.square h.legal, empties-play p c.square h.legal)
-
--- the only move is worth the value
-pub only_worth : (g : Scoring) (p : Discs) (c : Child) → IsChildOf p c → moves_of p ≢ 0 → ((q : ℕ) → IsMove p q → q ≡ c.square) → value_of g p ≡ neg_ℤ (value_of g c.position)
-only_worth g p c h some only =
-    let r = value_reached g p some in
-    let e : play_of p r.0 ≡ c.position = ap (play_of p) (only r.0 r.1) ∙ sym h.position in
-    sym r.2 ∙ ap (λ d. neg_ℤ (value_of g d)) e
 
 -- a pass where the opponent has a move
 pub passed_worth : (g : Scoring) (p c : Discs) (replies : ℕ) → HasNoMove p → c ≡ pass_of p → replies ≡ moves_of c → replies ≢ 0 → value_of g p ≡ neg_ℤ (value_of g c)

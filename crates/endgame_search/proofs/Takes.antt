@@ -2,14 +2,14 @@
 use Rattle.std.proofs.Common.{◌≡◌, ◌≢◌, ℕ, zero, suc, ◌+◌, ◌<◌, ◌≤◌, ◌^◌, ◌⊎◌, Bool, true, false, cond, not, ◌&&◌, nat_eq, List, [], ◌∷◌, ◌++◌, length, All, Contains, refl, sym, ap, ◌∙◌, subst, inl, inr, arith}
 use Rattle.std.specs.Int.Count.{ones}
 use Rattle.std.specs.List.Sorted.{IsPermutation}
-use Rattle.std.proofs.lemmas.Bool.{cases_eq, eq-eqb, ne_eqb, and_parts, both_ways}
+use Rattle.std.proofs.lemmas.Bool.{cases_eq, cases_lt, eq-eqb, ne_eqb, and_parts, both_ways}
 use Rattle.std.proofs.lemmas.List.{map-append}
 use Rattle.std.proofs.lemmas.List.Elements.{All-same, All-push, Contains-append_left, Contains-push}
 use Rattle.std.proofs.lemmas.List.Sorted.{All-permutation, Contains-permutation, IsPermutation-map}
 use Rattle.arrayvec.specs.ArrayVec.{ArrayVec, array_vec_len}
 use Rattle.othello_rules.specs.Masks.{in_mask}
 use Rattle.othello_bits.specs.Discs.{Discs, IsMove}
-use Rattle.othello_bits.proofs.Bits.{none_from_zero}
+use Rattle.othello_bits.proofs.Bits.{in_mask-above, none_from_zero}
 use Rattle.othello_bits.proofs.MaskMeaning.{IsMove-on_board}
 use Rattle.othello_bits.proofs.Numbers.{count_below, is_number, ones_number}
 use Rattle.endgame_search.specs.declared.children.Child.{Child}
@@ -104,6 +104,24 @@ only_square old new r q none taken here =
       | inl e ↦ e
       | inr d ↦ absurd (both_ways (in_mask new q) (none_from_zero new none q) (other (in_mask old) (in_mask new) r taken q d ∙ here))
     ]
+
+-- a mask of one square has no other
+pub only_one : (m t q : ℕ) → m < 2 ^ 64 → ones m ≡ 1 → in_mask m t ≡ true → in_mask m q ≡ true → q ≡ t
+only_one m t q fits one x y =
+    elim (cases_eq q t) [
+      | inl e ↦ e
+      | inr d ↦
+          let f : ℕ → Bool = in_mask m in
+          let g : ℕ → Bool = λ i. f i && not (nat_eq t i) in
+          let h : ℕ → Bool = λ i. g i && not (nat_eq q i) in
+          let a : ones m ≡ count_below 64 f = ap ones (is_number m f fits (λ i l. refl)) ∙ ones_number 64 f in
+          let b : count_below 64 g + 1 ≡ count_below 64 f = less_above f g t (λ i. refl) 64 (within t x) x in
+          let c : count_below 64 h + 1 ≡ count_below 64 g = less_above g h q (λ i. refl) 64 (within q y) (other f g t (λ i. refl) q d ∙ y) in
+          absurd (omega (arith, a, b, c, one))
+    ]
+  where
+    within : (i : ℕ) → in_mask m i ≡ true → i < 64
+    within i here = elim (cases_lt i 64) [ inl l ↦ l | inr g ↦ absurd (both_ways (in_mask m i) (in_mask-above m i fits g) here) ]
 
 -- what a sort of the list leaves
 pub sorted_each : (P : Child → Type 0) (items sorted : List Child) → IsPermutation items sorted → All P items → All P sorted

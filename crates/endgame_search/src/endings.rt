@@ -1,12 +1,12 @@
-//! The last two empty squares: without a list of moves, a sort, or a look at the moves of the
-//! positions after them.
+//! The last two empty squares in null windows, each named by its lower end, the bound: without a
+//! list of moves, a sort, or a look at the moves of the positions after them.
 
-ghost use Rattle.std.specs.Prelude.{◌≡◌, ◌≢◌, ◌<◌, ◌<ℤ◌, ◌↔◌, ℕ, ℤ, neg_ℤ, true};
-ghost use Rattle.std.specs.Prelude.{count_ones, IfSome};
+ghost use Rattle.std.specs.Prelude.{◌≡◌, ◌≢◌, ◌<◌, ◌↔◌, ◌+ℤ◌, ℕ, neg_ℤ, pos, true, count_ones};
 ghost use Rattle.std.specs.Int.{int_max};
 ghost use Rattle.othello_rules.specs.Masks.{in_mask};
-ghost use Rattle.othello_bits.specs.Discs.{play_of, flips_of, value_of, moves_of, IsMove};
-ghost use Rattle.endgame_search.specs.Windows.{IsWindow, Places};
+ghost use Rattle.othello_bits.specs.Discs.{play_of, flips_of, value_of, moves_of, empties_of};
+ghost use Rattle.othello_bits.specs.Discs.{IsMove};
+ghost use Rattle.endgame_search.specs.Windows.{IsBound, Places};
 ghost use Rattle.endgame_search.specs.Endings.{IsEnding};
 ghost use Rattle.endgame_search.specs.Lasts.{IsFree, IsLast, AreLast};
 
@@ -71,15 +71,16 @@ impl Ending {
     }
 }
 
-// A score that places the position's value in the window, where the mover has a move.
+// A score that places the position's value in the window from the bound to one above it, where the
+// mover has a move.
 #[inline(always)]
-fn search_last_move<T: Bounds>(table: &T, ending: Ending, low: i8, high: i8) -> i8
+fn search_last_move<T: Bounds>(table: &T, ending: Ending, bound: i8) -> i8
     requires ending { IsEnding ending }
     requires some { 0 < ending.turned }
-    requires window { IsWindow low high }
-    ensures { Places low high (value_of (T.scoring table.now) ending.position) result }
+    requires bound { IsBound bound }
+    ensures { Places bound (bound +ℤ pos 1) (value_of (T.scoring table.now) ending.position) result }
 {
-    if let Some(score) = decide(table, ending.position, low, high) {
+    if let Some(score) = decide(table, ending.position, bound, bound + 1) {
         return score;
     }
     ending.score(table.scoring())
@@ -87,174 +88,114 @@ fn search_last_move<T: Bounds>(table: &T, ending: Ending, low: i8, high: i8) -> 
 
 // The same where the mover has none.
 #[inline(always)]
-fn search_last_pass<T: Bounds>(table: &T, ending: Ending, low: i8, high: i8) -> i8
+fn search_last_pass<T: Bounds>(table: &T, ending: Ending, bound: i8) -> i8
     requires ending { IsEnding ending }
     requires none { ending.turned ≡ 0 }
-    requires window { IsWindow low high }
-    ensures { Places low high (value_of (T.scoring table.now) ending.position) result }
+    requires bound { IsBound bound }
+    ensures { Places bound (bound +ℤ pos 1) (value_of (T.scoring table.now) ending.position) result }
 {
     let passed = Ending::new(ending.position.pass(), ending.square);
     if passed.turned == 0 {
         return ending.position.final_score(table.scoring());
     }
-    if let Some(score) = decide(table, ending.position, low, high) {
+    if let Some(score) = decide(table, ending.position, bound, bound + 1) {
         return score;
     }
-    -search_last_move(table, passed, -high, -low)
+    -search_last_move(table, passed, -1 - bound)
 }
 
 // The same with one empty square.
 #[inline(always)]
-fn search_last<T: Bounds>(table: &T, ending: Ending, low: i8, high: i8) -> i8
+fn search_last<T: Bounds>(table: &T, ending: Ending, bound: i8) -> i8
     requires ending { IsEnding ending }
-    requires window { IsWindow low high }
-    ensures { Places low high (value_of (T.scoring table.now) ending.position) result }
+    requires bound { IsBound bound }
+    ensures { Places bound (bound +ℤ pos 1) (value_of (T.scoring table.now) ending.position) result }
 {
     if ending.turned == 0 {
-        search_last_pass(table, ending, low, high)
+        search_last_pass(table, ending, bound)
     } else {
-        search_last_move(table, ending, low, high)
+        search_last_move(table, ending, bound)
     }
-}
-
-// The score of two moves, from the score of the first, which leaves a part of the window to the
-// second.
-#[inline(always)]
-fn search_second<T: Bounds>(table: &T, score: i8, ending: Ending, low: i8, high: i8) -> i8
-    requires ending { IsEnding ending }
-    requires window { IsWindow low high }
-    requires open { score <ℤ high }
-    ensures { (v : ℤ) → Places low high v score
-        → Places low high
-        (int_max v (neg_ℤ (value_of (T.scoring table.now) ending.position))) result }
-{
-    let floor = low.max(score);
-    score.max(-search_last(table, ending, -high, -floor))
 }
 
 // The score of two moves, to this position and then to that.
 #[inline(always)]
-fn search_in_order<T: Bounds>(table: &T, this: Ending, that: Ending, low: i8, high: i8) -> i8
+fn search_in_order<T: Bounds>(table: &T, this: Ending, that: Ending, bound: i8) -> i8
     requires this { IsEnding this }
     requires that { IsEnding that }
-    requires window { IsWindow low high }
-    ensures { Places low high
+    requires bound { IsBound bound }
+    ensures { Places bound (bound +ℤ pos 1)
         (int_max (neg_ℤ (value_of (T.scoring table.now) this.position))
         (neg_ℤ (value_of (T.scoring table.now) that.position))) result }
 {
-    let score = -search_last(table, this, -high, -low);
-    if score >= high {
+    let score = -search_last(table, this, -1 - bound);
+    if score > bound {
         return score;
     }
-    search_second(table, score, that, low, high)
+    score.max(-search_last(table, that, -1 - bound))
 }
 
-// A score that places the position's value in the window, where each of two empty squares is a
-// move: the one that leaves no reply comes first, else the lower square. The second position is
-// made only where it is needed.
+// The same as `search_last_move` with two empty squares, where each is a move: the one that leaves
+// no reply comes first, else the first. The second position is made only where it is needed.
 #[inline(always)]
-fn search_both<T: Bounds>(
-    table: &T,
-    position: Pos,
-    first: Square,
-    second: Square,
-    low: i8,
-    high: i8,
-) -> i8
+fn search_both<T: Bounds>(table: &T, position: Pos, first: Square, second: Square, bound: i8) -> i8
     requires last { AreLast position first second }
     requires first { IsMove position first }
     requires second { IsMove position second }
-    requires window { IsWindow low high }
-    ensures { Places low high (value_of (T.scoring table.now) position) result }
+    requires bound { IsBound bound }
+    ensures { Places bound (bound +ℤ pos 1) (value_of (T.scoring table.now) position) result }
 {
     let this = Ending::after(position, first, second);
     if this.turned == 0 {
-        let score = -search_last_pass(table, this, -high, -low);
-        if score >= high {
+        let score = -search_last_pass(table, this, -1 - bound);
+        if score > bound {
             return score;
         }
         let that = Ending::after(position, second, first);
-        return search_second(table, score, that, low, high);
+        return score.max(-search_last(table, that, -1 - bound));
     }
     let that = Ending::after(position, second, first);
     if that.turned == 0 {
-        return search_in_order(table, that, this, low, high);
+        return search_in_order(table, that, this, bound);
     }
-    search_in_order(table, this, that, low, high)
-}
-
-// The same with one move to one of two empty squares.
-#[inline(always)]
-fn search_sole<T: Bounds>(
-    table: &T,
-    position: Pos,
-    square: Square,
-    left: Square,
-    low: i8,
-    high: i8,
-) -> i8
-    requires last { AreLast position square left }
-    requires legal { IsMove position square }
-    requires only { (q : ℕ) → IsMove position q → q ≡ square }
-    requires window { IsWindow low high }
-    ensures { Places low high (value_of (T.scoring table.now) position) result }
-{
-    -search_last(table, Ending::after(position, square, left), -high, -low)
-}
-
-// The same with two empty squares, where the mover has a move.
-#[inline(never)]
-pub(crate) fn search_two<T: Bounds>(
-    table: &T,
-    position: Pos,
-    moves: u64,
-    first: Square,
-    second: Square,
-    low: i8,
-    high: i8,
-) -> i8
-    requires last { AreLast position first second }
-    requires moves { moves ≡ moves_of position }
-    requires some { moves ≢ 0 }
-    requires window { IsWindow low high }
-    ensures { Places low high (value_of (T.scoring table.now) position) result }
-{
-    let square = lowest(moves);
-    if without(moves, square) != 0 {
-        return search_both(table, position, first, second, low, high);
-    }
-    if square == first {
-        return search_sole(table, position, first, second, low, high);
-    }
-    search_sole(table, position, second, first, low, high)
+    search_in_order(table, this, that, bound)
 }
 
 // The empty squares.
 #[inline(always)]
 fn free_of(position: Pos) -> u64
-    ensures { (q : ℕ) → IsFree position q → in_mask result q ≡ true }
+    ensures squares { (q : ℕ) → IsFree position q → in_mask result q ≡ true }
+    ensures count { count_ones result ≡ empties_of position }
 {
     !(position.own() | position.opp())
 }
 
-// The two empty squares of a position that has two, the lower first.
+// The other of two empty squares.
 #[inline(always)]
-pub(crate) fn last_two(position: Pos) -> Option<(Square, Square)>
-    ensures last { IfSome result (λ squares. AreLast position squares.0 squares.1) }
-    ensures lower_first { IfSome result (λ squares. squares.0 < squares.1) }
+fn other_free(position: Pos, square: Square) -> Square
+    requires two { empties_of position ≡ 2 }
+    requires free { IsFree position square }
+    ensures { AreLast position square result }
 {
-    let free = free_of(position);
-    if free == 0 {
-        return None;
+    lowest(without(free_of(position), square))
+}
+
+// The same with two empty squares, where the mover has a move.
+#[inline(never)]
+pub(crate) fn search_two<T: Bounds>(table: &T, position: Pos, moves: u64, bound: i8) -> i8
+    requires two { empties_of position ≡ 2 }
+    requires moves { moves ≡ moves_of position }
+    requires some { moves ≢ 0 }
+    requires bound { IsBound bound }
+    ensures { Places bound (bound +ℤ pos 1) (value_of (T.scoring table.now) position) result }
+{
+    if let Some(score) = decide(table, position, bound, bound + 1) {
+        return score;
     }
-    let first = lowest(free);
-    let rest = without(free, first);
-    if rest == 0 {
-        return None;
+    let first = lowest(moves);
+    let second = other_free(position, first);
+    if without(moves, first) == 0 {
+        return -search_last(table, Ending::after(position, first, second), -1 - bound);
     }
-    let second = lowest(rest);
-    if without(rest, second) != 0 {
-        return None;
-    }
-    Some((first, second))
+    search_both(table, position, first, second, bound)
 }

@@ -10,7 +10,7 @@ ghost use Rattle.othello_bits.specs.Discs.{is_best_move, mask_where, IsMove};
 
 use crate::ranges::{decide, score_limit, store};
 use crate::roots::leading_moves;
-use crate::searches::value_in;
+use crate::searches::search_scores;
 use crate::tasks::Task;
 use bound_table::Bounds;
 use othello_bits::{Pos, without};
@@ -83,6 +83,15 @@ pub struct Claim {
     pub best: Best,
 }
 
+/// The value of a position under the table's scoring, in points as the mover sees it. Where few
+/// squares are empty nothing is stored, so that a probe of a larger position need not look for it.
+pub fn exact_value<T: Bounds>(table: &T, position: Pos) -> i8
+    ensures value { result ≡ value_of (T.scoring table.now) position }
+    ensures in_range { IsScore result }
+{
+    search_scores(table, position, -65, 65)
+}
+
 /// The task's position with its value and all moves that attain it.
 pub fn solve<T: Bounds>(table: &T, task: Task) -> Solved
     requires { task.scoring ≡ T.scoring table.now }
@@ -92,7 +101,7 @@ pub fn solve<T: Bounds>(table: &T, task: Task) -> Solved
     if moves != 0 {
         return solve_moves(table, task, moves);
     }
-    let score = value_in(table, task.pos(), -65, 65);
+    let score = exact_value(table, task.pos());
     solved_at(table, task, score)
 }
 
@@ -138,10 +147,10 @@ fn is_value<T: Bounds>(table: &T, position: Pos, score: i8) -> bool
     if score > 64 {
         return false;
     }
-    if value_in(table, position, score - 1, score) < score {
+    if search_scores(table, position, score - 1, score) < score {
         return false;
     }
-    value_in(table, position, score, score + 1) <= score
+    search_scores(table, position, score, score + 1) <= score
 }
 
 // The task's position with its answer, where its value is known.
@@ -208,5 +217,5 @@ fn gives<T: Bounds>(table: &T, position: Pos, square: Square, score: i8) -> bool
         ↔ (score ≤ℤ neg_ℤ (value_of (T.scoring table.now) (play_of position square))) }
 {
     let after = position.after(square, position.flips(square));
-    value_in(table, after, -score, 1 - score) <= -score
+    search_scores(table, after, -score, 1 - score) <= -score
 }

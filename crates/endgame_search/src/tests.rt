@@ -83,12 +83,13 @@ fn task_of(rt: &impl Abort, position: Pos, scoring: Scoring) -> Task
     Task::new(position, 20, scoring).expect(rt, "at most 20 empty squares")
 }
 
-// A table that counts its probes, and notes whether either of two positions was probed.
+// A table that counts its probes and stores, and notes whether either of two positions was probed.
 #[derive(Drop)]
 struct ProbeCounter {
     table: BoundTable,
     watched: [Pos; 2],
     probes: Cell<u32>,
+    stores: Cell<u32>,
     seen: [Cell<bool>; 2],
 }
 
@@ -107,6 +108,7 @@ impl Bounds for ProbeCounter {
     }
 
     fn store(&self, position: &Pos, range: Range) {
+        self.stores.set(self.stores.get().wrapping_add(1));
         self.table.store(position, range);
     }
 }
@@ -126,6 +128,7 @@ fn count_probes(rt: &impl Abort, alloc: Global, entries: usize, watched: [Pos; 2
         table: BoundTable::new(alloc, entries, Scoring::Winner).expect(rt, "memory"),
         watched,
         probes: Cell::new(0),
+        stores: Cell::new(0),
         seen: [Cell::new(false), Cell::new(false)],
     }
 }

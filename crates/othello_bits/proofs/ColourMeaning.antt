@@ -31,7 +31,7 @@ swapped-position p =
     let cells : map swap_cell (map (cell_at side.Black p) squares) ≡ map (cell_at side.White p) squares = map_twice swap_cell (cell_at side.Black p) squares ∙ ap (λ (f : ℕ → Cell). map f squares) each in
     λ k. record { cells = cells k; mover = side.White }
 
-as_black : {X : Type 0} (f : Position → X) → ((P : Position) → f (colour_swap P) ≡ f P) → (s : Side) (p : Discs) → f (position_of s p) ≡ f (position_of side.Black p)
+pub as_black : {X : Type 0} (f : Position → X) → ((P : Position) → f (colour_swap P) ≡ f P) → (s : Side) (p : Discs) → f (position_of s p) ≡ f (position_of side.Black p)
 as_black f same side.Black p = refl
 as_black f same side.White p = sym (ap f (swapped-position p)) ∙ same (position_of side.Black p)
 

@@ -3,11 +3,12 @@
 ghost use Rattle.std.specs.Prelude.{◌≡◌};
 ghost use Rattle.endgame_search.specs.Windows.{IsWindow};
 
+use crate::searches::search_scores;
 use crate::tests::{
-    H1, ProbeCounter, TEN_EMPTY_SQUARES, UNEQUAL_CORNERS, count_probes, is_first_enough, pos_of,
-    task_of,
+    BLACK_BOARD, H1, ProbeCounter, TEN_EMPTY_SQUARES, UNEQUAL_CORNERS, count_probes,
+    is_first_enough, pos_of, task_of,
 };
-use crate::{Task, solve, value_in};
+use crate::{Claim, Task, confirm, exact_value, solve, value_in};
 use bound_table::{BoundTable, Bounds, NoTable, Range};
 use othello_bits::Pos;
 use othello_rules::{Best, Scoring, Side, Square};
@@ -57,12 +58,107 @@ fn a_stored_value_is_told(rt: HostRuntime) {
     assert!(rt; is_stored_value_told(&rt, rt.alloc(), position));
 }
 
+// What is asked of a position: a scoring, and the ends of a window.
+#[derive(Clone, Copy)]
+struct Asked {
+    scoring: Scoring,
+    low: i8,
+    high: i8,
+}
+
+// Whether a new table of one entry shows this range of the position once `value_in` was asked.
+fn is_stored_as(
+    rt: &impl Abort,
+    alloc: Global,
+    position: Pos,
+    asked: Asked,
+    least: i8,
+    most: i8,
+) -> bool
+    requires { IsWindow asked.low asked.high }
+{
+    let table = BoundTable::new(alloc, 1, asked.scoring).expect(rt, "memory");
+    let _ = value_in(&table, position, asked.low, asked.high);
+    table.probe(&position) == Range::new(least, most)
+}
+
+fn by_winner(low: i8, high: i8) -> Asked
+    ensures { (result.low ≡ low) × (result.high ≡ high) }
+{
+    Asked {
+        scoring: Scoring::Winner,
+        low,
+        high,
+    }
+}
+
+fn by_sign(low: i8, high: i8) -> Asked
+    ensures { (result.low ≡ low) × (result.high ≡ high) }
+{
+    Asked {
+        scoring: Scoring::Sign,
+        low,
+        high,
+    }
+}
+
+#[test]
+fn results_are_stored_as_the_window_says(rt: HostRuntime) {
+    let alloc = rt.alloc();
+    // Two empty squares, and the value 62.
+    let small = pos_of(&rt, UNEQUAL_CORNERS, Side::Black);
+    assert!(rt; is_stored_as(&rt, alloc, small, by_winner(-65, 65), 62, 62));
+    assert!(rt; is_stored_as(&rt, alloc, small, by_winner(61, 63), 62, 62));
+    assert!(rt; is_stored_as(&rt, alloc, small, by_winner(62, 65), -64, 62));
+    assert!(rt; is_stored_as(&rt, alloc, small, by_winner(61, 62), 62, 64));
+    let over = pos_of(&rt, BLACK_BOARD, Side::White);
+    assert!(rt; is_stored_as(&rt, alloc, over, by_winner(-65, 65), -64, -64));
+}
+
+#[test]
+fn results_are_stored_under_sign(rt: HostRuntime) {
+    let alloc = rt.alloc();
+    // White wins by 6, and Black loses by 10.
+    let won = pos_of(&rt, TEN_EMPTY_SQUARES, Side::White);
+    assert!(rt; is_stored_as(&rt, alloc, won, by_sign(-65, 65), 1, 1));
+    assert!(rt; is_stored_as(&rt, alloc, won, by_sign(0, 1), 1, 64));
+    assert!(rt; is_stored_as(&rt, alloc, won, by_sign(1, 2), -64, 1));
+    let lost = pos_of(&rt, TEN_EMPTY_SQUARES, Side::Black);
+    assert!(rt; is_stored_as(&rt, alloc, lost, by_sign(-65, 65), -1, -1));
+}
+
+// Whether neither the solving of a small position nor its value nor a test of a claim stores
+// anything: a probe of a larger one need not look for what is that small.
+fn stores_nothing(counter: &ProbeCounter, task: Task) -> bool
+    requires { task.scoring ≡ counter.now.table.scoring }
+{
+    let right = solve(counter, task).answer();
+    let claim = Claim {
+        score: right.score,
+        best: right.best,
+    };
+    let wrong = Claim {
+        score: -64,
+        best: right.best,
+    };
+    confirm(counter, task, claim) == confirm(counter, task, wrong)
+        && exact_value(counter, task.pos()) == right.score
+        && counter.stores.get() == 0
+}
+
+#[test]
+fn a_small_position_is_solved_without_a_store(rt: HostRuntime) {
+    let position = pos_of(&rt, UNEQUAL_CORNERS, Side::Black);
+    let counter = count_probes(&rt, rt.alloc(), 1, [position, position]);
+    assert!(rt; stores_nothing(&counter, task_of(&rt, position, Scoring::Winner)));
+}
+
 // Whether a search takes more than one probe and stores the position last: one probe more shows its
 // value.
 fn is_value_stored(counter: &ProbeCounter, position: Pos) -> bool {
-    let score = value_in(counter, position, -65, 65);
+    let score = search_scores(counter, position, -65, 65);
     counter.probes.replace(0) > 1
-        && value_in(counter, position, -65, 65) == score
+        && search_scores(counter, position, -65, 65) == score
         && counter.probes.get() == 1
 }
 
@@ -78,7 +174,7 @@ fn ends_at_once(counter: &ProbeCounter, position: Pos, low: i8, high: i8) -> boo
     requires { IsWindow low high }
 {
     counter.probes.set(0);
-    let _ = value_in(counter, position, low, high);
+    let _ = search_scores(counter, position, low, high);
     counter.probes.get() == 1
 }
 
@@ -105,7 +201,7 @@ fn ranges_beyond_the_window_end_a_search(rt: HostRuntime) {
 fn is_stored(counter: &ProbeCounter, position: Pos, low: i8, high: i8) -> bool
     requires { IsWindow low high }
 {
-    let _ = value_in(counter, position, low, high);
+    let _ = search_scores(counter, position, low, high);
     ends_at_once(counter, position, low, high)
 }
 

@@ -1,21 +1,21 @@
--- Goals that a search would prove are answered too: the search takes longer.
-use Rattle.std.proofs.Common.{pos, ◌-ℤ◌, neg_ℤ}
-use Rattle.othello_bits.specs.Discs.{value_of}
-use Rattle.endgame_search.proofs.Windows.{shown, shown_second, turned_whole, first_places, shown_window, turned_window}
+use Rattle.std.proofs.Common.{pos, ◌-ℤ◌}
+use Rattle.endgame_search.proofs.Bounds.{turned_above, first_above, both_above, other_bound}
+use Rattle.endgame_search.proofs.Windows.{shown}
 use Rattle.endgame_search.proofs.endings.search_in_order.Goals as goal
 
-pub returns-then-score-high : goal.returns-then-score-high
-returns-then-score-high g c =
-    first_places c.args.low c.args.high _ _ (pos 0 -ℤ shown c.search_last-score.result) (turned_whole c.args.low c.args.high _ _ c.requires.window c.search_last-score.ensures) c.if-score-high.true c.requires.window
+pub search_last-score-requires-clause-bound : goal.search_last-score-requires-clause-bound
+search_last-score-requires-clause-bound g c = other_bound c.args.bound c.requires.bound
+
+pub returns-then-score-bound : goal.returns-then-score-bound
+returns-then-score-bound g c =
+    first_above c.args.bound _ _ (shown (pos 0 -ℤ shown c.search_last-score.result)) c.requires.bound
+    (turned_above c.args.bound _ _ c.requires.bound c.search_last-score.ensures) c.if-score-bound.true
+
+pub search_last-requires-clause-bound : goal.search_last-requires-clause-bound
+search_last-requires-clause-bound g c = other_bound c.args.bound c.requires.bound
 
 pub returns : goal.returns
 returns g c =
-    let r = g.T.Bounds.scoring c.args.table.now in
-    shown_second c.args.low c.args.high (neg_ℤ (value_of r c.args.this.position)) (neg_ℤ (value_of r c.args.that.position)) (pos 0 -ℤ shown c.search_last-score.result) c.search_second.result c.requires.window
-    (turned_whole c.args.low c.args.high _ _ c.requires.window c.search_last-score.ensures) c.search_second.ensures
-
-pub search_last-score-requires-clause-window : goal.search_last-score-requires-clause-window
-search_last-score-requires-clause-window g c = turned_window c.args.low c.args.high (pos 0) (pos 0) c.requires.window
-
-pub search_second-requires-clause-window : goal.search_second-requires-clause-window
-search_second-requires-clause-window g c = shown_window c.args.low c.args.high c.requires.window
+    both_above c.args.bound _ _ (shown (pos 0 -ℤ shown c.search_last-score.result)) (shown (pos 0 -ℤ shown c.search_last.result)) c.max.result c.requires.bound c.if-score-bound.false
+    (turned_above c.args.bound _ _ c.requires.bound c.search_last-score.ensures)
+    (turned_above c.args.bound _ _ c.requires.bound c.search_last.ensures) c.max.ensures.value

@@ -3,8 +3,15 @@ use Rattle.std.proofs.Common.{◌≡◌, ◌∙◌, ap, arith}
 use Rattle.std.proofs.lemmas.Int.{ints}
 use Rattle.othello_bits.specs.Discs.{value_of}
 use Rattle.othello_bits.proofs.GameLaws.{value_score}
-use Rattle.endgame_search.proofs.Windows.{shown, exact, same_window, shown_window}
+use Rattle.endgame_search.proofs.Bounds.{decided_window, decided_places}
+use Rattle.endgame_search.proofs.Windows.{shown, exact}
 use Rattle.endgame_search.proofs.endings.search_last_move.Goals as goal
+
+pub decide-requires : goal.decide-requires
+decide-requires g c = decided_window c.args.bound c.requires.bound
+
+pub returns-in-Some : goal.returns-in-Some
+returns-in-Some g c = decided_places c.args.bound c.requires.bound _ _ c.in-Some.ensures
 
 pub returns : goal.returns
 returns g c =
@@ -15,9 +22,3 @@ returns g c =
     let e : c.score.result ≡ value_of r c.args.ending.position = c.score.ensures ∙ ap (λ h. value_of h c.args.ending.position) c.scoring.ensures in
     let f : shown c.score.result ≡ c.score.result = omega (arith, ints, e, l, m) in
     exact _ _ _ _ v (f ∙ e)
-
-pub decide-requires : goal.decide-requires
-decide-requires g c = shown_window c.args.low c.args.high c.requires.window
-
-pub returns-in-Some : goal.returns-in-Some
-returns-in-Some g c = same_window c.args.low c.args.high _ _ c.requires.window c.in-Some.ensures

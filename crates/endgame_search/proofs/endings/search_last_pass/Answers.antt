@@ -1,5 +1,5 @@
 -- Goals that a search would prove are answered too: the search takes longer.
-use Rattle.std.proofs.Common.{◌≡◌, ◌∙◌, ◌≢◌, pos, ◌-ℤ◌, ap, sym, subst, refl, arith}
+use Rattle.std.proofs.Common.{◌≡◌, ◌∙◌, ◌≢◌, ◌+ℤ◌, pos, ◌-ℤ◌, ap, sym, subst, refl, arith}
 use Rattle.std.proofs.lemmas.Int.{ints}
 use Rattle.othello_bits.specs.Discs.{final_of, moves_of, pass_of, HasNoMove}
 use Rattle.othello_bits.proofs.GameLaws.{value_score, value-over}
@@ -7,9 +7,10 @@ use Rattle.endgame_search.specs.Lasts.{IsLast}
 use Rattle.endgame_search.specs.Endings.{IsEnding}
 use Rattle.endgame_search.specs.Windows.{Places}
 use Rattle.endgame_search.specs.declared.endings.Ending.{Ending}
+use Rattle.endgame_search.proofs.Bounds.{decided_window, decided_places, turned_above, other_bound}
 use Rattle.endgame_search.proofs.Lasts.{last_moves, last_pass, last_some}
 use Rattle.endgame_search.proofs.Moves.{passed_worth, above_zero}
-use Rattle.endgame_search.proofs.Windows.{shown, exact, turned_whole, same_window, shown_window, turned_window}
+use Rattle.endgame_search.proofs.Windows.{shown, exact}
 use Rattle.endgame_search.proofs.endings.search_last_pass.Goals as goal
 
 no_move : (e : Ending) → IsEnding e → e.turned ≡ 0 → HasNoMove e.position
@@ -31,6 +32,18 @@ returns-then-passed-eq0 g c =
     exact _ _ _ _ (value_score r p)
     (n ∙ c.final_score.ensures.value ∙ ap (λ h. final_of h p) c.scoring.ensures ∙ sym (value-over r p (no_move c.args.ending c.requires.ending c.requires.none, over)))
 
+pub decide-requires : goal.decide-requires
+decide-requires g c = decided_window c.args.bound c.requires.bound
+
+pub returns-in-Some : goal.returns-in-Some
+returns-in-Some g c = decided_places c.args.bound c.requires.bound _ _ c.in-Some.ensures
+
+pub search_last_move-requires-clause-bound : goal.search_last_move-requires-clause-bound
+search_last_move-requires-clause-bound g c = other_bound c.args.bound c.requires.bound
+
+pub search_last_move-requires-clause-some : goal.search_last_move-requires-clause-some
+search_last_move-requires-clause-some g c = above_zero c.new-passed.result.turned c.if-passed-eq0.false
+
 pub returns : goal.returns
 returns g c =
     let r = g.T.Bounds.scoring c.args.table.now in
@@ -39,16 +52,4 @@ returns g c =
     let k = c.if-passed-eq0.false in
     let some : moves_of d ≢ 0 = last_some d e.square (c.new-passed.ensures.ending.legal.1 (omega (arith, k))) in
     let w = passed_worth r c.args.ending.position d (moves_of d) (no_move c.args.ending c.requires.ending c.requires.none) (c.new-passed.ensures.position ∙ c.pass.ensures.value) refl some in
-    subst (λ z. Places c.args.low c.args.high z (shown (pos 0 -ℤ shown c.search_last_move.result))) (sym w) (turned_whole c.args.low c.args.high _ _ c.requires.window c.search_last_move.ensures)
-
-pub decide-requires : goal.decide-requires
-decide-requires g c = shown_window c.args.low c.args.high c.requires.window
-
-pub returns-in-Some : goal.returns-in-Some
-returns-in-Some g c = same_window c.args.low c.args.high _ _ c.requires.window c.in-Some.ensures
-
-pub search_last_move-requires-clause-window : goal.search_last_move-requires-clause-window
-search_last_move-requires-clause-window g c = turned_window c.args.low c.args.high (pos 0) (pos 0) c.requires.window
-
-pub search_last_move-requires-clause-some : goal.search_last_move-requires-clause-some
-search_last_move-requires-clause-some g c = above_zero c.new-passed.result.turned c.if-passed-eq0.false
+    subst (λ z. Places c.args.bound (c.args.bound +ℤ pos 1) z (shown (pos 0 -ℤ shown c.search_last_move.result))) (sym w) (turned_above c.args.bound _ _ c.requires.bound c.search_last_move.ensures)

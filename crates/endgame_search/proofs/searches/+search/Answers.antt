@@ -1,19 +1,15 @@
 -- Goals that a search would prove are answered too: the search takes longer.
-use Rattle.std.proofs.Common.{arith, rules, refl, pos, negsuc, ℕ, ◌≡◌, ◌<◌, ◌+◌, ◌*◌, neg_ℤ, ◌≤ℤ◌, to_z, w8, true, sym, ap, ◌∙◌, subst, take, take_all}
+use Rattle.std.proofs.Common.{arith, rules, refl, pos, negsuc, ◌≡◌, ◌<◌, ◌+◌, ◌*◌, neg_ℤ, ◌≤ℤ◌, to_z, w8, sym, ap, ◌∙◌, subst, take, take_all}
 use borrow.Author.Count.{falls}
 use borrow.Author.Numbers.{ones_of_64}
 use Rattle.std.proofs.lemmas.Int.{ints}
-use Rattle.std.proofs.lemmas.Bool.{both_ways}
 use Rattle.std.proofs.lemmas.List.Elements.{All-same}
-use Rattle.othello_rules.specs.Masks.{in_mask}
-use Rattle.othello_bits.specs.Discs.{moves_of, pass_of, empties_of, final_of, value_of, IsMove, HasNoMove}
-use Rattle.othello_bits.proofs.Bits.{none_from_zero}
+use Rattle.othello_bits.specs.Discs.{moves_of, pass_of, empties_of, final_of, value_of, HasNoMove}
 use Rattle.othello_bits.proofs.GameLaws.{value_score, value-over}
 use Rattle.endgame_search.specs.declared.children.Child.{Child}
 use Rattle.endgame_search.specs.Children.{IsChildOf, AreOthersOf}
 use Rattle.endgame_search.specs.Windows.{IsWindow}
-use Rattle.endgame_search.proofs.Moves.{child_worth, child_empties, only_worth, passed_worth, passed_empties, at_index, searched_more, best_of_others, others_left, all_others, above_zero}
-use Rattle.endgame_search.proofs.Takes.{only_square}
+use Rattle.endgame_search.proofs.Moves.{child_worth, child_empties, passed_worth, passed_empties, at_index, searched_more, best_of_others, others_left, all_others}
 use Rattle.endgame_search.proofs.Windows.{shown, exact, shown_window, turned_window, turned_whole, null_window, turned_shown, none_searched, all_searched, at_least_as, unshown, null_low, null_high, second_window, second_score, floor_window, cut_step, grows, covers, keeps_more, given_back, same_window, first_cut, first_covers, keeps_first}
 use Rattle.endgame_search.proofs.searches.+search.Goals as goal
 
@@ -82,44 +78,14 @@ search_moves-decide-requires g t c = shown_window c.args.low c.args.high c.requi
 pub search_moves-returns-in-Some : goal.search_moves-returns-in-Some
 search_moves-returns-in-Some g t c = same_window c.args.low c.args.high _ _ c.requires.window c.in-Some.ensures
 
-pub search_moves-search_two-requires-clause-last : goal.search_moves-search_two-requires-clause-last
-search_moves-search_two-requires-clause-last g t c = c.in-Some-last_two.ensures.last
-
-pub search_moves-search_two-requires-clause-moves : goal.search_moves-search_two-requires-clause-moves
-search_moves-search_two-requires-clause-moves g t c = c.requires.moves
-
-pub search_moves-search_two-requires-clause-some : goal.search_moves-search_two-requires-clause-some
-search_moves-search_two-requires-clause-some g t c = c.requires.some
-
-pub search_moves-search_two-requires-clause-window : goal.search_moves-search_two-requires-clause-window
-search_moves-search_two-requires-clause-window g t c = shown_window c.args.low c.args.high c.requires.window
-
-pub search_moves-returns-in-Some-last_two : goal.search_moves-returns-in-Some-last_two
-search_moves-returns-in-Some-last_two g t c = same_window c.args.low c.args.high _ _ c.requires.window c.search_two.ensures
-
-pub search_moves-lowest-first-requires : goal.search_moves-lowest-first-requires
-search_moves-lowest-first-requires g t c = above_zero c.args.moves c.requires.some
-
-pub search_moves-search_only-requires : goal.search_moves-search_only-requires
-search_moves-search_only-requires g t c κs within =
-    let d : 8 * empties_of c.args.position + 5 ≡ t = c.decreases in
-    let w : 8 * empties_of c.args.position + 4 < t = omega (arith, d) in
-    let first = c.lowest-first in
-    let legal : IsMove c.args.position first.result = subst (λ m. in_mask m first.result ≡ true) c.requires.moves first.ensures.member in
-    let only : (q : ℕ) → IsMove c.args.position q → q ≡ first.result = λ q m. only_square c.args.moves c.without.result first.result q c.if-without-eq0.true c.without.ensures (subst (λ n. in_mask n q ≡ true) (sym c.requires.moves) m) in
-    (w, (within, (legal, (only, shown_window c.args.low c.args.high c.requires.window))))
-
-pub search_moves-returns-then-without-eq0 : goal.search_moves-returns-then-without-eq0
-search_moves-returns-then-without-eq0 g t c = same_window c.args.low c.args.high _ _ c.requires.window c.search_only.ensures
-
-pub search_moves-search_few-requires : goal.search_moves-search_few-requires
-search_moves-search_few-requires g t c κs within =
+pub search_moves-search_some-requires : goal.search_moves-search_some-requires
+search_moves-search_some-requires g t c κs within =
     let d : 8 * empties_of c.args.position + 5 ≡ t = c.decreases in
     let w : 8 * empties_of c.args.position + 3 < t = omega (arith, d) in
-    (w, (within, (c.requires.moves, (c.requires.some, (c.if-moves-le6.true, shown_window c.args.low c.args.high c.requires.window)))))
+    (w, (within, (c.requires.moves, (c.requires.some, (c.if-moves-le16.true, shown_window c.args.low c.args.high c.requires.window)))))
 
-pub search_moves-returns-then-moves-le6 : goal.search_moves-returns-then-moves-le6
-search_moves-returns-then-moves-le6 g t c = same_window c.args.low c.args.high _ _ c.requires.window c.search_few.ensures
+pub search_moves-returns-then-moves-le16 : goal.search_moves-returns-then-moves-le16
+search_moves-returns-then-moves-le16 g t c = same_window c.args.low c.args.high _ _ c.requires.window c.search_some.ensures
 
 pub search_moves-search_many-requires : goal.search_moves-search_many-requires
 search_moves-search_many-requires g t c κs within =
@@ -130,43 +96,11 @@ search_moves-search_many-requires g t c κs within =
 pub search_moves-returns : goal.search_moves-returns
 search_moves-returns g t c = same_window c.args.low c.args.high _ _ c.requires.window c.search_many.ensures
 
-pub search_only-after-child-requires : goal.search_only-after-child-requires
-search_only-after-child-requires g t c = c.requires.legal
+pub search_some-order_until_stuck-requires : goal.search_some-order_until_stuck-requires
+search_some-order_until_stuck-requires g t c = (search rules, (c.requires.moves, (c.requires.room, c.new-children.ensures)))
 
-pub search_only-search-score-requires : goal.search_only-search-score-requires
-search_only-search-score-requires g t c κs within =
-    let child = c.after-child.ensures.child in
-    let d : 8 * empties_of c.args.position + 4 ≡ t = c.decreases in
-    let w : 8 * empties_of c.after-child.result.position + 7 < t = omega (arith, d, child_empties c.args.position c.after-child.result child) in
-    (w, (within, (child.replies, turned_window c.args.low c.args.high (pos 0) (pos 0) c.requires.window)))
-
-pub search_only-store-requires : goal.search_only-store-requires
-search_only-store-requires g t c =
-    record {
-      window = shown_window c.args.low c.args.high c.requires.window;
-      places =
-          turned_shown c.args.low c.args.high _ _ _ c.requires.window
-          (only_worth (g.T.Bounds.scoring c.args.table.now) c.args.position c.after-child.result c.after-child.ensures.child
-          (λ z. both_ways (in_mask (moves_of c.args.position) c.args.square) (none_from_zero (moves_of c.args.position) z c.args.square) c.requires.legal)
-          (λ q m. c.requires.only q m ∙ sym c.after-child.ensures.move_made))
-          c.search-score.ensures;
-    }
-
-pub search_only-returns : goal.search_only-returns
-search_only-returns g t c =
-    given_back c.args.low c.args.high _ _ _ c.requires.window
-    (turned_shown c.args.low c.args.high _ _ _ c.requires.window
-    (only_worth (g.T.Bounds.scoring c.args.table.now) c.args.position c.after-child.result c.after-child.ensures.child
-    (λ z. both_ways (in_mask (moves_of c.args.position) c.args.square) (none_from_zero (moves_of c.args.position) z c.args.square) c.requires.legal)
-    (λ q m. c.requires.only q m ∙ sym c.after-child.ensures.move_made))
-    c.search-score.ensures)
-    c.store.ensures
-
-pub search_few-order_until_stuck-requires : goal.search_few-order_until_stuck-requires
-search_few-order_until_stuck-requires g t c = (search rules, (c.requires.moves, (c.requires.room, c.new-children.ensures)))
-
-pub search_few-search_children-requires : goal.search_few-search_children-requires
-search_few-search_children-requires g t c κs within =
+pub search_some-search_children-requires : goal.search_some-search_children-requires
+search_some-search_children-requires g t c κs within =
     let r = g.T.Bounds.scoring c.args.table.now in
     let d : 8 * empties_of c.args.position + 3 ≡ t = c.decreases in
     let w : 8 * empties_of c.args.position + 2 < t = omega (arith, d) in
@@ -184,36 +118,36 @@ search_few-search_children-requires g t c κs within =
       ),
     )
 
-pub search_few-returns-in_default : goal.search_few-returns-in_default
-search_few-returns-in_default g t c = same_window c.args.low c.args.high _ _ c.requires.window c.search_children.ensures
+pub search_some-returns-in_default : goal.search_some-returns-in_default
+search_some-returns-in_default g t c = same_window c.args.low c.args.high _ _ c.requires.window c.search_children.ensures
 
-pub search_few-search_after-score-requires : goal.search_few-search_after-score-requires
-search_few-search_after-score-requires g t c κs within =
+pub search_some-search_after-score-requires : goal.search_some-search_after-score-requires
+search_some-search_after-score-requires g t c κs within =
     let up = c.in-Some.ensures.stuck in
     let d : 8 * empties_of c.args.position + 3 ≡ t = c.decreases in
     let w : 8 * empties_of c.in-Some.stuck.child.position + 8 < t = omega (arith, d, child_empties c.args.position c.in-Some.stuck.child up.child) in
     (w, (within, (up.child.replies, shown_window c.args.low c.args.high c.requires.window)))
 
-pub search_few-store-requires-clause-window : goal.search_few-store-requires-clause-window
-search_few-store-requires-clause-window g t c = shown_window c.args.low c.args.high c.requires.window
+pub search_some-store-requires-clause-window : goal.search_some-store-requires-clause-window
+search_some-store-requires-clause-window g t c = shown_window c.args.low c.args.high c.requires.window
 
-pub search_few-store-requires-clause-places : goal.search_few-store-requires-clause-places
-search_few-store-requires-clause-places g t c =
+pub search_some-store-requires-clause-places : goal.search_some-store-requires-clause-places
+search_some-store-requires-clause-places g t c =
     let above = child_worth (g.T.Bounds.scoring c.args.table.now) c.args.position c.in-Some.stuck.child c.in-Some.ensures.stuck.child in
     first_cut c.args.low c.args.high _ _ _ c.requires.window c.search_after-score.ensures above c.if-score-high.true
 
-pub search_few-returns-then-score-high : goal.search_few-returns-then-score-high
-search_few-returns-then-score-high g t c =
+pub search_some-returns-then-score-high : goal.search_some-returns-then-score-high
+search_some-returns-then-score-high g t c =
     let above = child_worth (g.T.Bounds.scoring c.args.table.now) c.args.position c.in-Some.stuck.child c.in-Some.ensures.stuck.child in
     given_back c.args.low c.args.high _ _ _ c.requires.window
     (first_cut c.args.low c.args.high _ _ _ c.requires.window c.search_after-score.ensures above c.if-score-high.true)
     c.store.ensures
 
-pub search_few-order_children-requires : goal.search_few-order_children-requires
-search_few-order_children-requires g t c = (search rules, (c.in-Some.ensures.stuck.rest, (c.in-Some.ensures.left, c.in-Some.ensures.stuck.each)))
+pub search_some-order_children-requires : goal.search_some-order_children-requires
+search_some-order_children-requires g t c = (search rules, (c.in-Some.ensures.stuck.rest, (c.in-Some.ensures.left, c.in-Some.ensures.stuck.each)))
 
-pub search_few-search_children-requires-2 : goal.search_few-search_children-requires-2
-search_few-search_children-requires-2 g t c κs within =
+pub search_some-search_children-requires-2 : goal.search_some-search_children-requires-2
+search_some-search_children-requires-2 g t c κs within =
     let r = g.T.Bounds.scoring c.args.table.now in
     let up = c.in-Some.ensures.stuck in
     let above = child_worth r c.args.position c.in-Some.stuck.child up.child in
@@ -234,8 +168,8 @@ search_few-search_children-requires-2 g t c κs within =
       ),
     )
 
-pub search_few-returns : goal.search_few-returns
-search_few-returns g t c = same_window c.args.low c.args.high _ _ c.requires.window c.search_children-2.ensures
+pub search_some-returns : goal.search_some-returns
+search_some-returns g t c = same_window c.args.low c.args.high _ _ c.requires.window c.search_children-2.ensures
 
 pub search_many-order_until_stuck-requires : goal.search_many-order_until_stuck-requires
 search_many-order_until_stuck-requires g t c = (search rules, (c.requires.moves, (ones_of_64 c.args.moves c.ranges.moves.fits, c.new-children.ensures)))

@@ -13,11 +13,8 @@ decreases-search_pass g l = 8 * empties_of l.position + 6
 abbrev pub decreases-search_moves : goal.decreases-search_moves
 decreases-search_moves g l = 8 * empties_of l.position + 5
 
-abbrev pub decreases-search_only : goal.decreases-search_only
-decreases-search_only g l = 8 * empties_of l.position + 4
-
-abbrev pub decreases-search_few : goal.decreases-search_few
-decreases-search_few g l = 8 * empties_of l.position + 3
+abbrev pub decreases-search_some : goal.decreases-search_some
+decreases-search_some g l = 8 * empties_of l.position + 3
 
 abbrev pub decreases-search_many : goal.decreases-search_many
 decreases-search_many g l = 8 * empties_of l.position + 3

@@ -21,13 +21,12 @@ returns-then-score-gt64 g c =
 
 pub returns : goal.returns
 returns g c =
-    let e = c.value_in.ensures in
-    let f = c.value_in-2.ensures in
-    let q : shown c.value_in-2.result ≡ c.value_in-2.result = omega (arith, ints) in
+    let r = c.search_scores.result in
+    let q = c.search_scores-2.result in
     let s : shown c.args.score ≡ c.args.score = omega (arith, ints) in
-    let r : shown c.value_in.result ≡ c.value_in.result = omega (arith, ints) in
-    let first : shown c.args.score ≤ℤ c.value_in.result = omega (arith, ints) in
-    let t = value_told _ (shown c.args.score) (value_of (g.T.Bounds.scoring c.args.table.now) c.args.position) c.value_in.result c.value_in-2.result e.above first (omega (arith, ints)) f.below f.above in (
-      λ h. sym s ∙ t.0 (subst (λ z. z ≤ℤ shown c.args.score) q (le_in _ _ h)),
-      λ x. le_out _ _ (subst (λ z. z ≤ℤ shown c.args.score) (sym q) (t.1 (s ∙ x))),
+    let x : shown q ≡ q = omega (arith, ints) in
+    let here : shown c.args.score ≤ℤ r = omega (arith, ints) in
+    let t = value_told _ _ (shown c.args.score) (value_of (g.T.Bounds.scoring c.args.table.now) c.args.position) r q (omega (arith, ints)) (omega (arith, ints)) c.search_scores.ensures here c.search_scores-2.ensures in (
+      λ h. sym s ∙ t.0 (subst (λ z. z ≤ℤ shown c.args.score) x (le_in _ _ h)),
+      λ y. le_out _ _ (subst (λ z. z ≤ℤ shown c.args.score) (sym x) (t.1 (s ∙ y))),
     )

@@ -1,0 +1,142 @@
+//! Null windows from 7 empty squares down, each named by its lower end, the bound: nothing is stored,
+//! and no child is looked up before it is searched. A list of 8 children would take a call to make.
+
+ghost use Rattle.std.specs.Prelude.{◌≡◌, ◌≢◌, ◌≤◌, ◌≤ℤ◌, ◌+ℤ◌, pos, negsuc, IsTrue};
+ghost use Rattle.othello_bits.specs.Discs.{moves_of, empties_of, value_of, HasNoMove};
+ghost use Rattle.endgame_search.specs.Windows.{IsBound, IsWindow, Places};
+ghost use Rattle.endgame_search.specs.Children.{AreOthersOf};
+
+use crate::children::{Child, order_children, order_until_stuck};
+use crate::endings::search_two;
+use crate::ranges::decide;
+use arrayvec::ArrayVec;
+use bound_table::Bounds;
+use othello_bits::Pos;
+
+// Whether a window of a position with so many empty squares is searched here.
+#[inline(always)]
+pub(crate) fn is_null_of_few(empties: u8, low: i8, high: i8) -> bool
+    requires { IsWindow low high }
+    ensures { IsTrue result → (empties ≤ 7) × (high ≡ low +ℤ pos 1) }
+{
+    empties <= 7 && high == low + 1
+}
+
+// A score that places the position's value in the window from the bound to one above it.
+#[cycle(few)]
+#[inline(always)]
+pub(crate) fn search_few<T: Bounds>(
+    table: &T,
+    position: Pos,
+    moves: u64,
+    empties: u8,
+    bound: i8,
+) -> i8
+    requires moves { moves ≡ moves_of position }
+    requires empties { empties ≡ empties_of position }
+    requires few { empties ≤ 7 }
+    requires bound { IsBound bound }
+    ensures { Places bound (bound +ℤ pos 1) (value_of (T.scoring table.now) position) result }
+{
+    if moves != 0 {
+        search_few_moves(table, position, moves, empties, bound)
+    } else {
+        search_few_pass(table, position, bound)
+    }
+}
+
+// The same where the mover has no move.
+#[cycle(few)]
+#[inline(never)]
+fn search_few_pass<T: Bounds>(table: &T, position: Pos, bound: i8) -> i8
+    requires none { HasNoMove position }
+    requires few { empties_of position ≤ 7 }
+    requires bound { IsBound bound }
+    ensures { Places bound (bound +ℤ pos 1) (value_of (T.scoring table.now) position) result }
+{
+    let passed = position.pass();
+    let replies = passed.moves();
+    if replies == 0 {
+        return position.final_score(table.scoring());
+    }
+    if let Some(score) = decide(table, position, bound, bound + 1) {
+        return score;
+    }
+    -search_few_moves(table, passed, replies, position.empties(), -1 - bound)
+}
+
+// The same where the mover has a move.
+#[cycle(few)]
+#[inline(always)]
+fn search_few_moves<T: Bounds>(table: &T, position: Pos, moves: u64, empties: u8, bound: i8) -> i8
+    requires moves { moves ≡ moves_of position }
+    requires some { moves ≢ 0 }
+    requires empties { empties ≡ empties_of position }
+    requires few { empties ≤ 7 }
+    requires bound { IsBound bound }
+    ensures { Places bound (bound +ℤ pos 1) (value_of (T.scoring table.now) position) result }
+{
+    if empties == 2 {
+        search_two(table, position, moves, bound)
+    } else {
+        search_listed(table, position, moves, bound)
+    }
+}
+
+// The same by a list of the children. One without replies is first in the order, so it is searched
+// before the children after it are made.
+#[cycle(few)]
+#[inline(never)]
+fn search_listed<T: Bounds>(table: &T, position: Pos, moves: u64, bound: i8) -> i8
+    requires moves { moves ≡ moves_of position }
+    requires some { moves ≢ 0 }
+    requires few { empties_of position ≤ 7 }
+    requires bound { IsBound bound }
+    ensures { Places bound (bound +ℤ pos 1) (value_of (T.scoring table.now) position) result }
+{
+    let mut children = ArrayVec::<Child, 7>::new();
+    if let Some(score) = decide(table, position, bound, bound + 1) {
+        return score;
+    }
+    let Some(stuck) = order_until_stuck(position, moves, &mut children) else {
+        return search_few_children(table, position, &children, -65, bound);
+    };
+    let first = stuck.child;
+    let score = -search_few_pass(table, first.position, -1 - bound);
+    if score > bound {
+        return score;
+    }
+    order_children(position, stuck.rest, &mut children);
+    search_few_children(table, position, &children, score, bound)
+}
+
+// The same where some moves were searched, the best of them worth `searched` (-65 before the
+// first), and the children of the others are at hand.
+#[cycle(few)]
+#[inline(always)]
+fn search_few_children<T: Bounds>(
+    table: &T,
+    position: Pos,
+    children: &[Child],
+    searched: i8,
+    bound: i8,
+) -> i8
+    requires others { AreOthersOf (T.scoring table.now) position searched children.now }
+    requires least { negsuc 64 ≤ℤ searched }
+    requires open { searched ≤ℤ bound }
+    requires some { moves_of position ≢ 0 }
+    requires few { empties_of position ≤ 7 }
+    requires bound { IsBound bound }
+    ensures { Places bound (bound +ℤ pos 1) (value_of (T.scoring table.now) position) result }
+{
+    let empties = position.empties() - 1;
+    let mut best = searched;
+    for child in children {
+        let score = -search_few(table, child.position, child.replies, empties, -1 - bound);
+        if score > bound {
+            return score;
+        }
+        best = best.max(score);
+    }
+    best
+}
