@@ -16,3 +16,5 @@ pub mod WriteSteps
 pub mod WrittenBytes
 pub mod WrittenFields
 pub mod WrittenLines
+pub mod Reread
+pub mod PieceLemmas

@@ -9,6 +9,7 @@ use Rattle.othello_rules.specs.declared.discs.Cell.{Cell}
 use Rattle.othello_rules.specs.declared.answers.Best.TheVariants.{Moves}
 use Rattle.othello_rules.specs.Masks.{squares_of}
 use Rattle.obf_text.specs.declared.entries.ListedMove.TheVariants.{At}
+use Rattle.obf_text.specs.Fields.{Field}
 use Rattle.obf_text.specs.Written.{answer_text, cell_byte, field_text, fields_text}
 use Rattle.obf_text.proofs.WriterLemmas.{Completes, completes_end, completes_more, completes_start}
 
@@ -60,3 +61,26 @@ squares_end old now score qs n all past h =
 pub same_score : (score : ℤ) → nat_abs score < 100 → to_z w8 (of_z w8 score) ≡ score
 same_score (pos n) h = to_z-of_z w8 (pos n) (omega arith)
 same_score (negsuc n) h = to_z-of_z w8 (negsuc n) (omega arith)
+
+fields_first : (f : Field) (fields : List Field) → fields_text (f ∷ fields) ≡ field_text f ++ fields_text fields
+unfolding fields_text
+fields_first f fields = refl
+
+fields_empty : fields_text [] ≡ []
+unfolding fields_text
+fields_empty = refl
+
+-- one more field
+pub fields_more : (old now next : Option (List ℕ)) (fields : List Field) (n : ℕ) (f : Field) (all : List ℕ) → n < length fields → f ≡ get_or fields n f
+    → Completes old now (fields_text (drop n fields)) all → Appends now next (field_text f)
+    → Completes old next (fields_text (drop (n + 1) fields)) all
+fields_more old now next fields n f all within at h w =
+    let cut : fields_text (drop n fields) ≡ field_text f ++ fields_text (drop (n + 1) fields) =
+    ap fields_text (drop_more fields n f within ∙ ap (λ p. p ∷ drop (n + 1) fields) (sym at)) ∙ fields_first f (drop (n + 1) fields) in
+    completes_more old now next (field_text f) (fields_text (drop (n + 1) fields)) all (rw cut at h) w
+
+pub fields_end : (old now : Option (List ℕ)) (fields : List Field) (n : ℕ) (all : List ℕ) → length fields ≤ n
+    → Completes old now (fields_text (drop n fields)) all → Appends old now all
+fields_end old now fields n all past h =
+    let none : fields_text (drop n fields) ≡ [] = ap fields_text (drop_all n fields past) ∙ fields_empty in
+    completes_end old now all (rw none at h)

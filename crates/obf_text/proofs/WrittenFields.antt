@@ -13,7 +13,7 @@ use Rattle.othello_rules.specs.Masks.{in_mask, squares_of}
 use Rattle.othello_rules.specs.Solution.{IsScore}
 use Rattle.obf_text.specs.Bytes.{is_blank}
 use Rattle.obf_text.specs.Fields.{Field, IsField, IsMoveText, IsNumber, IsScoreText, Lists, pieces_of}
-use Rattle.obf_text.specs.Written.{best_fields, field_text, fields_text, move_text, score_part, score_text}
+use Rattle.obf_text.specs.Written.{AreWritable, IsWritable, IsWritableMove, best_fields, field_text, fields_text, move_text, score_part, score_text}
 use Rattle.obf_text.specs.declared.entries.ListedMove.{ListedMove}
 use Rattle.obf_text.specs.declared.entries.ListedMove.TheVariants.{At, Pass, Over}
 use Rattle.obf_text.proofs.ListedLemmas.{empty_is_none, lists_skip}
@@ -26,12 +26,7 @@ gap_is_blank (suc k) d lt = absurd (omega arith)
 pub none_blank : AllPass is_blank []
 none_blank k d lt = absurd (omega arith)
 
-abbrev pub IsMove : ListedMove → Type 0
-IsMove (At square) = square < 64
-IsMove Pass = Unit {0}
-IsMove Over = Unit {0}
-
-move_back : (m : ListedMove) → IsMove m → IsMoveText (move_text m) m
+move_back : (m : ListedMove) → IsWritableMove m → IsMoveText (move_text m) m
 unfolding move_text
 move_back (At square) h = (h, inl refl)
 move_back Pass h = record { first = 80; second = 83; whole = refl; p = inl refl; s = inl refl }
@@ -68,10 +63,6 @@ score_back (negsuc n) h = record {
 abbrev pub piece_text : Field → List ℕ
 piece_text field = 32 ∷ (move_text field.0 ++ 58 ∷ score_text field.1)
 
--- what can be written
-abbrev pub IsWritable : Field → Type 0
-IsWritable field = IsMove field.0 × (nat_abs field.1 ≤ 64)
-
 pub piece_back : (f : Field) → IsWritable f → IsField (piece_text f) f
 piece_back f h = record {
   before = 32 ∷ [];
@@ -85,7 +76,7 @@ piece_back f h = record {
   is_score_text = score_back f.1 h.1;
 }
 
-move_onto : (c : ℕ) (m : ListedMove) (tail : List ℕ) → IsMove m → IsMark c → Lacks c tail → Lacks c (move_text m ++ tail)
+move_onto : (c : ℕ) (m : ListedMove) (tail : List ℕ) → IsWritableMove m → IsMark c → Lacks c tail → Lacks c (move_text m ++ tail)
 unfolding move_text name_of
 move_onto c (At q) tail h mark rest =
     lacks_cons c _ _ (plain_apart c (65 + q % 8) mark (omega arith, omega arith, omega arith))
@@ -114,10 +105,6 @@ piece_onto c f tail h mark rest =
     let named : Lacks c (move_text f.0 ++ (58 ∷ score_text f.1 ++ tail)) = move_onto c f.0 (58 ∷ score_text f.1 ++ tail) h.0 mark after in
     let joined : Lacks c ((move_text f.0 ++ 58 ∷ score_text f.1) ++ tail) = rw (append_assoc (move_text f.0) (58 ∷ score_text f.1) tail) named in
     lacks_cons c 32 ((move_text f.0 ++ 58 ∷ score_text f.1) ++ tail) (plain_apart c 32 mark (omega arith, omega arith, omega arith)) joined
-
-abbrev pub AreWritable : List Field → Type 0
-AreWritable [] = Unit {0}
-AreWritable (f ∷ fields) = IsWritable f × AreWritable fields
 
 field_parts : (f : Field) → field_text f ≡ piece_text f ++ 59 ∷ []
 unfolding field_text score_part

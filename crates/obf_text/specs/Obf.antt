@@ -145,7 +145,7 @@ item_of line =
 -- ---- what a call gives
 
 abbrev pub entry_of : Line → Entry
-entry_of line = record { position = line.grid; listed = line.listed }
+entry_of line = record { position = line.grid; listed = line.listed.items }
 
 abbrev pub HasListed : Meaning → Type 0
 HasListed (Holds entry) = 0 < length entry.listed

@@ -1,5 +1,5 @@
 -- The written form of a position with its answer: the squares, the side to move, and each best move with the score.
-use Rattle.std.specs.Prelude.{ℕ, ℤ, pos, negsuc, ◌+◌, ◌/◌, ◌%◌, List, [], ◌∷◌, ◌++◌, map, codes}
+use Rattle.std.specs.Prelude.{ℕ, ℤ, pos, negsuc, nat_abs, ◌<◌, ◌≤◌, ◌+◌, ◌/◌, ◌%◌, List, [], ◌∷◌, ◌++◌, map, codes}
 use Rattle.std.specs.List.{flat_map}
 use Rattle.othello_rules.specs.declared.answers.Best.{Best}
 use Rattle.othello_rules.specs.declared.answers.Best.TheVariants as best
@@ -78,3 +78,20 @@ line_with_end P A = line_text P A ++ 10 ∷ []
 -- what is read back: the position, with each best move listed with the score
 abbrev pub answer_entry : Position → Solution → Entry
 answer_entry P A = record { position = P; listed = answer_fields A }
+
+-- the line of a position with any fields, without an end
+unfoldable pub entry_text : Position → List Field → List ℕ
+entry_text P fields = board_text P ++ fields_text fields
+
+abbrev pub IsWritableMove : ListedMove → Type 0
+IsWritableMove (At square) = square < 64
+IsWritableMove Pass = Unit {0}
+IsWritableMove Over = Unit {0}
+
+-- a field that reads as it is written
+abbrev pub IsWritable : Field → Type 0
+IsWritable field = IsWritableMove field.0 × (nat_abs field.1 ≤ 64)
+
+abbrev pub AreWritable : List Field → Type 0
+AreWritable [] = Unit {0}
+AreWritable (f ∷ fields) = IsWritable f × AreWritable fields

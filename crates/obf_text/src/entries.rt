@@ -6,7 +6,6 @@ ghost use Rattle.std.specs.List.{fold};
 ghost use Rattle.obf_text.specs.Fields.{greatest_listed};
 
 use othello_rules::{Grid, Square};
-use std::marker::Model;
 
 /// A move that a line lists.
 #[derive(Clone, Copy, PartialEq, Eq, Debug)]
@@ -19,42 +18,9 @@ pub enum ListedMove {
     Over,
 }
 
-/// The listed moves of a line in their order, each with its score as the side to move sees it.
-#[derive(Debug, Drop)]
-pub struct Listed {
-    fields: Vec<(ListedMove, i8)>,
-}
-
-impl Model for Listed {
-    ghost use Rattle.std.specs.Prelude.{List};
-    ghost use Rattle.obf_text.specs.Fields.{Field};
-
-    ghost Value = { List Field };
-
-    ghost view = { λ l. l.fields.items };
-}
-
-impl From<Vec<(ListedMove, i8)>> for Listed {
-    ghost from_gives = { λ fields listed. listed ≡ fields.items };
-
-    fn from(fields: Vec<(ListedMove, i8)>) -> Listed {
-        Listed { fields }
-    }
-}
-
-impl Listed {
-    /// The listed moves, in their order.
-    pub fn as_slice(&self) -> &[(ListedMove, i8)]
-        ensures { result.now ≡ self.now }
-    {
-        &self.fields
-    }
-
-    /// The listed moves in the memory that holds them.
-    pub fn into_vec(self) -> Vec<(ListedMove, i8)>
-        ensures { result.items ≡ self }
-    {
-        self.fields
+impl Default for ListedMove {
+    fn default() -> ListedMove {
+        ListedMove::Pass
     }
 }
 
@@ -62,7 +28,8 @@ impl Listed {
 #[derive(Debug, Drop)]
 pub struct Line {
     pub grid: Grid,
-    pub listed: Listed,
+    /// The listed moves in their order, each with its score as the side to move sees it.
+    pub listed: Vec<(ListedMove, i8)>,
 }
 
 /// What a line without a fault says.

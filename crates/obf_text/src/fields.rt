@@ -1,16 +1,14 @@
 //! The fields of a line: what stands behind the side, up to the first `%`.
 
-ghost use Rattle.std.specs.Prelude.{◌≡◌, ◌==◌, ◌<◌, ◌≤◌, ◌↔◌, IfOk, OnErr, IfSome, length, Option};
-ghost use Rattle.std.specs.Prelude.{◌∷◌, Some, option_map};
-ghost use Rattle.std.specs.Iterator.{YieldsFirstRef, item_count};
-ghost use Rattle.std.specs.List.{before_first, position_or_len, position};
+ghost use Rattle.std.specs.Prelude.{◌≡◌, ◌<◌, ◌≤◌, IfOk, OnErr, IfSome, length};
 ghost use Rattle.obf_text.specs.Fields.{column_of_letter, digit_of, field_of, field_of_text};
 ghost use Rattle.obf_text.specs.Fields.{fields_of, move_of, row_of_digit, score_of_text, size_of};
 ghost use Rattle.obf_text.specs.Fields.{without_blanks, without_first_blanks, without_last_blanks};
-ghost use Rattle.obf_text.specs.Fields.{pieces_left, square_in};
+ghost use Rattle.obf_text.specs.Fields.{square_in};
 
 use crate::bytes::{blank_count, is_blank};
 use crate::entries::ListedMove;
+use crate::splits::pieces_of;
 use othello_rules::Square;
 use std::alloc::{AllocError, Global};
 
@@ -118,66 +116,18 @@ fn without_last_blanks(piece: &[u8]) -> &[u8]
     &piece[..end]
 }
 
-// The field of a piece, without the blanks round it.
-fn field_of(piece: &[u8]) -> Option<(ListedMove, i8)>
+/// A piece without the blanks round it.
+pub fn without_blanks(piece: &[u8]) -> &[u8]
+    ensures { result.now ≡ without_blanks piece.now }
+{
+    without_last_blanks(without_first_blanks(piece))
+}
+
+/// The move that a piece of a line lists, with its score, if it lists one.
+pub fn field_of(piece: &[u8]) -> Option<(ListedMove, i8)>
     ensures { result ≡ field_of piece.now }
 {
-    field_of_text(without_last_blanks(without_first_blanks(piece)))
-}
-
-// Where the first `%` stands. Apart, so that a contract states what is found.
-fn first_percent(rest: &[u8]) -> Option<usize>
-    ensures { result ≡ position (λ b. b == 37) rest.now }
-{
-    rest.iter().position(|b| *b == b'%')
-}
-
-// What stands before the first `%`.
-fn before_comment(rest: &[u8]) -> &[u8]
-    ensures { result.now ≡ before_first (λ b. b == 37) rest.now }
-{
-    match first_percent(rest) {
-        Some(end) => &rest[..end],
-        None => rest,
-    }
-}
-
-// The pieces between semicolons that are left.
-#[derive(Clone, Copy)]
-struct Pieces<'a> {
-    left: Option<&'a [u8]>,
-}
-
-fn first_semicolon(text: &[u8]) -> Option<usize>
-    ensures { result ≡ position (λ b. b == 59) text.now }
-{
-    text.iter().position(|b| *b == b';')
-}
-
-// The first piece, and what is left after its semicolon, if it has one.
-fn first_piece(text: &[u8]) -> (&[u8], Option<&[u8]>)
-    ensures { pieces_left (Some text.now)
-        ≡ result.0.now ∷ pieces_left (option_map (λ t. t.now) result.1) }
-{
-    match first_semicolon(text) {
-        Some(end) => (&text[..end], Some(&text[end + 1..])),
-        None => (text, None),
-    }
-}
-
-impl<'a> Iterator for Pieces<'a> {
-    type Item = &'a [u8];
-
-    ghost next_gives = { YieldsFirstRef (λ s. pieces_left (option_map (λ t. t.now) s.left)) };
-
-    ghost remaining = { item_count (λ s. pieces_left (option_map (λ t. t.now) s.left)) };
-
-    fn next(&mut self) -> Option<&'a [u8]> {
-        let text = self.left?;
-        let (piece, left) = first_piece(text);
-        self.left = left;
-        Some(piece)
-    }
+    field_of_text(without_blanks(piece))
 }
 
 // The listed fields, in their order. Memory is taken only for them.
@@ -185,11 +135,8 @@ pub(crate) fn read_fields(alloc: Global, rest: &[u8]) -> Result<Vec<(ListedMove,
     ensures ok { IfOk result (λ listed. listed.items ≡ fields_of rest.now) }
     ensures err { OnErr result (0 < length (fields_of rest.now)) }
 {
-    let pieces = Pieces {
-        left: Some(before_comment(rest)),
-    };
     let mut listed = Vec::new(alloc);
-    for piece in pieces {
+    for piece in pieces_of(rest) {
         if let Some(field) = field_of(piece) {
             listed.push(field)?;
         }

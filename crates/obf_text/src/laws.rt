@@ -2,13 +2,14 @@
 
 ghost use Rattle.std.specs.Prelude.{◌≡◌, ◌≢◌, ◌≤ℤ◌, ◌↔◌, [], ◌∷◌, ◌++◌, ℕ, List, Some, None};
 ghost use Rattle.std.specs.Prelude.{length};
-ghost use Rattle.std.specs.List.{Contains};
+ghost use Rattle.std.specs.List.{Contains, filter_map};
 ghost use Rattle.othello_rules.specs.Rules.{Position};
 ghost use Rattle.othello_rules.specs.Solution.{IsScore, Solution};
 ghost use Rattle.obf_text.specs.Fields.{Field, IsField, IsNoField, field_of, greatest_listed};
 ghost use Rattle.obf_text.specs.LineText.{lines_of};
-ghost use Rattle.obf_text.specs.Obf.{Holds, Meaning, Says, item_of};
-ghost use Rattle.obf_text.specs.Written.{answer_entry, line_text, line_with_end};
+ghost use Rattle.obf_text.specs.Obf.{Entry, Holds, Meaning, Says, item_of};
+ghost use Rattle.obf_text.specs.Pieces.{line_pieces};
+ghost use Rattle.obf_text.specs.Written.{AreWritable, answer_entry, entry_text, line_text, line_with_end};
 
 /// Each piece is one field, or none.
 pub fn one_field()
@@ -42,4 +43,20 @@ pub fn written_is_read()
         → Says (line_text P A) (Holds (answer_entry P A)) }
     ensures item { (P : Position) (A : Solution) → length P.cells ≡ 64 → IsScore A.score
         → item_of (line_text P A) ≡ Holds (answer_entry P A) }
+{}
+
+/// A line that is written for a position with any fields, with a comment behind it or with none, is
+/// read back as the position with these fields.
+pub fn entry_is_read()
+    ensures bare { (P : Position) (fields : List Field) → length P.cells ≡ 64 → AreWritable fields
+        → item_of (entry_text P fields) ≡ Holds (record { position = P; listed = fields }) }
+    ensures commented { (P : Position) (fields : List Field) (more : List ℕ) → length P.cells ≡ 64
+        → AreWritable fields → item_of (entry_text P fields ++ 32 ∷ 37 ∷ more)
+        ≡ Holds (record { position = P; listed = fields }) }
+{}
+
+/// The pieces of a line that holds a position list its fields, in their order.
+pub fn pieces_list_fields()
+    ensures { (line : List ℕ) (entry : Entry) → item_of line ≡ Holds entry
+        → entry.listed ≡ filter_map field_of (line_pieces line) }
 {}

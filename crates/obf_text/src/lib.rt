@@ -7,7 +7,7 @@
 //!
 //! for bytes in split_lines(text) {
 //!     if let Item::Entry(line) = read_line(alloc, bytes)? {
-//!         assert!(rt; greatest_score(line.listed.as_slice()) <= Some(64));
+//!         assert!(rt; greatest_score(&line.listed) <= Some(64));
 //!     }
 //! }
 //! ```
@@ -20,12 +20,15 @@ mod faults;
 mod fields;
 pub mod laws;
 mod reads;
+mod splits;
 #[cfg(test)]
 mod tests;
 mod writes;
 
 pub use cuts::{Lines, split_lines};
-pub use entries::{Item, Line, Listed, ListedMove, greatest_score};
+pub use entries::{Item, Line, ListedMove, greatest_score};
 pub use faults::LineFault;
+pub use fields::{field_of, without_blanks};
 pub use reads::read_line;
-pub use writes::{score_bytes, write_line};
+pub use splits::{Pieces, comment_of, line_pieces};
+pub use writes::{move_bytes, score_bytes, write_entry, write_line};

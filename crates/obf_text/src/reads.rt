@@ -6,7 +6,7 @@ ghost use Rattle.obf_text.specs.Bytes.{cell_of, is_no_cell};
 ghost use Rattle.obf_text.specs.Obf.{Gives, Meaning, Says, board_item, gap_item, item_of, place_of};
 
 use crate::bytes::{blank_count, cell_count, cell_of, side_of};
-use crate::entries::{Item, Line, Listed};
+use crate::entries::{Item, Line};
 use crate::faults::LineFault;
 use crate::fields::read_fields;
 use othello_rules::{Cell, Grid};
@@ -38,7 +38,7 @@ fn read_side(alloc: Global, place: usize, cells: [Cell; 64], rest: &[u8]) -> Res
                 return Err(LineFault::BadSide(column));
             };
             let grid = Grid::new(cells, side);
-            let listed = Listed::from(read_fields(alloc, fields)?);
+            let listed = read_fields(alloc, fields)?;
             Ok(Item::Entry(Line { grid, listed }))
         }
     }

@@ -1,11 +1,11 @@
 //! Writes the line of a position with its answer.
 
-ghost use Rattle.std.specs.Prelude.{◌≡◌, ◌<◌, nat_abs, length, map, OnOk};
+ghost use Rattle.std.specs.Prelude.{◌≡◌, ◌<◌, nat_abs, length, map, All, OnOk};
 ghost use Rattle.std.specs.Io.KnownBytes.{Appends};
 ghost use Rattle.othello_rules.specs.declared.answers.Best.TheVariants.{Moves};
 ghost use Rattle.obf_text.specs.Written.{answer_text, board_text, cell_byte, field_text};
 ghost use Rattle.obf_text.specs.Written.{move_text, score_part, score_text, side_byte};
-ghost use Rattle.obf_text.specs.Written.{line_with_end};
+ghost use Rattle.obf_text.specs.Written.{entry_text, fields_text, line_with_end};
 
 use crate::entries::ListedMove;
 use othello_rules::{Answer, Best, Cell, Grid, Side, Square, squares_in};
@@ -43,8 +43,9 @@ fn board_bytes(grid: &Grid) -> [u8; 64]
     bytes
 }
 
+/// A listed move as text: a square's name, `PS` or `--`.
 #[tactic(auto, unfolding(crate::specs::Written::move_text))]
-fn move_bytes(listed: ListedMove) -> [u8; 2]
+pub fn move_bytes(listed: ListedMove) -> [u8; 2]
     ensures { result ≡ move_text listed }
 {
     match listed {
@@ -144,4 +145,32 @@ pub fn write_line<W: Write>(writer: &mut W, grid: &Grid, answer: &Answer) -> io:
     write_board(writer, grid)?;
     write_best(writer, answer.score, answer.best)?;
     writer.write_all(b"\n")
+}
+
+// Each field, in their order.
+fn write_fields<W: Write>(writer: &mut W, fields: &[(ListedMove, i8)]) -> io::Result<()>
+    requires { All (λ f. nat_abs f.1 < 100) fields.now }
+    ensures { OnOk result
+        (Appends (W.contents writer.old) (W.contents writer.new) (fields_text fields.now)) }
+{
+    for (listed, score) in fields {
+        write_field(writer, *listed, *score)?;
+    }
+    Ok(())
+}
+
+/// Writes the line of a position with moves listed for it, without an end, so that a comment may follow: as `write_line`
+/// does, but for any fields, in their order.
+#[tactic(auto, unfolding(crate::specs::Written::entry_text))]
+pub fn write_entry<W: Write>(
+    writer: &mut W,
+    grid: &Grid,
+    fields: &[(ListedMove, i8)],
+) -> io::Result<()>
+    requires { All (λ f. nat_abs f.1 < 100) fields.now }
+    ensures { OnOk result (Appends (W.contents writer.old)
+        (W.contents writer.new) (entry_text grid.now fields.now)) }
+{
+    write_board(writer, grid)?;
+    write_fields(writer, fields)
 }

@@ -18,8 +18,8 @@ fn name_of(listed: ListedMove) -> [u8; 2] {
 }
 
 fn lists(line: &Line, fields: &[Field]) -> bool {
-    let listed = line.listed.as_slice().iter();
-    listed
+    line.listed
+        .iter()
         .map(|(listed, score)| (name_of(*listed), *score))
         .eq(fields.iter().copied())
 }

@@ -1,0 +1,116 @@
+//! The pieces of a line: what stands behind the side, up to the first `%`, cut at each `;`.
+
+ghost use Rattle.std.specs.Prelude.{◌≡◌, ◌==◌, ◌∷◌, Some, drop, option_map};
+ghost use Rattle.std.specs.Iterator.{YieldsFirstRef, item_count};
+ghost use Rattle.std.specs.List.{before_first, position};
+ghost use Rattle.obf_text.specs.Fields.{pieces_left, pieces_of};
+ghost use Rattle.obf_text.specs.Pieces.{behind_side, comment_of, line_pieces};
+
+use crate::bytes::blank_count;
+use std::marker::Model;
+
+// Where the first `%` stands. Apart, so that a contract states what is found.
+fn first_percent(rest: &[u8]) -> Option<usize>
+    ensures { result ≡ position (λ b. b == 37) rest.now }
+{
+    rest.iter().position(|b| *b == b'%')
+}
+
+// What stands before the first `%`.
+fn before_comment(rest: &[u8]) -> &[u8]
+    ensures { result.now ≡ before_first (λ b. b == 37) rest.now }
+{
+    match first_percent(rest) {
+        Some(end) => &rest[..end],
+        None => rest,
+    }
+}
+
+/// The comment of a line, from its first `%` on: empty, where there is none.
+pub fn comment_of(line: &[u8]) -> &[u8]
+    ensures { result.now ≡ comment_of line.now }
+{
+    match first_percent(line) {
+        Some(start) => &line[start..],
+        None => &line[line.len()..],
+    }
+}
+
+/// The pieces between semicolons that are left. Contracts see the list of them.
+#[derive(Clone, Debug, Drop)]
+pub struct Pieces<'a> {
+    left: Option<&'a [u8]>,
+}
+
+impl<'a> Model for Pieces<'a> {
+    ghost use Rattle.std.specs.Prelude.{ℕ, List, option_map};
+    ghost use Rattle.obf_text.specs.Fields.{pieces_left};
+
+    ghost Value = { List (List ℕ) };
+
+    ghost view = { λ p. pieces_left (option_map (λ t. t.now) p.left) };
+}
+
+fn first_semicolon(text: &[u8]) -> Option<usize>
+    ensures { result ≡ position (λ b. b == 59) text.now }
+{
+    text.iter().position(|b| *b == b';')
+}
+
+// The first piece, and what is left after its semicolon, if it has one.
+fn first_piece(text: &[u8]) -> (&[u8], Option<&[u8]>)
+    ensures { pieces_left (Some text.now)
+        ≡ result.0.now ∷ pieces_left (option_map (λ t. t.now) result.1) }
+{
+    match first_semicolon(text) {
+        Some(end) => (&text[..end], Some(&text[end + 1..])),
+        None => (text, None),
+    }
+}
+
+impl<'a> Iterator for Pieces<'a> {
+    type Item = &'a [u8];
+
+    ghost next_gives = { YieldsFirstRef (λ pieces. pieces) };
+
+    ghost remaining = { item_count (λ pieces. pieces) };
+
+    fn next(&mut self) -> Option<&'a [u8]> {
+        let text = self.left?;
+        let (piece, left) = first_piece(text);
+        self.left = left;
+        Some(piece)
+    }
+}
+
+// The pieces of what stands behind the side.
+pub(crate) fn pieces_of(rest: &[u8]) -> Pieces<'_>
+    ensures { result ≡ pieces_of rest.now }
+{
+    Pieces {
+        left: Some(before_comment(rest)),
+    }
+}
+
+// What stands behind so many bytes: nothing, where there are fewer.
+fn behind(bytes: &[u8], count: usize) -> &[u8]
+    ensures { result.now ≡ drop count bytes.now }
+{
+    &bytes[count.min(bytes.len())..]
+}
+
+// What stands behind blanks and one byte more.
+fn behind_side(rest: &[u8]) -> &[u8]
+    ensures { result.now ≡ behind_side rest.now }
+{
+    behind(rest, blank_count(rest) + 1)
+}
+
+/// The pieces of a line that holds a position, whether or not they list a move, in their order: what
+/// stands behind the side to move, up to the first `%`, cut at each `;`.
+#[tactic(auto, unfolding(crate::specs::Pieces::line_pieces))]
+pub fn line_pieces(line: &[u8]) -> Pieces<'_>
+    ensures { result ≡ line_pieces line.now }
+{
+    pieces_of(behind_side(behind(line, blank_count(line) + 64)))
+}

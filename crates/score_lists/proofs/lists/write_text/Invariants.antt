@@ -1,0 +1,12 @@
+use Rattle.std.proofs.Common.{◌≡◌, ◌&&◌}
+use Rattle.obf_text.specs.LineText.{lines_of}
+use Rattle.score_lists.specs.Lines.{Prints, are_right, lines_text, scores_text}
+use Rattle.score_lists.proofs.lists.write_text.Given as goal
+
+abbrev pub invariant-loop-line : goal.invariant-loop-line
+invariant-loop-line g l = record {
+  text : Prints (g.W.Write.contents l.fn.writer) (g.W.Write.contents l.writer)
+      (lines_text (g.T.Bounds.scoring l.table) l.limit l.line-iterator)
+      (scores_text (g.T.Bounds.scoring l.table) l.limit l.fn.text);
+  right : (l.right && are_right (g.T.Bounds.scoring l.table) l.limit l.line-iterator) ≡ are_right (g.T.Bounds.scoring l.table) l.limit (lines_of l.fn.text);
+}

@@ -1,0 +1,61 @@
+-- What is remarked of the pieces of a line.
+use Rattle.std.specs.Prelude.{ℕ, ℤ, Bool, true, false, List, [], ◌∷◌, ◌++◌, Option, Some, None, option_map, codes}
+use Rattle.std.specs.List.{filter_map}
+use Rattle.obf_text.specs.Fields.{Field, field_of, without_blanks}
+use Rattle.obf_text.specs.Written.{move_text, score_text}
+use Rattle.score_lists.specs.Checks.{wrong_in}
+use Rattle.score_lists.specs.declared.checks.Wrong.{Wrong}
+
+unfoldable pub verdict_text : Option ℤ → List ℕ
+verdict_text None = codes "no move"
+verdict_text (Some score) = score_text score
+
+-- `A1:+62 is +52`, or `D4:+02 is no move`
+unfoldable pub wrong_text : Wrong → List ℕ
+wrong_text w =
+    move_text w.listed ++ (codes ":" ++ (score_text w.claimed
+    ++ (codes " is " ++ verdict_text w.score)))
+
+-- `not read: ` and the bytes
+unfoldable pub unread_text : List ℕ → List ℕ
+unread_text bytes = codes "not read: " ++ bytes
+
+-- bytes that are no field are not read; of none there is nothing to say
+abbrev pub unread_remark : List ℕ → Option (List ℕ)
+unread_remark [] = None
+unread_remark (b ∷ bs) = Some (unread_text (b ∷ bs))
+
+abbrev pub field_remark : List Field → Field → Option (List ℕ)
+field_remark scores f = option_map wrong_text (wrong_in scores f)
+
+abbrev pub remark_by : List Field → List ℕ → Option Field → Option (List ℕ)
+remark_by scores piece (Some f) = field_remark scores f
+remark_by scores piece None = unread_remark (without_blanks piece)
+
+-- what is remarked of a piece, if anything is: it lists a move with another score, or what is no
+-- move, or it is neither blank nor a field
+abbrev pub remark_of : List Field → List ℕ → Option (List ℕ)
+remark_of scores piece = remark_by scores piece (field_of piece)
+
+-- the remarks of pieces, in their order
+abbrev pub remarks : List Field → List (List ℕ) → List (List ℕ)
+remarks scores pieces = filter_map (remark_of scores) pieces
+
+abbrev pub has_remarks : List (List ℕ) → Bool
+has_remarks [] = false
+has_remarks (r ∷ more) = true
+
+-- what stands in front of a remark, by whether another one does
+unfoldable pub gap_text : Bool → List ℕ
+gap_text false = codes " % "
+gap_text true = codes ", "
+
+-- remarks, by whether another one stands in front
+abbrev pub remarks_text : Bool → List (List ℕ) → List ℕ
+remarks_text found [] = []
+remarks_text found (r ∷ more) = gap_text found ++ (r ++ remarks_text true more)
+
+-- one remark, if there is one
+abbrev pub one_text : Bool → Option (List ℕ) → List ℕ
+one_text found None = []
+one_text found (Some r) = gap_text found ++ r

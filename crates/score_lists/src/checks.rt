@@ -1,0 +1,74 @@
+//! What is wrong with the moves that a line lists.
+
+ghost use Rattle.std.specs.Prelude.{◌≡◌, option_map};
+ghost use Rattle.std.specs.List.{find};
+ghost use Rattle.obf_text.specs.declared.entries.ListedMove.TheVariants.{At};
+ghost use Rattle.score_lists.specs.Checks.{same_move, score_in, wrong_in};
+
+use obf_text::ListedMove;
+use othello_rules::Square;
+
+/// A listed move that has another score, or none: it is no move of the position.
+#[derive(Clone, Copy, PartialEq, Eq, Debug)]
+pub struct Wrong {
+    pub listed: ListedMove,
+    pub claimed: i8,
+    pub score: Option<i8>,
+}
+
+fn is_square(listed: ListedMove, square: Square) -> bool
+    ensures { result ≡ same_move listed (At square) }
+{
+    match listed {
+        ListedMove::At(other) => other.number() == square.number(),
+        _ => false,
+    }
+}
+
+fn same_move(a: ListedMove, b: ListedMove) -> bool
+    ensures { result ≡ same_move a b }
+{
+    match b {
+        ListedMove::At(square) => is_square(a, square),
+        ListedMove::Pass => matches!(a, ListedMove::Pass),
+        ListedMove::Over => matches!(a, ListedMove::Over),
+    }
+}
+
+// The field of a move. Apart, so that a contract states what is found.
+fn field_in(scores: &[(ListedMove, i8)], listed: ListedMove) -> Option<&(ListedMove, i8)>
+    ensures { option_map (λ f. f.now) result ≡ find (λ f. same_move f.0 listed) scores.now }
+{
+    scores.iter().find(|field| same_move(field.0, listed))
+}
+
+/// The score of a move among the scores of a position, if it is one of its moves.
+pub fn score_in(scores: &[(ListedMove, i8)], listed: ListedMove) -> Option<i8>
+    ensures { result ≡ score_in scores.now listed }
+{
+    let field = field_in(scores, listed)?;
+    Some(field.1)
+}
+
+/// What is wrong with a listed move, if anything is.
+pub fn wrong_in(scores: &[(ListedMove, i8)], field: &(ListedMove, i8)) -> Option<Wrong>
+    ensures { result ≡ wrong_in scores.now field.now }
+{
+    match score_in(scores, field.0) {
+        None => Some(Wrong {
+            listed: field.0,
+            claimed: field.1,
+            score: None,
+        }),
+        Some(score) => {
+            if score == field.1 {
+                return None;
+            }
+            Some(Wrong {
+                listed: field.0,
+                claimed: field.1,
+                score: Some(score),
+            })
+        }
+    }
+}

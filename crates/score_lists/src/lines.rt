@@ -1,0 +1,213 @@
+//! Lines with every move's score.
+
+ghost use Rattle.std.specs.Prelude.{◌≡◌, ◌≢◌, ◌≤◌, ◌<◌, ◌++◌, ◌∷◌, [], All, IfOk, IsOk, OnOk, nat_abs, not, true, false};
+ghost use Rattle.std.specs.Io.KnownBytes.{Appends};
+ghost use Rattle.obf_text.specs.Obf.{Holds, entry_of, item_of};
+ghost use Rattle.obf_text.specs.Pieces.{line_pieces};
+ghost use Rattle.obf_text.specs.declared.faults.LineFault.TheVariants.{Memory};
+ghost use Rattle.score_lists.specs.Lines.{comment_text, fault_text, is_right, kept_text, many_text};
+ghost use Rattle.score_lists.specs.Lines.{out_text, quoted_text, refused_text, scored_text};
+ghost use Rattle.score_lists.specs.Remarks.{has_remarks, remarks};
+
+use crate::remarks::write_remarks;
+use bound_table::Bounds;
+use endgame_search::{Task, TooMany};
+use move_scores::score_moves;
+use obf_text::{Item, Line, LineFault, ListedMove, comment_of, read_line, write_entry};
+use othello_bits::Pos;
+use othello_rules::Grid;
+use std::alloc::{AllocError, Global};
+use std::io;
+use std::io::Write;
+
+fn write_kept<W: Write>(writer: &mut W, line: &[u8]) -> io::Result<()>
+    ensures { OnOk result
+        (Appends (W.contents writer.old) (W.contents writer.new) (kept_text line.now)) }
+{
+    writer.write_all(line)?;
+    writer.write_all(b"\n")
+}
+
+#[tactic(auto, unfolding(crate::specs::Lines::fault_text))]
+fn write_fault<W: Write>(writer: &mut W, fault: LineFault) -> io::Result<()>
+    ensures { OnOk result
+        (Appends (W.contents writer.old) (W.contents writer.new) (fault_text fault)) }
+{
+    match fault {
+        LineFault::Short(found) => write!(writer, "board has {found} of 64 squares"),
+        LineFault::BadCell(column) => write!(writer, "bad square at column {column}"),
+        LineFault::BadSide(column) => write!(writer, "bad side at column {column}"),
+        LineFault::Memory => writer.write_all(b"out of memory"),
+    }
+}
+
+// A line behind a colon.
+#[tactic(auto, unfolding(crate::specs::Lines::quoted_text))]
+fn write_quoted<W: Write>(writer: &mut W, line: &[u8]) -> io::Result<()>
+    ensures { OnOk result
+        (Appends (W.contents writer.old) (W.contents writer.new) (quoted_text line.now)) }
+{
+    writer.write_all(b": ")?;
+    write_kept(writer, line)
+}
+
+// A line that is refused for a fault.
+fn write_faulty<W: Write>(writer: &mut W, fault: LineFault, line: &[u8]) -> io::Result<()>
+    ensures { OnOk result (Appends (W.contents writer.old)
+        (W.contents writer.new) (refused_text (fault_text fault) line.now)) }
+{
+    writer.write_all(b"% refused: ")?;
+    write_fault(writer, fault)?;
+    write_quoted(writer, line)
+}
+
+#[tactic(auto, unfolding(crate::specs::Lines::many_text))]
+fn write_empties<W: Write>(writer: &mut W, found: u8, limit: u8) -> io::Result<()>
+    ensures { OnOk result
+        (Appends (W.contents writer.old) (W.contents writer.new) (many_text found limit)) }
+{
+    write!(writer, "{found} empties, limit {limit}")
+}
+
+// A line whose position has more empty squares than the limit.
+fn write_many<W: Write>(writer: &mut W, found: u8, limit: u8, line: &[u8]) -> io::Result<()>
+    ensures { OnOk result (Appends (W.contents writer.old)
+        (W.contents writer.new) (refused_text (many_text found limit) line.now)) }
+{
+    writer.write_all(b"% refused: ")?;
+    write_empties(writer, found, limit)?;
+    write_quoted(writer, line)
+}
+
+// A comment behind a blank, and the line's end.
+fn write_comment<W: Write>(writer: &mut W, comment: &[u8]) -> io::Result<()>
+    ensures { OnOk result (Appends (W.contents writer.old)
+        (W.contents writer.new) (comment_text comment.now ++ 10 ∷ [])) }
+{
+    if !comment.is_empty() {
+        writer.write_all(b" ")?;
+    }
+    write_kept(writer, comment)
+}
+
+// A position with its scores, what is remarked of its line, and the line's comment. The answer is
+// whether nothing is remarked.
+#[tactic(auto, unfolding(crate::specs::Lines::scored_text))]
+fn write_entry_line<W: Write>(
+    writer: &mut W,
+    grid: &Grid,
+    scores: &[(ListedMove, i8)],
+    line: &[u8],
+) -> io::Result<bool>
+    requires { All (λ f. nat_abs f.1 < 100) scores.now }
+    ensures written { OnOk result (Appends (W.contents writer.old)
+        (W.contents writer.new) (scored_text grid.now scores.now line.now)) }
+    ensures right { IfOk result
+        (λ right. right ≡ not (has_remarks (remarks scores.now (line_pieces line.now)))) }
+{
+    write_entry(writer, grid, scores)?;
+    let found = write_remarks(writer, scores, line)?;
+    write_comment(writer, comment_of(line))?;
+    Ok(!found)
+}
+
+// What comes of a line that holds a position, and whether it is right.
+fn write_scored<T: Bounds, W: Write>(
+    table: &T,
+    writer: &mut W,
+    limit: u8,
+    line: &[u8],
+    entry: &Line,
+) -> io::Result<bool>
+    requires { limit ≤ 60 }
+    ensures written { OnOk result (Appends (W.contents writer.old) (W.contents writer.new)
+        (out_text (T.scoring table.now) limit line.now (Holds (entry_of entry.now)))) }
+    ensures right { IfOk result (λ right. right
+        ≡ is_right (T.scoring table.now) limit line.now (Holds (entry_of entry.now))) }
+{
+    match Task::new(Pos::of_grid(&entry.grid), limit, table.scoring()) {
+        Ok(task) => {
+            let scored = score_moves(table, task);
+            write_entry_line(writer, &entry.grid, scored.fields(), line)
+        }
+        Err(TooMany(found)) => {
+            write_many(writer, found, limit, line)?;
+            Ok(false)
+        }
+    }
+}
+
+// A line that is skipped, which is right.
+fn write_skipped<W: Write>(writer: &mut W, line: &[u8]) -> io::Result<bool>
+    ensures written { OnOk result
+        (Appends (W.contents writer.old) (W.contents writer.new) (kept_text line.now)) }
+    ensures right { IfOk result (λ right. right ≡ true) }
+{
+    write_kept(writer, line)?;
+    Ok(true)
+}
+
+// A line that is refused for a fault, which is wrong. Want of memory is said of no line.
+fn write_refused<W: Write>(writer: &mut W, fault: LineFault, line: &[u8]) -> io::Result<bool>
+    ensures written { OnOk result (Appends (W.contents writer.old)
+        (W.contents writer.new) (refused_text (fault_text fault) line.now)) }
+    ensures right { IfOk result (λ right. right ≡ false) }
+    ensures told { IsOk result → fault ≢ Memory }
+{
+    match fault {
+        LineFault::Memory => Err(io::Error::from(io::ErrorKind::OutOfMemory)),
+        _ => {
+            write_faulty(writer, fault, line)?;
+            Ok(false)
+        }
+    }
+}
+
+// What comes of a line, and whether it is right.
+fn write_item<T: Bounds, W: Write>(
+    table: &T,
+    alloc: Global,
+    writer: &mut W,
+    limit: u8,
+    line: &[u8],
+) -> io::Result<bool>
+    requires { limit ≤ 60 }
+    ensures written { OnOk result (Appends (W.contents writer.old) (W.contents writer.new)
+        (out_text (T.scoring table.now) limit line.now (item_of line.now))) }
+    ensures right { IfOk result
+        (λ right. right ≡ is_right (T.scoring table.now) limit line.now (item_of line.now)) }
+{
+    match read_line(alloc, line) {
+        Ok(Item::Skip) => write_skipped(writer, line),
+        Ok(Item::Entry(entry)) => write_scored(table, writer, limit, line, &entry),
+        Err(fault) => write_refused(writer, fault, line),
+    }
+}
+
+/// What is printed for a line, and whether nothing is wrong in it.
+#[derive(Drop)]
+pub(crate) struct LineText {
+    pub(crate) bytes: Vec<u8>,
+    pub(crate) right: bool,
+}
+
+/// What is printed for a line: itself, if it is skipped; a comment with the reason and the line, if
+/// it is refused; or its position with every move's score, remarks and the line's comment.
+pub(crate) fn line_text<T: Bounds>(
+    table: &T,
+    alloc: Global,
+    limit: u8,
+    line: &[u8],
+) -> Result<LineText, AllocError>
+    requires { limit ≤ 60 }
+    ensures bytes { IfOk result (λ text. text.bytes.items
+        ≡ out_text (T.scoring table.now) limit line.now (item_of line.now)) }
+    ensures right { IfOk result (λ text. text.right
+        ≡ is_right (T.scoring table.now) limit line.now (item_of line.now)) }
+{
+    let mut bytes = Vec::new(alloc);
+    match write_item(table, alloc, &mut bytes, limit, line) {
+        Ok(right) => Ok(LineText { bytes, right }),
+        Err(_) => Err(AllocError),
+    }
+}

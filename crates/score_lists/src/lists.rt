@@ -1,0 +1,155 @@
+//! Lists of positions with every move's score.
+
+ghost use Rattle.std.specs.Prelude.{◌≡◌, ◌≤◌, ◌∷◌, [], IfOk, OnErr, OnOk, map};
+ghost use Rattle.std.specs.Io.KnownBytes.{Appends};
+ghost use Rattle.obf_text.specs.LineText.{lines_of};
+ghost use Rattle.obf_text.specs.Obf.{item_of};
+ghost use Rattle.score_lists.specs.Lines.{AppendsFront, Prints, are_right, is_right, lists_right, lists_text, out_text, scores_text, texts_of};
+ghost use Rattle.score_lists.specs.declared.lists.ListFault.TheVariants.{CannotWrite, Memory};
+
+use crate::lines::line_text;
+use bound_table::Bounds;
+use obf_text::split_lines;
+use std::alloc::{AllocError, Global};
+use std::io;
+use std::io::{ErrorKind, Write};
+use thiserror::Error;
+
+/// Why lists were not printed to their end.
+#[derive(Clone, Copy, PartialEq, Eq, Debug, Error)]
+pub enum ListFault {
+    #[error("out of memory")]
+    Memory,
+    #[error("cannot write")]
+    CannotWrite,
+}
+
+impl From<AllocError> for ListFault {
+    ghost from_gives = { λ _ fault. fault ≡ Memory };
+
+    fn from(_error: AllocError) -> ListFault {
+        ListFault::Memory
+    }
+}
+
+impl From<io::Error> for ListFault {
+    ghost from_gives = { λ _ fault. fault ≡ CannotWrite };
+
+    fn from(_error: io::Error) -> ListFault {
+        ListFault::CannotWrite
+    }
+}
+
+// Writes bytes, and gives those that the writer did not take: all of them, where it was
+// interrupted.
+fn send_some<'a, W: Write>(writer: &mut W, bytes: &'a [u8]) -> io::Result<&'a [u8]>
+    ensures taken { IfOk result (λ rest. Prints (W.contents writer.old) (W.contents writer.new)
+        rest.now bytes.now) }
+    ensures front { OnErr result
+        (AppendsFront (W.contents writer.old) (W.contents writer.new) bytes.now) }
+{
+    match writer.write(bytes) {
+        Ok(0) => Err(io::Error::from(ErrorKind::WriteZero)),
+        Ok(count) => Ok(&bytes[count..]),
+        Err(error) => {
+            if error.kind() == ErrorKind::Interrupted {
+                return Ok(bytes);
+            }
+            Err(error)
+        }
+    }
+}
+
+// Writes all bytes and sends them on. After a fault a front of them is written, which `write_all`
+// does not promise.
+fn send<W: Write>(writer: &mut W, bytes: &[u8]) -> io::Result<()>
+    ensures written { OnOk result
+        (Appends (W.contents writer.old) (W.contents writer.new) bytes.now) }
+    ensures front { OnErr result
+        (AppendsFront (W.contents writer.old) (W.contents writer.new) bytes.now) }
+{
+    let mut rest = bytes;
+    for _ in 0..u64::MAX {
+        if rest.is_empty() {
+            return writer.flush();
+        }
+        rest = send_some(writer, rest)?;
+    }
+    Err(io::Error::from(ErrorKind::WriteZero))
+}
+
+// Prints what comes of a line, and sends it on. The answer is whether the line is right.
+fn write_one<T: Bounds, W: Write>(
+    table: &T,
+    alloc: Global,
+    writer: &mut W,
+    limit: u8,
+    line: &[u8],
+) -> Result<bool, ListFault>
+    requires { limit ≤ 60 }
+    ensures written { OnOk result (Appends (W.contents writer.old) (W.contents writer.new)
+        (out_text (T.scoring table.now) limit line.now (item_of line.now))) }
+    ensures front { OnErr result (AppendsFront (W.contents writer.old) (W.contents writer.new)
+        (out_text (T.scoring table.now) limit line.now (item_of line.now))) }
+    ensures right { IfOk result
+        (λ right. right ≡ is_right (T.scoring table.now) limit line.now (item_of line.now)) }
+{
+    let text = line_text(table, alloc, limit, line)?;
+    send(writer, &text.bytes)?;
+    Ok(text.right)
+}
+
+// Prints a text with every move's score. The answer is whether nothing is wrong in it.
+fn write_text<T: Bounds, W: Write>(
+    table: &T,
+    alloc: Global,
+    writer: &mut W,
+    limit: u8,
+    text: &[u8],
+) -> Result<bool, ListFault>
+    requires { limit ≤ 60 }
+    ensures written { OnOk result (Appends (W.contents writer.old) (W.contents writer.new)
+        (scores_text (T.scoring table.now) limit text.now)) }
+    ensures front { OnErr result (AppendsFront (W.contents writer.old) (W.contents writer.new)
+        (scores_text (T.scoring table.now) limit text.now)) }
+    ensures right { IfOk result
+        (λ right. right ≡ are_right (T.scoring table.now) limit (lines_of text.now)) }
+{
+    let mut right = true;
+    for line in split_lines(text) {
+        let line_right = write_one(table, alloc, writer, limit, line)?;
+        right &= line_right;
+    }
+    Ok(right)
+}
+
+/// Prints texts again, one after the other, each line as soon as it is known, written and flushed:
+/// a line that is skipped as it is; a position with every move's exact score under the table's
+/// scoring, with remarks on what its line lists and with the line's comment; a line that is
+/// refused, and a position of more than `limit` empty squares, as a comment with the reason and the
+/// line.
+///
+/// The answer is whether no line is refused and nothing is remarked. After a fault a front of the
+/// whole was printed.
+pub fn write_lists<T: Bounds, W: Write>(
+    table: &T,
+    alloc: Global,
+    writer: &mut W,
+    limit: u8,
+    texts: &[Vec<u8>],
+) -> Result<bool, ListFault>
+    requires { limit ≤ 60 }
+    ensures written { OnOk result (Appends (W.contents writer.old) (W.contents writer.new)
+        (lists_text (T.scoring table.now) limit (texts_of texts.now))) }
+    ensures front { OnErr result (AppendsFront (W.contents writer.old) (W.contents writer.new)
+        (lists_text (T.scoring table.now) limit (texts_of texts.now))) }
+    ensures right { IfOk result
+        (λ right. right ≡ lists_right (T.scoring table.now) limit (texts_of texts.now)) }
+{
+    let mut right = true;
+    for text in texts {
+        let text_right = write_text(table, alloc, writer, limit, text)?;
+        right &= text_right;
+    }
+    Ok(right)
+}

@@ -1,0 +1,134 @@
+//! Remarks on the pieces of a line.
+
+ghost use Rattle.std.specs.Prelude.{◌≡◌, ◌<◌, ◌||◌, false, All, IfOk, IfSome, OnOk, is_some, nat_abs};
+ghost use Rattle.std.specs.Io.KnownBytes.{Appends};
+ghost use Rattle.obf_text.specs.Pieces.{line_pieces};
+ghost use Rattle.score_lists.specs.Remarks.{field_remark, gap_text, has_remarks, one_text, remark_of, remarks};
+ghost use Rattle.score_lists.specs.Remarks.{remarks_text, unread_remark, unread_text, verdict_text, wrong_text};
+
+use crate::checks::{Wrong, wrong_in};
+use obf_text::{ListedMove, field_of, line_pieces, move_bytes, score_bytes, without_blanks};
+use std::io;
+use std::io::Write;
+
+#[tactic(auto, unfolding(crate::specs::Remarks::verdict_text))]
+fn write_verdict<W: Write>(writer: &mut W, score: Option<i8>) -> io::Result<()>
+    requires { IfSome score (λ z. nat_abs z < 100) }
+    ensures { OnOk result
+        (Appends (W.contents writer.old) (W.contents writer.new) (verdict_text score)) }
+{
+    match score {
+        None => writer.write_all(b"no move"),
+        Some(score) => writer.write_all(&score_bytes(score)),
+    }
+}
+
+#[tactic(auto, unfolding(crate::specs::Remarks::wrong_text))]
+fn write_wrong<W: Write>(writer: &mut W, wrong: &Wrong) -> io::Result<()>
+    requires claimed { nat_abs wrong.now.claimed < 100 }
+    requires score { IfSome wrong.now.score (λ z. nat_abs z < 100) }
+    ensures { OnOk result
+        (Appends (W.contents writer.old) (W.contents writer.new) (wrong_text wrong.now)) }
+{
+    writer.write_all(&move_bytes(wrong.listed))?;
+    writer.write_all(b":")?;
+    writer.write_all(&score_bytes(wrong.claimed))?;
+    writer.write_all(b" is ")?;
+    write_verdict(writer, wrong.score)
+}
+
+#[tactic(auto, unfolding(crate::specs::Remarks::unread_text))]
+fn write_unread<W: Write>(writer: &mut W, bytes: &[u8]) -> io::Result<()>
+    ensures { OnOk result
+        (Appends (W.contents writer.old) (W.contents writer.new) (unread_text bytes.now)) }
+{
+    writer.write_all(b"not read: ")?;
+    writer.write_all(bytes)
+}
+
+// What stands in front of a remark, by whether another one does.
+#[tactic(auto, unfolding(crate::specs::Remarks::gap_text))]
+fn write_gap<W: Write>(writer: &mut W, found: bool) -> io::Result<()>
+    ensures { OnOk result
+        (Appends (W.contents writer.old) (W.contents writer.new) (gap_text found)) }
+{
+    if found {
+        writer.write_all(b", ")
+    } else {
+        writer.write_all(b" % ")
+    }
+}
+
+// The remark on a listed move, and whether any remark stands now.
+fn write_field_remark<W: Write>(
+    writer: &mut W,
+    scores: &[(ListedMove, i8)],
+    field: &(ListedMove, i8),
+    found: bool,
+) -> io::Result<bool>
+    requires scores { All (λ f. nat_abs f.1 < 100) scores.now }
+    requires claimed { nat_abs field.now.1 < 100 }
+    ensures written { OnOk result (Appends (W.contents writer.old) (W.contents writer.new)
+        (one_text found (field_remark scores.now field.now))) }
+    ensures found { IfOk result
+        (λ any. any ≡ (found || is_some (field_remark scores.now field.now))) }
+{
+    let Some(wrong) = wrong_in(scores, field) else {
+        return Ok(found);
+    };
+    write_gap(writer, found)?;
+    write_wrong(writer, &wrong)?;
+    Ok(true)
+}
+
+// The remark on bytes that are no field, and whether any remark stands now.
+fn write_unread_remark<W: Write>(writer: &mut W, bytes: &[u8], found: bool) -> io::Result<bool>
+    ensures written { OnOk result (Appends (W.contents writer.old) (W.contents writer.new)
+        (one_text found (unread_remark bytes.now))) }
+    ensures found { IfOk result (λ any. any ≡ (found || is_some (unread_remark bytes.now))) }
+{
+    if bytes.is_empty() {
+        return Ok(found);
+    }
+    write_gap(writer, found)?;
+    write_unread(writer, bytes)?;
+    Ok(true)
+}
+
+// The remark on a piece, and whether any remark stands now.
+fn write_remark<W: Write>(
+    writer: &mut W,
+    scores: &[(ListedMove, i8)],
+    piece: &[u8],
+    found: bool,
+) -> io::Result<bool>
+    requires { All (λ f. nat_abs f.1 < 100) scores.now }
+    ensures written { OnOk result (Appends (W.contents writer.old) (W.contents writer.new)
+        (one_text found (remark_of scores.now piece.now))) }
+    ensures found { IfOk result
+        (λ any. any ≡ (found || is_some (remark_of scores.now piece.now))) }
+{
+    match field_of(piece) {
+        Some(field) => write_field_remark(writer, scores, &field, found),
+        None => write_unread_remark(writer, without_blanks(piece), found),
+    }
+}
+
+// The remarks on the pieces of a line, and whether there is any.
+pub(crate) fn write_remarks<W: Write>(
+    writer: &mut W,
+    scores: &[(ListedMove, i8)],
+    line: &[u8],
+) -> io::Result<bool>
+    requires { All (λ f. nat_abs f.1 < 100) scores.now }
+    ensures written { OnOk result (Appends (W.contents writer.old) (W.contents writer.new)
+        (remarks_text false (remarks scores.now (line_pieces line.now)))) }
+    ensures found { IfOk result
+        (λ any. any ≡ has_remarks (remarks scores.now (line_pieces line.now))) }
+{
+    let mut found = false;
+    for piece in line_pieces(line) {
+        found = write_remark(writer, scores, piece, found)?;
+    }
+    Ok(found)
+}
