@@ -2,7 +2,8 @@
    score and the best moves, PS for a pass or -- at the end of the game. Then the first position is played to its end,
    always by the first best move.
 
-       cc -IFOLDER -o answers answers.c FOLDER/libffosolve.a     FOLDER as bin/ffosolve-library made it
+       cc -o answers answers.c $(pkg-config --cflags --libs ffosolve)
+       cc -IFOLDER -o answers answers.c FOLDER/libffosolve.a             FOLDER as bin/ffosolve-library made it
        ./answers <../masks.txt */
 #include "ffosolve.h"
 
@@ -11,17 +12,8 @@
 
 enum { MOST_POSITIONS = 1000, ENTRIES = 65536 };
 
-static struct ffosolve_position positions[MOST_POSITIONS];
-static struct ffosolve_answer answers[MOST_POSITIONS];
-
-static const char *reason_of(int32_t status) {
-    switch (status) {
-    case FFOSOLVE_SHARED_SQUARE: return "the masks share a square";
-    case FFOSOLVE_TOO_MANY_EMPTIES: return "more than 60 empty squares";
-    case FFOSOLVE_NO_MEMORY: return "out of memory";
-    default: return "refused";
-    }
-}
+static ffosolve_position positions[MOST_POSITIONS];
+static ffosolve_answer answers[MOST_POSITIONS];
 
 static size_t read_positions(void) {
     size_t count = 0;
@@ -45,7 +37,7 @@ static void print_squares(uint64_t mask) {
     }
 }
 
-static void print_answer(struct ffosolve_answer answer) {
+static void print_answer(ffosolve_answer answer) {
     printf("%+03d ", (int)answer.score);
     switch (answer.kind) {
     case FFOSOLVE_MOVES: print_squares(answer.best); break;
@@ -55,8 +47,8 @@ static void print_answer(struct ffosolve_answer answer) {
     printf("\n");
 }
 
-static int is_confirmed(struct ffosolve_position position, struct ffosolve_answer claim) {
-    struct ffosolve_answer answer;
+static int is_confirmed(ffosolve_position position, ffosolve_answer claim) {
+    ffosolve_answer answer;
     return ffosolve_confirm(position, FFOSOLVE_WINNER, ENTRIES, claim, &answer) == FFOSOLVE_DONE
            && answer.score == claim.score && answer.kind == claim.kind && answer.best == claim.best;
 }
@@ -68,11 +60,11 @@ static int lowest(uint64_t mask) {
 }
 
 /* Plays on to the end, and prints each move and the moves that there were. */
-static int32_t play_on(struct ffosolve_position position) {
+static int32_t play_on(ffosolve_position position) {
     for (;;) {
-        struct ffosolve_answer answer;
+        ffosolve_answer answer;
         uint64_t moves;
-        int32_t status = ffosolve_answer(position, FFOSOLVE_WINNER, 0, &answer);
+        int32_t status = ffosolve_solve(position, FFOSOLVE_WINNER, 0, &answer);
         if (status != FFOSOLVE_DONE) return status;
         if (answer.kind == FFOSOLVE_OVER) return FFOSOLVE_DONE;
         if (answer.kind == FFOSOLVE_PASS) {
@@ -95,9 +87,9 @@ static int32_t play_on(struct ffosolve_position position) {
 
 int main(void) {
     size_t count = read_positions(), at = 0;
-    int32_t status = ffosolve_answers(positions, count, FFOSOLVE_WINNER, ENTRIES, answers, count, &at);
+    int32_t status = ffosolve_solve_all(positions, count, FFOSOLVE_WINNER, ENTRIES, answers, count, &at);
     if (status != FFOSOLVE_DONE) {
-        fprintf(stderr, "position %zu: %s\n", at + 1, reason_of(status));
+        fprintf(stderr, "position %zu: %s\n", at + 1, ffosolve_status_text(status));
         return 1;
     }
     for (size_t i = 0; i < count; i++) {

@@ -2,36 +2,26 @@
 //! score and the best moves, PS for a pass or -- at the end of the game. Then the first position is played to its end,
 //! always by the first best move.
 //!
-//!     rustc --edition 2021 -L FOLDER answers.rs     FOLDER as bin/ffosolve-library made it
-//!     ./answers <../masks.txt
-mod ffosolve;
-
-use ffosolve::{Answer, Position, Scoring};
+//!     cargo run <../masks.txt              with the library installed; else FFOSOLVE_LIB_DIR names its folder
+use ffosolve::{Answer, Best, Position, Solver};
 use std::error::Error;
 use std::io::read_to_string;
 use std::process::ExitCode;
 
-const ENTRIES: usize = 65_536;
-
-fn names(mask: u64) -> String {
-    let squares = (0..64u8).filter(|square| mask >> square & 1 == 1);
-    let names: Vec<String> = squares.map(|square| format!("{}{}", (b'A' + square % 8) as char, square / 8 + 1)).collect();
-    names.join(",")
-}
-
 fn text(answer: Answer) -> String {
-    match answer.kind {
-        ffosolve::MOVES => format!("{:+03} {}", answer.score, names(answer.best)),
-        ffosolve::PASS => format!("{:+03} PS", answer.score),
-        _ => format!("{:+03} --", answer.score),
+    match answer.best {
+        Best::Moves(squares) => format!("{:+03} {squares}", answer.score),
+        Best::Pass => format!("{:+03} PS", answer.score),
+        Best::Over => format!("{:+03} --", answer.score),
     }
 }
 
 fn read_positions() -> Result<Vec<Position>, Box<dyn Error>> {
     let mut positions = Vec::new();
-    for line in read_to_string(std::io::stdin())?.lines() {
+    for (at, line) in read_to_string(std::io::stdin())?.lines().enumerate() {
         let (own, opp) = line.split_once(' ').ok_or("two masks a line")?;
-        positions.push(Position { own: u64::from_str_radix(own, 16)?, opp: u64::from_str_radix(opp, 16)? });
+        let position = Position::new(u64::from_str_radix(own, 16)?, u64::from_str_radix(opp, 16)?);
+        positions.push(position.map_err(|error| format!("position {}: {error}", at + 1))?);
     }
     Ok(positions)
 }
@@ -39,28 +29,27 @@ fn read_positions() -> Result<Vec<Position>, Box<dyn Error>> {
 /// Plays on to the end, and prints each move and the moves that there were.
 fn play_on(mut position: Position) -> Result<(), Box<dyn Error>> {
     loop {
-        let answer = ffosolve::answer(position, Scoring::Winner, 0)?;
-        match answer.kind {
-            ffosolve::MOVES => {
-                let square = answer.best.trailing_zeros() as u8;
-                println!("{} of {}", names(1 << square), names(ffosolve::moves(position)?));
-                position = ffosolve::play(position, square)?;
+        position = match Solver::new().solve(position)?.best {
+            Best::Moves(mut squares) => {
+                let square = squares.next().ok_or("no best move")?;
+                println!("{square} of {}", position.moves());
+                position.play(square)?
             }
-            ffosolve::PASS => {
+            Best::Pass => {
                 println!("PS");
-                position = position.passed();
+                position.passed()
             }
-            _ => return Ok(()),
+            Best::Over => return Ok(()),
         }
     }
 }
 
 fn run() -> Result<(), Box<dyn Error>> {
     let positions = read_positions()?;
-    let answers = ffosolve::answers(&positions, Scoring::Winner, ENTRIES)?;
+    let answers = Solver::new().solve_all(&positions)?;
     for (position, answer) in positions.iter().zip(answers) {
         println!("{}", text(answer));
-        if ffosolve::confirm(*position, Scoring::Winner, ENTRIES, answer)? != answer {
+        if Solver::new().confirm(*position, answer)? != answer {
             return Err("not confirmed".into());
         }
     }

@@ -1,13 +1,16 @@
 -- What C hands in and is handed back: scorings, refusals and answers as numbers.
 use Rattle.std.specs.Prelude.{◌≡◌, ◌⊎◌, ℕ, ℤ, pos, All, List, length, map, IfSome, Option, Some}
 use Rattle.std.specs.Prelude.{None, is_some, option_and_then, position, slice_get, bit_and, nat_eq}
-use Rattle.std.specs.Prelude.{nat_lt, if◌then◌else◌}
+use Rattle.std.specs.Prelude.{nat_lt, neg_ℤ, if◌then◌else◌}
+use Rattle.othello_rules.specs.Board.{squares}
+use Rattle.othello_rules.specs.Masks.{in_mask}
 use Rattle.othello_rules.specs.Solution.{Solution}
 use Rattle.othello_rules.specs.declared.answers.Best.{Best}
 use Rattle.othello_rules.specs.declared.answers.Best.TheVariants.{Moves, Pass, Over}
 use Rattle.othello_rules.specs.declared.scorings.Scoring.{Scoring}
 use Rattle.othello_rules.specs.declared.scorings.Scoring.TheVariants as scoring
-use Rattle.othello_bits.specs.Discs.{Discs, discs, empties_of, answer_of}
+use Rattle.othello_bits.specs.Discs.{Discs, discs, empties_of, moves_of, play_of, value_of}
+use Rattle.othello_bits.specs.Discs.{answer_of}
 use Rattle.ffosolve_c.specs.declared.answers.FfosolveAnswer.{FfosolveAnswer}
 use Rattle.ffosolve_c.specs.declared.positions.FfosolvePosition.{FfosolvePosition}
 use Rattle.ffosolve_c.specs.declared.refusals.Refusal.{Refusal}
@@ -56,6 +59,15 @@ IsAnswer scoring p answer = IfSome (scoring_of scoring) (λ g. answer ≡ answer
 
 abbrev pub AreAnswers : ℕ → List FfosolvePosition → List FfosolveAnswer → Type 0
 AreAnswers scoring ps answers = IfSome (scoring_of scoring) (λ g. answers ≡ map (answer_at g) ps)
+
+-- what a move to the square is worth to the mover, and 127 where it is none
+abbrev pub score_at : Scoring → Discs → ℕ → ℤ
+score_at g p q = if in_mask (moves_of p) q then neg_ℤ (value_of g (play_of p q)) else pos 127
+
+-- that of each square, under the scoring of this number
+abbrev pub AreScores : ℕ → FfosolvePosition → List ℤ → Type 0
+AreScores scoring p scores =
+    IfSome (scoring_of scoring) (λ g. scores ≡ map (score_at g (discs_at p)) squares)
 
 -- ---- refusals, in the order in which a request is tested
 
@@ -124,3 +136,7 @@ IsStatus None status = (status ≡ pos 0) ⊎ (status ≡ status_of NoMemory)
 -- the status tells of one of the positions
 abbrev pub IsOfPosition : ℤ → Type 0
 IsOfPosition status = (status ≡ status_of SharedSquare) ⊎ (status ≡ status_of TooManyEmpties)
+
+-- the version 1.0.0 as a number: 10000 times its first part, 100 times the second, and the third
+abbrev pub version : ℕ
+version = 10000

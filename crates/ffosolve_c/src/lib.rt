@@ -4,9 +4,9 @@
 //! #include "ffosolve.h"
 //!
 //! /* H1 and seven full rows against B1 to G1: +64, by A1 */
-//! struct ffosolve_position position = {~0x7fULL, 0x7e};
-//! struct ffosolve_answer answer;
-//! if (ffosolve_answer(position, FFOSOLVE_WINNER, 0, &answer) == FFOSOLVE_DONE)
+//! ffosolve_position position = {~0x7fULL, 0x7e};
+//! ffosolve_answer answer;
+//! if (ffosolve_solve(position, FFOSOLVE_WINNER, 0, &answer) == FFOSOLVE_DONE)
 //!     printf("%d %" PRIx64 "\n", answer.score, answer.best);
 //! ```
 #![tactic(auto)]
@@ -16,6 +16,7 @@ mod lists;
 mod positions;
 mod refusals;
 mod requests;
+mod scores;
 #[cfg(test)]
 mod tests;
 
@@ -23,13 +24,14 @@ ghost use Rattle.std.specs.Prelude.{◌≡◌, ◌≢◌, ◌↔◌, pos, Some, 
 ghost use Rattle.othello_bits.specs.Discs.{moves_of, play_of, IsMove};
 ghost use Rattle.ffosolve_c.specs.declared.refusals.Refusal.TheVariants as refusal;
 ghost use Rattle.ffosolve_c.specs.Exports.{discs_at, first_refused, c_position, refusal_of};
-ghost use Rattle.ffosolve_c.specs.Exports.{refusal_of_all, status_of, AreAnswers, IsAnswer};
-ghost use Rattle.ffosolve_c.specs.Exports.{IsOfPosition, IsStatus};
+ghost use Rattle.ffosolve_c.specs.Exports.{refusal_of_all, status_of, version, AreAnswers};
+ghost use Rattle.ffosolve_c.specs.Exports.{AreScores, IsAnswer, IsOfPosition, IsStatus};
 
 use crate::answers::possible_claim;
 use crate::lists::answer_all;
 use crate::positions::{play_move, position_of};
 use crate::requests::answer_one;
+use crate::scores::score_all;
 pub use answers::FfosolveAnswer;
 pub use positions::FfosolvePosition;
 pub use refusals::Refusal;
@@ -38,7 +40,7 @@ use std::alloc::Global;
 /// The answer of a position, by a search over a table with so many entries. The status is 0 where
 /// `answer` was written; else it is as it was, and the status tells why.
 #[unsafe(no_mangle)]
-pub extern "C" fn ffosolve_answer(
+pub extern "C" fn ffosolve_solve(
     alloc: Global,
     position: FfosolvePosition,
     scoring: u32,
@@ -59,7 +61,7 @@ pub extern "C" fn ffosolve_answer(
     }
 }
 
-/// What `ffosolve_answer` gives, sooner where the claim is right. Any claim may be made.
+/// What `ffosolve_solve` gives, sooner where the claim is right. Any claim may be made.
 #[unsafe(no_mangle)]
 pub extern "C" fn ffosolve_confirm(
     alloc: Global,
@@ -87,7 +89,7 @@ pub extern "C" fn ffosolve_confirm(
 /// of `answers` was written; else it is as it was, and the status tells why. Where that is a
 /// position, `at` is the index of the first one that is refused; else `at` is as it was.
 #[unsafe(no_mangle)]
-pub extern "C" fn ffosolve_answers(
+pub extern "C" fn ffosolve_solve_all(
     alloc: Global,
     positions: &[FfosolvePosition],
     scoring: u32,
@@ -105,6 +107,34 @@ pub extern "C" fn ffosolve_answers(
 {
     match answer_all(alloc, positions, scoring, entries, answers, at) {
         Ok(()) => 0,
+        Err(refused) => refused.status(),
+    }
+}
+
+/// The moves of a position, and the score of each as the mover sees it, at its square's number; at
+/// the other squares 127. All by searches over one table. The status is 0 where `scores` and
+/// `moves` were written; else they are as they were, and the status tells why.
+#[unsafe(no_mangle)]
+pub extern "C" fn ffosolve_move_scores(
+    alloc: Global,
+    position: FfosolvePosition,
+    scoring: u32,
+    entries: usize,
+    scores: &mut [i8; 64],
+    moves: &mut u64,
+) -> i32
+    ensures status { IsStatus (refusal_of scoring entries position) result }
+    ensures without_memory { entries ≡ 0 → result ≢ status_of refusal.NoMemory }
+    ensures scores { result ≡ pos 0 → AreScores scoring position scores.new }
+    ensures moves { result ≡ pos 0 → moves.new ≡ moves_of (discs_at position) }
+    ensures unchanged { result ≢ pos 0 → scores.new ≡ scores.old }
+    ensures moves_unchanged { result ≢ pos 0 → moves.new ≡ moves.old }
+{
+    match score_all(alloc, position, scoring, entries, scores) {
+        Ok(found) => {
+            *moves = found;
+            0
+        }
         Err(refused) => refused.status(),
     }
 }
@@ -150,4 +180,12 @@ pub extern "C" fn ffosolve_play(
         }
         Err(refused) => refused.status(),
     }
+}
+
+/// The version of the library: 10000 times its first part, 100 times the second, and the third.
+#[unsafe(no_mangle)]
+pub extern "C" fn ffosolve_version() -> u32
+    ensures { result ≡ version }
+{
+    10000
 }

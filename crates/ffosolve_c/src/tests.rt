@@ -1,7 +1,8 @@
 //! That calls succeed where memory is at hand.
 
 use crate::{
-    FfosolveAnswer, FfosolvePosition, ffosolve_answer, ffosolve_answers, ffosolve_confirm,
+    FfosolveAnswer, FfosolvePosition, ffosolve_confirm, ffosolve_move_scores, ffosolve_solve,
+    ffosolve_solve_all,
 };
 use std::alloc::Global;
 
@@ -30,8 +31,8 @@ const FOUND: FfosolveAnswer = FfosolveAnswer {
 
 fn answer(alloc: Global) -> FfosolveAnswer {
     let mut answer = NOTHING;
-    if ffosolve_answer(alloc, UNEQUAL_CORNERS, 0, 64, &mut answer) == NO_MEMORY {
-        let _ = ffosolve_answer(alloc, UNEQUAL_CORNERS, 0, 64, &mut answer);
+    if ffosolve_solve(alloc, UNEQUAL_CORNERS, 0, 64, &mut answer) == NO_MEMORY {
+        let _ = ffosolve_solve(alloc, UNEQUAL_CORNERS, 0, 64, &mut answer);
     }
     answer
 }
@@ -48,10 +49,19 @@ fn answers(alloc: Global) -> [FfosolveAnswer; 2] {
     let positions = [UNEQUAL_CORNERS; 2];
     let mut answers = [NOTHING; 2];
     let mut at = 0;
-    if ffosolve_answers(alloc, &positions, 0, 64, &mut answers, &mut at) == NO_MEMORY {
-        let _ = ffosolve_answers(alloc, &positions, 0, 64, &mut answers, &mut at);
+    if ffosolve_solve_all(alloc, &positions, 0, 64, &mut answers, &mut at) == NO_MEMORY {
+        let _ = ffosolve_solve_all(alloc, &positions, 0, 64, &mut answers, &mut at);
     }
     answers
+}
+
+fn scores(alloc: Global) -> ([i8; 64], u64) {
+    let mut scores = [99; 64];
+    let mut moves = 99;
+    if ffosolve_move_scores(alloc, UNEQUAL_CORNERS, 0, 64, &mut scores, &mut moves) == NO_MEMORY {
+        let _ = ffosolve_move_scores(alloc, UNEQUAL_CORNERS, 0, 64, &mut scores, &mut moves);
+    }
+    (scores, moves)
 }
 
 #[test]
@@ -59,4 +69,8 @@ fn answers_where_memory_is_at_hand(rt: HostRuntime) {
     assert!(rt; answer(rt.alloc()) == FOUND);
     assert!(rt; confirmed(rt.alloc(), FOUND) == FOUND);
     assert!(rt; answers(rt.alloc()) == [FOUND; 2]);
+    let mut wanted = [127; 64];
+    wanted[0] = 52;
+    wanted[7] = 62;
+    assert!(rt; scores(rt.alloc()) == (wanted, 0x81));
 }

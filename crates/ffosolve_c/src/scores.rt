@@ -1,0 +1,60 @@
+//! Every move's score, by its square.
+
+ghost use Rattle.std.specs.Prelude.{◌≡◌, ◌≢◌, Some, None, length, map, IfOk, IfErr, OnErr};
+ghost use Rattle.othello_rules.specs.Board.{squares};
+ghost use Rattle.othello_bits.specs.Discs.{moves_of};
+ghost use Rattle.ffosolve_c.specs.declared.refusals.Refusal.TheVariants as refusal;
+ghost use Rattle.ffosolve_c.specs.Exports.{discs_at, refusal_of, score_at, AreScores, IsRefusal};
+
+use crate::positions::{FfosolvePosition, task_of};
+use crate::refusals::Refusal;
+use crate::requests::{table_of, table_scoring};
+use bound_table::BoundTable;
+use move_scores::score_move;
+use othello_bits::Pos;
+use othello_rules::{Square, has_square};
+use std::alloc::Global;
+
+// The score of a move to the square, and 127 where it is none.
+fn score_at(table: &BoundTable, position: Pos, square: Square) -> i8
+    ensures { result ≡ score_at table.now.scoring position square }
+{
+    if has_square(position.moves(), square) {
+        score_move(table, position, square)
+    } else {
+        127
+    }
+}
+
+// Writes at each square's number what a move there is worth.
+fn fill_scores(table: &BoundTable, position: Pos, scores: &mut [i8])
+    requires { length scores.old ≡ 64 }
+    ensures { scores.new ≡ map (score_at table.now.scoring position) squares }
+{
+    let squares = Square::all();
+    for i in 0..64 {
+        scores[i] = score_at(table, position, squares[i]);
+    }
+}
+
+/// The moves of a position, and their scores, each at its square's number; or why there are none.
+pub fn score_all(
+    alloc: Global,
+    position: FfosolvePosition,
+    scoring: u32,
+    entries: usize,
+    scores: &mut [i8; 64],
+) -> Result<u64, Refusal>
+    ensures good { IfOk result (λ moves. refusal_of scoring entries position ≡ None) }
+    ensures moves { IfOk result (λ moves. moves ≡ moves_of (discs_at position)) }
+    ensures scores { IfOk result (λ moves. AreScores scoring position scores.new) }
+    ensures refused { IfErr result (IsRefusal (refusal_of scoring entries position)) }
+    ensures without_memory { entries ≡ 0 → IfErr result (λ r. r ≢ refusal.NoMemory) }
+    ensures unchanged { OnErr result (scores.new ≡ scores.old) }
+{
+    let scoring = table_scoring(scoring, entries)?;
+    let task = task_of(position, scoring)?;
+    let table = table_of(alloc, entries, scoring)?;
+    fill_scores(&table, task.pos(), scores);
+    Ok(task.pos().moves())
+}

@@ -1,0 +1,95 @@
+"""Builds the package as a wheel or a source archive, over Python's own modules (the hooks of PEP 517).
+
+pyproject.toml names it, so that `pip install ./python` takes nothing from a network.
+"""
+import base64
+import hashlib
+import io
+import os
+import re
+import tarfile
+import zipfile
+
+FOLDER = os.path.dirname(os.path.dirname(os.path.abspath(__file__)))
+SOURCES = os.path.join(FOLDER, "src", "ffosolve")
+
+
+def setting(name):
+    """A setting of pyproject.toml that is one text on one line."""
+    with open(os.path.join(FOLDER, "pyproject.toml"), encoding="utf-8") as text:
+        return re.search(rf'^{name} = "(.*)"$', text.read(), re.MULTILINE).group(1)
+
+
+def head():
+    return f"ffosolve-{setting('version')}"
+
+
+def metadata():
+    return (
+        f"Metadata-Version: 2.1\nName: ffosolve\nVersion: {setting('version')}\nSummary: {setting('description')}\n"
+        f"Requires-Python: {setting('requires-python')}\nLicense: MIT\nClassifier: Typing :: Typed\n"
+        "Classifier: Operating System :: POSIX :: Linux\n"
+    )
+
+
+def tags():
+    return "Wheel-Version: 1.0\nGenerator: ffosolve\nRoot-Is-Purelib: true\nTag: py3-none-any\n"
+
+
+def package_files():
+    names = sorted(name for name in os.listdir(SOURCES) if name.endswith((".py", ".typed")))
+    for name in names:
+        with open(os.path.join(SOURCES, name), "rb") as source:
+            yield f"ffosolve/{name}", source.read()
+
+
+def write_wheel(folder, files):
+    name = f"{head()}-py3-none-any.whl"
+    records = []
+    with zipfile.ZipFile(os.path.join(folder, name), "w", zipfile.ZIP_DEFLATED) as wheel:
+        for path, content in files:
+            digest = base64.urlsafe_b64encode(hashlib.sha256(content).digest()).rstrip(b"=").decode()
+            records.append(f"{path},sha256={digest},{len(content)}\n")
+            wheel.writestr(zipfile.ZipInfo(path, (2020, 1, 1, 0, 0, 0)), content)
+        record = f"{head()}.dist-info/RECORD"
+        records.append(f"{record},,\n")
+        wheel.writestr(zipfile.ZipInfo(record, (2020, 1, 1, 0, 0, 0)), "".join(records))
+    return name
+
+
+def dist_info():
+    yield f"{head()}.dist-info/METADATA", metadata().encode()
+    yield f"{head()}.dist-info/WHEEL", tags().encode()
+
+
+def get_requires_for_build_wheel(config_settings=None):
+    return []
+
+
+get_requires_for_build_sdist = get_requires_for_build_editable = get_requires_for_build_wheel
+
+
+def build_wheel(wheel_directory, config_settings=None, metadata_directory=None):
+    return write_wheel(wheel_directory, [*package_files(), *dist_info()])
+
+
+def build_editable(wheel_directory, config_settings=None, metadata_directory=None):
+    link = ("ffosolve.pth", os.path.dirname(SOURCES).encode() + b"\n")
+    return write_wheel(wheel_directory, [link, *dist_info()])
+
+
+def build_sdist(sdist_directory, config_settings=None):
+    name = f"{head()}.tar.gz"
+    with tarfile.open(os.path.join(sdist_directory, name), "w:gz") as archive:
+        for path in ("pyproject.toml", "backend/ffosolve_wheel.py"):
+            archive.add(os.path.join(FOLDER, path), f"{head()}/{path}")
+        for path, content in package_files():
+            add_bytes(archive, f"{head()}/src/{path}", content)
+        add_bytes(archive, f"{head()}/PKG-INFO", metadata().encode())
+    return name
+
+
+def add_bytes(archive, path, content):
+    entry = tarfile.TarInfo(path)
+    entry.size = len(content)
+    archive.addfile(entry, io.BytesIO(content))

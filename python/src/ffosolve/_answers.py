@@ -1,0 +1,27 @@
+"""Answers."""
+import enum
+from typing import List, NamedTuple
+
+from ._squares import square_names
+
+
+class Kind(enum.IntEnum):
+    """What attains a score."""
+
+    MOVES = 0
+    PASS = 1  # the mover has no move, and the other side has one
+    OVER = 2  # neither side has a move
+
+
+class Answer(NamedTuple):
+    """The score of a position as the mover sees it, -64 to 64; what attains it; and the mask of every move that does,
+    0 where `kind` is PASS or OVER."""
+
+    score: int
+    kind: Kind
+    best: int
+
+    @property
+    def squares(self) -> List[str]:
+        """The names of the best moves, in the order A1, B1, .. H8."""
+        return square_names(self.best)

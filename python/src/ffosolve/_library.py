@@ -1,0 +1,67 @@
+"""The shared library: how it is found, and its calls as ffosolve.h declares them."""
+import ctypes
+import functools
+import os
+import sys
+from typing import List, Optional
+
+NAME = "libffosolve.so.1"
+MAJOR = 1
+
+
+class LibraryNotFound(OSError):
+    """The shared library isn't there, or is none that this package can call."""
+
+
+class CPosition(ctypes.Structure):
+    _fields_ = [("own", ctypes.c_uint64), ("opp", ctypes.c_uint64)]
+
+
+class CAnswer(ctypes.Structure):
+    _fields_ = [("score", ctypes.c_int32), ("kind", ctypes.c_int32), ("best", ctypes.c_uint64)]
+
+
+def places() -> List[str]:
+    """Where the library is looked for, in this order, if no path is given: the path in the environment's
+    FFOSOLVE_LIBRARY, if it has one; where the system's loader looks; beside this Python; /usr/local/lib."""
+    named = os.environ.get("FFOSOLVE_LIBRARY")
+    if named:
+        return [named]
+    prefixes = [sys.prefix, sys.base_prefix, "/usr/local"]
+    return [NAME, *(os.path.join(prefix, "lib", NAME) for prefix in dict.fromkeys(prefixes))]
+
+
+def load(path: Optional[str] = None) -> ctypes.CDLL:
+    """The library of a path, or else the first that is found."""
+    told = []
+    for place in [path] if path is not None else places():
+        try:
+            return declared(os.path.abspath(place) if os.sep not in place and path is not None else place)
+        except OSError as error:
+            told.append(str(error))
+    hint = "install ffosolve, or name the library by its path or by FFOSOLVE_LIBRARY"
+    raise LibraryNotFound("; ".join([*dict.fromkeys(told), hint]))
+
+
+@functools.lru_cache(maxsize=None)
+def declared(place: str) -> ctypes.CDLL:
+    library = ctypes.CDLL(place)
+    size, number, to = ctypes.c_size_t, ctypes.c_uint32, ctypes.POINTER
+    calls = {
+        "solve": [CPosition, number, size, to(CAnswer)],
+        "confirm": [CPosition, number, size, CAnswer, to(CAnswer)],
+        "solve_all": [to(CPosition), size, number, size, to(CAnswer), size, to(size)],
+        "move_scores": [CPosition, number, size, to(ctypes.c_int8), to(ctypes.c_uint64)],
+        "moves": [CPosition, to(ctypes.c_uint64)],
+        "play": [CPosition, ctypes.c_uint8, to(CPosition)],
+        "version": [],
+    }
+    for name, arguments in calls.items():
+        try:
+            call = getattr(library, f"ffosolve_{name}")
+        except AttributeError as error:
+            raise LibraryNotFound(f"{place} is not this package's library: {error}") from None
+        call.argtypes, call.restype = arguments, ctypes.c_int32
+    if library.ffosolve_version() // 10000 != MAJOR:
+        raise LibraryNotFound(f"{place} has version {library.ffosolve_version()}, and not {MAJOR}.x.y")
+    return library

@@ -1,0 +1,24 @@
+"""Squares: A1 is number 0 and bit 0 of a mask, B1 is 1, H1 is 7, A2 is 8, H8 is 63."""
+from typing import List
+
+NAMES = [column + row for row in "12345678" for column in "ABCDEFGH"]
+
+
+def square_name(number: int) -> str:
+    """The name of the square of a number from 0 to 63: "A1", "B1", .. "H8". Any other is a ValueError."""
+    if not 0 <= number < 64:
+        raise ValueError(f"no square has the number {number}")
+    return NAMES[number]
+
+
+def square_number(name: str) -> int:
+    """The number, 0 to 63, of the square with a name, in either case. What is no name is a ValueError."""
+    try:
+        return NAMES.index(name.upper())
+    except ValueError:
+        raise ValueError(f"no square has the name {name!r}") from None
+
+
+def square_names(mask: int) -> List[str]:
+    """The names of the squares of a mask, in the order of their numbers."""
+    return [NAMES[number] for number in range(64) if mask >> number & 1]

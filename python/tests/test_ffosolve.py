@@ -1,0 +1,176 @@
+"""Tests of the package; the library is found as a user's program finds it (FFOSOLVE_LIBRARY, or installed).
+
+    python3 -m unittest discover python/tests
+"""
+import os
+import subprocess
+import sys
+import tempfile
+import unittest
+from concurrent.futures import ThreadPoolExecutor
+
+import ffosolve
+from ffosolve import Answer, Kind, Position, Scoring, Solver
+
+CORNERS = "-OXXXXX-XXXXXXXOXXXXXXXXXXXXXXXXXXXOXXXXXXXXXXXXXXXXXXXXXXXXXXXX X; H1:+62;"
+POSITION = Position(0xFFFFFFF7FFFF7F7C, 0x0000000800008002)
+ANSWER = Answer(62, Kind.MOVES, 0x80)
+START = Position(0x0000000810000000, 0x0000001008000000)
+SMALL = """
+import resource, sys, ffosolve
+pages = int(open("/proc/self/statm").read().split()[0])
+limit = pages * resource.getpagesize() + 60_000_000
+solver = ffosolve.Solver(entries=ffosolve.MOST_ENTRIES)
+resource.setrlimit(resource.RLIMIT_AS, (limit, limit))
+try:
+    solver.solve(ffosolve.Position(0xFFFFFFF7FFFF7F7C, 0x0000000800008002))
+except ffosolve.NoMemory as refused:
+    sys.exit(0 if isinstance(refused, MemoryError) and str(refused) == "out of memory" else 1)
+sys.exit(2)
+"""
+
+
+class Calls(unittest.TestCase):
+    def setUp(self):
+        self.solver = Solver()
+
+    def test_solve(self):
+        self.assertEqual(self.solver.solve(POSITION), ANSWER)
+        self.assertEqual(self.solver.solve(POSITION).squares, ["H1"])
+        self.assertEqual(self.solver.solve(POSITION.passed()).score, -40)
+        self.assertEqual(Solver(scoring=Scoring.DISCS).solve(POSITION.passed()).score, -39)
+        self.assertEqual(Solver(scoring=2, entries=64).solve(POSITION.passed()).score, -1)
+
+    def test_pass_and_end(self):
+        self.assertEqual(self.solver.solve(Position(0x7E, ~0x7F & 2**64 - 1)), Answer(-64, Kind.PASS, 0))
+        self.assertEqual(self.solver.solve(Position(0xFFFFFFFF, 0xFFFF << 48)), Answer(32, Kind.OVER, 0))
+
+    def test_answers_differ_in_each_member(self):
+        self.assertTrue(ANSWER == Answer(62, Kind.MOVES, 0x80) and not ANSWER != Answer(62, Kind.MOVES, 0x80))
+        for other in (Answer(61, Kind.MOVES, 0x80), Answer(62, Kind.PASS, 0x80), Answer(62, Kind.MOVES, 0x81)):
+            self.assertTrue(ANSWER != other and not ANSWER == other)
+
+    def test_confirm(self):
+        for claim in (ANSWER, Answer(0, Kind.OVER, 0), Answer(1000, 7, 3)):
+            self.assertEqual(self.solver.confirm(POSITION, claim), ANSWER)
+
+    def test_solve_all(self):
+        self.assertEqual(self.solver.solve_all([]), [])
+        answers = self.solver.solve_all(position for position in (POSITION, POSITION.passed()))
+        self.assertEqual([answer.score for answer in answers], [62, -40])
+
+    def test_move_scores(self):
+        self.assertEqual(list(self.solver.move_scores(POSITION).items()), [("A1", 52), ("H1", 62)])
+        self.assertEqual(self.solver.move_scores(Position(0x7E, ~0x7F & 2**64 - 1)), {})
+
+    def test_moves_and_play(self):
+        self.assertEqual(ffosolve.square_names(self.solver.moves(START)), ["D3", "C4", "F5", "E6"])
+        after = Position(0x0000001000000000, 0x0000000818080000)
+        self.assertEqual(self.solver.play(START, "d3"), after)
+        self.assertEqual(self.solver.play(START, 19), after)
+
+    def test_versions(self):
+        self.assertEqual(self.solver.library_version, "1.0.0")
+        self.assertEqual(ffosolve.__version__, "1.0.0")
+
+    def test_threads(self):
+        with ThreadPoolExecutor(8) as pool:
+            told = list(pool.map(lambda _: Solver(entries=1024).solve(POSITION), range(800)))
+        self.assertEqual((len(told), set(told)), (800, {ANSWER}))
+
+
+class Refusals(unittest.TestCase):
+    def refused(self, error, call, *words, index=None):
+        with self.assertRaises(error) as told:
+            call(*words)
+        self.assertIsInstance(told.exception, ffosolve.Refused)
+        self.assertEqual(told.exception.index, index)
+
+    def test_positions(self):
+        solver, shared, wide = Solver(), Position(3, 2), Position(1, 6)
+        for call in (solver.solve, solver.move_scores, lambda position: solver.confirm(position, ANSWER)):
+            self.refused(ffosolve.SharedSquare, call, shared)
+            self.refused(ffosolve.TooManyEmpties, call, wide)
+        self.refused(ffosolve.SharedSquare, solver.moves, shared)
+        self.refused(ffosolve.SharedSquare, solver.play, shared, 0)
+        self.refused(ffosolve.TooManyEmpties, solver.solve_all, [POSITION, wide, shared], index=1)
+        with self.assertRaisesRegex(ffosolve.SharedSquare, "^position 3: the masks share a square$"):
+            solver.solve_all([POSITION, POSITION, shared])
+
+    def test_settings(self):
+        self.refused(ffosolve.UnknownScoring, lambda: Solver(scoring=3))
+        self.refused(ffosolve.TooManyEntries, lambda: Solver(entries=ffosolve.MOST_ENTRIES + 1))
+        self.assertEqual(Solver(entries=ffosolve.MOST_ENTRIES).solve(POSITION), ANSWER)
+        with self.assertRaises(ValueError):
+            Solver(entries=-1)
+
+    def test_squares(self):
+        for square in ("A1", 0, 64, 255, 256, -1, 256 + 19):
+            self.refused(ffosolve.NoMove, Solver().play, START, square)
+        for name in ("", "I1", "A9", "A11"):
+            with self.assertRaises(ValueError):
+                Solver().play(START, name)
+
+    def test_masks_of_no_64_bits(self):
+        for mask in (-1, 2**64):
+            for call in (Solver().solve, Solver().moves, Solver().move_scores, lambda p: Solver().solve_all([p])):
+                with self.assertRaisesRegex(ValueError, "mask"):
+                    call(Position(mask, 0))
+        with self.assertRaises(TypeError):
+            Solver().solve(Position(1.5, 0))
+
+    def test_no_memory(self):
+        told = subprocess.run([sys.executable, "-c", SMALL], capture_output=True, text=True, timeout=100)
+        self.assertEqual(told.returncode, 0, told.stderr)
+
+    def test_library(self):
+        with self.assertRaisesRegex(ffosolve.LibraryNotFound, "nowhere"):
+            Solver("/nowhere/libffosolve.so")
+        with tempfile.NamedTemporaryFile(suffix=".so") as empty:
+            with self.assertRaises(ffosolve.LibraryNotFound):
+                Solver(empty.name)
+        with self.assertRaisesRegex(ffosolve.LibraryNotFound, "ffosolve_solve"):
+            Solver("libc.so.6" if os.path.exists("libc.so.6") else find_libc())
+
+
+def find_libc():
+    with open("/proc/self/maps") as maps:
+        return next(line.split()[-1] for line in maps if "/libc.so.6" in line or "/libc-" in line)
+
+
+class Obf(unittest.TestCase):
+    def test_reads_a_line(self):
+        self.assertEqual(Position.from_obf(CORNERS), POSITION)
+        other = CORNERS.translate(str.maketrans("XO-", "w*.")).replace(" w;", "\tW")
+        self.assertEqual(Position.from_obf("  " + other), POSITION)
+        self.assertEqual(Position.from_obf(CORNERS.replace(" X;", " O;")), POSITION.passed())
+        self.assertEqual(Position.from_obf(POSITION.to_obf()), POSITION)
+
+    def test_refuses(self):
+        for text, told in (
+            ("", "board has 0 of 64 squares"),
+            (CORNERS[:63], "board has 63 of 64 squares"),
+            (CORNERS[:3] + "?" + CORNERS[4:], "bad square at column 4"),
+            (" " + CORNERS[:3] + "?", "bad square at column 5"),
+            (CORNERS[:64], "bad side at column 65"),
+            (CORNERS[:64] + " -;", "bad side at column 66"),
+        ):
+            with self.assertRaisesRegex(ValueError, told):
+                Position.from_obf(text)
+
+    def test_squares(self):
+        names = [ffosolve.square_name(number) for number in range(64)]
+        self.assertEqual((names[0], names[1], names[7], names[8], names[63]), ("A1", "B1", "H1", "A2", "H8"))
+        self.assertEqual([ffosolve.square_number(name.lower()) for name in names], list(range(64)))
+        for wrong in (-1, 64):
+            with self.assertRaises(ValueError):
+                ffosolve.square_name(wrong)
+
+    def test_table_entries(self):
+        sizes = [ffosolve.table_entries(empties) for empties in range(61)]
+        self.assertEqual(sizes, sorted(sizes))
+        self.assertEqual((sizes[0], max(sizes) <= ffosolve.MOST_ENTRIES), (0, True))
+
+
+if __name__ == "__main__":
+    unittest.main()

@@ -1,0 +1,33 @@
+//! Finds the library: in the folder that FFOSOLVE_LIB_DIR names, else by pkg-config, else in /usr/local/lib.
+use std::env::{var, var_os};
+use std::path::PathBuf;
+use std::process::Command;
+
+fn folder() -> PathBuf {
+    if let Some(folder) = var_os("FFOSOLVE_LIB_DIR") {
+        return folder.into();
+    }
+    let pkg_config = var("PKG_CONFIG").unwrap_or_else(|_| "pkg-config".into());
+    let told = Command::new(pkg_config).args(["--variable=libdir", "ffosolve"]).output();
+    match told.map(|told| String::from_utf8_lossy(&told.stdout).trim().to_string()) {
+        Ok(folder) if !folder.is_empty() => folder.into(),
+        _ => "/usr/local/lib".into(),
+    }
+}
+
+fn main() {
+    for name in ["FFOSOLVE_LIB_DIR", "PKG_CONFIG", "PKG_CONFIG_PATH"] {
+        println!("cargo:rerun-if-env-changed={name}");
+    }
+    let shared = var_os("CARGO_FEATURE_SHARED").is_some();
+    let (kind, file) = if shared { ("dylib", "libffosolve.so") } else { ("static", "libffosolve.a") };
+    let folder = folder();
+    let file = folder.join(file);
+    println!("cargo:rerun-if-changed={}", file.display());
+    if !file.exists() {
+        eprintln!("{} is missing: install ffosolve, or set FFOSOLVE_LIB_DIR to the folder of it", file.display());
+        std::process::exit(1);
+    }
+    println!("cargo:rustc-link-search=native={}", folder.display());
+    println!("cargo:rustc-link-lib={kind}=ffosolve");
+}

@@ -1,0 +1,49 @@
+//! Answers.
+use crate::raw;
+use crate::Squares;
+
+/// What attains a score.
+#[derive(Clone, Copy, PartialEq, Eq, Hash, Debug)]
+pub enum Best {
+    /// These moves, and no other.
+    Moves(Squares),
+    /// A pass: the mover has no move, and the other side has one.
+    Pass,
+    /// Nothing: neither side has a move.
+    Over,
+}
+
+/// The score of a position as the mover sees it, -64 to 64, and what attains it.
+#[derive(Clone, Copy, PartialEq, Eq, Hash, Debug)]
+pub struct Answer {
+    pub score: i8,
+    pub best: Best,
+}
+
+impl Answer {
+    /// The best moves, none where the best is a pass or the game is over.
+    pub const fn squares(self) -> Squares {
+        match self.best {
+            Best::Moves(squares) => squares,
+            Best::Pass | Best::Over => Squares(0),
+        }
+    }
+
+    pub(crate) fn of_raw(answer: raw::Answer) -> Answer {
+        let best = match answer.kind {
+            0 => Best::Moves(Squares(answer.best)),
+            1 => Best::Pass,
+            _ => Best::Over,
+        };
+        Answer { score: answer.score as i8, best }
+    }
+
+    pub(crate) fn raw(self) -> raw::Answer {
+        let (kind, best) = match self.best {
+            Best::Moves(squares) => (0, squares.mask()),
+            Best::Pass => (1, 0),
+            Best::Over => (2, 0),
+        };
+        raw::Answer { score: self.score.into(), kind, best }
+    }
+}

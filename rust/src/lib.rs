@@ -1,0 +1,31 @@
+//! Exact answers of Othello endgames, by a solver whose answers are proved.
+//!
+//! ```
+//! use ffosolve::{Position, Solver};
+//!
+//! let position = Position::from_obf("-OXXXXX-XXXXXXXOXXXXXXXXXXXXXXXXXXXOXXXXXXXXXXXXXXXXXXXXXXXXXXXX X;")?;
+//! let answer = Solver::new().solve(position)?;
+//! assert_eq!(answer.score, 62);
+//! assert_eq!(answer.squares().to_string(), "H1");
+//! # Ok::<(), Box<dyn std::error::Error>>(())
+//! ```
+//!
+//! The crate links the library `libffosolve.a`, or `libffosolve.so` with the feature `shared`. Its folder is the one that
+//! `FFOSOLVE_LIB_DIR` names when the crate is built, else what pkg-config says, else `/usr/local/lib`.
+//!
+//! Calls share nothing: any threads may call at once. A call can't be stopped, and two more empty squares take some four
+//! to ten times as long; a program that has to be able to stop one makes it in a process of its own. A call takes up to
+//! 32 KiB of stack for 14 empty squares, and 128 KiB for 60.
+
+mod answers;
+mod errors;
+mod positions;
+pub mod raw;
+mod solvers;
+mod squares;
+
+pub use answers::{Answer, Best};
+pub use errors::{Error, ObfError};
+pub use positions::Position;
+pub use solvers::{library_version, table_entries, Scoring, Solver, MOST_EMPTIES, MOST_ENTRIES};
+pub use squares::{Square, SquareError, Squares};

@@ -1,0 +1,48 @@
+//! The calls of `ffosolve.h`, which says what each takes, writes and refuses. No pointer is null.
+
+/// The discs of the mover, and those of the other side.
+#[repr(C)]
+#[derive(Clone, Copy, PartialEq, Eq, Hash, Debug, Default)]
+pub struct Position {
+    pub own: u64,
+    pub opp: u64,
+}
+
+/// The score, what attains it (0 moves, 1 a pass, 2 the end of the game), and the mask of the best moves.
+#[repr(C)]
+#[derive(Clone, Copy, PartialEq, Eq, Hash, Debug, Default)]
+pub struct Answer {
+    pub score: i32,
+    pub kind: i32,
+    pub best: u64,
+}
+
+extern "C" {
+    pub fn ffosolve_solve(position: Position, scoring: u32, entries: usize, answer: *mut Answer) -> i32;
+    pub fn ffosolve_confirm(
+        position: Position,
+        scoring: u32,
+        entries: usize,
+        claim: Answer,
+        answer: *mut Answer,
+    ) -> i32;
+    pub fn ffosolve_solve_all(
+        positions: *const Position,
+        count: usize,
+        scoring: u32,
+        entries: usize,
+        answers: *mut Answer,
+        room: usize,
+        at: *mut usize,
+    ) -> i32;
+    pub fn ffosolve_move_scores(
+        position: Position,
+        scoring: u32,
+        entries: usize,
+        scores: *mut [i8; 64],
+        moves: *mut u64,
+    ) -> i32;
+    pub fn ffosolve_moves(position: Position, moves: *mut u64) -> i32;
+    pub fn ffosolve_play(position: Position, square: u8, after: *mut Position) -> i32;
+    pub fn ffosolve_version() -> u32;
+}

@@ -1,0 +1,151 @@
+//! The solver.
+use crate::raw;
+use crate::{Answer, Error, Position, Square, Squares};
+
+/// The most empty squares of a position that is solved.
+pub const MOST_EMPTIES: usize = 60;
+/// The most entries of a table.
+pub const MOST_ENTRIES: usize = 4_194_304;
+
+/// What a score counts once the game is over, as the mover sees it.
+#[derive(Clone, Copy, PartialEq, Eq, Hash, Debug, Default)]
+pub enum Scoring {
+    /// Discs less the other side's, the empty squares counted for the side that has more.
+    #[default]
+    Winner = 0,
+    /// Discs less the other side's.
+    Discs = 1,
+    /// 1, 0 or -1 for a win, a draw or a loss.
+    Sign = 2,
+}
+
+impl TryFrom<u32> for Scoring {
+    type Error = Error;
+
+    fn try_from(number: u32) -> Result<Scoring, Error> {
+        match number {
+            0 => Ok(Scoring::Winner),
+            1 => Ok(Scoring::Discs),
+            2 => Ok(Scoring::Sign),
+            _ => Err(Error::UnknownScoring),
+        }
+    }
+}
+
+/// A fit number of table entries, of 32 bytes each, for positions of so many empty squares. It changes how long an
+/// answer takes, and never the answer.
+pub const fn table_entries(empties: usize) -> usize {
+    match empties {
+        0..=10 => 0,
+        11..=13 => 1_024,
+        14..=19 => 65_536,
+        _ => 1_048_576,
+    }
+}
+
+/// The version of the library that is linked: 10000 times its first part, 100 times the second, and the third.
+pub fn library_version() -> u32 {
+    // SAFETY: the call takes nothing.
+    unsafe { raw::ffosolve_version() }
+}
+
+/// Solves positions under a scoring, each call by a search over a new table. It keeps nothing between calls.
+#[derive(Clone, Copy, PartialEq, Eq, Hash, Debug, Default)]
+pub struct Solver {
+    scoring: Scoring,
+    entries: Option<usize>,
+}
+
+impl Solver {
+    /// A solver under `Scoring::Winner`, which chooses the size of its tables by the empty squares (`table_entries`).
+    pub const fn new() -> Solver {
+        Solver { scoring: Scoring::Winner, entries: None }
+    }
+
+    /// The solver under another scoring.
+    #[must_use]
+    pub const fn scoring(self, scoring: Scoring) -> Solver {
+        Solver { scoring, ..self }
+    }
+
+    /// The solver with tables of so many entries. Above `MOST_ENTRIES` its calls are refused.
+    #[must_use]
+    pub const fn entries(self, entries: usize) -> Solver {
+        Solver { entries: Some(entries), ..self }
+    }
+
+    /// The answer of a position.
+    ///
+    /// # Errors
+    /// `TooManyEntries`, `TooManyEmpties` and `NoMemory`, tested in this order.
+    pub fn solve(&self, position: Position) -> Result<Answer, Error> {
+        let (mut answer, entries) = (raw::Answer::default(), self.table(&[position]));
+        // SAFETY: the pointer is to an answer of this call's own.
+        let status = unsafe { raw::ffosolve_solve(position.raw(), self.scoring as u32, entries, &mut answer) };
+        accept(status, 0)?;
+        Ok(Answer::of_raw(answer))
+    }
+
+    /// The answer of a position, for which a claim is tested first. Any claim may be made; it is right if it equals the
+    /// answer. It pays for claims that are mostly right, from 10 empty squares on with a table.
+    ///
+    /// # Errors
+    /// Those of `solve`.
+    pub fn confirm(&self, position: Position, claim: Answer) -> Result<Answer, Error> {
+        let (mut answer, entries) = (raw::Answer::default(), self.table(&[position]));
+        let scoring = self.scoring as u32;
+        // SAFETY: the pointer is to an answer of this call's own.
+        let status = unsafe { raw::ffosolve_confirm(position.raw(), scoring, entries, claim.raw(), &mut answer) };
+        accept(status, 0)?;
+        Ok(Answer::of_raw(answer))
+    }
+
+    /// The answers of positions, in their order, over one table.
+    ///
+    /// # Errors
+    /// Those of `solve`; `TooManyEmpties` has the index of the first position that is refused.
+    pub fn solve_all(&self, positions: &[Position]) -> Result<Vec<Answer>, Error> {
+        let asked: Vec<raw::Position> = positions.iter().map(|position| position.raw()).collect();
+        let mut answers = vec![raw::Answer::default(); asked.len()];
+        let (count, entries, mut at) = (asked.len(), self.table(positions), 0);
+        let (from, to) = (asked.as_ptr(), answers.as_mut_ptr());
+        // SAFETY: there are so many positions, and room for so many answers, in lists of this call's own.
+        let status = unsafe {
+            raw::ffosolve_solve_all(from, count, self.scoring as u32, entries, to, count, &mut at)
+        };
+        accept(status, at)?;
+        Ok(answers.into_iter().map(Answer::of_raw).collect())
+    }
+
+    /// Each of the mover's moves with its score as the mover sees it, in the order of the squares; none where the mover
+    /// has none. All by searches over one table.
+    ///
+    /// # Errors
+    /// Those of `solve`.
+    pub fn move_scores(&self, position: Position) -> Result<Vec<(Square, i8)>, Error> {
+        let (mut scores, mut moves, entries) = ([0; 64], 0, self.table(&[position]));
+        let scoring = self.scoring as u32;
+        // SAFETY: the pointers are to 64 scores and a number of this call's own.
+        let status =
+            unsafe { raw::ffosolve_move_scores(position.raw(), scoring, entries, &mut scores, &mut moves) };
+        accept(status, 0)?;
+        let score_at = |square: Square| (square, scores[usize::from(square.number())]);
+        Ok(Squares(moves).map(score_at).collect())
+    }
+
+    fn table(&self, positions: &[Position]) -> usize {
+        let empties = positions.iter().map(|position| position.empties().len()).max();
+        self.entries.unwrap_or(table_entries(empties.unwrap_or(0)))
+    }
+}
+
+fn accept(status: i32, index: usize) -> Result<(), Error> {
+    match status {
+        0 => Ok(()),
+        1 => Err(Error::UnknownScoring),
+        2 => Err(Error::TooManyEntries),
+        5 => Err(Error::TooManyEmpties { index }),
+        7 => Err(Error::NoMemory),
+        _ => unreachable!("lengths are equal, and the masks of a position share no square"),
+    }
+}

@@ -1,0 +1,123 @@
+//! Squares, and sets of them.
+use std::fmt;
+use std::str::FromStr;
+
+/// A square: A1 is number 0, B1 is 1, H1 is 7, A2 is 8, H8 is 63.
+#[derive(Clone, Copy, PartialEq, Eq, PartialOrd, Ord, Hash)]
+pub struct Square(u8);
+
+impl Square {
+    /// The square of a number from 0 to 63; None of any other.
+    pub const fn new(number: u8) -> Option<Square> {
+        if number < 64 {
+            Some(Square(number))
+        } else {
+            None
+        }
+    }
+
+    /// The number, 0 to 63.
+    pub const fn number(self) -> u8 {
+        self.0
+    }
+
+    /// The square's bit in a mask.
+    pub const fn bit(self) -> u64 {
+        1 << self.0
+    }
+}
+
+impl fmt::Display for Square {
+    fn fmt(&self, f: &mut fmt::Formatter<'_>) -> fmt::Result {
+        write!(f, "{}{}", char::from(b'A' + self.0 % 8), self.0 / 8 + 1)
+    }
+}
+
+impl fmt::Debug for Square {
+    fn fmt(&self, f: &mut fmt::Formatter<'_>) -> fmt::Result {
+        fmt::Display::fmt(self, f)
+    }
+}
+
+/// A text is no name of a square: a letter from A to H, in either case, and a digit from 1 to 8.
+#[derive(Clone, Copy, PartialEq, Eq, Debug)]
+pub struct SquareError;
+
+impl fmt::Display for SquareError {
+    fn fmt(&self, f: &mut fmt::Formatter<'_>) -> fmt::Result {
+        f.write_str("no square has the name")
+    }
+}
+
+impl std::error::Error for SquareError {}
+
+impl FromStr for Square {
+    type Err = SquareError;
+
+    fn from_str(name: &str) -> Result<Square, SquareError> {
+        match name.as_bytes() {
+            [column, row @ b'1'..=b'8'] => match column.to_ascii_uppercase() {
+                column @ b'A'..=b'H' => Ok(Square(column - b'A' + 8 * (row - b'1'))),
+                _ => Err(SquareError),
+            },
+            _ => Err(SquareError),
+        }
+    }
+}
+
+/// A set of squares. It is an iterator over them, in the order of their numbers, and prints as `A1,H1`.
+#[derive(Clone, Copy, PartialEq, Eq, Hash, Default)]
+pub struct Squares(pub u64);
+
+impl Squares {
+    /// The mask: square n is bit n.
+    pub const fn mask(self) -> u64 {
+        self.0
+    }
+
+    /// How many they are.
+    pub const fn len(self) -> usize {
+        self.0.count_ones() as usize
+    }
+
+    /// Whether there is none.
+    pub const fn is_empty(self) -> bool {
+        self.0 == 0
+    }
+
+    /// Whether a square is one of them.
+    pub const fn contains(self, square: Square) -> bool {
+        self.0 >> square.0 & 1 == 1
+    }
+}
+
+impl Iterator for Squares {
+    type Item = Square;
+
+    fn next(&mut self) -> Option<Square> {
+        let square = Square::new(self.0.trailing_zeros() as u8)?;
+        self.0 &= self.0 - 1;
+        Some(square)
+    }
+
+    fn size_hint(&self) -> (usize, Option<usize>) {
+        (self.0.count_ones() as usize, Some(self.0.count_ones() as usize))
+    }
+}
+
+impl ExactSizeIterator for Squares {}
+
+impl fmt::Display for Squares {
+    fn fmt(&self, f: &mut fmt::Formatter<'_>) -> fmt::Result {
+        for (at, square) in self.enumerate() {
+            write!(f, "{}{square}", if at == 0 { "" } else { "," })?;
+        }
+        Ok(())
+    }
+}
+
+impl fmt::Debug for Squares {
+    fn fmt(&self, f: &mut fmt::Formatter<'_>) -> fmt::Result {
+        write!(f, "Squares({self})")
+    }
+}

@@ -1,0 +1,131 @@
+//! Each call with good and bad arguments.
+use ffosolve::{library_version, table_entries, Answer, Best, Error, ObfError, Position, Scoring, Solver, Square, Squares};
+use std::thread;
+
+const LINE: &str = "-OXXXXX-XXXXXXXOXXXXXXXXXXXXXXXXXXXOXXXXXXXXXXXXXXXXXXXXXXXXXXXX X; H1:+62;";
+const ANSWER: Answer = Answer { score: 62, best: Best::Moves(Squares(0x80)) };
+
+fn corners() -> Position {
+    Position::new(0xffff_fff7_ffff_7f7c, 0x8_0000_8002).expect("masks apart")
+}
+
+fn position(own: u64, opp: u64) -> Position {
+    Position::new(own, opp).expect("masks apart")
+}
+
+fn square(name: &str) -> Square {
+    name.parse().expect("a square")
+}
+
+#[test]
+fn solves() {
+    let solver = Solver::new();
+    assert_eq!(solver.solve(corners()), Ok(ANSWER));
+    assert_eq!(ANSWER.squares().to_string(), "H1");
+    assert_eq!(solver.solve(corners().passed()).map(|answer| answer.score), Ok(-40));
+    let scores = [Scoring::Discs, Scoring::Sign].map(|scoring| {
+        Solver::new().scoring(scoring).entries(64).solve(corners().passed()).expect("an answer").score
+    });
+    assert_eq!(scores, [-39, -1]);
+    assert_eq!(solver.solve(position(0x7e, !0x7f)), Ok(Answer { score: -64, best: Best::Pass }));
+    assert_eq!(solver.solve(position(0xffff_ffff, 0xffff << 48)), Ok(Answer { score: 32, best: Best::Over }));
+}
+
+#[test]
+fn confirms_whatever_is_claimed() {
+    for claim in [ANSWER, Answer { score: -128, best: Best::Over }, Answer { score: 62, best: Best::Moves(Squares(0)) }] {
+        assert_eq!(Solver::new().confirm(corners(), claim), Ok(ANSWER));
+    }
+}
+
+#[test]
+fn solves_lists() {
+    assert_eq!(Solver::new().solve_all(&[]), Ok(Vec::new()));
+    let answers = Solver::new().solve_all(&[corners(), corners().passed()]).expect("answers");
+    assert_eq!(answers.iter().map(|answer| answer.score).collect::<Vec<i8>>(), [62, -40]);
+}
+
+#[test]
+fn scores_each_move() {
+    let told = Solver::new().move_scores(corners());
+    assert_eq!(told, Ok(vec![(square("A1"), 52), (square("H1"), 62)]));
+    assert_eq!(Solver::new().move_scores(position(0x7e, !0x7f)), Ok(Vec::new()));
+}
+
+#[test]
+fn plays() {
+    let start = position(0x0000_0008_1000_0000, 0x0000_0010_0800_0000);
+    assert_eq!(start.moves().to_string(), "D3,C4,F5,E6");
+    assert_eq!(start.play(square("d3")), Ok(position(0x0000_0010_0000_0000, 0x0000_0008_1808_0000)));
+    for name in ["A1", "D4", "H8"] {
+        assert_eq!(start.play(square(name)), Err(Error::NoMove));
+    }
+}
+
+#[test]
+fn refuses() {
+    let wide = position(1, 6);
+    assert_eq!(Position::new(3, 2), Err(Error::SharedSquare));
+    assert_eq!(Scoring::try_from(3), Err(Error::UnknownScoring));
+    let solver = Solver::new();
+    assert_eq!(solver.solve(wide), Err(Error::TooManyEmpties { index: 0 }));
+    assert_eq!(solver.confirm(wide, ANSWER), Err(Error::TooManyEmpties { index: 0 }));
+    assert_eq!(solver.move_scores(wide), Err(Error::TooManyEmpties { index: 0 }));
+    assert_eq!(solver.solve_all(&[corners(), wide, wide]), Err(Error::TooManyEmpties { index: 1 }));
+    let large = Solver::new().entries(ffosolve::MOST_ENTRIES + 1);
+    assert_eq!(large.solve(corners()), Err(Error::TooManyEntries));
+    assert_eq!(large.solve_all(&[]), Err(Error::TooManyEntries));
+    assert_eq!(Solver::new().entries(ffosolve::MOST_ENTRIES).solve(corners()), Ok(ANSWER));
+    let told: Box<dyn std::error::Error + Send + Sync> = Error::TooManyEmpties { index: 1 }.into();
+    assert_eq!(told.to_string(), "position 2: more than 60 empty squares");
+}
+
+#[test]
+fn reads_obf() {
+    assert_eq!(Position::from_obf(LINE), Ok(corners()));
+    assert_eq!(format!("  {}", LINE.replace('X', "*").replace('O', "w").replace('-', ".")).parse(), Ok(corners()));
+    assert_eq!(Position::from_obf(&LINE.replace(" X;", "\tO;")), Ok(corners().passed()));
+    assert_eq!(Position::from_obf(&corners().to_obf()), Ok(corners()));
+    assert_eq!(Position::from_obf(""), Err(ObfError::ShortBoard { squares: 0 }));
+    assert_eq!(Position::from_obf(&LINE[..63]), Err(ObfError::ShortBoard { squares: 63 }));
+    assert_eq!(Position::from_obf(&LINE.replacen('X', "?", 1)), Err(ObfError::BadSquare { column: 3 }));
+    assert_eq!(Position::from_obf(&LINE[..64]), Err(ObfError::BadSide { column: 65 }));
+    assert_eq!(Position::from_obf(&LINE.replace(" X;", " -;")), Err(ObfError::BadSide { column: 66 }));
+    assert_eq!(Position::from_obf(&LINE.replace('O', "ö")), Err(ObfError::BadSquare { column: 2 }));
+}
+
+#[test]
+fn names_squares() {
+    assert_eq!(Square::new(64), None);
+    let all: Vec<Square> = (0..64).filter_map(Square::new).collect();
+    assert_eq!([all[0], all[1], all[7], all[8], all[63]].map(|each| each.to_string()), ["A1", "B1", "H1", "A2", "H8"]);
+    for each in all {
+        assert_eq!(each.to_string().to_lowercase().parse(), Ok(each));
+        assert_eq!(Squares(each.bit()).collect::<Vec<Square>>(), [each]);
+    }
+    for name in ["", "A", "A9", "I1", "A11", "1A"] {
+        assert!(name.parse::<Square>().is_err(), "{name}");
+    }
+}
+
+#[test]
+fn threads_call_at_once() {
+    fn is_shared<T: Send + Sync>(_: &T) {}
+    is_shared(&(Solver::new(), corners(), ANSWER, Error::NoMove));
+    thread::scope(|scope| {
+        for _ in 0..8 {
+            scope.spawn(|| {
+                for _ in 0..100 {
+                    assert_eq!(Solver::new().entries(1024).solve(corners()), Ok(ANSWER));
+                }
+            });
+        }
+    });
+}
+
+#[test]
+fn tells_versions_and_sizes() {
+    assert_eq!(library_version(), 10_000);
+    let sizes: Vec<usize> = (0..=60).map(table_entries).collect();
+    assert!(sizes.windows(2).all(|pair| pair[0] <= pair[1]) && sizes[0] == 0 && sizes[60] <= ffosolve::MOST_ENTRIES);
+}
