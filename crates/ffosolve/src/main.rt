@@ -2,9 +2,8 @@
 #![tactic(auto)]
 
 use std::env::Env;
-use std::process::ExitCode;
 use std::{env, io};
-use suite_solver::program_of;
+use suite_solver::{Ended, program_at};
 
 // The words of the command line, the program's name first.
 fn words_of(rt: &(impl Env + AllocGlobal)) -> io::Result<Vec<String>> {
@@ -12,9 +11,8 @@ fn words_of(rt: &(impl Env + AllocGlobal)) -> io::Result<Vec<String>> {
     Ok(words)
 }
 
-fn main(rt: HostRuntime) -> ExitCode {
+fn main(rt: HostRuntime) -> Ended {
     let (mut input, mut output, mut errors) = (rt.stdin(), rt.stdout(), rt.stderr());
     let words = words_of(&rt);
-    let status = program_of(&rt, rt.alloc(), words, &mut input, &mut output, &mut errors);
-    ExitCode::from(status)
+    program_at(&rt, rt.alloc(), words, &mut input, &mut output, &mut errors)
 }

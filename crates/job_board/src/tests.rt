@@ -1,6 +1,7 @@
 //! Worked lists of steps, the order of `take`, limits, and a desk on one thread and on many. Each
 //! test also passes where one request for memory is refused: what was refused is done again.
 
+mod at_the_end;
 mod boards;
 mod crowds;
 mod desks;
@@ -59,13 +60,23 @@ fn solved(task: Task) -> Solved {
     solve(&NoTable::new(task.scoring()), task)
 }
 
+// A submit, and the next one where it is refused memory, which comes before all other refusals.
+fn submit<R: Wait>(
+    rt: &R,
+    desk: &Desk,
+    client: &mut Client,
+    task: Task,
+) -> Result<u32, SubmitFault> {
+    let sent = desk.submit(rt, client, task);
+    if sent == Err(SubmitFault::Memory) {
+        return desk.submit(rt, client, task);
+    }
+    sent
+}
+
 // Whether a submit gets this number. Where it is refused memory, the next one gets it.
 fn sends<R: Wait>(rt: &R, desk: &Desk, client: &mut Client, task: Task, number: u32) -> bool {
-    let mut sent = desk.submit(rt, client, task);
-    if sent == Err(SubmitFault::Memory) {
-        sent = desk.submit(rt, client, task);
-    }
-    sent == Ok(number)
+    submit(rt, desk, client, task) == Ok(number)
 }
 
 // Whether the client's turn gives this.

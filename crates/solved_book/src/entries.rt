@@ -44,7 +44,7 @@ fn read_entry(
     ensures { GivesLine result
         (claim_in_entry number (option_map position_at before) (entry_of entry.now)) }
 {
-    let Some(claim) = claim_of(entry.listed.as_slice()) else {
+    let Some(claim) = claim_of(&entry.listed) else {
         return Err(BookFault::NoMoves(number));
     };
     let position = Pos::of_grid(&entry.grid);

@@ -6,15 +6,17 @@ use Rattle.std.specs.declared.alloc.Global.{Global}
 use Rattle.clap.specs.Faults.{fault_of}
 use Rattle.clap.specs.Kinds.{IsAmong}
 use Rattle.clap.specs.Lexer.{usize_max}
-use Rattle.clap.specs.Words.{App, Row, Rule, Text, all_of, first_of, kind_of, matches_of, new_app, new_rule, one_of, takes, with_rule}
+use Rattle.clap.specs.Words.{App, Row, Rule, Shape, Text, all_of, first_of, kind_of, matches_of, new_app, new_rule, one_of, takes, with_rule}
+use Rattle.clap.specs.Simple.{on_top}
 use Rattle.clap.specs.declared.builder.ArgAction.TheVariants.{Append}
 use Rattle.clap.specs.declared.builder.value_parser.ValueParser.TheVariants as parser
 use Rattle.clap.specs.declared.error.Error.{Error}
 use Rattle.clap.specs.declared.error.kind.ErrorKind.{ErrorKind}
-use Rattle.clap.specs.declared.error.kind.ErrorKind.TheVariants.{OutOfMemory}
+use Rattle.clap.specs.declared.error.kind.ErrorKind.TheVariants.{DisplayHelp, DisplayVersion, OutOfMemory}
 use Rattle.othello_rules.specs.Scores.{scoring_name}
 use Rattle.othello_rules.specs.declared.scorings.Scoring.TheVariants.{Winner, Discs, Sign}
 use Rattle.suite_solver.specs.Limits.{Configuration}
+use Rattle.suite_solver.specs.declared.requests.ListOptions.{ListOptions}
 use Rattle.suite_solver.specs.declared.requests.Options.{Options}
 use Rattle.suite_solver.specs.declared.requests.OptionFault.{OptionFault}
 use Rattle.suite_solver.specs.declared.requests.OptionFault.TheVariants.{Memory, Refused}
@@ -59,9 +61,13 @@ files_rule = record (new_rule (codes "FILES")) {
   range = Some (record { start_inclusive = 0; end_inclusive = usize_max });
 }
 
+-- a command with `--help` and `--version`, and no other option yet
+abbrev pub versioned : Text → App
+versioned name = on_top (λ (s : Shape). record s { has_version = true }) (new_app name)
+
 -- the command with the options of a run
 abbrev pub run_options : NameList → App
-run_options names = with_rule (with_rule (with_rule (with_rule (new_app (codes "ffosolve"))
+run_options names = with_rule (with_rule (with_rule (with_rule (versioned (codes "ffosolve"))
     (number_rule (codes "max-empties") 60 (codes "20")))
     (number_rule (codes "workers") 64 (codes "2")))
     (number_rule (codes "table") 4194304 (codes "65536")))
@@ -72,6 +78,14 @@ abbrev pub ffosolve : NameList → App
 ffosolve names = with_rule (with_rule (with_rule (run_options names)
     (book_rule (codes "book-in")))
     (book_rule (codes "book-out")))
+    files_rule
+
+-- the command of `ffoscores`
+abbrev pub ffoscores : NameList → App
+ffoscores names = with_rule (with_rule (with_rule (with_rule (versioned (codes "ffoscores"))
+    (number_rule (codes "max-empties") 60 (codes "20")))
+    (number_rule (codes "table") 4194304 (codes "65536")))
+    (scoring_rule names))
     files_rule
 
 -- ---- what stands in its matches
@@ -86,6 +100,13 @@ pub record HasNumber (name : Text) (rows : List Row) (n : ℕ) : Type 0 where
 pub record HasSettings (c : Configuration) (rows : List Row) : Type 0 where
   pub max_empties : HasNumber (codes "max-empties") rows c.max_empties
   pub workers : HasNumber (codes "workers") rows c.workers
+  pub table : HasNumber (codes "table") rows c.table
+  pub scoring : first_of (codes "scoring") rows ≡ Some (scoring_name c.scoring)
+
+-- no workers are asked for
+pub record HasListSettings (c : Configuration) (rows : List Row) : Type 0 where
+  pub max_empties : HasNumber (codes "max-empties") rows c.max_empties
+  pub workers : c.workers ≡ 0
   pub table : HasNumber (codes "table") rows c.table
   pub scoring : first_of (codes "scoring") rows ≡ Some (scoring_name c.scoring)
 
@@ -118,21 +139,57 @@ pub record Asks (words : List Text) (r : Request) : Type 0 where
   pub book_out : r.book_out ≡ first_of (codes "book-out") (matches_of (ffosolve names) words)
   pub listed : r.files ≡ unwrap_or (all_of (codes "FILES") (matches_of (ffosolve names) words)) []
 
--- ---- when it is refused
+-- the settings and the names of the files that words of `ffoscores` ask for
+pub record ListRequest : Type 0 where
+  pub settings : Configuration
+  pub files : List Text
 
--- clap takes the words, wherever the names of the scorings stand
-abbrev pub IsTaken : List Text → Type 0
-IsTaken words = (names : NameList) → NamesScorings names → takes (ffosolve names) words ≡ true
+abbrev pub list_request_of : ListOptions → ListRequest
+list_request_of o = record { settings = o.settings; files = names_of o.files.items }
 
--- clap finds a fault of this kind in the words; a request for help is one
-pub record HasFault (words : List Text) (kind : ErrorKind) : Type 0 where
+pub record AsksLists (words : List Text) (r : ListRequest) : Type 0 where
   pub names : NameList
   pub named : NamesScorings names
-  pub found : IsAmong kind (fault_of (ffosolve names) words)
+  pub faultless : fault_of (ffoscores names) words ≡ []
+  pub settings : HasListSettings r.settings (matches_of (ffoscores names) words)
+  pub listed : r.files ≡ unwrap_or (all_of (codes "FILES") (matches_of (ffoscores names) words)) []
+
+-- ---- when it is refused
+
+abbrev pub Program : Type 0
+Program = NameList → App
+
+-- clap takes the words of a program, wherever the names of the scorings stand
+abbrev pub IsTakenBy : Program → List Text → Type 0
+IsTakenBy program words = (names : NameList) → NamesScorings names → takes (program names) words ≡ true
+
+-- clap finds a fault of this kind in the words; a request for help or for the version is one
+pub record HasFaultBy (program : Program) (words : List Text) (kind : ErrorKind) : Type 0 where
+  pub names : NameList
+  pub named : NamesScorings names
+  pub found : IsAmong kind (fault_of (program names) words)
+
+-- the words ask for help or for the version
+abbrev pub AsksForText : Program → List Text → Type 0
+AsksForText program words = HasFaultBy program words DisplayHelp ⊎ HasFaultBy program words DisplayVersion
+
+-- an error that is no refusal: help or the version
+abbrev pub IsTextKind : ErrorKind → Type 0
+IsTextKind kind = (kind ≡ DisplayHelp) ⊎ (kind ≡ DisplayVersion)
+
+abbrev pub IsFaultFor : Program → List Text → OptionFault → Type 0
+IsFaultFor program words Memory = Unit {0}
+IsFaultFor program words (Refused error) = HasFaultBy program words (kind_of error)
+
+-- of `ffosolve`
+abbrev pub IsTaken : List Text → Type 0
+IsTaken words = IsTakenBy ffosolve words
+
+abbrev pub HasFault : List Text → ErrorKind → Type 0
+HasFault words kind = HasFaultBy ffosolve words kind
 
 abbrev pub IsFaultOf : List Text → OptionFault → Type 0
-IsFaultOf words Memory = Unit {0}
-IsFaultOf words (Refused error) = HasFault words (kind_of error)
+IsFaultOf words fault = IsFaultFor ffosolve words fault
 
 -- clap's own want of memory is want of memory
 abbrev pub IsFaultBy : Error → OptionFault → Type 0

@@ -19,7 +19,7 @@ task_in (reading.Refused refusal) = None
 abbrev pub result_in : Reading → RowResult
 result_in (reading.Asked task listed) =
     Solved (answer_of task.scoring task.position)
-    (check listed (answer_of task.scoring task.position))
+    (check listed.items (answer_of task.scoring task.position))
 result_in (reading.Refused refusal) = Refused refusal
 
 -- the row of a line

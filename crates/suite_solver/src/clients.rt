@@ -112,7 +112,7 @@ pub(crate) fn work<R: Wait, T: Bounds, G: Gate>(
 
 // Submits the tasks of what was read, where there was memory for that, and closes the sender in any case, since others
 // wait for the close.
-fn send_and_close<R: Wait>(
+pub(crate) fn send_and_close<R: Wait>(
     rt: &R,
     desk: &Desk,
     client: &mut Client,

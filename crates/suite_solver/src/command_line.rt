@@ -2,12 +2,12 @@
 
 ghost use Rattle.std.specs.Prelude.{◌≡◌, ◌≤◌, ℕ, false, IfOk, IfErr, IfSome, [], codes, map, option_map, string_bytes, unwrap_or};
 ghost use Rattle.clap.specs.Words.{app_of, first_value, found_of, matched_of, raw_values, rows_of, rule_of};
-ghost use Rattle.suite_solver.specs.CommandLine.{Asks, HasNumber, HasSettings, IsFaultOf, IsTaken};
-ghost use Rattle.suite_solver.specs.CommandLine.{book_rule, ffosolve, files_rule, names_of, number_rule, request_of, run_options, scoring_rule};
+ghost use Rattle.suite_solver.specs.CommandLine.{Asks, AsksLists, HasListSettings, HasNumber, HasSettings, IsFaultFor, IsFaultOf, IsTaken, IsTakenBy};
+ghost use Rattle.suite_solver.specs.CommandLine.{book_rule, ffoscores, ffosolve, files_rule, list_request_of, names_of, number_rule, request_of, run_options, scoring_rule, versioned};
 ghost use Rattle.suite_solver.specs.declared.requests.OptionFault.TheVariants.{Memory};
 
-use crate::limits::Settings;
-use crate::requests::{OptionFault, Options};
+use crate::limits::{Settings, VERSION};
+use crate::requests::{ListOptions, OptionFault, Options};
 use clap::builder::ValueParser;
 use clap::{Arg, ArgAction, ArgMatches, Command};
 use othello_rules::Scoring;
@@ -21,14 +21,43 @@ the side to move sees it, every best move, and how the scores that the line list
 
 const AFTER_HELP: &str = "\
 Exit status:
-  0  all reports were printed, or this help
+  0  all reports were printed, or this help, or the version
   1  more than 64 files, a file of more than 1048576 bytes, or memory ran out
   2  the command line is refused
   3  a file or a stream can't be read or written, or the book of --book-in is refused
-  4  bin/ffosolve could not build the program
 
 Example: the lines of a suite whose listed scores are wrong
   ffosolve --workers 4 suite.obf | grep differ";
+
+const LIST_ABOUT: &str = "\
+Prints OBF files again, line by line, each position with every legal move and its exact score in
+discs, as the side to move sees it, and remarks where a line lists something else.";
+
+const LIST_AFTER_HELP: &str = "\
+Exit status:
+  0  no line is refused and nothing is remarked, or this help, or the version
+  1  a line is refused, or something is remarked
+  2  the command line is refused
+  3  a file can't be read, is larger than 1048576 bytes or one of more than 64, standard output
+     can't be written, or memory ran out
+
+Example: what is wrong in a file of positions with all their moves
+  ffoscores scored.obf | diff scored.obf -";
+
+// A command with `--help` and `--version`, and no other option yet.
+fn bare_command<'a>(
+    alloc: Global,
+    name: &'a str,
+    about: &'a str,
+    after_help: &'a str,
+) -> Command<'a>
+    ensures { app_of result ≡ versioned name.entry.now }
+{
+    Command::new(alloc, name)
+        .version(VERSION)
+        .about(about)
+        .after_help(after_help)
+}
 
 // A number from 0 to `most`.
 fn number_arg<'a>(
@@ -86,21 +115,40 @@ fn files_arg<'a>(alloc: Global) -> Arg<'a>
         .help("OBF files, at most 64, each of at most 1048576 bytes [default: standard input]")
 }
 
-// The command with the options of a run.
-fn run_options<'a>(alloc: Global, names: &'a [&'a str]) -> Result<Command<'a>, AllocError>
-    ensures { IfOk result (λ c. app_of c ≡ run_options names.entry) }
+// The most empty squares of a position that is solved.
+fn max_empties_arg<'a>(alloc: Global) -> Arg<'a>
+    ensures rule { rule_of result ≡ number_rule (codes "max-empties") 60 (codes "20") }
+    ensures local { result.global ≡ false }
 {
-    let bare = Command::new(alloc, "ffosolve")
-        .about(ABOUT)
-        .after_help(AFTER_HELP);
-    let max_empties = number_arg(
+    number_arg(
         alloc,
         "max-empties",
         60,
         "20",
         "Solve positions with at most N empty squares, 0 to 60",
-    );
-    let with_empties = bare.arg(max_empties)?;
+    )
+}
+
+// The entries of the table.
+fn table_arg<'a>(alloc: Global) -> Arg<'a>
+    ensures rule { rule_of result ≡ number_rule (codes "table") 4194304 (codes "65536") }
+    ensures local { result.global ≡ false }
+{
+    number_arg(
+        alloc,
+        "table",
+        4_194_304,
+        "65536",
+        "Keep the bounds of at most N positions, 0 to 4194304",
+    )
+}
+
+// The command with the options of a run.
+fn run_options<'a>(alloc: Global, names: &'a [&'a str]) -> Result<Command<'a>, AllocError>
+    ensures { IfOk result (λ c. app_of c ≡ run_options names.entry) }
+{
+    let bare = bare_command(alloc, "ffosolve", ABOUT, AFTER_HELP);
+    let with_empties = bare.arg(max_empties_arg(alloc))?;
     let workers = number_arg(
         alloc,
         "workers",
@@ -109,14 +157,7 @@ fn run_options<'a>(alloc: Global, names: &'a [&'a str]) -> Result<Command<'a>, A
         "Solve on N threads beside one for each file, 0 to 64; it changes no report",
     );
     let with_workers = with_empties.arg(workers)?;
-    let table = number_arg(
-        alloc,
-        "table",
-        4_194_304,
-        "65536",
-        "Keep the bounds of at most N positions, 0 to 4194304",
-    );
-    let with_table = with_workers.arg(table)?;
+    let with_table = with_workers.arg(table_arg(alloc))?;
     with_table.arg(scoring_arg(alloc, names))
 }
 
@@ -133,6 +174,16 @@ fn command<'a>(alloc: Global, names: &'a [&'a str]) -> Result<Command<'a>, Alloc
     let book_out = book_arg(alloc, "book-out", "Write a book of all solved positions");
     let writing_books = reading_books.arg(book_out)?;
     writing_books.arg(files_arg(alloc))
+}
+
+fn list_command<'a>(alloc: Global, names: &'a [&'a str]) -> Result<Command<'a>, AllocError>
+    ensures { IfOk result (λ c. app_of c ≡ ffoscores names.entry) }
+{
+    let bare = bare_command(alloc, "ffoscores", LIST_ABOUT, LIST_AFTER_HELP);
+    let with_empties = bare.arg(max_empties_arg(alloc))?;
+    let with_table = with_empties.arg(table_arg(alloc))?;
+    let with_scoring = with_table.arg(scoring_arg(alloc, names))?;
+    with_scoring.arg(files_arg(alloc))
 }
 
 fn byte_of(matches: &ArgMatches<'_>, id: &str) -> Option<u8>
@@ -156,6 +207,17 @@ fn settings_of(matches: &ArgMatches<'_>) -> Option<Settings>
     let table = word_of(matches, "table")?;
     let scoring = Scoring::from_name(matches.get_str("scoring")?.as_bytes())?;
     Settings::new(max_empties, workers, table, scoring)
+}
+
+// The same of `ffoscores`, which has no workers.
+fn list_settings_of(matches: &ArgMatches<'_>) -> Option<Settings>
+    ensures { IfSome result
+        (λ settings. HasListSettings settings (rows_of (found_of matches.now))) }
+{
+    let max_empties = byte_of(matches, "max-empties")?;
+    let table = word_of(matches, "table")?;
+    let scoring = Scoring::from_name(matches.get_str("scoring")?.as_bytes())?;
+    Settings::new(max_empties, 0, table, scoring)
 }
 
 fn copy_names(alloc: Global, names: &[&str]) -> Result<Vec<String>, AllocError>
@@ -215,4 +277,24 @@ pub fn options(alloc: Global, words: &[&str]) -> Result<Options, OptionFault>
         book_out,
         files,
     })
+}
+
+/// Reads the words of a command line of `ffoscores`, the program's name first, as `options` does those of `ffosolve`.
+pub fn list_options(alloc: Global, words: &[&str]) -> Result<ListOptions, OptionFault>
+    // For words that clap takes, only memory can be wanting.
+    ensures taken { IsTakenBy ffoscores (map (λ word. word.now) words.now)
+        → IfErr result (λ fault. fault ≡ Memory) }
+    // What else is refused has a fault that clap defines for the words.
+    ensures refused { IfErr result (IsFaultFor ffoscores (map (λ word. word.now) words.now)) }
+    // Clap takes the words, and the settings and names are those of the matches that it defines.
+    ensures asked { IfOk result
+        (λ found. AsksLists (map (λ word. word.now) words.now) (list_request_of found)) }
+{
+    let command = list_command(alloc, SCORINGS.as_slice())?;
+    let matches = command.try_get_matches_from(words)?;
+    let Some(settings) = list_settings_of(&matches) else {
+        return Err(OptionFault::Memory);
+    };
+    let files = files_of(alloc, &matches)?;
+    Ok(ListOptions { settings, files })
 }

@@ -6,6 +6,8 @@ ghost use Rattle.suite_solver.specs.Limits.{Configuration, IsWithinLimits, defau
 use othello_rules::Scoring;
 use std::marker::Model;
 
+/// The version of the programs, as `--version` prints it.
+pub const VERSION: &str = "1.0.0";
 /// The most empty squares that a setting may allow.
 pub const MOST_EMPTIES: u8 = 60;
 /// The most workers.

@@ -13,48 +13,12 @@ use endgame_search::Solved;
 use othello_rules::Scoring;
 use solved_book::Book;
 use std::alloc::{AllocError, Global};
-use std::marker::Model;
-
-/// The reports of a run, one for each file in the order of the files. Contracts see their bytes.
-#[derive(Debug, Drop)]
-pub struct Reports {
-    texts: Vec<Vec<u8>>,
-}
-
-impl Model for Reports {
-    ghost use Rattle.std.specs.Prelude.{ℕ, List, map};
-
-    ghost Value = { List (List ℕ) };
-
-    ghost view = { λ r. map (λ text. text.items) r.texts.items };
-}
-
-impl From<Vec<Vec<u8>>> for Reports {
-    ghost from_gives = { λ texts reports. reports ≡ map (λ text. text.items) texts.items };
-
-    fn from(texts: Vec<Vec<u8>>) -> Reports {
-        Reports { texts }
-    }
-}
-
-impl Reports {
-    pub fn as_slice(&self) -> &[Vec<u8>]
-        ensures { texts_of result.now ≡ self.now }
-    {
-        &self.texts
-    }
-
-    pub fn into_vec(self) -> Vec<Vec<u8>>
-        ensures { texts_of result.items ≡ self }
-    {
-        self.texts
-    }
-}
 
 /// What a run gives.
 #[derive(Debug, Drop)]
 pub struct Outcome {
-    pub reports: Reports,
+    /// The report of each file, in the order of the files.
+    pub reports: Vec<Vec<u8>>,
     /// Every solved position of the run.
     pub book: Book,
 }
@@ -71,9 +35,10 @@ fn report_of(alloc: Global, sender: u32, part: &Part) -> Result<Vec<u8>, AllocEr
 }
 
 // The report of each part, in their order.
-fn reports_of(alloc: Global, parts: &[Part]) -> Result<Reports, AllocError>
+fn reports_of(alloc: Global, parts: &[Part]) -> Result<Vec<Vec<u8>>, AllocError>
     requires few { length parts.now ≤ 64 }
-    ensures { IfOk result (λ made. made ≡ yield_reports 0 (map yield_of parts.now)) }
+    ensures { IfOk result (λ made. texts_of made.items
+        ≡ yield_reports 0 (map yield_of parts.now)) }
 {
     let mut reports = Vec::new(alloc);
     let mut sender: u32 = 0;
@@ -81,7 +46,7 @@ fn reports_of(alloc: Global, parts: &[Part]) -> Result<Reports, AllocError>
         reports.push(report_of(alloc, sender, part)?)?;
         sender += 1;
     }
-    Ok(Reports::from(reports))
+    Ok(reports)
 }
 
 // Adds solved positions to a book.
@@ -119,8 +84,8 @@ pub(crate) fn outcome_of(
     requires few { length parts.now ≤ 64 }
     requires scored { All (λ (y : Yield). All (λ (t : Problem). t.scoring ≡ scoring) y.1)
         (map yield_of parts.now) }
-    ensures reports { IfOk result
-        (λ outcome. outcome.reports ≡ yield_reports 0 (map yield_of parts.now)) }
+    ensures reports { IfOk result (λ outcome. texts_of outcome.reports.items
+        ≡ yield_reports 0 (map yield_of parts.now)) }
     ensures book { IfOk result
         (λ outcome. IsBookOf scoring (yield_tasks (map yield_of parts.now)) outcome.book) }
 {

@@ -12,7 +12,7 @@ ghost use Rattle.suite_solver.specs.Rows.{entry_result, result_of, task_of};
 use crate::checks::check_of;
 use crate::rows::{Refusal, RowResult};
 use endgame_search::{Solved, Task, TooMany};
-use obf_text::{Item, Line, LineFault, Listed, read_line};
+use obf_text::{Item, Line, LineFault, ListedMove, read_line};
 use othello_bits::Pos;
 use othello_rules::Scoring;
 use std::alloc::{AllocError, Global};
@@ -22,7 +22,7 @@ use std::slice::Iter;
 #[derive(Drop)]
 pub(crate) enum Reading {
     /// A position to solve, and the moves that are listed for it.
-    Asked(Task, Listed),
+    Asked(Task, Vec<(ListedMove, i8)>),
     Refused(Refusal),
 }
 
@@ -63,7 +63,7 @@ impl Reading {
                     unreachable!()
                 };
                 let answer = solved.answer();
-                RowResult::Solved(answer, check_of(listed.as_slice(), &answer))
+                RowResult::Solved(answer, check_of(listed, &answer))
             }
             Reading::Refused(refusal) => RowResult::Refused(*refusal),
         }

@@ -21,6 +21,15 @@ pub struct Options {
     pub files: Vec<String>,
 }
 
+/// What a command line of `ffoscores` asks for.
+#[derive(Debug, Drop)]
+pub struct ListOptions {
+    /// No workers.
+    pub settings: Settings,
+    /// The names of the files as given, in their order. Without any, standard input is the one file.
+    pub files: Vec<String>,
+}
+
 /// Why a command line gives no options.
 #[derive(Debug, Drop, Error)]
 pub enum OptionFault {

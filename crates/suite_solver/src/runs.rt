@@ -155,7 +155,7 @@ pub fn run_serial(
     ensures too_large { (sender : ℕ) → IsErrOf result (FileTooLarge sender) ↔
         ((length files.now ≤ 64) × (first_large (texts_of files.now) ≡ Some sender)) }
     ensures unmixed { result ≢ Err Mixed }
-    ensures reports { IfOk result (λ outcome. outcome.reports
+    ensures reports { IfOk result (λ outcome. texts_of outcome.reports.items
         ≡ reports settings.now.scoring settings.now.max_empties (texts_of files.now)) }
     ensures book { IfOk result (λ outcome. IsBookOf settings.now.scoring (all_tasks
         settings.now.scoring settings.now.max_empties (texts_of files.now)) outcome.book) }
@@ -253,7 +253,7 @@ pub fn run<R: Threads + Wait + Sync, G: Gate>(
     ensures too_many { IsErrOf result TooManyFiles ↔ 64 < length files.now }
     ensures too_large { (sender : ℕ) → IsErrOf result (FileTooLarge sender) ↔
         ((length files.now ≤ 64) × (first_large (texts_of files.now) ≡ Some sender)) }
-    ensures reports { IfOk result (λ outcome. outcome.reports
+    ensures reports { IfOk result (λ outcome. texts_of outcome.reports.items
         ≡ reports settings.now.scoring settings.now.max_empties (texts_of files.now)) }
     ensures book { IfOk result (λ outcome. IsBookOf settings.now.scoring (all_tasks
         settings.now.scoring settings.now.max_empties (texts_of files.now)) outcome.book) }

@@ -70,10 +70,10 @@ impl Site {
 
 // That a thread gives what comes of a text.
 #[derive(Clone, Copy)]
-struct PartOf<'a> {
-    scoring: Scoring,
-    limit: u8,
-    text: &'a [u8],
+pub(crate) struct PartOf<'a> {
+    pub(crate) scoring: Scoring,
+    pub(crate) limit: u8,
+    pub(crate) text: &'a [u8],
 }
 
 impl<'a> Promise<Result<Part, RunFault>> for PartOf<'a> {
@@ -83,16 +83,16 @@ impl<'a> Promise<Result<Part, RunFault>> for PartOf<'a> {
 
 // A client in a thread, or what came of it where no thread could be started.
 #[derive(Drop)]
-enum Progress<'a> {
+pub(crate) enum Progress<'a> {
     There(PromisedHandle<Result<Part, RunFault>, PartOf<'a>>),
     Here(Result<Part, RunFault>),
 }
 
 // A client that was started.
 #[derive(Drop)]
-struct Started<'a> {
-    promise: PartOf<'a>,
-    progress: Progress<'a>,
+pub(crate) struct Started<'a> {
+    pub(crate) promise: PartOf<'a>,
+    pub(crate) progress: Progress<'a>,
 }
 
 impl<'a> Model for Started<'a> {
@@ -192,9 +192,9 @@ fn start_workers<'a, E, R: Threads + Wait + Sync, G: Gate>(
 
 // What came of the clients that were joined.
 #[derive(Drop)]
-struct Joined {
-    parts: Vec<Part>,
-    fault: Option<RunFault>,
+pub(crate) struct Joined {
+    pub(crate) parts: Vec<Part>,
+    pub(crate) fault: Option<RunFault>,
 }
 
 impl Joined {
@@ -229,7 +229,7 @@ impl Joined {
 }
 
 // Joins all clients.
-fn join_all<R: Threads>(rt: &R, clients: Vec<Started<'_>>, joined: &mut Joined)
+pub(crate) fn join_all<R: Threads>(rt: &R, clients: Vec<Started<'_>>, joined: &mut Joined)
     requires none { (joined.old.parts.items ≡ []) × (joined.old.fault ≡ None) }
     requires room { vec_len clients ≤ vec_capacity joined.old.parts }
     ensures { AreJoined clients.entry.items joined.new.parts.items joined.new.fault }

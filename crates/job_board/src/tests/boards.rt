@@ -1,8 +1,8 @@
 //! The order of `take`, and the limits of a board.
 
 use super::steps::{gives_at_last, took};
-use super::{FIRST, LAST_CORNER, NO_DISCS, SECOND, UNEQUAL_CORNERS, task_of};
-use crate::{Board, BoardFault, JobId, Reply, Step, SubmitFault};
+use super::{CORNER_LEFT_OVER, FIRST, LAST_CORNER, NO_DISCS, SECOND, UNEQUAL_CORNERS, task_of};
+use crate::{Board, BoardFault, Job, JobId, Reply, Step, SubmitFault};
 use endgame_search::Task;
 use std::alloc::Global;
 
@@ -12,46 +12,81 @@ const OTHER: JobId = JobId {
     number: 0,
 };
 
-fn steps_of_three_jobs(short: Task, long: Task) -> [Step; 11] {
+// One job of the second sender, then two of the first, which are taken in this order. The first two of
+// these are given back, and taken again.
+fn steps_of_three_jobs(tasks: &[Task; 3], taken: &[Job; 3]) -> [Step; 11] {
     [
-        Step::Submit(1, long),
-        Step::Submit(0, short),
-        Step::Submit(0, long),
+        Step::Submit(1, tasks[0]),
+        Step::Submit(0, tasks[1]),
+        Step::Submit(0, tasks[2]),
         Step::Take,
         Step::Take,
         Step::Take,
         Step::Take,
-        Step::GiveBack(OTHER),
-        Step::GiveBack(SECOND),
+        Step::GiveBack(taken[1].id),
+        Step::GiveBack(taken[0].id),
         Step::Take,
         Step::Take,
     ]
 }
 
-// The longest jobs are taken first, then those of the first sender.
-fn replies_to_three_jobs(short: Task, long: Task) -> [Reply; 11] {
+fn replies_to_three_jobs(taken: &[Job; 3]) -> [Reply; 11] {
     [
         Reply::Submitted(Ok(0)),
         Reply::Submitted(Ok(0)),
         Reply::Submitted(Ok(1)),
-        took(SECOND, long),
-        took(OTHER, long),
-        took(FIRST, short),
+        Reply::Took(Some(taken[0])),
+        Reply::Took(Some(taken[1])),
+        Reply::Took(Some(taken[2])),
         Reply::Took(None),
         Reply::GaveBack(Ok(())),
         Reply::GaveBack(Ok(())),
-        took(SECOND, long),
-        took(OTHER, long),
+        Reply::Took(Some(taken[0])),
+        Reply::Took(Some(taken[1])),
     ]
 }
 
+fn are_taken(alloc: Global, tasks: &[Task; 3], taken: &[Job; 3]) -> bool {
+    let steps = steps_of_three_jobs(tasks, taken);
+    gives_at_last(alloc, 2, &steps, &replies_to_three_jobs(taken), false)
+}
+
 #[test]
-fn longest_jobs_first(rt: HostRuntime) {
+fn the_longer_of_two_jobs_first(rt: HostRuntime) {
     let short = task_of(&rt, LAST_CORNER);
     let long = task_of(&rt, UNEQUAL_CORNERS);
-    let steps = steps_of_three_jobs(short, long);
-    let wanted = replies_to_three_jobs(short, long);
-    assert!(rt; gives_at_last(rt.alloc(), 2, &steps, &wanted, false));
+    let steps = [Step::Submit(0, short), Step::Submit(0, long), Step::Take];
+    let wanted = [
+        Reply::Submitted(Ok(0)),
+        Reply::Submitted(Ok(1)),
+        took(SECOND, long),
+    ];
+    assert!(rt; gives_at_last(rt.alloc(), 1, &steps, &wanted, false));
+}
+
+fn job_of(id: JobId, task: Task) -> Job {
+    Job { id, task }
+}
+
+// Of jobs of one length the first sender's comes first.
+#[test]
+fn longest_jobs_first_then_those_of_the_first_sender(rt: HostRuntime) {
+    let short = task_of(&rt, LAST_CORNER);
+    let long = task_of(&rt, UNEQUAL_CORNERS);
+    let other = task_of(&rt, CORNER_LEFT_OVER);
+    let by_sender = [
+        job_of(FIRST, other),
+        job_of(OTHER, long),
+        job_of(SECOND, short),
+    ];
+    assert!(rt; are_taken(rt.alloc(), &[long, other, short], &by_sender));
+    // The second job of the first sender before the first job of the second.
+    let by_length = [
+        job_of(SECOND, long),
+        job_of(OTHER, long),
+        job_of(FIRST, short),
+    ];
+    assert!(rt; are_taken(rt.alloc(), &[long, short, long], &by_length));
 }
 
 // Whether the last of the most senders may have 65,535 jobs, and no more.

@@ -240,11 +240,6 @@ fn are_served_at_last<R: Threads + Wait + Clock + Sync>(
 }
 
 #[test]
-fn a_worker_leaves(rt: HostRuntime) {
-    assert!(rt; are_served_at_last(&rt, rt.alloc(), &load_of(&rt, 3), 3));
-}
-
-#[test]
 fn two_to_eight_threads(rt: HostRuntime) {
     let load = load_of(&rt, 500);
     for threads in 2..=8 {

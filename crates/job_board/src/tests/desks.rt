@@ -1,8 +1,8 @@
 //! A desk on one thread.
 
 use super::{
-    CORNER_LEFT_OVER, EQUAL_CORNERS, FIRST, SECOND, finishes, gives_back, sends, solved, task_of,
-    turns_to,
+    CORNER_LEFT_OVER, EQUAL_CORNERS, FIRST, LAST_CORNER, SECOND, finishes, gives_back, sends,
+    solved, submit, task_of, turns_to,
 };
 use crate::{Client, Delivery, Desk, Job, JobFault, JobId, Mixed, NoSender, SubmitFault, Turn};
 use endgame_search::Task;
@@ -24,6 +24,10 @@ enum Call {
     Drained,
     Mixed,
     Finish,
+    // A finish that is refused so.
+    Unfinished(JobFault),
+    // A finish by the answer of another position.
+    FinishByOther,
     GiveBack,
     // A give back of a job that is not taken.
     NotTaken,
@@ -32,7 +36,13 @@ enum Call {
     Close(Result<bool, NoSender>),
 }
 
-// Calls about the first job and the second, in their order.
+// A job that the sender hasn't.
+const THIRD: JobId = JobId {
+    sender: 0,
+    number: 2,
+};
+
+// Calls about these jobs, in their order.
 type Calls = &'static [(Call, JobId)];
 
 // What a client of this sender calls at a desk of one sender, after a first client made its calls.
@@ -67,7 +77,7 @@ const SERVED: Case = Case {
         (Call::Drained, FIRST),
         (Call::AllDone, FIRST),
         (Call::Close(Ok(false)), FIRST),
-        (Call::Refused(SubmitFault::Closed), FIRST),
+        (Call::Refused(SubmitFault::Closed), THIRD),
     ],
     served: true,
 };
@@ -97,21 +107,48 @@ const MIXED: Case = Case {
     served: false,
 };
 
+// A job that is unknown, waits or is finished is not taken.
+const UNFINISHED: Case = Case {
+    first: &[],
+    sender: 0,
+    calls: &[
+        (Call::Unfinished(JobFault::NotTaken), FIRST),
+        (Call::Send, FIRST),
+        (Call::Unfinished(JobFault::NotTaken), FIRST),
+        (Call::Work, FIRST),
+        (Call::FinishByOther, FIRST),
+        (Call::Finish, FIRST),
+        (Call::Unfinished(JobFault::NotTaken), FIRST),
+    ],
+    served: false,
+};
+
 fn next_of(number: u32, task: Task) -> Turn {
     let solved = solved(task);
     Turn::Next(Delivery { number, solved })
 }
 
-// Whether the call has its answer.
-fn is_answered<R: Wait>(rt: &R, desk: &Desk, client: &mut Client, call: Call, job: Job) -> bool {
+// Whether the call has its answer. The other task is that of no job.
+fn is_answered<R: Wait>(
+    rt: &R,
+    desk: &Desk,
+    client: &mut Client,
+    call: Call,
+    job: Job,
+    other: Task,
+) -> bool {
     match call {
         Call::Send => sends(rt, desk, client, job.task, job.id.number),
-        Call::Refused(fault) => desk.submit(rt, client, job.task) == Err(fault),
+        Call::Refused(fault) => submit(rt, desk, client, job.task) == Err(fault),
         Call::Work => turns_to(rt, desk, client, Turn::Work(job)),
         Call::Next => turns_to(rt, desk, client, next_of(job.id.number, job.task)),
         Call::Drained => turns_to(rt, desk, client, Turn::Drained),
         Call::Mixed => desk.turn(rt, client) == Err(Mixed),
         Call::Finish => finishes(rt, desk, job),
+        Call::Unfinished(fault) => desk.finish(rt, job.id, solved(job.task)) == Err(fault),
+        Call::FinishByOther => {
+            desk.finish(rt, job.id, solved(other)) == Err(JobFault::OtherPosition)
+        }
         Call::GiveBack => gives_back(rt, desk, job.id),
         Call::NotTaken => desk.give_back(rt, job.id) == Err(JobFault::NotTaken),
         Call::AllDone => desk.take_or_wait(rt).is_none(),
@@ -124,24 +161,32 @@ fn are_answered<R: Wait>(
     desk: &Desk,
     client: &mut Client,
     calls: Calls,
-    tasks: &[Task; 2],
+    tasks: &[Task; 3],
 ) -> bool {
     for (call, id) in calls {
-        let task = tasks[id.number as usize % 2];
-        if !is_answered(rt, desk, client, *call, Job { id: *id, task }) {
+        let task = tasks[id.number as usize % 3];
+        if !is_answered(rt, desk, client, *call, Job { id: *id, task }, tasks[2]) {
             return false;
         }
     }
     true
 }
 
-fn is_served(client: &Client, tasks: &[Task; 2]) -> bool {
-    client.sent() == tasks.as_slice() && client.received() == 2
+fn is_served(client: &Client, tasks: &[Task; 3]) -> bool {
+    client.sent() == &tasks[..2] && client.received() == 2
+}
+
+// A new desk of one sender, where memory may be refused once.
+fn desk_of_one(alloc: Global) -> Option<Desk> {
+    if let Ok(desk) = Desk::new(alloc, 1) {
+        return Some(desk);
+    }
+    Desk::new(alloc, 1).ok()
 }
 
 // Whether the case has its answers at a new desk.
-fn passes<R: Wait>(rt: &R, alloc: Global, case: &Case, tasks: &[Task; 2]) -> bool {
-    let Ok(desk) = Desk::new(alloc, 1) else {
+fn passes<R: Wait>(rt: &R, alloc: Global, case: &Case, tasks: &[Task; 3]) -> bool {
+    let Some(desk) = desk_of_one(alloc) else {
         return false;
     };
     let mut first = Client::new(alloc, 0);
@@ -153,8 +198,12 @@ fn passes<R: Wait>(rt: &R, alloc: Global, case: &Case, tasks: &[Task; 2]) -> boo
 
 #[test]
 fn a_desk_on_one_thread(rt: HostRuntime) {
-    let tasks = [task_of(&rt, CORNER_LEFT_OVER), task_of(&rt, EQUAL_CORNERS)];
-    for case in &[SERVED, REFUSED, MIXED] {
-        assert!(rt; passes(&rt, rt.alloc(), case, &tasks) || passes(&rt, rt.alloc(), case, &tasks));
+    let tasks = [
+        task_of(&rt, CORNER_LEFT_OVER),
+        task_of(&rt, EQUAL_CORNERS),
+        task_of(&rt, LAST_CORNER),
+    ];
+    for case in &[SERVED, REFUSED, MIXED, UNFINISHED] {
+        assert!(rt; passes(&rt, rt.alloc(), case, &tasks));
     }
 }

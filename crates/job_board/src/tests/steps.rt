@@ -10,18 +10,48 @@ use endgame_search::{Solved, Task};
 use othello_rules::Scoring;
 use std::alloc::Global;
 
-// Whether a new board of so many senders gives these replies, and then is done, or is not.
-fn gives(alloc: Global, senders: u32, steps: &[Step], wanted: &[Reply], done: bool) -> bool {
-    let Ok(mut board) = Board::new(alloc, senders) else {
-        return false;
-    };
-    let Ok(replies) = run_steps(alloc, &mut board, steps) else {
-        return false;
-    };
-    replies.as_slice() == wanted && board.is_done() == done
+// A new board, where memory may be refused once.
+pub(super) fn board_of(alloc: Global, senders: u32) -> Option<Board> {
+    if let Ok(board) = Board::new(alloc, senders) {
+        return Some(board);
+    }
+    Board::new(alloc, senders).ok()
 }
 
-// The same, where memory may be refused once.
+// The board's replies. Where there is no memory for the list of replies, the board is as it was, and
+// the steps are run on it again.
+fn replies_of(alloc: Global, board: &mut Board, steps: &[Step]) -> Option<Vec<Reply>> {
+    if let Ok(replies) = run_steps(alloc, board, steps) {
+        return Some(replies);
+    }
+    run_steps(alloc, board, steps).ok()
+}
+
+// Whether a submit was refused memory.
+fn is_refused(reply: &Reply) -> bool {
+    matches!(reply, Reply::Submitted(Err(SubmitFault::Memory)))
+}
+
+// Whether a new board of so many senders gives these replies, and then is done, or is not. None where a
+// submit was refused memory.
+fn gives(
+    alloc: Global,
+    senders: u32,
+    steps: &[Step],
+    wanted: &[Reply],
+    done: bool,
+) -> Option<bool> {
+    let mut board = board_of(alloc, senders)?;
+    let replies = replies_of(alloc, &mut board, steps)?;
+    for reply in &replies {
+        if is_refused(reply) {
+            return None;
+        }
+    }
+    Some(replies.as_slice() == wanted && board.is_done() == done)
+}
+
+// The same, once more where a submit was refused memory.
 pub(super) fn gives_at_last(
     alloc: Global,
     senders: u32,
@@ -29,7 +59,10 @@ pub(super) fn gives_at_last(
     wanted: &[Reply],
     done: bool,
 ) -> bool {
-    gives(alloc, senders, steps, wanted, done) || gives(alloc, senders, steps, wanted, done)
+    match gives(alloc, senders, steps, wanted, done) {
+        Some(given) => given,
+        None => gives(alloc, senders, steps, wanted, done) == Some(true),
+    }
 }
 
 // The reply to a take that gives this job.
@@ -84,6 +117,59 @@ fn replies_to_two_jobs(first: Task, second: Task) -> [Reply; 15] {
     ]
 }
 
+// The replies from the third on where one submit was refused memory: the other task's job is the first.
+fn replies_to_one_job(task: Task, finished: [Result<(), JobFault>; 3]) -> [Reply; 13] {
+    [
+        took(FIRST, task),
+        Reply::Took(None),
+        Reply::Took(None),
+        Reply::Finished(Err(JobFault::NotTaken)),
+        Reply::Handed(Handed::Waiting),
+        Reply::Finished(finished[0]),
+        Reply::Finished(finished[1]),
+        Reply::Finished(finished[2]),
+        next(0, task),
+        Reply::Handed(Handed::Waiting),
+        Reply::Handed(Handed::Waiting),
+        Reply::Closed(Ok(true)),
+        Reply::Handed(Handed::Drained),
+    ]
+}
+
+const NOT_TAKEN: Result<(), JobFault> = Err(JobFault::NotTaken);
+
+const OTHER_POSITION: Result<(), JobFault> = Err(JobFault::OtherPosition);
+
+// Whether the replies are lawful after the first two, one of which may be a refusal of memory: the next
+// accepted submit gets its number.
+fn are_lawful_at_last(replies: &[Reply], first: Task, second: Task) -> bool {
+    if replies.len() != 15 {
+        return false;
+    }
+    let later = &replies[2..];
+    if is_refused(&replies[0]) {
+        let wanted = replies_to_one_job(second, [Ok(()), NOT_TAKEN, NOT_TAKEN]);
+        return replies[1] == Reply::Submitted(Ok(0)) && later == wanted.as_slice();
+    }
+    if is_refused(&replies[1]) {
+        let wanted = replies_to_one_job(first, [OTHER_POSITION, OTHER_POSITION, Ok(())]);
+        return replies[0] == Reply::Submitted(Ok(0)) && later == wanted.as_slice();
+    }
+    replies == replies_to_two_jobs(first, second).as_slice()
+}
+
+// Whether one board gives lawful replies, whatever it is refused.
+fn goes_on(alloc: Global, first: Task, second: Task, by_discs: Solved) -> bool {
+    let steps = steps_of_two_jobs(first, second, by_discs);
+    let Some(mut board) = board_of(alloc, 1) else {
+        return false;
+    };
+    let Some(replies) = replies_of(alloc, &mut board, &steps) else {
+        return false;
+    };
+    are_lawful_at_last(replies.as_slice(), first, second) && board.is_done()
+}
+
 #[test]
 fn two_jobs_of_one_sender(rt: HostRuntime) {
     let first = task_of(&rt, CORNER_LEFT_OVER);
@@ -96,6 +182,36 @@ fn two_jobs_of_one_sender(rt: HostRuntime) {
         gives_at_last(rt.alloc(), 1, &steps[..13], &wanted[..13], false)
             && gives_at_last(rt.alloc(), 1, &steps, &wanted, true)
     );
+}
+
+#[test]
+fn steps_go_on_after_a_refused_submit(rt: HostRuntime) {
+    let first = task_of(&rt, CORNER_LEFT_OVER);
+    let second = task_of(&rt, EQUAL_CORNERS);
+    let by_discs = solved(task_by(&rt, CORNER_LEFT_OVER, Scoring::Discs));
+    assert!(rt; goes_on(rt.alloc(), first, second, by_discs));
+}
+
+// Whether the submits get the numbers from 0 on; one that is refused memory is made again at the board.
+fn counts_on(alloc: Global, task: Task) -> bool {
+    let Some(mut board) = board_of(alloc, 1) else {
+        return false;
+    };
+    for number in 0..20 {
+        let mut sent = board.submit(0, task);
+        if sent == Err(SubmitFault::Memory) {
+            sent = board.submit(0, task);
+        }
+        if sent != Ok(number) {
+            return false;
+        }
+    }
+    true
+}
+
+#[test]
+fn the_next_submit_gets_the_refused_number(rt: HostRuntime) {
+    assert!(rt; counts_on(rt.alloc(), task_of(&rt, EQUAL_CORNERS)));
 }
 
 fn steps_round_a_close(task: Task) -> [Step; 17] {

@@ -2,11 +2,12 @@
 
 use crate::BookFault;
 use crate::tests::{
-    A1, B1, CORNER_LEFT_OVER, CORNER_LEFT_OVER_LINE, Discs, EQUAL_CORNERS, LAST_CORNER,
-    LAST_CORNER_LINE, SEVEN_ROWS, THREE_LINES, Text, claim_in, claim_of_moves, join, read_again,
+    A1, B1, CORNER_LEFT_OVER, CORNER_LEFT_OVER_LINE, Discs, EQUAL_CORNERS, EQUAL_CORNERS_LINE,
+    LAST_CORNER, LAST_CORNER_LINE, SEVEN_ROWS, THREE_LINES, Text, claim_in, claim_of_moves, join,
+    read_again,
 };
 use endgame_search::Claim;
-use obf_text::LineFault;
+use obf_text::{Item, LineFault, ListedMove, read_line};
 use othello_rules::{Best, Scoring, Side};
 use std::alloc::Global;
 
@@ -16,15 +17,19 @@ fn has_fault(alloc: Global, pieces: &[&[u8]], fault: BookFault) -> bool {
     read_again(alloc, &join(pieces)).err() == Some(fault)
 }
 
+// The lines of the book with the first two exchanged, without its header and with it, and a line twice.
 fn tells_wrong_order(alloc: Global) -> bool {
     let (rows, last, left) = (SEVEN_ROWS, LAST_CORNER_LINE, CORNER_LEFT_OVER_LINE);
-    has_fault(alloc, &[rows, last, rows, left], BookFault::Unsorted(2))
-        && has_fault(alloc, &[rows, last, rows, last], BookFault::Unsorted(2))
-        && has_fault(
-            alloc,
-            &[WINNER, rows, last, rows, left],
-            BookFault::Unsorted(3),
-        )
+    let third = EQUAL_CORNERS_LINE;
+    has_fault(
+        alloc,
+        &[rows, last, rows, left, rows, third],
+        BookFault::Unsorted(2),
+    ) && has_fault(
+        alloc,
+        &[WINNER, rows, last, rows, left, rows, third],
+        BookFault::Unsorted(3),
+    ) && has_fault(alloc, &[rows, last, rows, last], BookFault::Unsorted(2))
 }
 
 // A line of a position that is not the least of its images, and one with White to move.
@@ -197,4 +202,22 @@ fn claims_by_the_greatest_score(rt: HostRuntime) {
     for row in LISTED {
         assert!(rt; is_claimed(alloc, row));
     }
+}
+
+// Whether a line is read that lists just this pass.
+fn lists_a_pass(alloc: Global, line: &[u8], score: i8) -> bool {
+    match read_line(alloc, line) {
+        Ok(Item::Entry(line)) => {
+            line.listed.len() == 1 && line.listed.iter().next() == Some(&(ListedMove::Pass, score))
+        }
+        Err(LineFault::Memory) => true,
+        _ => false,
+    }
+}
+
+// The listed moves of a line, as a caller of `obf_text` reads them.
+#[test]
+fn looks_at_listed_moves(rt: HostRuntime) {
+    let line = join(&[SEVEN_ROWS, b"XOOOOOO- O; ps:-64;"]);
+    assert!(rt; lists_a_pass(rt.alloc(), &line, -64));
 }

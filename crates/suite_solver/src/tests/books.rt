@@ -1,7 +1,7 @@
 //! The program with books: what it writes, what it reads, and what it refuses.
 
-use super::{ONE, Run, TWO, TWO_BY_WINNER, all_end_so, ends_so, run};
-use std::alloc::Global;
+use super::{ONE, ONE_POSITION, Run, TWO, TWO_BY_WINNER, all_end_so, ends_so, run};
+use std::alloc::{AllocError, Global};
 use std::fs;
 use std::rt::Files;
 use std::sync::Wait;
@@ -45,23 +45,37 @@ const ONE_BY_SIGN: &[u8] = b"[1]
 solved 3 refused 0
 ";
 
-// The words, the report of ONE that they ask for, and the book.
-type Written<'a> = (&'a str, &'a [u8], &'a [u8]);
+const FIRST_REPORT: &[u8] = b"[1]\n1 +64 A1 unlisted\nsolved 1 refused 0\n";
+
+const FIRST_BOOK: &[u8] = b"% ffobook 2 winner\n\
+XXXXXXXXXXXXXXXXXXXXXXXXXXXXXXXXXXXXXXXXXXXXXXXXXXXXXXXXXOOOOOO- X; H8:+64;\n";
+
+// The words, standard input, the report of it that they ask for, and the book.
+type Written<'a> = (&'a str, &'a [u8], &'a [u8], &'a [u8]);
 
 const WRITTEN: &[Written] = &[
-    ("ffosolve --book-out out.book", ONE_REPORT, BOOK),
+    (
+        "ffosolve --book-out out.book",
+        ONE_POSITION,
+        FIRST_REPORT,
+        FIRST_BOOK,
+    ),
+    ("ffosolve --book-out out.book", ONE, ONE_REPORT, BOOK),
     (
         "ffosolve --book-in out.book --workers 0 --book-out out.book",
+        ONE,
         ONE_REPORT,
         BOOK,
     ),
     (
         "ffosolve --book-in out.book --scoring discs --workers 64 --book-out out.book",
+        ONE,
         ONE_BY_DISCS,
         BOOK_BY_DISCS,
     ),
     (
         "ffosolve --book-in out.book --scoring sign --book-out out.book",
+        ONE,
         ONE_BY_SIGN,
         BOOK_BY_SIGN,
     ),
@@ -73,8 +87,8 @@ fn is_written<T: Alloc + Files + Threads + Wait + Sync>(
     alloc: Global,
     wanted: &Written<'_>,
 ) -> Result<bool, Fail> {
-    let (line, report, book) = *wanted;
-    if !ends_so(rt, alloc, &(line, ONE, 0, report, b""))? || fs::exists(rt, "out.book.0.part")? {
+    let (line, text, report, book) = *wanted;
+    if !ends_so(rt, alloc, &(line, text, 0, report, b""))? || fs::exists(rt, "out.book.0.part")? {
         return Ok(false);
     }
     Ok(fs::read(rt, "out.book")?.as_slice() == book)
@@ -177,11 +191,23 @@ fn is_told_so<T: Files + Threads + Wait + Sync>(
 
 const NOTHING: &[u8] = b"";
 
+// The fault of a book that is larger than a file may be, and stands in its last line.
+const LAST_FAULT: &[u8] = b"ffosolve: book line 2: bad square at column 1\n";
+
+// A book of more bytes than a file may have, whose last line is no line of a book.
+fn large_book(alloc: Global) -> Result<Vec<u8>, AllocError> {
+    let mut text = vec![in alloc; b' '; 1_048_577]?;
+    text.extend_from_slice(b"\n?")?;
+    Ok(text)
+}
+
 #[test]
 fn refuses_books(rt: HostRuntime) -> Result<(), Fail> {
     for (text, told) in TEXTS {
         assert!(rt; is_told_so(&rt, rt.alloc(), text, told)?);
     }
+    let text = large_book(rt.alloc())?;
+    assert!(rt; is_told_so(&rt, rt.alloc(), &text, LAST_FAULT)?);
     fs::remove_file(&rt, "in.book")?;
     Ok(())
 }

@@ -3,6 +3,7 @@
 ghost use Rattle.std.specs.Prelude.{◌≤◌, length};
 
 use super::{BOTH, CountingGate, ONE, TWO, TWO_JOBS};
+use crate::clients::send_and_close;
 use crate::laws::client_part;
 use crate::{Gate, NoGate, RunFault, write_report};
 use arrayvec::ArrayVec;
@@ -12,7 +13,6 @@ use job_board::{Client, Desk, JobId, SubmitFault};
 use othello_bits::Pos;
 use othello_rules::Scoring;
 use std::alloc::{AllocError, Global};
-use std::sync::atomic::{AtomicU32, Ordering};
 use std::sync::{Mutex, Wait};
 use std::test::Fail;
 
@@ -77,10 +77,15 @@ fn is_mixed_part<R: Wait, G: Gate>(
 
 // Whether the parts of two clients are refused: one that takes a job of another scoring, and one whose sender is not the
 // desk's.
-fn are_mixed<R: Wait>(rt: &R, alloc: Global, desk: &Desk) -> Result<bool, AllocError> {
+fn are_mixed<R: Wait, G: Gate>(
+    rt: &R,
+    alloc: Global,
+    desk: &Desk,
+    gate: &G,
+) -> Result<bool, AllocError> {
     Ok(
-        is_mixed_part(rt, alloc, desk, &NoGate, ONE, 1)?
-            && is_mixed_part(rt, alloc, desk, &NoGate, ONE, 2)?,
+        is_mixed_part(rt, alloc, desk, gate, ONE, 1)?
+            && is_mixed_part(rt, alloc, desk, gate, ONE, 2)?,
     )
 }
 
@@ -89,14 +94,15 @@ const FIRST_JOB: JobId = JobId {
     number: 0,
 };
 
-// A job of another scoring is given back.
+// A job of another scoring is given back, and no gate is told of it.
 #[test]
 fn clients_are_refused(rt: HostRuntime) -> Result<(), Fail> {
     let desk = Desk::new(rt.alloc(), 2)?;
     let position = Pos::new(!0xff, 0x7e).expect(&rt, "no square is taken twice");
     let mut other = Client::new(rt.alloc(), 0);
     desk.submit(&rt, &mut other, Task::new(position, 20, Scoring::Discs)?)?;
-    assert!(rt; are_mixed(&rt, rt.alloc(), &desk)?);
+    let gate = CountingGate::new();
+    assert!(rt; are_mixed(&rt, rt.alloc(), &desk, &gate)? && gate.counts() == (0, 0));
     assert!(rt; desk.take_or_wait(&rt).map(|job| job.id) == Some(FIRST_JOB));
     Ok(())
 }
@@ -149,29 +155,33 @@ fn gates_are_told_of_each_job(rt: HostRuntime) -> Result<(), Fail> {
 #[derive(Drop)]
 struct MeddlingGate<'a> {
     desk: &'a Desk,
-    entered: AtomicU32,
+    told: CountingGate,
 }
 
 impl Gate for MeddlingGate<'_> {
     fn enter<R: Wait>(&self, rt: &R, sender: u32, number: u32) {
-        if self.entered.fetch_add(1, Ordering::SeqCst) == 0 {
+        if self.told.counts() == (0, 0) {
             let _ = self.desk.give_back(rt, JobId { sender, number });
         }
+        self.told.enter(rt, sender, number);
     }
 
-    fn leave<R: Wait>(&self, _rt: &R, _sender: u32, _number: u32) {}
+    fn leave<R: Wait>(&self, rt: &R, sender: u32, number: u32) {
+        self.told.leave(rt, sender, number);
+    }
 }
 
+// The gate is told of the end of such a job too.
 #[test]
 fn a_refused_finish_ends_the_part(rt: HostRuntime) -> Result<(), Fail> {
     let alloc = rt.alloc();
     let desk = Desk::new(alloc, 1)?;
     let gate = MeddlingGate {
         desk: &desk,
-        entered: AtomicU32::new(0),
+        told: CountingGate::new(),
     };
     let refused = is_mixed_part(&rt, alloc, &desk, &gate, TWO_JOBS, 0)?;
-    assert!(rt; refused && gate.entered.into_inner() == 1);
+    assert!(rt; refused && gate.told.counts() == (1, 1));
     Ok(())
 }
 
@@ -200,5 +210,15 @@ fn a_refused_submit_closes_the_sender(rt: HostRuntime) -> Result<(), Fail> {
     let mut other = sent_client(&rt, alloc, &desk, task, 65_534)?;
     assert!(rt; is_mixed_part(&rt, alloc, &desk, &NoGate, TWO_JOBS, 0)?);
     assert!(rt; desk.submit(&rt, &mut other, task) == Err(SubmitFault::Closed));
+    Ok(())
+}
+
+// A client whose text found no memory closes its sender, since others wait for that.
+#[test]
+fn an_unread_text_closes_the_sender(rt: HostRuntime) -> Result<(), Fail> {
+    let desk = Desk::new(rt.alloc(), 1)?;
+    let mut client = Client::new(rt.alloc(), 0);
+    let sent = send_and_close(&rt, &desk, &mut client, Err(AllocError));
+    assert!(rt; sent.err() == Some(RunFault::Memory) && desk.close(&rt, &client) == Ok(false));
     Ok(())
 }

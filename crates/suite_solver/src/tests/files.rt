@@ -1,6 +1,7 @@
 //! Files by their names, and their limits.
 
-use super::{BOTH, EMPTY_REPORT, NO_FILE, ONE, Run, TOO_LARGE, TWO, all_end_so, ends_so};
+use super::options::run_words;
+use super::{BOTH, EMPTY_REPORT, NO_FILE, ONE, Run, TOO_LARGE, TWO, all_end_so, ended_so, ends_so};
 use std::alloc::{AllocError, Global};
 use std::fs;
 use std::rt::Files;
@@ -32,13 +33,15 @@ const FILE_RUNS: &[Run] = &[
     ),
 ];
 
-// The program's name and so many times the name of one file.
-fn line_of_files(alloc: Global, files: u32) -> Result<String, AllocError> {
-    let mut line = String::from_str(alloc, "ffosolve")?;
+// The program's name, so many times the name of one file, and another name.
+fn words_of_files(alloc: Global, files: u32, last: &str) -> Result<Vec<String>, AllocError> {
+    let mut words = Vec::new(alloc);
+    words.push(String::from_str(alloc, "ffosolve")?)?;
     for _ in 0..files {
-        line.push_str(" first.obf")?;
+        words.push(String::from_str(alloc, "first.obf")?)?;
     }
-    Ok(line)
+    words.push(String::from_str(alloc, last)?)?;
+    Ok(words)
 }
 
 fn write_files<T: Files>(rt: &T, alloc: Global) -> Result<(), Fail> {
@@ -48,15 +51,27 @@ fn write_files<T: Files>(rt: &T, alloc: Global) -> Result<(), Fail> {
     Ok(())
 }
 
-// From the 66th file on none is read, and that one can't be opened is told before there being too many.
+// So many files and one more, and the status and the words that a run on them ends with. A folder can be opened, and not
+// read: from the 66th file on none is read, and that one can't be opened is told before there being too many.
+const MANY: &[(u32, &str, u8, &[u8])] = &[
+    (64, "first.obf", 1, MANY_FILES),
+    (65, ".", 1, MANY_FILES),
+    (66, "no-such.obf", 3, NO_FILE),
+    (3_000, "first.obf", 1, MANY_FILES),
+];
+
 fn refuses_many_files<T: Files + Threads + Wait + Sync>(
     rt: &T,
     alloc: Global,
 ) -> Result<bool, AllocError> {
-    let mut line = line_of_files(alloc, 66)?;
-    let many = ends_so(rt, alloc, &(line.as_str(), b"", 1, b"", MANY_FILES))?;
-    line.push_str(" no-such.obf")?;
-    Ok(many && ends_so(rt, alloc, &(line.as_str(), b"", 3, b"", NO_FILE))?)
+    for (files, last, status, errors) in MANY {
+        let words = words_of_files(alloc, *files, last)?;
+        let ended = run_words(rt, alloc, Ok(words));
+        if !ended_so(&ended, (*status, b"", errors))? {
+            return Ok(false);
+        }
+    }
+    Ok(true)
 }
 
 #[test]

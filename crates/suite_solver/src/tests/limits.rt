@@ -3,8 +3,8 @@
 ghost use Rattle.std.specs.Prelude.{◌<◌, ◌^◌};
 
 use super::runs::text_of;
-use super::{CountingGate, ONE};
-use crate::{RunFault, Settings, run_serial};
+use super::{CountingGate, ONE_POSITION};
+use crate::{NoGate, Outcome, RunFault, Settings, run_serial};
 use std::alloc::{AllocError, Global};
 use std::sync::Wait;
 use std::test::Fail;
@@ -18,11 +18,26 @@ fn empty_files(alloc: Global, count: u32) -> Result<Vec<Vec<u8>>, AllocError> {
     Ok(files)
 }
 
-// The last report of so many empty files.
-fn last_report(alloc: Global, count: u32) -> Result<Option<Vec<u8>>, Fail> {
+// Whether an outcome has so many reports, of which the last is this one, and an empty book.
+fn has_reports(outcome: &Outcome, count: usize, last: Option<&[u8]>) -> bool {
+    outcome.reports.len() == count
+        && outcome.reports.last().map(|report| report.as_slice()) == last
+        && outcome.book.len() == 0
+}
+
+// Whether both runs on so many empty files give this as the last report, and an empty book.
+fn are_empty<R: Threads + Wait + Sync>(
+    rt: &R,
+    alloc: Global,
+    count: u32,
+    last: Option<&[u8]>,
+) -> Result<bool, Fail> {
     let files = empty_files(alloc, count)?;
-    let outcome = run_serial(alloc, &files, &Settings::default(), None)?;
-    Ok(outcome.reports.into_vec().pop())
+    let settings = Settings::default();
+    let serial = run_serial(alloc, &files, &settings, None)?;
+    let threaded = crate::run(rt, alloc, &files, &settings, None, &NoGate)?;
+    let count = count as usize;
+    Ok(has_reports(&serial, count, last) && has_reports(&threaded, count, last))
 }
 
 const LAST_REPORT: &[u8] = b"[64]\nsolved 0 refused 0\n";
@@ -30,28 +45,31 @@ const LAST_REPORT: &[u8] = b"[64]\nsolved 0 refused 0\n";
 // No file, and as many as may be.
 #[test]
 fn counts_files(rt: HostRuntime) -> Result<(), Fail> {
-    assert!(rt; last_report(rt.alloc(), 0)?.is_none());
-    assert!(rt; last_report(rt.alloc(), 64)?.as_deref() == Some(LAST_REPORT));
+    assert!(rt; are_empty(&rt, rt.alloc(), 0, None)?);
+    assert!(rt; are_empty(&rt, rt.alloc(), 64, Some(LAST_REPORT))?);
     Ok(())
 }
 
-// Files of one text each, and one of so many spaces.
+// So many files of one position, and then one of so many spaces, if it has any.
 fn files_with_spaces(alloc: Global, count: u32, spaces: usize) -> Result<Vec<Vec<u8>>, AllocError>
     requires { spaces < 2 ^ 32 }
 {
     let mut files = Vec::new(alloc);
     for _ in 0..count {
-        files.push(text_of(alloc, ONE)?)?;
+        files.push(text_of(alloc, ONE_POSITION)?)?;
     }
-    files.push(vec![in alloc; b' '; spaces]?)?;
+    if spaces > 0 {
+        files.push(vec![in alloc; b' '; spaces]?)?;
+    }
     Ok(files)
 }
 
-// The files of one text, the spaces of the last file, and the refusal.
+// The files of one position, the spaces of a last file, and the refusal.
 const LIMITS: &[(u32, usize, RunFault)] = &[
-    (64, 0, RunFault::TooManyFiles),
+    (65, 0, RunFault::TooManyFiles),
     (64, 1_048_577, RunFault::TooManyFiles),
     (1, 1_048_577, RunFault::FileTooLarge(1)),
+    (0, 1_048_577, RunFault::FileTooLarge(0)),
 ];
 
 // Whether limits are refused alike by both runs, before the gate is told anything.
@@ -74,5 +92,14 @@ fn refuses_limits(rt: HostRuntime) -> Result<(), Fail> {
         let files = files_with_spaces(rt.alloc(), *count, *spaces)?;
         assert!(rt; are_refused(&rt, rt.alloc(), &files, *fault));
     }
+    Ok(())
+}
+
+// A file of as many bytes as may be.
+#[test]
+fn takes_a_large_file(rt: HostRuntime) -> Result<(), Fail> {
+    let files = files_with_spaces(rt.alloc(), 0, 1_048_576)?;
+    let outcome = run_serial(rt.alloc(), &files, &Settings::default(), None)?;
+    assert!(rt; has_reports(&outcome, 1, Some(super::EMPTY_REPORT)));
     Ok(())
 }

@@ -1,7 +1,7 @@
 //! The command line.
 
 use super::{Ended, Run, TWO, WANT_OF_MEMORY, all_end_so, ended_so, words_of};
-use crate::{Options, Settings, options, program_of};
+use crate::{Options, Settings, list_options, options, program_of};
 use othello_rules::Scoring;
 use std::alloc::{AllocError, Global};
 use std::io;
@@ -45,9 +45,33 @@ error: invalid value 'best' for '--scoring <NAME>'
 For more information, try '--help'.
 ";
 
-const HELP: &[u8] = b"Solves Othello endgames";
+const HELP: &[u8] = b"\
+Solves Othello endgames exactly. For each position of OBF files it prints the score in discs, as
+the side to move sees it, every best move, and how the scores that the line lists compare.
 
-const HELP_END: &[u8] = b"\n  ffosolve --workers 4 suite.obf | grep differ\n";
+Usage: ffosolve [OPTIONS] [FILES]...
+
+Arguments:
+  [FILES]...  OBF files, at most 64, each of at most 1048576 bytes [default: standard input]
+
+Options:
+      --max-empties <N>  Solve positions with at most N empty squares, 0 to 60 [default: 20]
+      --workers <N>      Solve on N threads beside one for each file, 0 to 64; it changes no report [default: 2]
+      --table <N>        Keep the bounds of at most N positions, 0 to 4194304 [default: 65536]
+      --scoring <NAME>   Score finished games with empty squares for the winner, by discs alone, or by their sign [default: winner] [possible values: winner, discs, sign]
+      --book-in <FILE>   Read a book of solved positions, whose claims are confirmed; it changes no report
+      --book-out <FILE>  Write a book of all solved positions
+  -h, --help             Print help
+
+Exit status:
+  0  all reports were printed, or this help
+  1  more than 64 files, a file of more than 1048576 bytes, or memory ran out
+  2  the command line is refused
+  3  a file or a stream can't be read or written, or the book of --book-in is refused
+
+Example: the lines of a suite whose listed scores are wrong
+  ffosolve --workers 4 suite.obf | grep differ
+";
 
 const NO_WORDS: &[u8] = b"ffosolve: cannot read the command line\n";
 
@@ -69,6 +93,17 @@ const REFUSED: &[Run] = &[
 #[test]
 fn refuses_words(rt: HostRuntime) -> Result<(), Fail> {
     assert!(rt; all_end_so(&rt, rt.alloc(), &REFUSED)?);
+    Ok(())
+}
+
+const VERSIONS: &[Run] = &[
+    ("ffosolve --version", b"", 0, b"ffosolve 1.0.0\n", b""),
+    ("ffosolve -V", b"", 0, b"ffosolve 1.0.0\n", b""),
+];
+
+#[test]
+fn tells_its_version(rt: HostRuntime) -> Result<(), Fail> {
+    assert!(rt; all_end_so(&rt, rt.alloc(), &VERSIONS)?);
     Ok(())
 }
 
@@ -121,7 +156,7 @@ fn keeps_limits(rt: HostRuntime) {
 }
 
 // Words as the system gives them.
-fn run_words<T: Files + Threads + Wait + Sync>(
+pub(super) fn run_words<T: Files + Threads + Wait + Sync>(
     rt: &T,
     alloc: Global,
     words: io::Result<Vec<String>>,
@@ -137,13 +172,6 @@ fn run_words<T: Files + Threads + Wait + Sync>(
     }
 }
 
-fn helps(ended: &Ended) -> Result<bool, AllocError> {
-    if ended.output.starts_with(HELP) && ended.output.ends_with(HELP_END) {
-        return Ok(ended.status == 0 && ended.errors.is_empty());
-    }
-    ended_so(ended, (0, HELP, b""))
-}
-
 #[test]
 fn reads_words(rt: HostRuntime) -> Result<(), Fail> {
     let alloc = rt.alloc();
@@ -152,7 +180,7 @@ fn reads_words(rt: HostRuntime) -> Result<(), Fail> {
         words.push(String::from_str(alloc, word)?)?;
     }
     let ended = run_words(&rt, alloc, Ok(words));
-    assert!(rt; helps(&ended)?);
+    assert!(rt; ended_so(&ended, (0, HELP, b""))?);
     Ok(())
 }
 
@@ -165,5 +193,28 @@ fn tells_failing_words(rt: HostRuntime) -> Result<(), Fail> {
     let no_memory = Err(io::Error::from(io::ErrorKind::OutOfMemory));
     let ended = run_words(&rt, rt.alloc(), no_memory);
     assert!(rt; ended_so(&ended, WANT_OF_MEMORY)?);
+    Ok(())
+}
+
+const LIST_LINE: &str = "ffoscores a --max-empties=60 --table 4194304 --scoring sign -- --help";
+
+// Whether the words of `ffoscores` ask for these settings and files.
+fn asks_lists(
+    alloc: Global,
+    line: &str,
+    settings: Option<Settings>,
+    files: &str,
+) -> Result<bool, Fail> {
+    let words = words_of(alloc, line)?;
+    let found = list_options(alloc, &words)?;
+    Ok(Some(found.settings) == settings && found.files.join(alloc, " ")?.as_str() == files)
+}
+
+#[test]
+fn reads_list_options(rt: HostRuntime) -> Result<(), Fail> {
+    let most = Settings::new(60, 0, 4_194_304, Scoring::Sign);
+    let usual = Settings::new(20, 0, 65_536, Scoring::Winner);
+    assert!(rt; asks_lists(rt.alloc(), LIST_LINE, most, "a --help")?);
+    assert!(rt; asks_lists(rt.alloc(), "ffoscores", usual, "")?);
     Ok(())
 }

@@ -107,7 +107,7 @@ fn solve_at_once<R: Threads + Wait + Sync>(
     let files = files_of(alloc, texts)?;
     let gate = HoldingGate::new();
     let outcome = crate::run(rt, alloc, &files, &settings_of(workers, 16), None, &gate)?;
-    let given = outcome.reports.into_vec().concat(alloc)?;
+    let given = outcome.reports.concat(alloc)?;
     Ok(given.as_slice() == reports && gate.told.into_inner() == TOLD)
 }
 
@@ -147,7 +147,7 @@ fn texts_of(alloc: Global, outcome: Outcome) -> Result<(Vec<u8>, Vec<u8>), Alloc
     if book.write(&mut text).is_err() {
         return Err(AllocError);
     }
-    Ok((reports.into_vec().concat(alloc)?, text))
+    Ok((reports.concat(alloc)?, text))
 }
 
 // Whether both runs give the reports of both texts, and the same book.
@@ -190,7 +190,7 @@ const LYING_BOOK: &[u8] =
 fn runs_many_files(rt: HostRuntime) -> Result<(), Fail> {
     let files = files_of(rt.alloc(), &[TWO; 64])?;
     let outcome = crate::run(&rt, rt.alloc(), &files, &settings_of(64, 16), None, &NoGate)?;
-    assert!(rt; outcome.reports.into_vec().len() == 64 && outcome.book.len() == 3);
+    assert!(rt; outcome.reports.len() == 64 && outcome.book.len() == 3);
     Ok(())
 }
 

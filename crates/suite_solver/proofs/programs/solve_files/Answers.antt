@@ -9,7 +9,7 @@ returns-in-Ok-clause-reported g c =
     let files = c.args.files.now in
     let o = c.in_ok-outcome.outcome in
     let few = given_few o (length files) c.in_ok-outcome.ensures.too_many in
-    let written = rw c.as_slice.ensures at c.in-Ok.ensures in
+    let written = rw c.deref.ensures.value at c.in-Ok.ensures in
     record {
       few = rw length-map few;
       small = given_small o (length files) (texts_of files) (first_large (texts_of files)) refl few c.in_ok-outcome.ensures.too_large;

@@ -21,5 +21,5 @@ returns-in-Some-clause-result c =
     let first = rw c.in-Some.ensures.steps at (c.requires t (ap task_in c.in-Asked.is)) in
     let same : c.in-Some.solved.now ≡ t = cc in
     let answer = c.answer-answer.ensures ∙ ap (λ (p : Problem). answer_of p.scoring p.position) same in
-    let checked = c.check_of.ensures ∙ ap (λ l. check l c.answer-answer.result) c.as_slice.ensures in
-    ap₂ Solved answer (checked ∙ ap (check c.in-Asked.listed) answer) ∙ sym (ap result_in c.in-Asked.is)
+    let checked = c.check_of.ensures ∙ ap (λ l. check l c.answer-answer.result) c.deref.ensures.value in
+    ap₂ Solved answer (checked ∙ ap (check c.in-Asked.listed.items) answer) ∙ sym (ap result_in c.in-Asked.is)

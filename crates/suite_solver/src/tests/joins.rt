@@ -1,0 +1,56 @@
+//! Clients that are joined.
+
+ghost use Rattle.std.specs.Prelude.{◌≡◌, ◌≤◌, [], ◌⊎◌, IfOk, vec_len, vec_capacity};
+ghost use Rattle.suite_solver.specs.declared.faults.RunFault.TheVariants.{Memory, Mixed};
+
+use crate::RunFault;
+use crate::threads::{Joined, PartOf, Progress, Started, join_all};
+use othello_rules::Scoring;
+use std::alloc::{AllocError, Global};
+use std::test::Fail;
+use std::thread::Threads;
+
+// A client that has ended with a fault.
+fn ended_with(fault: RunFault) -> Started<'static>
+    requires { (fault ≡ Memory) ⊎ (fault ≡ Mixed) }
+{
+    Started {
+        promise: PartOf {
+            scoring: Scoring::Winner,
+            limit: 20,
+            text: b"",
+        },
+        progress: Progress::Here(Err(fault)),
+    }
+}
+
+// What is told of two clients.
+fn told_of<R: Threads>(
+    rt: &R,
+    alloc: Global,
+    first: RunFault,
+    second: RunFault,
+) -> Result<Option<RunFault>, AllocError>
+    requires first { (first ≡ Memory) ⊎ (first ≡ Mixed) }
+    requires second { (second ≡ Memory) ⊎ (second ≡ Mixed) }
+{
+    let mut clients = Vec::new(alloc);
+    clients.push(ended_with(first))?;
+    clients.push(ended_with(second))?;
+    let mut joined = Joined {
+        parts: Vec::with_capacity(alloc, 2)?,
+        fault: None,
+    };
+    join_all(rt, clients, &mut joined);
+    Ok(joined.fault)
+}
+
+// Want of memory is told before mixed answers, whichever client has it.
+#[test]
+fn memory_comes_first(rt: HostRuntime) -> Result<(), Fail> {
+    let (memory, mixed) = (RunFault::Memory, RunFault::Mixed);
+    assert!(rt; told_of(&rt, rt.alloc(), memory, mixed)? == Some(memory));
+    assert!(rt; told_of(&rt, rt.alloc(), mixed, memory)? == Some(memory));
+    assert!(rt; told_of(&rt, rt.alloc(), mixed, mixed)? == Some(mixed));
+    Ok(())
+}
