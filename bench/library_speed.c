@@ -25,11 +25,11 @@ static uint64_t mask_of(const char *squares, char letter) {
 static void one(size_t entries, long repeats, char **words, int count) {
     for (int i = 0; i < count; i++) {
         if (strlen(words[i]) != 64) fail("a position is 64 letters");
-        const struct ffosolve_position position = {mask_of(words[i], 'X'), mask_of(words[i], 'O')};
+        const ffosolve_position position = {mask_of(words[i], 'X'), mask_of(words[i], 'O')};
         uint64_t sum = 0;
         for (long n = 0; n < repeats; n++) {
-            struct ffosolve_answer answer;
-            if (ffosolve_answer(position, FFOSOLVE_WINNER, entries, &answer) != FFOSOLVE_DONE) fail("no answer");
+            ffosolve_answer answer;
+            if (ffosolve_solve(position, FFOSOLVE_WINNER, entries, &answer) != FFOSOLVE_DONE) fail("no answer");
             sum += answer.best;
         }
         printf("%" PRIx64 "\n", sum);
@@ -50,20 +50,20 @@ static uint64_t chance(void) {
     return state ^= state << 17;
 }
 
-static struct ffosolve_position passed(struct ffosolve_position position) {
-    const struct ffosolve_position after = {position.opp, position.own};
+static ffosolve_position passed(ffosolve_position position) {
+    const ffosolve_position after = {position.opp, position.own};
     return after;
 }
 
-static uint64_t moves_of(struct ffosolve_position position) {
+static uint64_t moves_of(ffosolve_position position) {
     uint64_t moves;
     if (ffosolve_moves(position, &moves) != FFOSOLVE_DONE) fail("no moves");
     return moves;
 }
 
 /* Whether a game of random moves has a position of so many empty squares at which it isn't over. */
-static int is_found(int empties, struct ffosolve_position *position) {
-    const struct ffosolve_position start = {0x0000000810000000, 0x0000001008000000};
+static int is_found(int empties, ffosolve_position *position) {
+    const ffosolve_position start = {0x0000000810000000, 0x0000001008000000};
     for (*position = start;;) {
         uint64_t moves = moves_of(*position);
         if (moves == 0) {
@@ -78,7 +78,7 @@ static int is_found(int empties, struct ffosolve_position *position) {
     }
 }
 
-static void write_line(FILE *file, struct ffosolve_position position) {
+static void write_line(FILE *file, ffosolve_position position) {
     char line[68];
     for (int square = 0; square < 64; square++) {
         line[square] = position.own >> square & 1 ? 'X' : position.opp >> square & 1 ? 'O' : '-';
@@ -88,8 +88,8 @@ static void write_line(FILE *file, struct ffosolve_position position) {
 }
 
 static void many(size_t entries, int empties, size_t count, const char *name) {
-    struct ffosolve_position *positions = malloc(count * sizeof *positions);
-    struct ffosolve_answer *answers = malloc(count * sizeof *answers);
+    ffosolve_position *positions = malloc(count * sizeof *positions);
+    ffosolve_answer *answers = malloc(count * sizeof *answers);
     FILE *file = fopen(name, "w");
     if (!positions || !answers || !file) fail("no memory, or no file");
     for (size_t i = 0; i < count;) i += is_found(empties, &positions[i]) != 0;
@@ -97,7 +97,7 @@ static void many(size_t entries, int empties, size_t count, const char *name) {
     if (fclose(file) != 0) fail("the file can't be written");
     size_t at;
     const clock_t from = clock();
-    if (ffosolve_answers(positions, count, FFOSOLVE_WINNER, entries, answers, count, &at) != FFOSOLVE_DONE) {
+    if (ffosolve_solve_all(positions, count, FFOSOLVE_WINNER, entries, answers, count, &at) != FFOSOLVE_DONE) {
         fail("no answers");
     }
     const double seconds = (double)(clock() - from) / CLOCKS_PER_SEC;

@@ -1,0 +1,182 @@
+/* Makes each call of ffosolve.h with good and bad arguments, and prints what comes of it. Compiled as C and as C++ by
+   tests/library, which compares what it prints with library_calls.txt. */
+#include "ffosolve.h"
+
+#include <inttypes.h>
+#include <stdio.h>
+#include <string.h>
+
+#define WORDS(text) (sizeof(text) / sizeof(*(text)))
+
+static ffosolve_position at_masks(uint64_t own, uint64_t opp) {
+    ffosolve_position position;
+    position.own = own;
+    position.opp = opp;
+    return position;
+}
+
+static ffosolve_answer told(int32_t score, int32_t kind, uint64_t best) {
+    ffosolve_answer answer;
+    answer.score = score;
+    answer.kind = kind;
+    answer.best = best;
+    return answer;
+}
+
+static void show(const char *what, int32_t status, ffosolve_answer answer) {
+    printf("%s: status %" PRId32 ", score %" PRId32 ", kind %" PRId32 ", best %016" PRIx64 "\n", what, status,
+           answer.score, answer.kind, answer.best);
+}
+
+/* Two empty corners A1 and H1, the mover's and the opponent's view; the end of a game; what is refused. */
+static const uint64_t corners_own = 0xfffffff7ffff7f7c, corners_opp = 0x0000000800008002;
+
+static void one(void) {
+    const uint32_t scorings[] = {FFOSOLVE_WINNER, FFOSOLVE_DISCS, FFOSOLVE_SIGN, 3};
+    for (size_t i = 0; i < WORDS(scorings); i++) {
+        ffosolve_answer answer = told(99, 99, 99);
+        int32_t status = ffosolve_solve(at_masks(corners_opp, corners_own), scorings[i], 64, &answer);
+        show("solve", status, answer);
+    }
+    const ffosolve_position others[] = {
+        at_masks(0x7e, ~(uint64_t)0x7f), at_masks(0xffffffff, 0xffff000000000000), at_masks(3, 2), at_masks(1, 6)};
+    for (size_t i = 0; i < WORDS(others); i++) {
+        ffosolve_answer answer = told(99, 99, 99);
+        int32_t status = ffosolve_solve(others[i], FFOSOLVE_WINNER, 0, &answer);
+        show("solve", status, answer);
+    }
+    ffosolve_answer answer = told(99, 99, 99);
+    show("solve", ffosolve_solve(at_masks(3, 2), 4294967295u, SIZE_MAX, &answer), answer);
+    show("solve", ffosolve_solve(at_masks(3, 2), FFOSOLVE_SIGN, FFOSOLVE_MOST_ENTRIES + 1, &answer), answer);
+    show("solve", ffosolve_solve(others[0], FFOSOLVE_SIGN, FFOSOLVE_MOST_ENTRIES, &answer), answer);
+}
+
+static void confirmed(void) {
+    const ffosolve_answer claims[] = {told(62, FFOSOLVE_MOVES, 0x80), told(62, FFOSOLVE_MOVES, 0x81),
+                                             told(0, FFOSOLVE_OVER, 0),      told(1000, 7, 0),
+                                             told(62, FFOSOLVE_PASS, 0),     told(-64, FFOSOLVE_MOVES, 0x80)};
+    for (size_t i = 0; i < WORDS(claims); i++) {
+        ffosolve_answer answer = told(99, 99, 99);
+        int32_t status = ffosolve_confirm(at_masks(corners_own, corners_opp), FFOSOLVE_WINNER, 64, claims[i], &answer);
+        show("confirm", status, answer);
+    }
+    ffosolve_answer answer = told(99, 99, 99);
+    show("confirm", ffosolve_confirm(at_masks(1, 6), FFOSOLVE_DISCS, 64, claims[0], &answer), answer);
+}
+
+static void list(const ffosolve_position *positions, size_t count, size_t room, uint32_t scoring) {
+    ffosolve_answer answers[4];
+    size_t at = 99;
+    for (size_t i = 0; i < 4; i++) answers[i] = told(99, 99, 99);
+    int32_t status = ffosolve_solve_all(positions, count, scoring, 64, answers, room, &at);
+    printf("solve_all of %zu into %zu: status %" PRId32 ", at %zu\n", count, room, status, at);
+    for (size_t i = 0; i < 4; i++) show("  answer", status, answers[i]);
+}
+
+static void many(void) {
+    ffosolve_position positions[] = {at_masks(corners_own, corners_opp), at_masks(corners_opp, corners_own),
+                                            at_masks(0, ~(uint64_t)0)};
+    list(positions, 3, 3, FFOSOLVE_WINNER);
+    list(positions, 2, 2, FFOSOLVE_DISCS);
+    list(positions, 0, 0, FFOSOLVE_SIGN);
+    list(positions, 2, 3, FFOSOLVE_WINNER);
+    list(positions, 0, 0, 3);
+    positions[2] = at_masks(1, 1);
+    list(positions, 3, 3, FFOSOLVE_WINNER);
+    positions[1] = at_masks(1, 6);
+    list(positions, 3, 3, FFOSOLVE_WINNER);
+    list(positions, 3, 2, FFOSOLVE_WINNER);
+}
+
+static void show_scores(ffosolve_position position, uint32_t scoring, size_t entries) {
+    int8_t scores[64];
+    uint64_t moves = 99;
+    int others = 0;
+    for (int square = 0; square < 64; square++) scores[square] = 99;
+    printf("move_scores: status %" PRId32, ffosolve_move_scores(position, scoring, entries, scores, &moves));
+    printf(", moves %016" PRIx64, moves);
+    for (int square = 0; square < 64; square++) {
+        others += scores[square] == FFOSOLVE_NO_SCORE;
+        if (scores[square] != FFOSOLVE_NO_SCORE && (scores[square] != 99 || square == 0)) printf(", %d: %d", square, scores[square]);
+    }
+    printf(", %d others\n", others);
+}
+
+static void move_scores(void) {
+    const ffosolve_position corners = at_masks(corners_own, corners_opp);
+    show_scores(corners, FFOSOLVE_WINNER, 64);
+    show_scores(corners, FFOSOLVE_SIGN, 0);
+    show_scores(at_masks(0x7e, ~(uint64_t)0x7f), FFOSOLVE_WINNER, 0);
+    show_scores(at_masks(0xffffffff, 0xffff000000000000), FFOSOLVE_DISCS, 0);
+    show_scores(corners, 3, 0);
+    show_scores(at_masks(3, 2), FFOSOLVE_WINNER, FFOSOLVE_MOST_ENTRIES + 1);
+    show_scores(at_masks(3, 2), FFOSOLVE_WINNER, 0);
+    show_scores(at_masks(1, 6), FFOSOLVE_WINNER, 0);
+}
+
+/* Null pointers where they are allowed. */
+static void nulls(void) {
+    const ffosolve_position shared = at_masks(3, 1);
+    ffosolve_answer answer = told(99, 99, 99);
+    size_t at = 99;
+    printf("nulls: status %" PRId32, ffosolve_solve_all(NULL, 0, FFOSOLVE_WINNER, 64, NULL, 0, NULL));
+    printf(", %" PRId32, ffosolve_solve_all(NULL, 0, FFOSOLVE_WINNER, 64, NULL, 0, &at));
+    printf(", %" PRId32, ffosolve_solve_all(NULL, 0, FFOSOLVE_WINNER, 64, &answer, 1, NULL));
+    printf(", %" PRId32 ", at %zu\n", ffosolve_solve_all(&shared, 1, FFOSOLVE_WINNER, 64, NULL, 0, NULL), at);
+    show("  refused", ffosolve_solve_all(&shared, 1, FFOSOLVE_WINNER, 64, &answer, 1, NULL), answer);
+}
+
+static void moves_and_plays(void) {
+    const ffosolve_position start = at_masks(0x0000000810000000, 0x0000001008000000);
+    const ffosolve_position others[] = {start, at_masks(corners_own, corners_opp), at_masks(0, 1), at_masks(5, 4)};
+    for (size_t i = 0; i < WORDS(others); i++) {
+        uint64_t moves = 99;
+        int32_t status = ffosolve_moves(others[i], &moves);
+        printf("moves: status %" PRId32 ", %016" PRIx64 "\n", status, moves);
+    }
+    const uint8_t squares[] = {19, 0, 27, 63, 64, 255};
+    for (size_t i = 0; i < WORDS(squares); i++) {
+        ffosolve_position after = at_masks(99, 99);
+        int32_t status = ffosolve_play(start, squares[i], &after);
+        printf("play %d: status %" PRId32 ", %016" PRIx64 " %016" PRIx64 "\n", squares[i], status, after.own, after.opp);
+    }
+    ffosolve_position after = at_masks(99, 99);
+    printf("play: status %" PRId32 "\n", ffosolve_play(at_masks(5, 4), 200, &after));
+}
+
+/* The names of the header, in its order. */
+static void names(void) {
+    printf("statuses %d %d %d %d %d %d %d %d\n", FFOSOLVE_DONE, FFOSOLVE_UNKNOWN_SCORING, FFOSOLVE_TOO_MANY_ENTRIES,
+           FFOSOLVE_UNEQUAL_LENGTHS, FFOSOLVE_SHARED_SQUARE, FFOSOLVE_TOO_MANY_EMPTIES, FFOSOLVE_NO_MOVE,
+           FFOSOLVE_NO_MEMORY);
+    printf("scorings %d %d %d\n", FFOSOLVE_WINNER, FFOSOLVE_DISCS, FFOSOLVE_SIGN);
+    printf("kinds %d %d %d\n", FFOSOLVE_MOVES, FFOSOLVE_PASS, FFOSOLVE_OVER);
+    printf("most entries %d, empty squares %d\n", FFOSOLVE_MOST_ENTRIES, FFOSOLVE_MOST_EMPTIES);
+    printf("version %s, %" PRIu32 ", %" PRIu32 "\n", FFOSOLVE_VERSION_TEXT, (uint32_t)FFOSOLVE_VERSION,
+           ffosolve_version());
+    for (int32_t status = -1; status <= 8; status++) printf("status %" PRId32 ": %s\n", status, ffosolve_status_text(status));
+}
+
+int main(int count, char **words) {
+    if (count > 1 && strcmp(words[1], "without-memory") == 0) {
+        ffosolve_answer answer = told(99, 99, 99);
+        const ffosolve_position position = at_masks(corners_own, corners_opp);
+        show("solve", ffosolve_solve(position, FFOSOLVE_WINNER, FFOSOLVE_MOST_ENTRIES, &answer), answer);
+        show("solve", ffosolve_solve(position, FFOSOLVE_WINNER, 0, &answer), answer);
+        int8_t scores[64] = {99};
+        uint64_t moves = 99;
+        scores[63] = 99;
+        printf("move_scores: status %" PRId32,
+               ffosolve_move_scores(position, FFOSOLVE_WINNER, FFOSOLVE_MOST_ENTRIES, scores, &moves));
+        printf(", %d %d, %" PRIu64 "\n", scores[0], scores[63], moves);
+        return 0;
+    }
+    names();
+    one();
+    confirmed();
+    many();
+    nulls();
+    move_scores();
+    moves_and_plays();
+    return 0;
+}
