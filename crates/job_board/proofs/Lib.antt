@@ -1,3 +1,5 @@
+-- Lemmas about what each step keeps of a board, and the laws of histories and of clients.
+-- Begin with BoardFacts and StateSteps; docs/proofs.md has the argument and the reading order.
 pub mod BoardFacts
 pub mod Deliveries
 pub mod HistoryFacts

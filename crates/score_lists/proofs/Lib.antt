@@ -1,3 +1,5 @@
+-- Lemmas about what is written for each line of a list, and that scores are read back.
+-- Begin with Prints and LineSteps; docs/proofs.md has the argument and the reading order.
 pub mod Results
 pub mod Prints
 pub mod RemarkSteps

@@ -1,3 +1,5 @@
+-- Lemmas about the entries of a book, the loop that reads one, and its text read back.
+-- Begin with KeptEntries and ClaimSteps; docs/proofs.md has the argument and the reading order.
 pub mod MaskSteps
 pub mod KeptEntries
 pub mod Answers
