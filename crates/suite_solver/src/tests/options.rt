@@ -62,9 +62,10 @@ Options:
       --book-in <FILE>   Read a book of solved positions, whose claims are confirmed; it changes no report
       --book-out <FILE>  Write a book of all solved positions
   -h, --help             Print help
+  -V, --version          Print version
 
 Exit status:
-  0  all reports were printed, or this help
+  0  all reports were printed, or this help, or the version
   1  more than 64 files, a file of more than 1048576 bytes, or memory ran out
   2  the command line is refused
   3  a file or a stream can't be read or written, or the book of --book-in is refused
