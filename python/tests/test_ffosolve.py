@@ -50,6 +50,11 @@ class Calls(unittest.TestCase):
         for other in (Answer(61, Kind.MOVES, 0x80), Answer(62, Kind.PASS, 0x80), Answer(62, Kind.MOVES, 0x81)):
             self.assertTrue(ANSWER != other and not ANSWER == other)
 
+    def test_positions_differ_in_each_mask(self):
+        self.assertTrue(POSITION == Position(*POSITION) and not POSITION != Position(*POSITION))
+        for other in (POSITION.passed(), Position(POSITION.own ^ 1, POSITION.opp), Position(POSITION.own, POSITION.opp ^ 2)):
+            self.assertTrue(POSITION != other and not POSITION == other)
+
     def test_confirm(self):
         for claim in (ANSWER, Answer(0, Kind.OVER, 0), Answer(1000, 7, 3)):
             self.assertEqual(self.solver.confirm(POSITION, claim), ANSWER)

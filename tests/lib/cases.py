@@ -1,6 +1,7 @@
 """What tests in Python share: places, cases that are run and counted, and the program in which requests for memory fail."""
 import os
 import shutil
+import signal
 import subprocess
 import sys
 import tempfile
@@ -8,7 +9,6 @@ import tempfile
 sys.dont_write_bytecode = True
 LIB = os.path.dirname(os.path.abspath(__file__))
 ROOT = os.path.dirname(os.path.dirname(LIB))
-PROGRAM = os.path.join(ROOT, "out", "ffosolve")
 SECONDS = 50  # the longest that a test waits for anything
 
 
@@ -35,16 +35,58 @@ def stored(*path):
         return it.read()
 
 
-def built_program():
-    """The built program, which `bin/ffosolve` builds where it isn't."""
+def read(path):
+    """A file's text, with a mark in place of what is none."""
+    with open(path, errors="replace") as it:
+        return it.read()
+
+
+def built_program(name="ffosolve"):
+    """The built program, which the script of its name in bin/ builds where it isn't. Where it can't be built, that ends
+    the test as one case that failed."""
     how = {"stdin": subprocess.DEVNULL, "stdout": subprocess.DEVNULL}
-    subprocess.run([os.path.join(ROOT, "bin", "ffosolve")], check=True, **how)
-    return PROGRAM
+    status = subprocess.run([os.path.join(ROOT, "bin", name)], **how).returncode
+    if status != 0:
+        print(f"bin/{name}: FAILED: it ended with status {status} on an empty file\n0 passed, 1 failed")
+        sys.exit(1)
+    return os.path.join(ROOT, "out", name)
+
+
+def as_at_a_login():
+    """Has the signals that a caller in the background ignores end a program again."""
+    for number in (signal.SIGINT, signal.SIGTERM, signal.SIGHUP, signal.SIGQUIT):
+        signal.signal(number, signal.SIG_DFL)
+
+
+def link_to(path):
+    """Where a link leads; nowhere, where it is gone or another user's."""
+    try:
+        return os.readlink(path)
+    except OSError:
+        return ""
+
+
+def processes_with(what, place):
+    """The other processes whose link `cwd` or `exe`, or one of whose links `fd`, leads below a place: their command lines
+    by their numbers."""
+    found = {}
+    for number in map(int, filter(str.isdigit, os.listdir("/proc"))):
+        link = f"/proc/{number}/{what}"
+        try:
+            links = [f"{link}/{name}" for name in os.listdir(link)] if what == "fd" else [link]
+            if number != os.getpid() and any(link_to(link).startswith(place) for link in links):
+                found[number] = read(f"/proc/{number}/cmdline").replace("\0", " ")
+        except OSError:  # it has ended, or is another user's
+            continue
+    return found
 
 
 def run_cases(cases):
     """Runs each case in an empty folder of its own, and ends this program. A case is a name and a call, which may give
     something to tell, raises Skipped, or raises an AssertionError where something is wrong."""
+    if not __debug__:
+        sys.exit("assertions are left out here, by -O or PYTHONOPTIMIZE")
+    os.umask(0o022)
     counts = {"passed": 0, "failed": 0, "skipped": 0}
     for name, case in cases:
         with tempfile.TemporaryDirectory(prefix="ffosolve-test-") as folder:
@@ -55,13 +97,13 @@ def run_cases(cases):
                 said = f"{name}: ok{': ' + told if told else ''}"
             except Skipped as why:
                 how, said = "skipped", f"{name}: skipped: {why}"
-            except (AssertionError, OSError, ValueError, LookupError, subprocess.SubprocessError) as why:
+            except Exception as why:  # the others are run all the same
                 how, said = "failed", f"{name}: FAILED: {type(why).__name__}: {why}"
             os.chdir(ROOT)
         counts[how] += 1
         print(said, flush=True)
     print(f"{counts['passed']} passed, {counts['failed']} failed" + f", {counts['skipped']} skipped" * bool(counts["skipped"]))
-    sys.exit(1 if counts["failed"] else 77 if not counts["passed"] else 0)
+    sys.exit(1 if counts["failed"] or not any(counts.values()) else 77 if not counts["passed"] else 0)
 
 
 class Refusals:
