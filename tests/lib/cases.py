@@ -9,7 +9,7 @@ import tempfile
 sys.dont_write_bytecode = True
 LIB = os.path.dirname(os.path.abspath(__file__))
 ROOT = os.path.dirname(os.path.dirname(LIB))
-SECONDS = 50  # the longest that a test waits for anything
+SECONDS = 55  # the longest that a test waits for anything
 
 
 class Skipped(Exception):
