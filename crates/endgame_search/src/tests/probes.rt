@@ -5,8 +5,8 @@ ghost use Rattle.endgame_search.specs.Windows.{IsWindow};
 
 use crate::searches::search_scores;
 use crate::tests::{
-    BLACK_BOARD, H1, ProbeCounter, TEN_EMPTY_SQUARES, UNEQUAL_CORNERS, count_probes,
-    is_first_enough, pos_of, task_of,
+    BLACK_BOARD, Discs, H1, LAST_CORNER, ProbeCounter, TEN_EMPTY_SQUARES, UNEQUAL_CORNERS, after,
+    count_probes, is_first_enough, pos_of, task_of,
 };
 use crate::{Claim, Task, confirm, exact_value, solve, value_in};
 use bound_table::{BoundTable, Bounds, NoTable, Range};
@@ -216,4 +216,32 @@ fn cut_offs_are_stored(rt: HostRuntime) {
     let position = pos_of(&rt, TEN_EMPTY_SQUARES, Side::Black);
     let counter = count_probes(&rt, rt.alloc(), 1, [position, position]);
     assert!(rt; are_cut_offs_stored(&counter, position));
+}
+
+// Whether the position itself is probed first where a null window asks for it: its stored value
+// ends the search.
+fn is_probed_first(rt: &impl Abort, alloc: Global, discs: Discs, side: Side) -> bool {
+    let position = pos_of(rt, discs, side);
+    let counter = count_probes(rt, alloc, 1, [position, position]);
+    let _ = value_in(&counter.table, position, -65, 65);
+    ends_at_once(&counter, position, 0, 1) && counter.seen[0].get()
+}
+
+#[test]
+fn few_empty_squares_are_probed_first(rt: HostRuntime) {
+    // One empty square, which Black moves to and White passes at, and two.
+    assert!(rt; is_probed_first(&rt, rt.alloc(), LAST_CORNER, Side::Black));
+    assert!(rt; is_probed_first(&rt, rt.alloc(), LAST_CORNER, Side::White));
+    assert!(rt; is_probed_first(&rt, rt.alloc(), UNEQUAL_CORNERS, Side::Black));
+}
+
+#[test]
+fn the_last_square_is_probed_before_and_after_a_pass(rt: HostRuntime) {
+    // H1 leaves White no move, and Black A1.
+    let position = pos_of(&rt, UNEQUAL_CORNERS, Side::Black);
+    let stuck = after(&rt, position, Square::at(7));
+    let counter = count_probes(&rt, rt.alloc(), 0, [stuck, stuck.pass()]);
+    let _ = value_in(&counter, position, 0, 1);
+    assert!(rt; counter.seen[0].get());
+    assert!(rt; counter.seen[1].get());
 }
