@@ -6,7 +6,7 @@ use super::{
 };
 use crate::{Client, Delivery, Desk, Job, JobFault, JobId, Mixed, NoSender, SubmitFault, Turn};
 use endgame_search::Task;
-use std::alloc::Global;
+use std::alloc::{AllocError, Global};
 use std::sync::Wait;
 
 // A call at a desk about a job, and its answer.
@@ -206,4 +206,35 @@ fn a_desk_on_one_thread(rt: HostRuntime) {
     for case in &[SERVED, REFUSED, MIXED, UNFINISHED] {
         assert!(rt; passes(&rt, rt.alloc(), case, &tasks));
     }
+}
+
+// Whether a new client's submit is refused so. `Err` where it is refused memory, which comes first.
+fn is_refused<R: Wait>(
+    rt: &R,
+    desk: &Desk,
+    mut client: Client,
+    task: Task,
+    fault: SubmitFault,
+) -> Result<bool, AllocError> {
+    match desk.submit(rt, &mut client, task) {
+        Err(SubmitFault::Memory) => Err(AllocError),
+        sent => Ok(sent == Err(fault)),
+    }
+}
+
+// Clients of a sender that is closed and of one that the desk doesn't have. Each asks for memory of its own
+// before the board is asked: `tests/refused` counts the requests, and sees each refusal told.
+#[test]
+fn a_clients_memory_comes_first(rt: HostRuntime) -> Result<(), AllocError> {
+    let alloc = rt.alloc();
+    let task = task_of(&rt, LAST_CORNER);
+    let Ok(desk) = Desk::new(alloc, 1) else {
+        return Err(AllocError);
+    };
+    let closed = Client::new(alloc, 0);
+    assert!(rt; desk.close(&rt, &closed) == Ok(true));
+    assert!(rt; is_refused(&rt, &desk, closed, task, SubmitFault::Closed)?);
+    let unknown = Client::new(alloc, 1);
+    assert!(rt; is_refused(&rt, &desk, unknown, task, SubmitFault::NoSender)?);
+    Ok(())
 }
