@@ -9,7 +9,8 @@ fn folder() -> PathBuf {
     }
     let pkg_config = var("PKG_CONFIG").unwrap_or_else(|_| "pkg-config".into());
     let told = Command::new(pkg_config).args(["--variable=libdir", "ffosolve"]).output();
-    match told.map(|told| String::from_utf8_lossy(&told.stdout).trim().to_string()) {
+    // A blank of a path comes with a backslash before it.
+    match told.map(|told| String::from_utf8_lossy(&told.stdout).trim().replace("\\ ", " ")) {
         Ok(folder) if !folder.is_empty() => folder.into(),
         _ => "/usr/local/lib".into(),
     }

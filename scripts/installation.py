@@ -147,7 +147,7 @@ def lay(folder):
     told = run(root_path("bin", "ffosolve-many"), "--help", capture_output=True, text=True, env=wide).stdout
     lay_texts(folder, "ffosolve-many", told)
     lay_library(folder, library)
-    for name in (*DOCUMENTS, *files_of("docs"), *files_of("examples")):
+    for name in (*DOCUMENTS, *(name for folder in ("docs", "examples", "python", "rust") for name in files_of(folder))):
         mode = 0o755 if os.access(root_path(name), os.X_OK) else 0o644
         copy(folder, f"share/doc/ffosolve/{name}", root_path(name), mode)
     put(folder, LIST, "")

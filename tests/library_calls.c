@@ -126,6 +126,36 @@ static void nulls(void) {
     show("  refused", ffosolve_solve_all(&shared, 1, FFOSOLVE_WINNER, 64, &answer, 1, NULL), answer);
 }
 
+static int is_told(ffosolve_answer answer) { return answer.score == 99 && answer.kind == 99 && answer.best == 99; }
+
+/* Each call that solves, with one thing wrong: its status, whether it wrote anything, and `at`. */
+static void refused(const char *what, ffosolve_position position, uint32_t scoring, size_t entries) {
+    ffosolve_answer answers[3];
+    int8_t scores[64];
+    uint64_t moves = 99;
+    size_t at = 99;
+    int is_kept;
+    for (int i = 0; i < 3; i++) answers[i] = told(99, 99, 99);
+    for (int square = 0; square < 64; square++) scores[square] = 99;
+    printf("%s: statuses", what);
+    printf(" %" PRId32, ffosolve_solve(position, scoring, entries, &answers[0]));
+    printf(" %" PRId32, ffosolve_confirm(position, scoring, entries, told(62, FFOSOLVE_MOVES, 0x80), &answers[1]));
+    printf(" %" PRId32, ffosolve_solve_all(&position, 1, scoring, entries, &answers[2], 1, &at));
+    printf(" %" PRId32, ffosolve_move_scores(position, scoring, entries, scores, &moves));
+    is_kept = moves == 99;
+    for (int i = 0; i < 3; i++) is_kept = is_kept && is_told(answers[i]);
+    for (int square = 0; square < 64; square++) is_kept = is_kept && scores[square] == 99;
+    printf(", %s written, at %zu\n", is_kept ? "nothing" : "something", at);
+}
+
+static void refusals(void) {
+    const ffosolve_position corners = at_masks(corners_own, corners_opp);
+    refused("scoring 3", corners, 3, 64);
+    refused("entries above the most", corners, FFOSOLVE_SIGN, FFOSOLVE_MOST_ENTRIES + 1);
+    refused("overlapping masks", at_masks(3, 2), FFOSOLVE_DISCS, 64);
+    refused("61 empty squares", at_masks(1, 6), FFOSOLVE_WINNER, 0);
+}
+
 static void moves_and_plays(void) {
     const ffosolve_position start = at_masks(0x0000000810000000, 0x0000001008000000);
     const ffosolve_position others[] = {start, at_masks(corners_own, corners_opp), at_masks(0, 1), at_masks(5, 4)};
@@ -159,16 +189,10 @@ static void names(void) {
 
 int main(int count, char **words) {
     if (count > 1 && strcmp(words[1], "without-memory") == 0) {
+        const ffosolve_position corners = at_masks(corners_own, corners_opp);
         ffosolve_answer answer = told(99, 99, 99);
-        const ffosolve_position position = at_masks(corners_own, corners_opp);
-        show("solve", ffosolve_solve(position, FFOSOLVE_WINNER, FFOSOLVE_MOST_ENTRIES, &answer), answer);
-        show("solve", ffosolve_solve(position, FFOSOLVE_WINNER, 0, &answer), answer);
-        int8_t scores[64] = {99};
-        uint64_t moves = 99;
-        scores[63] = 99;
-        printf("move_scores: status %" PRId32,
-               ffosolve_move_scores(position, FFOSOLVE_WINNER, FFOSOLVE_MOST_ENTRIES, scores, &moves));
-        printf(", %d %d, %" PRIu64 "\n", scores[0], scores[63], moves);
+        refused("no memory", corners, FFOSOLVE_WINNER, FFOSOLVE_MOST_ENTRIES);
+        show("solve", ffosolve_solve(corners, FFOSOLVE_WINNER, 0, &answer), answer);
         return 0;
     }
     names();
@@ -177,6 +201,7 @@ int main(int count, char **words) {
     many();
     nulls();
     move_scores();
+    refusals();
     moves_and_plays();
     return 0;
 }

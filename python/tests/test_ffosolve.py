@@ -22,11 +22,22 @@ pages = int(open("/proc/self/statm").read().split()[0])
 limit = pages * resource.getpagesize() + 60_000_000
 solver = ffosolve.Solver(entries=ffosolve.MOST_ENTRIES)
 resource.setrlimit(resource.RLIMIT_AS, (limit, limit))
-try:
-    solver.solve(ffosolve.Position(0xFFFFFFF7FFFF7F7C, 0x0000000800008002))
-except ffosolve.NoMemory as refused:
-    sys.exit(0 if isinstance(refused, MemoryError) and str(refused) == "out of memory" else 1)
-sys.exit(2)
+position = ffosolve.Position(0xFFFFFFF7FFFF7F7C, 0x0000000800008002)
+claim = ffosolve.Answer(62, ffosolve.Kind.MOVES, 0x80)
+for call, word in (
+    (solver.solve, (position,)),
+    (solver.confirm, (position, claim)),
+    (solver.solve_all, ([position],)),
+    (solver.move_scores, (position,)),
+):
+    try:
+        call(*word)
+        sys.exit(f"{call} has memory")
+    except ffosolve.NoMemory as refused:
+        if not isinstance(refused, MemoryError) or str(refused) != "out of memory":
+            sys.exit(repr(refused))
+if ffosolve.Solver(entries=0).solve(position) != claim:
+    sys.exit("without a table no memory is wanted")
 """
 
 
@@ -75,8 +86,7 @@ class Calls(unittest.TestCase):
         self.assertEqual(self.solver.play(START, 19), after)
 
     def test_versions(self):
-        self.assertEqual(self.solver.library_version, "1.0.0")
-        self.assertEqual(ffosolve.__version__, "1.0.0")
+        self.assertEqual(self.solver.library_version, ffosolve.__version__)
 
     def test_threads(self):
         with ThreadPoolExecutor(8) as pool:

@@ -37,8 +37,8 @@ impl TryFrom<u32> for Scoring {
 pub const fn table_entries(empties: usize) -> usize {
     match empties {
         0..=10 => 0,
-        11..=13 => 1_024,
-        14..=19 => 65_536,
+        11..=14 => 1_024,
+        15..=19 => 65_536,
         _ => 1_048_576,
     }
 }

@@ -74,6 +74,8 @@ fn refuses() {
     assert_eq!(solver.solve_all(&[corners(), wide, wide]), Err(Error::TooManyEmpties { index: 1 }));
     let large = Solver::new().entries(ffosolve::MOST_ENTRIES + 1);
     assert_eq!(large.solve(corners()), Err(Error::TooManyEntries));
+    assert_eq!(large.confirm(corners(), ANSWER), Err(Error::TooManyEntries));
+    assert_eq!(large.move_scores(corners()), Err(Error::TooManyEntries));
     assert_eq!(large.solve_all(&[]), Err(Error::TooManyEntries));
     assert_eq!(Solver::new().entries(ffosolve::MOST_ENTRIES).solve(corners()), Ok(ANSWER));
     let told: Box<dyn std::error::Error + Send + Sync> = Error::TooManyEmpties { index: 1 }.into();
@@ -125,7 +127,8 @@ fn threads_call_at_once() {
 
 #[test]
 fn tells_versions_and_sizes() {
-    assert_eq!(library_version(), 10_000);
+    let parts = env!("CARGO_PKG_VERSION").split('.').map(|part| part.parse::<u32>().expect("a number"));
+    assert_eq!(parts.fold(0, |number, part| 100 * number + part), library_version());
     let sizes: Vec<usize> = (0..=60).map(table_entries).collect();
     assert!(sizes.windows(2).all(|pair| pair[0] <= pair[1]) && sizes[0] == 0 && sizes[60] <= ffosolve::MOST_ENTRIES);
 }

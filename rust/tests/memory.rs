@@ -1,5 +1,5 @@
 //! A call for whose table there is no memory: a process of its own, since it limits its memory.
-use ffosolve::{Error, Position, Solver, MOST_ENTRIES};
+use ffosolve::{Answer, Best, Error, Position, Solver, Squares, MOST_ENTRIES};
 
 const ADDRESS_SPACE: i32 = 9;
 
@@ -17,7 +17,9 @@ fn tells_of_no_memory() {
     let position = Position::new(0xffff_fff7_ffff_7f7c, 0x8_0000_8002).expect("masks apart");
     let large = Solver::new().entries(MOST_ENTRIES);
     assert_eq!(large.solve(position), Err(Error::NoMemory));
+    let claim = Answer { score: 62, best: Best::Moves(Squares(0x80)) };
+    assert_eq!(large.confirm(position, claim), Err(Error::NoMemory));
     assert_eq!(large.solve_all(&[position]), Err(Error::NoMemory));
     assert_eq!(large.move_scores(position), Err(Error::NoMemory));
-    assert!(Solver::new().entries(0).solve(position).is_ok());
+    assert_eq!(Solver::new().entries(0).solve(position), Ok(claim));
 }

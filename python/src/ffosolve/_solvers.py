@@ -26,7 +26,7 @@ class Scoring(enum.IntEnum):
 def table_entries(empties: int) -> int:
     """A fit number of table entries, of 32 bytes each, for positions of so many empty squares. It changes how long an
     answer takes, and never the answer."""
-    for most, entries in ((10, 0), (13, 1_024), (19, 65_536)):
+    for most, entries in ((10, 0), (14, 1_024), (19, 65_536)):
         if empties <= most:
             return entries
     return 1_048_576
