@@ -70,8 +70,9 @@ enum ffosolve_kind {
 
 /* The most entries of the table that a search keeps. An entry takes 32 bytes; the table is made at the start of a call
    and freed at its end. Its size changes how long an answer takes, and never the answer. Fit sizes are none up to 10
-   empty squares, 1024 up to 14, 65536 up to 19 and 1048576 from 20 on. To make one takes each call some 0.002 ms for
-   1024 entries, 0.15 ms for 65536, 20 ms for 1048576 and 90 ms for the most (measured). */
+   empty squares, 1024 up to 14, 65536 up to 19 and 1000000 from 20 on. To make one takes each call some 0.003 ms for
+   1024 entries, 0.15 ms for 65536, 5 ms for 1000000 (20 ms where malloc maps it anew, as from 1048576 on each time) and
+   80 ms for the most (measured). */
 #define FFOSOLVE_MOST_ENTRIES 4194304
 
 /* What ffosolve_move_scores writes at a square that is no move. */

@@ -29,7 +29,7 @@ def table_entries(empties: int) -> int:
     for most, entries in ((10, 0), (14, 1_024), (19, 65_536)):
         if empties <= most:
             return entries
-    return 1_048_576
+    return 1_000_000
 
 
 class Solver:
