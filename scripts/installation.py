@@ -2,6 +2,7 @@
 import os
 import re
 import shutil
+import signal
 import subprocess
 import sys
 import tempfile
@@ -18,10 +19,19 @@ WHAT = {
     "ffosolve-many": "solves a list of Othello endgames of any length, in parts",
 }
 DOCUMENTS = ("README.md", "LICENSE", "CHANGELOG.md")
+FOLDERS = ("docs", "examples", "python", "rust")  # the examples take the packages for Python and Rust from beside them
+SIGNALS = (signal.SIGINT, signal.SIGTERM, signal.SIGHUP)
 
 
 class Fault(Exception):
     """What a user is told, in one line."""
+
+
+def catch_signals():
+    """Has each signal that ends a program raise KeyboardInterrupt, so that what is half done is taken away."""
+    for number in SIGNALS:
+        if signal.getsignal(number) != signal.SIG_IGN:
+            signal.signal(number, signal.default_int_handler)
 
 
 def root_path(*names):
@@ -43,11 +53,17 @@ def date():
 
 
 def run(*words, **how):
-    """Runs a part of the build, whose own line tells what fails."""
-    ran = subprocess.run(words, stdin=subprocess.DEVNULL, **how)
-    if ran.returncode != 0:
-        sys.exit(ran.returncode if ran.returncode > 0 else 1)
-    return ran
+    """Runs a part of the build, whose own line tells what fails, and gives its output if that is a pipe."""
+    child = subprocess.Popen(words, stdin=subprocess.DEVNULL, text=True, **how)
+    try:
+        told = child.communicate()[0]
+    except KeyboardInterrupt:
+        child.terminate()  # it ends what it began
+        child.wait()
+        raise
+    if child.returncode != 0:
+        sys.exit(child.returncode if child.returncode > 0 else 1)
+    return told
 
 
 def programs():
@@ -57,7 +73,8 @@ def programs():
 def files_of(folder):
     """The files of a folder of the checkout that belong to it: by git, if it is one of git's."""
     if os.path.exists(root_path(".git")) and shutil.which("git"):
-        ran = subprocess.run(["git", "ls-files", "-z", folder], cwd=ROOT, capture_output=True, text=True)
+        words = ["git", "-c", f"safe.directory={ROOT}", "ls-files", "-z", folder]
+        ran = subprocess.run(words, cwd=ROOT, capture_output=True, text=True)
         if ran.returncode == 0:
             return sorted(name for name in ran.stdout.split("\0") if name)
     found = []
@@ -77,17 +94,30 @@ def build():
     return library
 
 
+def crates():
+    """What each crate uses, by crates.txt."""
+    lines = [line for line in read(root_path("crates.txt")).splitlines() if line and not line.startswith("#")]
+    return {line.split(":")[0].split()[0]: line.split(":")[1].split() for line in lines}
+
+
+def below(crate, uses):
+    """The crates that a crate stands on, each behind those that it uses, and the crate."""
+    found = []
+    for name in uses.get(crate, []):
+        found += [it for it in below(name, uses) if it not in found]
+    return found + [crate] if crate in uses else found
+
+
 def is_newer(path):
     """Whether a file is newer than all that the library is made of."""
     if not os.path.exists(path):
         return False
     names = ["include", "packaging", "crates.txt", "VERSION", "bin/ffosolve-library"]
-    crates = os.listdir(root_path("crates"))
-    names += [f"crates/{crate}/{part}" for crate in crates for part in ("src", "specs", "proofs")]
+    names += [f"crates/{crate}/{part}" for crate in below("ffosolve_c", crates()) for part in ("src", "specs", "proofs")]
     made = os.stat(path).st_mtime
     for name in names:
-        below = [os.path.join(at, it) for at, _, all_of in os.walk(root_path(name)) for it in all_of]
-        for at in [root_path(name), *below]:
+        inside = [os.path.join(at, it) for at, _, all_of in os.walk(root_path(name)) for it in all_of]
+        for at in [root_path(name), *inside]:
             if os.path.isfile(at) and os.stat(at).st_mtime > made:
                 return False
     return True
@@ -140,14 +170,12 @@ def lay(folder):
     library = build()
     for name in programs():
         copy(folder, f"bin/{name}", root_path("out", name), 0o755)
-        told = run(root_path("out", name), "--help", capture_output=True, text=True).stdout
-        lay_texts(folder, name, told)
+        lay_texts(folder, name, run(root_path("out", name), "--help", stdout=subprocess.PIPE))
     copy(folder, "bin/ffosolve-many", root_path("bin", "ffosolve-many"), 0o755)
     wide = {**os.environ, "COLUMNS": "200"}
-    told = run(root_path("bin", "ffosolve-many"), "--help", capture_output=True, text=True, env=wide).stdout
-    lay_texts(folder, "ffosolve-many", told)
+    lay_texts(folder, "ffosolve-many", run(root_path("bin", "ffosolve-many"), "--help", stdout=subprocess.PIPE, env=wide))
     lay_library(folder, library)
-    for name in (*DOCUMENTS, *(name for folder in ("docs", "examples", "python", "rust") for name in files_of(folder))):
+    for name in (*DOCUMENTS, *(name for folder in FOLDERS for name in files_of(folder))):
         mode = 0o755 if os.access(root_path(name), os.X_OK) else 0o644
         copy(folder, f"share/doc/ffosolve/{name}", root_path(name), mode)
     put(folder, LIST, "")
@@ -172,9 +200,11 @@ def told(why, place):
 
 def target():
     """The folder below which an installation stands, by PREFIX and DESTDIR."""
-    prefix, stage = os.environ.get("PREFIX") or "/usr/local", os.environ.get("DESTDIR") or ""
-    if not os.path.isabs(prefix) or "\n" in prefix:
-        raise Fault(f"PREFIX is {prefix}, and has to begin with a slash")
+    prefix, stage = os.environ.get("PREFIX", "/usr/local"), os.environ.get("DESTDIR", "")
+    if not os.path.isabs(prefix):
+        raise Fault(f"PREFIX is {prefix or 'empty'}, and has to begin with a slash")
+    if "\n" in prefix + stage:
+        raise Fault("there is the end of a line in PREFIX or DESTDIR")
     return os.path.abspath(stage + prefix if stage else prefix)
 
 
@@ -189,19 +219,17 @@ def test_place(path):
         raise Fault(f"{above} can't be written")
 
 
-def make_folders(target, names):
-    """Makes the folders of files, and gives those that were not there, the upper ones first."""
-    made = []
+def make_folders(target, names, made):
+    """Makes the folders of files, and notes those that were not there, the upper ones first."""
     for folder in sorted({os.path.dirname(os.path.join(target, name)) for name in names}):
         missing = []
         while not os.path.isdir(folder):
             missing.append(folder)
             folder = os.path.dirname(folder)
         for path in reversed(missing):
+            made.append(path)
             os.mkdir(path)
             os.chmod(path, 0o755)
-            made.append(path)
-    return made
 
 
 def install():
@@ -218,32 +246,40 @@ def install():
         for name in names:
             test_place(os.path.join(place, name))
         before = listed(place)
-        new, made = [], []
-        try:
-            made = make_folders(place, names)
-            kept = sorted({name for name in before if name.endswith("/")} |
-                          {os.path.relpath(path, place) + "/" for path in made if path.startswith(place + "/")})
-            put(room, LIST, "".join(f"{name}\n" for name in [*names, *kept]))
-            for name in names:
-                path = os.path.join(place, name)
-                new.append((f"{path}.{os.getpid()}.new", path))
-                copy("", new[-1][0], os.path.join(room, name), os.lstat(os.path.join(room, name)).st_mode & 0o777)
-        except OSError as why:
-            for beside, _ in new:
-                if os.path.lexists(beside):
-                    os.remove(beside)
-            for path in reversed(made):
-                os.rmdir(path)
-            raise told(why, place)
+        new = lay_beside(room, place, names, before)
+        signal.pthread_sigmask(signal.SIG_BLOCK, SIGNALS)
         for beside, path in new:
             os.replace(beside, path)
         take_away(place, [name for name in before if name not in names and not name.endswith("/")])
     return place, len(names)
 
 
+def lay_beside(room, place, names, before):
+    """Lays each file of a folder beside its place under another name, and gives both names of each; or leaves nothing."""
+    new, made = [], []
+    try:
+        make_folders(place, names, made)
+        kept = sorted({name for name in before if name.endswith("/")} |
+                      {os.path.relpath(path, place) + "/" for path in made if path.startswith(place + "/")})
+        put(room, LIST, "".join(f"{name}\n" for name in [*names, *kept]))
+        for name in names:
+            source, path = os.path.join(room, name), os.path.join(place, name)
+            new.append((f"{path}.{os.getpid()}.new", path))
+            copy("", new[-1][0], source, os.lstat(source).st_mode & 0o777)
+    except BaseException as why:
+        signal.pthread_sigmask(signal.SIG_BLOCK, SIGNALS)
+        for beside, _ in new:
+            if os.path.lexists(beside):
+                os.remove(beside)
+        take_away("/", [path + "/" for path in made])
+        raise told(why, place) if isinstance(why, OSError) else why
+    return new
+
+
 def take_away(place, names):
-    """Removes files, and then folders that are empty, the lower ones first. What is gone already doesn't matter."""
-    for name in names:
+    """Removes files, their list last, and then folders that are empty, the lower ones first. What is gone already
+    doesn't matter."""
+    for name in sorted(names, key=lambda name: name == LIST):
         if not name.endswith("/") and os.path.lexists(os.path.join(place, name)):
             os.remove(os.path.join(place, name))
     for name in sorted((name for name in names if name.endswith("/")), reverse=True):
@@ -261,5 +297,9 @@ def uninstall():
         folder = os.path.dirname(os.path.join(place, name.rstrip("/")))
         if os.path.isdir(folder) and not os.access(folder, os.W_OK | os.X_OK):
             raise Fault(f"{folder} can't be written")
-    take_away(place, names)
+    signal.pthread_sigmask(signal.SIG_BLOCK, SIGNALS)
+    try:
+        take_away(place, names)
+    except OSError as why:
+        raise told(why, place)
     return place, len([name for name in names if not name.endswith("/")])
