@@ -14,7 +14,7 @@ use Rattle.suite_solver.specs.Runs.{first_large}
 use Rattle.suite_solver.specs.declared.faults.RunFault.{RunFault}
 use Rattle.suite_solver.specs.declared.faults.RunFault.TheVariants.{Memory, Mixed, TooManyFiles, FileTooLarge}
 use Rattle.suite_solver.specs.declared.stops.Stop.{Stop}
-use Rattle.suite_solver.specs.declared.stops.Stop.TheVariants.{Run, BadWords, BadBook, CannotRead, CannotWrite}
+use Rattle.suite_solver.specs.declared.stops.Stop.TheVariants.{Run, BadWords, BadBook, CannotRead, NoPlace, CannotWrite}
 
 -- The texts of a run: what standard input gives, where that is known, if no file is named; else one for each name.
 -- What a file holds is not known.
@@ -83,6 +83,7 @@ stop_reason (Run fault) = run_fault_text fault
 stop_reason (BadBook fault) = book_fault_text fault
 stop_reason BadWords = codes "cannot read the command line"
 stop_reason (CannotRead name) = codes "cannot read " ++ name.now
+stop_reason (NoPlace name) = codes "cannot write " ++ name.now
 stop_reason (CannotWrite name) = codes "cannot write " ++ name.now
 
 unfoldable pub stop_text : Stop → List ℕ
@@ -93,6 +94,7 @@ status_of (Run fault) = 1
 status_of BadWords = 2
 status_of (BadBook fault) = 3
 status_of (CannotRead name) = 3
+status_of (NoPlace name) = 3
 status_of (CannotWrite name) = 3
 
 -- what ends the program before it prints anything: all but what can't be written

@@ -4,6 +4,7 @@ ghost use Rattle.std.specs.Prelude.{◌≡◌, ◌⊎◌, IfOk, IfErr};
 ghost use Rattle.solved_book.specs.Books.{book_text};
 ghost use Rattle.suite_solver.specs.Programs.{IsSilent, status_of};
 
+use crate::places::name_beside;
 use crate::stops::{Stop, read_stop};
 use solved_book::{Book, Claims};
 use std::alloc::{AllocError, Global};
@@ -84,17 +85,6 @@ fn text_of(alloc: Global, book: &Book) -> Result<Vec<u8>, AllocError>
         Ok(()) => Ok(text),
         Err(_) => Err(AllocError),
     }
-}
-
-// The name of a file beside one of this name: the first of a hundred that isn't there.
-fn name_beside<T: Files>(rt: &T, alloc: Global, name: &str) -> Result<String, AllocError> {
-    for number in 0..100u32 {
-        let beside = format!(in alloc; "{name}.{number}.part")?;
-        if let Ok(false) = fs::exists(rt, beside.as_str()) {
-            return Ok(beside);
-        }
-    }
-    format!(in alloc; "{name}.part")
 }
 
 impl<'a> ReadyBook<'a> {

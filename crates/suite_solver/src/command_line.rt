@@ -20,6 +20,12 @@ Solves Othello endgames exactly. For each position of OBF files it prints the sc
 the side to move sees it, every best move, and how the scores that the line lists compare.";
 
 const AFTER_HELP: &str = "\
+What a line of the report says:
+  agree     the greatest listed score is the score, and each move listed with it is a best one
+  differ    the greatest listed score is not the score, or a move listed with it is not a best one
+  unlisted  the line lists no score
+  refused   the line is no position, or has more empty squares than --max-empties allows
+
 Exit status:
   0  all reports were printed, or this help, or the version
   1  more than 64 files, a file of more than 1048576 bytes, or memory ran out

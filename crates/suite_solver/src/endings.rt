@@ -15,8 +15,8 @@ use std::rt::Files;
 use std::sync::Wait;
 use std::thread::Threads;
 
-/// How the program ended. `program_at` alone makes one, so that a `main` which gives it ends with the program's status.
-#[derive(Drop)]
+/// How the program ended. `program_at` alone makes one, and it is no value that may be let go: so a `main` that calls it
+/// gives it, and ends with the program's status.
 pub struct Ended {
     status: u8,
 }
@@ -25,7 +25,8 @@ impl Termination for Ended {
     fn report<R: Eprint>(self, _rt: &R) -> ExitCode
         ensures { exit_status result ≡ self.status }
     {
-        ExitCode::from(self.status)
+        let Ended { status } = self;
+        ExitCode::from(status)
     }
 }
 

@@ -6,7 +6,7 @@ ghost use Rattle.std.specs.IoError.{error_kind};
 ghost use Rattle.std.specs.Io.KnownBytes.{Appends};
 ghost use Rattle.suite_solver.specs.Programs.{IsSilent, book_fault_text, book_stop, line_fault_text, run_fault_text, status_of, stop_reason, stop_text};
 ghost use Rattle.suite_solver.specs.declared.faults.RunFault.TheVariants.{Memory};
-ghost use Rattle.suite_solver.specs.declared.stops.Stop.TheVariants.{CannotRead, Run};
+ghost use Rattle.suite_solver.specs.declared.stops.Stop.TheVariants.{CannotRead, NoPlace, Run};
 
 use crate::faults::RunFault;
 use obf_text::LineFault;
@@ -24,6 +24,8 @@ pub(crate) enum Stop<'a> {
     /// The text that was read is no book. Want of memory is never told here.
     BadBook(BookFault),
     CannotRead(&'a str),
+    /// The place of a book, before anything is solved.
+    NoPlace(&'a str),
     CannotWrite(&'a str),
 }
 
@@ -126,7 +128,7 @@ fn write_reason<E: Write>(errors: &mut E, stop: &Stop<'_>) -> io::Result<()>
         Stop::BadWords => errors.write_all(b"cannot read the command line"),
         Stop::BadBook(fault) => write_book_fault(errors, *fault),
         Stop::CannotRead(name) => write!(errors, "cannot read {name}"),
-        Stop::CannotWrite(name) => write!(errors, "cannot write {name}"),
+        Stop::NoPlace(name) | Stop::CannotWrite(name) => write!(errors, "cannot write {name}"),
     }
 }
 
@@ -141,6 +143,20 @@ pub(crate) fn read_stop<'a>(fault: &io::Error, name: &'a str) -> Stop<'a>
     match fault.kind() {
         ErrorKind::OutOfMemory => Stop::Run(RunFault::Memory),
         _ => Stop::CannotRead(name),
+    }
+}
+
+// Why a book can't be written in a place, before anything is solved, or that there was no memory to try it.
+pub(crate) fn place_stop<'a>(fault: &io::Error, name: &'a str) -> Stop<'a>
+    ensures memory { error_kind fault.now ≡ ErrorKind.OutOfMemory → result ≡ Run Memory }
+    ensures name { (error_kind fault.now ≡ ErrorKind.OutOfMemory → ⊥)
+        → result ≡ NoPlace name.entry }
+    ensures status { (status_of result ≡ 1) ⊎ (status_of result ≡ 3) }
+    ensures silent { IsSilent result }
+{
+    match fault.kind() {
+        ErrorKind::OutOfMemory => Stop::Run(RunFault::Memory),
+        _ => Stop::NoPlace(name),
     }
 }
 
@@ -173,7 +189,7 @@ impl Stop<'_> {
         match self {
             Stop::Run(_) => 1,
             Stop::BadWords => 2,
-            Stop::BadBook(_) | Stop::CannotRead(_) | Stop::CannotWrite(_) => 3,
+            Stop::BadBook(_) | Stop::CannotRead(_) | Stop::NoPlace(_) | Stop::CannotWrite(_) => 3,
         }
     }
 }

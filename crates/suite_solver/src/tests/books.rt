@@ -1,6 +1,6 @@
 //! The program with books: what it writes, what it reads, and what it refuses.
 
-use super::{ONE, ONE_POSITION, Run, TWO, TWO_BY_WINNER, all_end_so, ends_so, run};
+use super::{NO_FILE, ONE, ONE_POSITION, Run, TWO, TWO_BY_WINNER, all_end_so, ends_so, run};
 use std::alloc::{AllocError, Global};
 use std::fs;
 use std::rt::Files;
@@ -251,7 +251,7 @@ fn reads_cut_off_books(rt: HostRuntime) -> Result<(), Fail> {
     Ok(())
 }
 
-// Books that can't be read, and ones that can't be written, which is told behind the reports.
+// Books that can't be read, and places that can't be written, of which a full device alone is told behind the reports.
 const PLACES: &[Run] = &[
     (
         "ffosolve --book-in no.book",
@@ -271,15 +271,22 @@ const PLACES: &[Run] = &[
         "ffosolve --book-out .",
         ONE,
         3,
-        ONE_REPORT,
+        b"",
         b"ffosolve: cannot write .\n",
     ),
     (
         "ffosolve --book-out no/a.book",
         ONE,
         3,
-        ONE_REPORT,
+        b"",
         b"ffosolve: cannot write no/a.book\n",
+    ),
+    (
+        "ffosolve --book-out no/a.book no-such.obf",
+        ONE,
+        3,
+        b"",
+        NO_FILE,
     ),
     (
         "ffosolve --book-out /dev/full",

@@ -15,6 +15,13 @@ const FULL_REPORT: &[u8] = b"[1]\n1 +64 -- unlisted\nsolved 1 refused 0\n";
 
 const FILE_RUNS: &[Run] = &[
     ("ffosolve no-such.obf", b"", 3, b"", NO_FILE),
+    (
+        "ffosolve first.obf second.obf --book-out ./second.obf",
+        b"",
+        3,
+        b"",
+        b"ffosolve: cannot write ./second.obf\n",
+    ),
     ("ffosolve first.obf second.obf", TWO, 0, BOTH, b""),
     ("ffosolve first.obf --table 0 second.obf", b"", 0, BOTH, b""),
     (

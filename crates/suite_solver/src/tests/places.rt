@@ -1,6 +1,7 @@
 //! Where books are put, and what stood there before.
 
 use crate::books::ReadyBook;
+use crate::places::check_place;
 use othello_rules::Scoring;
 use solved_book::Book;
 use std::alloc::{AllocError, Allocator, Global};
@@ -87,6 +88,12 @@ const OLD: &[u8] = b"what stood here\n";
 // An empty book.
 const NEW: &[u8] = b"% ffobook 2 winner\n";
 
+// Whether a book may be put into this place.
+fn is_place<T: Files>(rt: &T, alloc: Global, name: &str) -> Result<bool, AllocError> {
+    let name = Some(String::from_str(alloc, name)?);
+    Ok(check_place(rt, alloc, &name, &[]).is_ok())
+}
+
 // Whether an empty book is put into this place.
 fn is_put<T: Files>(rt: &T, alloc: Global, name: &str) -> Result<bool, AllocError> {
     let name = Some(String::from_str(alloc, name)?);
@@ -139,7 +146,8 @@ fn remove_all<T: Files>(rt: &T, names: &[&str]) -> Result<(), Fail> {
     Ok(())
 }
 
-// A book is whole before it takes the place of another, whose permissions it keeps; a file beside it is left alone.
+// A place is tried without a trace. A book is whole before it takes the place of another, whose permissions it keeps; a
+// file beside it is left alone.
 #[test]
 fn puts_books(rt: HostRuntime) -> Result<(), Fail> {
     fs::write(&rt, "kept.book", OLD)?;
@@ -150,6 +158,8 @@ fn puts_books(rt: HostRuntime) -> Result<(), Fail> {
             files: &rt,
             refused,
         };
+        let opens = refused != Refused::Open;
+        assert!(rt; is_place(&files, rt.alloc(), "kept.book")? == opens && hold(&rt, LEFT)?);
         assert!(rt; !is_put(&files, rt.alloc(), "kept.book")? && hold(&rt, LEFT)?);
     }
     fs::hard_link(&rt, "kept.book", "twin.book")?;

@@ -11,7 +11,7 @@ returns-in-Ok-clause-reported g c =
     let given = g.R.Read.remaining c.args.input.now in
     let texts = texts_of c.in_ok-files.files.items in
     let fronts = rw c.deref.ensures.value at c.in_ok-files.ensures.ok in
-    let p = rw c.deref-2.ensures.value at c.in-Ok.ensures.reported in
+    let p = rw c.deref-3.ensures.value at c.in-Ok.ensures.reported in
     on_ok c.write_book.result (Prints c.args.asked.now.settings names given (g.W.Write.contents c.args.output.now) (g.W.Write.contents c.solve_files.new.output)) (record {
       texts = texts;
       read = whole_texts names given texts fronts p.small p.few;
