@@ -111,7 +111,7 @@ fn write_entry_line<W: Write>(
     Ok(!found)
 }
 
-// What comes of a line that holds a position, and whether it is right.
+// Prints the line of a position, and tells whether it is right.
 fn write_scored<T: Bounds, W: Write>(
     table: &T,
     writer: &mut W,
@@ -163,7 +163,7 @@ fn write_refused<W: Write>(writer: &mut W, fault: LineFault, line: &[u8]) -> io:
     }
 }
 
-// What comes of a line, and whether it is right.
+// Prints a line, and tells whether it is right.
 fn write_item<T: Bounds, W: Write>(
     table: &T,
     alloc: Global,

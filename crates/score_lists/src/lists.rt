@@ -78,7 +78,7 @@ fn send<W: Write>(writer: &mut W, bytes: &[u8]) -> io::Result<()>
     Err(io::Error::from(ErrorKind::WriteZero))
 }
 
-// Prints what comes of a line, and sends it on. The answer is whether the line is right.
+// Prints a line with its scores and remarks, and sends it on. The answer is whether the line is right.
 fn write_one<T: Bounds, W: Write>(
     table: &T,
     alloc: Global,

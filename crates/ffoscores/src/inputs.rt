@@ -1,0 +1,117 @@
+//! Reads the lists.
+
+ghost use Rattle.std.specs.Prelude.{◌≡◌, ◌≤◌, All, IfErr, IfOk, IfSome, length, take, vec_len};
+ghost use Rattle.suite_solver.specs.CommandLine.{names_of};
+ghost use Rattle.score_lists.specs.Lines.{texts_of};
+ghost use Rattle.ffoscores.specs.Programs.{AreLists};
+ghost use Rattle.ffoscores.specs.Stops.{status_of};
+
+use crate::stops::{Stop, read_stop};
+use std::alloc::Global;
+use std::io::Read;
+use std::rt::Files;
+use std::{fs, io};
+use suite_solver::{MOST_BYTES, MOST_FILES};
+
+// One byte more than a file may have: a file that is too large is told by it.
+const MOST_READ: usize = 1_048_577;
+
+// The front of what a reader gives. A reader that tells nothing of its bytes is cut again.
+fn read_front<R: Read>(alloc: Global, reader: &mut R) -> io::Result<Vec<u8>>
+    ensures { IfOk result
+        (λ bytes. IfSome (R.remaining reader.old) (λ all. bytes.items ≡ take 1048577 all)) }
+{
+    let mut bytes = Vec::new(alloc);
+    reader.take(MOST_READ as u64).read_to_end(&mut bytes)?;
+    bytes.truncate(MOST_READ);
+    Ok(bytes)
+}
+
+// All that a reader gives: the file of this number, from 1, and of this name.
+fn read_whole<'a, R: Read>(
+    alloc: Global,
+    reader: &mut R,
+    number: usize,
+    name: &'a str,
+) -> Result<Vec<u8>, Stop<'a>>
+    ensures small { IfOk result (λ text. vec_len text ≤ 1048576) }
+    ensures whole { IfOk result
+        (λ text. IfSome (R.remaining reader.old) (λ all. text.items ≡ all)) }
+    ensures err { IfErr result (λ stop. status_of stop ≡ 3) }
+{
+    match read_front(alloc, reader) {
+        Ok(text) => {
+            if text.len() > MOST_BYTES {
+                return Err(Stop::FileTooLarge(number));
+            }
+            Ok(text)
+        }
+        Err(fault) => Err(read_stop(&fault, name)),
+    }
+}
+
+// The file of a name.
+fn read_file<'a, T: Files>(
+    rt: &T,
+    alloc: Global,
+    number: usize,
+    name: &'a str,
+) -> Result<Vec<u8>, Stop<'a>>
+    ensures small { IfOk result (λ text. vec_len text ≤ 1048576) }
+    ensures err { IfErr result (λ stop. status_of stop ≡ 3) }
+{
+    match fs::open(rt, name) {
+        Ok(mut file) => read_whole(alloc, &mut file, number, name),
+        Err(fault) => Err(read_stop(&fault, name)),
+    }
+}
+
+// Standard input as the one file.
+fn read_input<R: Read>(alloc: Global, input: &mut R) -> Result<Vec<Vec<u8>>, Stop<'static>>
+    ensures ok { IfOk result
+        (λ texts. AreLists (names_of []) (R.remaining input.old) (texts_of texts.items)) }
+    ensures err { IfErr result (λ stop. status_of stop ≡ 3) }
+{
+    let text = read_whole(alloc, input, 1, "standard input")?;
+    let mut texts = Vec::new(alloc);
+    texts.push(text)?;
+    Ok(texts)
+}
+
+// The files of these names, in their order.
+fn read_named<'a, T: Files>(
+    rt: &T,
+    alloc: Global,
+    names: &'a [String],
+) -> Result<Vec<Vec<u8>>, Stop<'a>>
+    ensures len { IfOk result (λ texts. vec_len texts ≡ length names.now) }
+    ensures small { IfOk result (λ texts. All (λ text. length text ≤ 1048576) (texts_of texts.items)) }
+    ensures err { IfErr result (λ stop. status_of stop ≡ 3) }
+{
+    let mut texts = Vec::new(alloc);
+    for name in names {
+        let text = read_file(rt, alloc, texts.len() + 1, name.as_str())?;
+        texts.push(text)?;
+    }
+    Ok(texts)
+}
+
+// The lists of these names, or standard input where there is no name. All are read before anything is printed.
+pub(crate) fn read_lists<'a, T: Files, R: Read>(
+    rt: &T,
+    alloc: Global,
+    names: &'a [String],
+    input: &mut R,
+) -> Result<Vec<Vec<u8>>, Stop<'a>>
+    ensures ok { IfOk result
+        (λ texts. AreLists (names_of names.now) (R.remaining input.old) (texts_of texts.items)) }
+    ensures err { IfErr result (λ stop. status_of stop ≡ 3) }
+{
+    if names.is_empty() {
+        return read_input(alloc, input);
+    }
+    if names.len() > MOST_FILES {
+        return Err(Stop::TooManyFiles);
+    }
+    read_named(rt, alloc, names)
+}

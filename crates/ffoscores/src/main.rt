@@ -1,0 +1,25 @@
+//! The program `ffoscores`: hands arguments, streams and allocator to `program_at`.
+#![tactic(auto)]
+
+mod endings;
+mod inputs;
+mod programs;
+mod stops;
+#[cfg(test)]
+mod tests;
+
+use crate::endings::{Ended, program_at};
+use std::env::Env;
+use std::{env, io};
+
+// The words of the command line, the program's name first.
+fn words_of(rt: &(impl Env + AllocGlobal)) -> io::Result<Vec<String>> {
+    let words = env::args(rt)?.collect(rt.alloc())?;
+    Ok(words)
+}
+
+fn main(rt: HostRuntime) -> Ended {
+    let (mut input, mut output, mut errors) = (rt.stdin(), rt.stdout(), rt.stderr());
+    let words = words_of(&rt);
+    program_at(&rt, rt.alloc(), words, &mut input, &mut output, &mut errors)
+}

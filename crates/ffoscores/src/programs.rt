@@ -1,0 +1,183 @@
+//! The program `ffoscores`.
+
+ghost use Rattle.std.specs.Prelude.{◌≡◌, ◌≢◌, ◌⊎◌, true, false, map, IfErr, IfOk, IsOkAnd, OnErr, OnOk};
+ghost use Rattle.std.specs.Io.KnownBytes.{Appends};
+ghost use Rattle.clap.specs.Words.{kind_of};
+ghost use Rattle.score_lists.specs.Lines.{AppendsFront, lists_right, lists_text, texts_of};
+ghost use Rattle.suite_solver.specs.CommandLine.{AsksForText, IsTakenBy, IsTextKind, ffoscores, names_of};
+ghost use Rattle.ffoscores.specs.Programs.{IsAnswered, IsBegun, Prints, Stops};
+ghost use Rattle.ffoscores.specs.Stops.{status_of};
+
+use crate::inputs::read_lists;
+use crate::stops::{Stop, words_stop};
+use bound_table::BoundTable;
+use clap::error::ErrorKind;
+use score_lists::write_lists;
+use std::alloc::{AllocError, Global};
+use std::io;
+use std::io::{Read, Write};
+use std::rt::Files;
+use suite_solver::{ListOptions, OptionFault, Settings, list_options};
+
+// Prints lists again with every move's score, over one table, and tells whether nothing is wrong in them.
+fn print_lists<W: Write>(
+    alloc: Global,
+    settings: &Settings,
+    texts: &[Vec<u8>],
+    output: &mut W,
+) -> Result<bool, Stop<'static>>
+    ensures written { OnOk result (Appends (W.contents output.old) (W.contents output.new)
+        (lists_text settings.now.scoring settings.now.max_empties (texts_of texts.now))) }
+    ensures front { OnErr result (AppendsFront (W.contents output.old) (W.contents output.new)
+        (lists_text settings.now.scoring settings.now.max_empties (texts_of texts.now))) }
+    ensures right { IfOk result (λ right. right
+        ≡ lists_right settings.now.scoring settings.now.max_empties (texts_of texts.now)) }
+    ensures status { IfErr result (λ stop. status_of stop ≡ 3) }
+{
+    let entries = settings.table() as usize;
+    let Ok(table) = BoundTable::new(alloc, entries, settings.scoring()) else {
+        return Err(Stop::Memory);
+    };
+    match write_lists(&table, alloc, output, settings.max_empties(), texts) {
+        Ok(right) => Ok(right),
+        Err(fault) => Err(Stop::from(fault)),
+    }
+}
+
+// Reads the lists that are asked for, and prints them again. The answer is whether nothing is wrong in them.
+fn carry_out<'a, T: Files, R: Read, W: Write>(
+    rt: &T,
+    alloc: Global,
+    asked: &'a ListOptions,
+    input: &mut R,
+    output: &mut W,
+) -> Result<bool, Stop<'a>>
+    ensures printed { IfOk result
+        (Prints asked.now.settings (names_of asked.now.files.items)
+        (R.remaining input.old) (W.contents output.old) (W.contents output.new)) }
+    ensures stopped { OnErr result
+        (Stops asked.now.settings (names_of asked.now.files.items)
+        (R.remaining input.old) (W.contents output.old) (W.contents output.new)) }
+    ensures status { IfErr result (λ stop. status_of stop ≡ 3) }
+{
+    let texts = read_lists(rt, alloc, &asked.files, input)?;
+    print_lists(alloc, &asked.settings, &texts, output)
+}
+
+// Tells what ends the program, and gives its status. A standard error that fails changes nothing.
+fn tell_end<E: Write>(stop: &Stop<'_>, errors: &mut E) -> u8
+    ensures { result ≡ status_of stop.now }
+{
+    let _ = stop.tell(errors);
+    stop.status()
+}
+
+// Writes help, or the version.
+fn write_help<W: Write>(output: &mut W, help: &clap::Error) -> io::Result<()> {
+    write!(output, "{help}")?;
+    output.flush()
+}
+
+// Prints what clap says in place of options: help and the version on standard output, why the words are refused on
+// standard error.
+fn explain<W: Write, E: Write>(error: &clap::Error, output: &mut W, errors: &mut E) -> u8
+    ensures status { (result ≡ 0) ⊎ ((result ≡ 2) ⊎ (result ≡ 3)) }
+    ensures helped { result ≢ 2 → IsTextKind (kind_of error.now) }
+    ensures unwritten { result ≡ 2 → W.contents output.new ≡ W.contents output.old }
+{
+    match error.kind() {
+        ErrorKind::DisplayHelp | ErrorKind::DisplayVersion => match write_help(output, error) {
+            Ok(()) => 0,
+            Err(_) => tell_end(&Stop::CannotWrite, errors),
+        },
+        _ => {
+            let _ = write!(errors, "{error}");
+            2
+        }
+    }
+}
+
+/// The whole program over the words of its command line, the program's name first: it reads the lists that they name, or
+/// standard input, and prints them again on standard output with every move's score, each line as soon as it is solved.
+/// The status is 0 where nothing is wrong in them, or where help or the version was asked for and printed; 1 where a line
+/// is refused or something is remarked; 2 where the command line is refused; 3 where a list can't be read, is too large or
+/// one of too many, where standard output can't be written, or where memory ran out. What ends it early is told on
+/// standard error, by one line or clap's text, and what was printed before stands; a standard error that fails changes
+/// nothing.
+pub(crate) fn program<T: Files, R: Read, W: Write, E: Write>(
+    rt: &T,
+    alloc: Global,
+    words: &[&str],
+    input: &mut R,
+    output: &mut W,
+    errors: &mut E,
+) -> u8
+    ensures status { (result ≡ 0) ⊎ ((result ≡ 1) ⊎ ((result ≡ 2) ⊎ (result ≡ 3))) }
+    // The lists that the words ask for were printed, and nothing is wrong in them; or help or the version was, which they
+    // ask for.
+    ensures right { result ≡ 0 → AsksForText ffoscores (map (λ word. word.now) words.now) ⊎
+        IsAnswered (map (λ word. word.now) words.now)
+        (R.remaining input.old) (W.contents output.old) (W.contents output.new) true }
+    ensures wrong { result ≡ 1 → IsAnswered (map (λ word. word.now) words.now)
+        (R.remaining input.old) (W.contents output.old) (W.contents output.new) false }
+    ensures taken { IsTakenBy ffoscores (map (λ word. word.now) words.now) → result ≢ 2 }
+    ensures refused { result ≡ 2 → W.contents output.new ≡ W.contents output.old }
+    // A front of what the words ask for was printed, or nothing.
+    ensures stopped { result ≡ 3 → AsksForText ffoscores (map (λ word. word.now) words.now) ⊎
+        ((W.contents output.new ≡ W.contents output.old) ⊎
+        IsBegun (map (λ word. word.now) words.now)
+        (R.remaining input.old) (W.contents output.old) (W.contents output.new)) }
+{
+    match list_options(alloc, words) {
+        Ok(asked) => match carry_out(rt, alloc, &asked, input, output) {
+            Ok(true) => 0,
+            Ok(false) => 1,
+            Err(stop) => tell_end(&stop, errors),
+        },
+        Err(OptionFault::Memory) => tell_end(&Stop::Memory, errors),
+        Err(OptionFault::Refused(error)) => explain(&error, output, errors),
+    }
+}
+
+// The words as slices.
+fn borrow_words(alloc: Global, words: &[String]) -> Result<Vec<&str>, AllocError>
+    ensures { IfOk result (λ all. map (λ word. word.now) all.items ≡ names_of words.now) }
+{
+    let mut borrowed = Vec::new(alloc);
+    for word in words {
+        borrowed.push(word.as_str())?;
+    }
+    Ok(borrowed)
+}
+
+/// The whole program over the words as `env::args` gives them. Where a word is no text, the status is 2.
+pub(crate) fn program_of<T: Files, R: Read, W: Write, E: Write>(
+    rt: &T,
+    alloc: Global,
+    words: io::Result<Vec<String>>,
+    input: &mut R,
+    output: &mut W,
+    errors: &mut E,
+) -> u8
+    ensures status { (result ≡ 0) ⊎ ((result ≡ 1) ⊎ ((result ≡ 2) ⊎ (result ≡ 3))) }
+    ensures right { result ≡ 0 → IsOkAnd words (λ all.
+        AsksForText ffoscores (names_of all.items) ⊎ IsAnswered (names_of all.items)
+        (R.remaining input.old) (W.contents output.old) (W.contents output.new) true) }
+    ensures wrong { result ≡ 1 → IsOkAnd words (λ all. IsAnswered (names_of all.items)
+        (R.remaining input.old) (W.contents output.old) (W.contents output.new) false) }
+    ensures taken { IsOkAnd words (λ all. IsTakenBy ffoscores (names_of all.items)) → result ≢ 2 }
+    ensures refused { result ≡ 2 → W.contents output.new ≡ W.contents output.old }
+    ensures stopped { result ≡ 3 → (W.contents output.new ≡ W.contents output.old) ⊎
+        IsOkAnd words (λ all. AsksForText ffoscores (names_of all.items) ⊎
+        IsBegun (names_of all.items)
+        (R.remaining input.old) (W.contents output.old) (W.contents output.new)) }
+{
+    let words = match words {
+        Ok(words) => words,
+        Err(fault) => return tell_end(&words_stop(&fault), errors),
+    };
+    match borrow_words(alloc, &words) {
+        Ok(borrowed) => program(rt, alloc, &borrowed, input, output, errors),
+        Err(_) => tell_end(&Stop::Memory, errors),
+    }
+}

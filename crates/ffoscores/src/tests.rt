@@ -1,0 +1,339 @@
+//! Whole runs of the program: options, files, hostile texts, and streams that fail or never end.
+
+use crate::programs::program;
+use std::alloc::{AllocError, Global};
+use std::io::{Read, Write};
+use std::rt::Files;
+use std::test::Fail;
+use std::{fs, io};
+
+// The words of a command line with spaces between, standard input, and the status, standard output and standard error
+// that the program ends with.
+type Run<'a> = (&'a str, &'a [u8], u8, &'a [u8], &'a [u8]);
+
+// How a program ended.
+#[derive(Drop)]
+struct Ended {
+    status: u8,
+    output: Vec<u8>,
+    errors: Vec<u8>,
+}
+
+const NO_MEMORY: &[u8] = b"ffoscores: out of memory\n";
+
+const NO_INPUT: &[u8] = b"ffoscores: cannot read standard input\n";
+
+const NO_OUTPUT: &[u8] = b"ffoscores: cannot write standard output\n";
+
+const TOO_LARGE: &[u8] = b"ffoscores: file 1 is larger than 1048576 bytes\n";
+
+fn run<T: Files, R: Read>(
+    rt: &T,
+    alloc: Global,
+    line: &str,
+    input: &mut R,
+) -> Result<Ended, AllocError> {
+    let words: Vec<&str> = line.split(' ').collect(alloc)?;
+    let mut output = Vec::new(alloc);
+    let mut errors = Vec::new(alloc);
+    let status = program(rt, alloc, &words, input, &mut output, &mut errors);
+    Ok(Ended {
+        status,
+        output,
+        errors,
+    })
+}
+
+// Whether a program ended so. Where an allocation was refused, it has said so, and printed a front.
+fn ended_so(ended: &Ended, wanted: (u8, &[u8], &[u8])) -> Result<bool, AllocError> {
+    let output = ended.output.as_slice();
+    let found = (ended.status, output, ended.errors.as_slice());
+    if found != wanted && found == (3, output, NO_MEMORY) && wanted.1.starts_with(output) {
+        return Err(AllocError);
+    }
+    Ok(found == wanted)
+}
+
+fn ends_so<T: Files>(rt: &T, alloc: Global, wanted: &Run<'_>) -> Result<bool, AllocError> {
+    let (line, mut input, status, output, errors) = *wanted;
+    let ended = run(rt, alloc, line, &mut input)?;
+    ended_so(&ended, (status, output, errors))
+}
+
+// Two empty squares and one.
+const TWO: &[u8] = b"\
+-OXXXXX-XXXXXXXOXXXXXXXXXXXXXXXXXXXOXXXXXXXXXXXXXXXXXXXXXXXXXXXX X\n\
+-OOOOOOXXXXXXXXXXXXXXXXXXXXXXXXXXXXXXXXXXXXXXXXXXXXXXXXXXXXXXXXX O;PS:+1";
+
+const TWO_BY_WINNER: &[u8] = b"\
+-OXXXXX-XXXXXXXOXXXXXXXXXXXXXXXXXXXOXXXXXXXXXXXXXXXXXXXXXXXXXXXX X; H1:+62; A1:+52;\n\
+-OOOOOOXXXXXXXXXXXXXXXXXXXXXXXXXXXXXXXXXXXXXXXXXXXXXXXXXXXXXXXXX O; PS:-64; % PS:+01 is -64\n";
+
+const TWO_BY_SIGN: &[u8] = b"\
+-OXXXXX-XXXXXXXOXXXXXXXXXXXXXXXXXXXOXXXXXXXXXXXXXXXXXXXXXXXXXXXX X; A1:+01; H1:+01;\n\
+-OOOOOOXXXXXXXXXXXXXXXXXXXXXXXXXXXXXXXXXXXXXXXXXXXXXXXXXXXXXXXXX O; PS:-01; % PS:+01 is -01\n";
+
+const ONE_SOLVED: &[u8] = b"\
+% refused: 2 empties, limit 1: -OXXXXX-XXXXXXXOXXXXXXXXXXXXXXXXXXXOXXXXXXXXXXXXXXXXXXXXXXXXXXXX X\n\
+-OOOOOOXXXXXXXXXXXXXXXXXXXXXXXXXXXXXXXXXXXXXXXXXXXXXXXXXXXXXXXXX O; PS:-64; % PS:+01 is -64\n";
+
+const RUNS: &[Run] = &[
+    ("ffoscores", TWO, 1, TWO_BY_WINNER, b""),
+    ("ffoscores", TWO_BY_WINNER, 0, TWO_BY_WINNER, b""),
+    (
+        "ffoscores --table 0 --scoring sign",
+        TWO,
+        1,
+        TWO_BY_SIGN,
+        b"",
+    ),
+    ("ffoscores --max-empties=1", TWO, 1, ONE_SOLVED, b""),
+    ("ffoscores --version", TWO, 0, b"ffoscores 1.0.0\n", b""),
+    (
+        "ffoscores --table 4194305",
+        TWO,
+        2,
+        b"",
+        b"error: invalid value '4194305' for '--table <N>': 4194305 is not in 0..=4194304\n\n\
+For more information, try '--help'.\n",
+    ),
+    (
+        "ffoscores",
+        b"\xff\n\0\r\n -",
+        1,
+        b"% refused: bad square at column 1: \xff\n% refused: bad square at column 1: \0\n\
+% refused: board has 1 of 64 squares:  -\n",
+        b"",
+    ),
+];
+
+#[test]
+fn prints_what_is_asked_for(rt: HostRuntime) -> Result<(), Fail> {
+    for wanted in RUNS {
+        assert!(rt; ends_so(&rt, rt.alloc(), wanted)?);
+    }
+    Ok(())
+}
+
+const FILE_RUNS: &[Run] = &[
+    (
+        "ffoscores two.obf --scoring=sign",
+        b"-",
+        1,
+        TWO_BY_SIGN,
+        b"",
+    ),
+    (
+        "ffoscores right.obf blank.obf right.obf",
+        b"-",
+        0,
+        RIGHT_AND_RIGHT,
+        b"",
+    ),
+    (
+        "ffoscores two.obf no-such.obf",
+        TWO,
+        3,
+        b"",
+        b"ffoscores: cannot read no-such.obf\n",
+    ),
+    (
+        "ffoscores two.obf .",
+        TWO,
+        3,
+        b"",
+        b"ffoscores: cannot read .\n",
+    ),
+    (
+        "ffoscores two.obf large.obf",
+        b"",
+        3,
+        b"",
+        b"ffoscores: file 2 is larger than 1048576 bytes\n",
+    ),
+];
+
+const RIGHT: &[u8] = b"-OOOOOOXXXXXXXXXXXXXXXXXXXXXXXXXXXXXXXXXXXXXXXXXXXXXXXXXXXXXXXXX X; A1:+64;";
+
+const RIGHT_AND_RIGHT: &[u8] = b"\
+-OOOOOOXXXXXXXXXXXXXXXXXXXXXXXXXXXXXXXXXXXXXXXXXXXXXXXXXXXXXXXXX X; A1:+64;\n\n\
+-OOOOOOXXXXXXXXXXXXXXXXXXXXXXXXXXXXXXXXXXXXXXXXXXXXXXXXXXXXXXXXX X; A1:+64;\n";
+
+fn write_files<T: Files>(rt: &T, alloc: Global) -> Result<(), Fail> {
+    fs::write(rt, "two.obf", TWO)?;
+    fs::write(rt, "right.obf", RIGHT)?;
+    fs::write(rt, "blank.obf", b"\r\n")?;
+    fs::write(rt, "large.obf", &vec![in alloc; b' '; 1_048_577]?)?;
+    Ok(())
+}
+
+// How a run ends on a blank line for each of so many names of one file.
+fn ends_on_names<T: Files>(
+    rt: &T,
+    alloc: Global,
+    names: usize,
+    wanted: (u8, &[u8], &[u8]),
+) -> Result<bool, AllocError> {
+    let mut line = String::from_str(alloc, "ffoscores")?;
+    for _ in 0..names {
+        line.push_str(" blank.obf")?;
+    }
+    let mut input = TWO;
+    let ended = run(rt, alloc, &line, &mut input)?;
+    ended_so(&ended, wanted)
+}
+
+#[test]
+fn reads_files(rt: HostRuntime) -> Result<(), Fail> {
+    write_files(&rt, rt.alloc())?;
+    for wanted in FILE_RUNS {
+        assert!(rt; ends_so(&rt, rt.alloc(), wanted)?);
+    }
+    assert!(rt; ends_on_names(&rt, rt.alloc(), 64, (0, &[b'\n'; 64], b""))?);
+    let many = (
+        3,
+        b"".as_slice(),
+        b"ffoscores: more than 64 files\n".as_slice(),
+    );
+    assert!(rt; ends_on_names(&rt, rt.alloc(), 65, many)?);
+    for name in ["two.obf", "right.obf", "blank.obf", "large.obf"] {
+        fs::remove_file(&rt, name)?;
+    }
+    Ok(())
+}
+
+// Whether a line as long as a file may be is printed behind these bytes with this status, and one byte more refused.
+fn is_measured<T: Files>(
+    rt: &T,
+    alloc: Global,
+    byte: u8,
+    status: u8,
+    front: &[u8],
+) -> Result<bool, AllocError> {
+    let mut text = vec![in alloc; byte; 1_048_576]?;
+    let mut printed = Vec::new(alloc);
+    printed.extend_from_slice(front)?;
+    printed.extend_from_slice(&text)?;
+    printed.push(b'\n')?;
+    let fits = ends_so(rt, alloc, &("ffoscores", &text, status, &printed, b""))?;
+    text.push(byte)?;
+    Ok(fits && ends_so(rt, alloc, &("ffoscores", &text, 3, b"", TOO_LARGE))?)
+}
+
+#[test]
+fn measures_input(rt: HostRuntime) -> Result<(), Fail> {
+    assert!(rt; is_measured(&rt, rt.alloc(), b' ', 0, b"")?);
+    assert!(rt;
+        is_measured(
+            &rt,
+            rt.alloc(),
+            0,
+            1,
+            b"% refused: bad square at column 1: "
+        )?
+    );
+    Ok(())
+}
+
+// A reader that gives blanks without end, and counts them; or, where calls are left, fails after so many.
+#[derive(Drop)]
+struct BlankReader {
+    given: u64,
+    calls_left: u32,
+}
+
+impl Read for BlankReader {
+    fn read(&mut self, buf: &mut [u8]) -> io::Result<usize> {
+        if self.calls_left == 0 {
+            return Err(io::Error::from(io::ErrorKind::BrokenPipe));
+        }
+        self.calls_left -= 1;
+        buf.fill(b' ');
+        self.given = self.given.wrapping_add(buf.len() as u64);
+        Ok(buf.len())
+    }
+}
+
+#[test]
+fn tells_what_it_cannot_read(rt: HostRuntime) -> Result<(), Fail> {
+    let mut endless = BlankReader {
+        given: 0,
+        calls_left: u32::MAX,
+    };
+    let ended = run(&rt, rt.alloc(), "ffoscores", &mut endless)?;
+    assert!(rt; ended_so(&ended, (3, b"", TOO_LARGE))? && endless.given == 1_048_577);
+    for calls_left in 0..3 {
+        let mut failing = BlankReader {
+            given: 0,
+            calls_left,
+        };
+        let ended = run(&rt, rt.alloc(), "ffoscores", &mut failing)?;
+        assert!(rt; ended_so(&ended, (3, b"", NO_INPUT))?);
+    }
+    Ok(())
+}
+
+// A writer that takes at most so many bytes, and then fails; where it takes all, it can't pass them on.
+#[derive(Drop)]
+struct FullWriter {
+    room: usize,
+}
+
+impl Write for FullWriter {
+    fn write(&mut self, buf: &[u8]) -> io::Result<usize> {
+        if self.room == 0 {
+            return Err(io::Error::from(io::ErrorKind::StorageFull));
+        }
+        let taken = buf.len().min(self.room);
+        self.room -= taken;
+        Ok(taken)
+    }
+
+    fn flush(&mut self) -> io::Result<()> {
+        Err(io::Error::from(io::ErrorKind::StorageFull))
+    }
+}
+
+// Whether a run ends so whose standard output has room for so many bytes.
+fn ends_full<T: Files>(rt: &T, alloc: Global, line: &str, room: usize) -> Result<bool, AllocError> {
+    let words: Vec<&str> = line.split(' ').collect(alloc)?;
+    let (mut input, mut output, mut errors) = (TWO, FullWriter { room }, Vec::new(alloc));
+    let status = program(rt, alloc, &words, &mut input, &mut output, &mut errors);
+    let ended = Ended {
+        status,
+        output: Vec::new(alloc),
+        errors,
+    };
+    ended_so(&ended, (3, b"", NO_OUTPUT))
+}
+
+#[test]
+fn tells_what_it_cannot_write(rt: HostRuntime) -> Result<(), Fail> {
+    for room in [0, 1, 87, 88, 10_000] {
+        assert!(rt; ends_full(&rt, rt.alloc(), "ffoscores", room)?);
+        assert!(rt; ends_full(&rt, rt.alloc(), "ffoscores --help", room)?);
+    }
+    Ok(())
+}
+
+// A standard error that fails, whenever it does, changes no status.
+#[test]
+fn ends_though_errors_fail(rt: HostRuntime) {
+    for room in 0..3 {
+        let mut input = BlankReader {
+            given: 0,
+            calls_left: 0,
+        };
+        let (mut output, mut errors) = (Vec::new(rt.alloc()), FullWriter { room });
+        let words = ["ffoscores"];
+        let status = program(
+            &rt,
+            rt.alloc(),
+            &words,
+            &mut input,
+            &mut output,
+            &mut errors,
+        );
+        assert!(rt; status == 3 && output.is_empty());
+    }
+}
