@@ -18,7 +18,7 @@ pub record Prints (c : Configuration) (names : List (List ℕ)) (given old new :
   pub texts : List (List ℕ)
   pub lists : AreLists names given texts
   pub written : Appends old new (lists_text c.scoring c.max_empties texts)
-  pub right : right ≡ lists_right c.scoring c.max_empties texts
+  pub told : right ≡ lists_right c.scoring c.max_empties texts
 
 -- a front of that was printed
 pub record PrintsFront (c : Configuration) (names : List (List ℕ)) (given old new : Option (List ℕ)) : Type 0 where

@@ -1,6 +1,6 @@
 //! Reads the lists.
 
-ghost use Rattle.std.specs.Prelude.{◌≡◌, ◌≤◌, All, IfErr, IfOk, IfSome, length, take, vec_len};
+ghost use Rattle.std.specs.Prelude.{◌≡◌, ◌≤◌, [], All, IfErr, IfOk, IfSome, length, take};
 ghost use Rattle.suite_solver.specs.CommandLine.{names_of};
 ghost use Rattle.score_lists.specs.Lines.{texts_of};
 ghost use Rattle.ffoscores.specs.Programs.{AreLists};
@@ -34,7 +34,7 @@ fn read_whole<'a, R: Read>(
     number: usize,
     name: &'a str,
 ) -> Result<Vec<u8>, Stop<'a>>
-    ensures small { IfOk result (λ text. vec_len text ≤ 1048576) }
+    ensures small { IfOk result (λ text. length text.items ≤ 1048576) }
     ensures whole { IfOk result
         (λ text. IfSome (R.remaining reader.old) (λ all. text.items ≡ all)) }
     ensures err { IfErr result (λ stop. status_of stop ≡ 3) }
@@ -57,7 +57,7 @@ fn read_file<'a, T: Files>(
     number: usize,
     name: &'a str,
 ) -> Result<Vec<u8>, Stop<'a>>
-    ensures small { IfOk result (λ text. vec_len text ≤ 1048576) }
+    ensures small { IfOk result (λ text. length text.items ≤ 1048576) }
     ensures err { IfErr result (λ stop. status_of stop ≡ 3) }
 {
     match fs::open(rt, name) {
@@ -84,7 +84,7 @@ fn read_named<'a, T: Files>(
     alloc: Global,
     names: &'a [String],
 ) -> Result<Vec<Vec<u8>>, Stop<'a>>
-    ensures len { IfOk result (λ texts. vec_len texts ≡ length names.now) }
+    ensures len { IfOk result (λ texts. length texts.items ≡ length names.now) }
     ensures small { IfOk result (λ texts. All (λ text. length text ≤ 1048576) (texts_of texts.items)) }
     ensures err { IfErr result (λ stop. status_of stop ≡ 3) }
 {
