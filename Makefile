@@ -6,7 +6,7 @@ all: ## proves and builds the program and the library for C
 check: ## tests all that ships; the last line counts what passed
 	@scripts/check
 
-gate: ## what a change has to pass: make check, and then rt ci
+gate: ## what a change has to pass: rt ci, and then make check
 	@.ci/run
 
 install: ## lays program, library, manual pages and completions below PREFIX (/usr/local), in DESTDIR
