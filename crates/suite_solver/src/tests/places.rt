@@ -178,3 +178,26 @@ fn follows_links(rt: HostRuntime) -> Result<(), Fail> {
     assert!(rt; fs::symlink_metadata(&rt, "link.book")?.is_symlink());
     remove_all(&rt, &["far.book", "link.book"])
 }
+
+// A book, and a file beside it that another program makes.
+const LATE: Held = &[("late.book", Some(OLD)), ("late.book.0.part", Some(OLD))];
+
+// Whether an empty book is written, where another program makes the file beside after a name was found for it.
+fn is_put_late<T: Files>(rt: &T, alloc: Global, name: &str, beside: &str) -> Result<bool, Fail> {
+    let name = Some(String::from_str(alloc, name)?);
+    let ready = ReadyBook::of(rt, alloc, &name, &Book::new(alloc, Scoring::Winner))?;
+    fs::write(rt, beside, OLD)?;
+    match ready {
+        Some(ready) => Ok(ready.write(rt).is_ok()),
+        None => Ok(true),
+    }
+}
+
+// A file that another program makes beside is left alone, and so is the book.
+#[test]
+fn leaves_files_of_others(rt: HostRuntime) -> Result<(), Fail> {
+    fs::write(&rt, "late.book", OLD)?;
+    assert!(rt; !is_put_late(&rt, rt.alloc(), "late.book", "late.book.0.part")?);
+    assert!(rt; hold(&rt, LATE)?);
+    remove_all(&rt, &["late.book", "late.book.0.part"])
+}
