@@ -85,6 +85,25 @@ class Calls(unittest.TestCase):
         self.assertEqual(self.solver.play(START, "d3"), after)
         self.assertEqual(self.solver.play(START, 19), after)
 
+    def test_scoring(self):
+        self.assertEqual([Solver(scoring=number).scoring for number in range(3)], list(Scoring))
+
+    def test_table_is_for_the_most_empty_squares(self):
+        asked = []
+
+        class Library:
+            def ffosolve_solve_all(self, positions, count, scoring, entries, *others):
+                asked.append(entries)
+                return 0
+
+        for solver in (self.solver, Solver(entries=7)):
+            solver._library = Library()
+            solver.solve_all([POSITION, Position(0xFFF, 0), POSITION])
+        self.assertEqual(asked, [ffosolve.table_entries(52), 7])
+
+    def test_empty_squares(self):
+        self.assertEqual((POSITION.empties, POSITION.passed().empties, START.empties), (2, 2, 60))
+
     def test_versions(self):
         self.assertEqual(self.solver.library_version, ffosolve.__version__)
 
@@ -118,6 +137,21 @@ class Refusals(unittest.TestCase):
         self.assertEqual(Solver(entries=ffosolve.MOST_ENTRIES).solve(POSITION), ANSWER)
         with self.assertRaises(ValueError):
             Solver(entries=-1)
+
+    def test_reasons(self):
+        """The texts and numbers of ffosolve.h; all but want of memory are errors of values."""
+        for refusal, number, reason in (
+            (ffosolve.UnknownScoring, 1, "no scoring has the number"),
+            (ffosolve.TooManyEntries, 2, "more than 4194304 table entries"),
+            (ffosolve.UnequalLengths, 3, "not as many answers as positions"),
+            (ffosolve.SharedSquare, 4, "the masks share a square"),
+            (ffosolve.TooManyEmpties, 5, "more than 60 empty squares"),
+            (ffosolve.NoMove, 6, "no move"),
+            (ffosolve.NoMemory, 7, "out of memory"),
+        ):
+            self.assertEqual((refusal.status, str(refusal()), refusal().index), (number, reason, None))
+            self.assertEqual((str(refusal(1)), refusal(1).index), (f"position 2: {reason}", 1))
+            self.assertTrue(issubclass(refusal, MemoryError if number == 7 else ValueError))
 
     def test_squares(self):
         for square in ("A1", 0, 64, 255, 256, -1, 256 + 19):
@@ -160,6 +194,15 @@ class Obf(unittest.TestCase):
         self.assertEqual(Position.from_obf("  " + other), POSITION)
         self.assertEqual(Position.from_obf(CORNERS.replace(" X;", " O;")), POSITION.passed())
         self.assertEqual(Position.from_obf(POSITION.to_obf()), POSITION)
+
+    def test_letters(self):
+        for letters, position in (("Xx*Bb", Position(1, 0)), ("OoWw", Position(0, 1)), ("-.", Position(0, 0))):
+            for letter in letters:
+                self.assertEqual(Position.from_obf(letter + "-" * 63 + "X"), position, letter)
+        for letters, position in (("Xx*Bb", Position(1, 2)), ("OoWw", Position(2, 1))):
+            for letter in letters:
+                self.assertEqual(Position.from_obf("XO" + "-" * 62 + letter), position, letter)
+        self.assertEqual(Position(1, 2).to_obf(), "XO" + "-" * 62 + " X;")
 
     def test_refuses(self):
         for text, told in (

@@ -83,6 +83,73 @@ fn refuses() {
 }
 
 #[test]
+fn says_why() {
+    for (error, why) in [
+        (Error::UnknownScoring, "no scoring has the number"),
+        (Error::TooManyEntries, "more than 4194304 table entries"),
+        (Error::SharedSquare, "the masks share a square"),
+        (Error::TooManyEmpties { index: 0 }, "position 1: more than 60 empty squares"),
+        (Error::NoMove, "no move"),
+        (Error::NoMemory, "out of memory"),
+    ] {
+        assert_eq!(error.to_string(), why);
+    }
+    for (error, why) in [
+        (ObfError::ShortBoard { squares: 3 }, "board has 3 of 64 squares"),
+        (ObfError::BadSquare { column: 4 }, "bad square at column 4"),
+        (ObfError::BadSide { column: 65 }, "bad side at column 65"),
+    ] {
+        assert_eq!(error.to_string(), why);
+    }
+    assert_eq!("?".parse::<Square>().map_err(|error| error.to_string()), Err("no square has the name".to_string()));
+}
+
+#[test]
+fn answers_and_positions_differ_in_each_member() {
+    for other in [
+        Answer { score: 61, ..ANSWER },
+        Answer { best: Best::Pass, ..ANSWER },
+        Answer { best: Best::Over, ..ANSWER },
+        Answer { best: Best::Moves(Squares(0x81)), ..ANSWER },
+    ] {
+        assert!(other != ANSWER);
+    }
+    for other in [position(1, 4), position(3, 0), position(2, 1)] {
+        assert!(other != position(1, 2));
+    }
+}
+
+#[test]
+fn tells_the_discs_of_positions_and_the_squares_of_sets() {
+    let two = position(1, 2);
+    assert_eq!([two.own(), two.opp(), two.empties()], [Squares(1), Squares(2), Squares(!3)]);
+    assert_eq!(two.passed(), position(2, 1));
+    assert_eq!(two.to_obf(), format!("XO{} X;", "-".repeat(62)));
+    let set = Squares(0x81);
+    assert_eq!((set.mask(), set.len(), set.is_empty(), set.to_string()), (0x81, 2, false, "A1,H1".to_string()));
+    assert_eq!((0..64).filter_map(Square::new).filter(|each| set.contains(*each)).count(), 2);
+    assert!(set.contains(square("A1")) && set.contains(square("H1")));
+    assert_eq!((Squares(0).len(), Squares(0).is_empty(), Squares(0).to_string()), (0, true, String::new()));
+    assert_eq!([0, 1, 2].map(Scoring::try_from), [Ok(Scoring::Winner), Ok(Scoring::Discs), Ok(Scoring::Sign)]);
+}
+
+#[test]
+fn reads_each_letter() {
+    let board = |first: char, side: char| Position::from_obf(&format!("{first}O{} {side}", "-".repeat(62)));
+    for black in "Xx*Bb".chars() {
+        assert_eq!(board(black, 'X'), Ok(position(1, 2)), "{black}");
+        assert_eq!(board('X', black), Ok(position(1, 2)), "{black}");
+    }
+    for white in "OoWw".chars() {
+        assert_eq!(board(white, 'X'), Ok(position(0, 3)), "{white}");
+        assert_eq!(board('X', white), Ok(position(2, 1)), "{white}");
+    }
+    for empty in "-.".chars() {
+        assert_eq!(board(empty, 'X'), Ok(position(0, 2)), "{empty}");
+    }
+}
+
+#[test]
 fn reads_obf() {
     assert_eq!(Position::from_obf(LINE), Ok(corners()));
     assert_eq!(format!("  {}", LINE.replace('X', "*").replace('O', "w").replace('-', ".")).parse(), Ok(corners()));
