@@ -1,5 +1,6 @@
 -- What a position's moves are worth, over two masks and by the rules.
-use Rattle.std.proofs.Common.{◌≡◌, ◌≢◌, ℕ, ℤ, neg_ℤ, List, [], ◌∷◌, All, refl, sym, subst, inl, inr, arith}
+use Rattle.std.proofs.Common.{◌≡◌, ◌≢◌, ℕ, ℤ, neg_ℤ, List, [], ◌∷◌, All, refl, sym, subst, inl, inr}
+use Rattle.std.proofs.Common.{arith}
 use Rattle.std.proofs.lemmas.Int.{ints}
 use Rattle.std.proofs.lemmas.Bool.{cases_eq}
 use Rattle.std.proofs.lemmas.List.Elements.{All-cons, All-nil}
@@ -8,8 +9,10 @@ use Rattle.othello_rules.specs.declared.scorings.Scoring.{Scoring}
 use Rattle.othello_rules.specs.Masks.{squares_of}
 use Rattle.othello_rules.specs.Rules as rules
 use Rattle.othello_rules.specs.Solution.{IsScore}
-use Rattle.othello_bits.specs.Discs.{Discs, position_of, moves_of, pass_of, play_of, value_of, HasNoMove}
-use Rattle.othello_bits.proofs.GameLaws.{can_go, can_reply, cannot_move, cannot_reply, value_play, value_score}
+use Rattle.othello_bits.specs.Discs.{Discs, position_of, moves_of, pass_of, play_of, value_of}
+use Rattle.othello_bits.specs.Discs.{HasNoMove}
+use Rattle.othello_bits.proofs.GameLaws.{can_go, can_reply, cannot_move, cannot_reply, value_play}
+use Rattle.othello_bits.proofs.GameLaws.{value_score}
 use Rattle.othello_bits.proofs.Wheres.{filter_again}
 use Rattle.obf_text.specs.Fields.{Field}
 use Rattle.obf_text.specs.declared.entries.ListedMove.TheVariants.{At, Pass, Over}
@@ -27,21 +30,25 @@ scored_of g p q = (At q, neg_ℤ (value_of g (play_of p q)))
 scored_is : (g : Scoring) (p : Discs) (q : ℕ) → scored_of g p q ≡ scored g (position_of Black p) q
 scored_is g p q = λ k. (At q, neg_ℤ (value_play g p q k))
 
-pub of_moves : (g : Scoring) (p : Discs) → moves_of p ≢ 0 → score_fields_of g p ≡ put_all (scored_of g p) (squares_of (moves_of p))
+pub of_moves : (g : Scoring) (p : Discs) → moves_of p ≢ 0
+    → score_fields_of g p ≡ put_all (scored_of g p) (squares_of (moves_of p))
 unfolding score_fields_of score_fields move_scores
 of_moves g p some =
     rw (can_go p some) (λ k. put_all (λ q. sym (scored_is g p q) k) (sym (squares_are p) k))
 
-pub of_pass : (g : Scoring) (p : Discs) → HasNoMove p → (HasNoMove (pass_of p) → ⊥) → score_fields_of g p ≡ (Pass, value_of g p) ∷ []
+pub of_pass : (g : Scoring) (p : Discs) → HasNoMove p → (HasNoMove (pass_of p) → ⊥)
+    → score_fields_of g p ≡ (Pass, value_of g p) ∷ []
 unfolding score_fields_of score_fields value_of
 of_pass g p none reply = rw (cannot_move p none, can_reply p reply) refl
 
-pub of_over : (g : Scoring) (p : Discs) → HasNoMove p → HasNoMove (pass_of p) → score_fields_of g p ≡ (Over, value_of g p) ∷ []
+pub of_over : (g : Scoring) (p : Discs) → HasNoMove p → HasNoMove (pass_of p)
+    → score_fields_of g p ≡ (Over, value_of g p) ∷ []
 unfolding score_fields_of score_fields value_of
 of_over g p none over = rw (cannot_move p none, cannot_reply p over) refl
 
 pub negated : (z : ℤ) → IsScore z → IsScore (neg_ℤ z)
-negated z h = let l = h.low in let m = h.high in record { low = omega (arith, ints); high = omega (arith, ints) }
+negated z h = let l = h.low in let m = h.high in
+    record { low = omega (arith, ints); high = omega (arith, ints) }
 
 abbrev pub AreInRange : List Field → Type 0
 AreInRange fields = All (λ f. IsScore f.1) fields
@@ -51,10 +58,18 @@ in_range g p =
     elim (cases_eq (moves_of p) 0) [
       | inr some ↦
           subst AreInRange (sym (of_moves g p some))
-          (all_put (λ f. IsScore f.1) (scored_of g p) [] (squares_of (moves_of p)) (All-nil (λ (f : Field). IsScore f.1)) (λ q. negated (value_of g (play_of p q)) (value_score g (play_of p q))))
+          (all_put (λ f. IsScore f.1) (scored_of g p) [] (squares_of (moves_of p))
+          (All-nil (λ (f : Field). IsScore f.1))
+          (λ q. negated (value_of g (play_of p q)) (value_score g (play_of p q))))
       | inl none ↦
           elim (cases_eq (moves_of (pass_of p)) 0) [
-            | inr reply ↦ subst AreInRange (sym (of_pass g p none reply)) (All-cons (λ (f : Field). IsScore f.1) (Pass, value_of g p) [] (value_score g p) (All-nil (λ (f : Field). IsScore f.1)))
-            | inl over ↦ subst AreInRange (sym (of_over g p none over)) (All-cons (λ (f : Field). IsScore f.1) (Over, value_of g p) [] (value_score g p) (All-nil (λ (f : Field). IsScore f.1)))
+            | inr reply ↦
+                subst AreInRange (sym (of_pass g p none reply))
+                (All-cons (λ (f : Field). IsScore f.1) (Pass, value_of g p) [] (value_score g p)
+                (All-nil (λ (f : Field). IsScore f.1)))
+            | inl over ↦
+                subst AreInRange (sym (of_over g p none over))
+                (All-cons (λ (f : Field). IsScore f.1) (Over, value_of g p) [] (value_score g p)
+                (All-nil (λ (f : Field). IsScore f.1)))
           ]
     ]

@@ -1,12 +1,13 @@
 //! Worked positions: every move, a pass and the end of the game, under each scoring.
 
 use crate::score_moves;
-use bound_table::{BoundTable, NoTable};
+use bound_table::{BoundTable, NoTable, TableFault};
 use endgame_search::Task;
 use obf_text::ListedMove;
 use othello_bits::Pos;
 use othello_rules::{Scoring, Square};
 use std::process::Abort;
+use std::test::Fail;
 
 // -OXXXXX- XXXXXXXO XXXXXXXX XXXXXXXX XXXOXXXX and three rows XXXXXXXX
 const UNEQUAL_CORNERS: (u64, u64) = (!0x8_0000_8083, 0x8_0000_8002);
@@ -27,30 +28,34 @@ fn is_scored(
     position: Pos,
     scoring: Scoring,
     fields: &[(ListedMove, i8)],
-) -> bool {
+) -> Result<bool, TableFault> {
     let task = Task::new(position, 60, scoring).expect(rt, "at most 60 empty squares");
-    let table = BoundTable::new(rt.alloc(), 16, scoring).expect(rt, "memory");
-    score_moves(&NoTable::new(scoring), task).fields() == fields
-        && score_moves(&table, task).fields() == fields
+    let table = BoundTable::new(rt.alloc(), 16, scoring)?;
+    Ok(
+        score_moves(&NoTable::new(scoring), task).fields() == fields
+            && score_moves(&table, task).fields() == fields,
+    )
 }
 
 #[test]
-fn scores_each_move(rt: HostRuntime) {
+fn scores_each_move(rt: HostRuntime) -> Result<(), Fail> {
     let position = pos_of(&rt, UNEQUAL_CORNERS);
     let a1 = ListedMove::At(Square::at(0));
     let h1 = ListedMove::At(Square::at(7));
     assert!(rt;
-        is_scored(&rt, position, Scoring::Winner, &[(h1, 62), (a1, 52)])
-            && is_scored(&rt, position, Scoring::Sign, &[(a1, 1), (h1, 1)])
+        is_scored(&rt, position, Scoring::Winner, &[(h1, 62), (a1, 52)])?
+            && is_scored(&rt, position, Scoring::Sign, &[(a1, 1), (h1, 1)])?
     );
+    Ok(())
 }
 
 #[test]
-fn scores_a_pass_and_the_end(rt: HostRuntime) {
+fn scores_a_pass_and_the_end(rt: HostRuntime) -> Result<(), Fail> {
     let passes = pos_of(&rt, LAST_CORNER).pass();
     let level = pos_of(&rt, HALVES);
     assert!(rt;
-        is_scored(&rt, passes, Scoring::Winner, &[(ListedMove::Pass, -64)])
-            && is_scored(&rt, level, Scoring::Discs, &[(ListedMove::Over, 0)])
+        is_scored(&rt, passes, Scoring::Winner, &[(ListedMove::Pass, -64)])?
+            && is_scored(&rt, level, Scoring::Discs, &[(ListedMove::Over, 0)])?
     );
+    Ok(())
 }
