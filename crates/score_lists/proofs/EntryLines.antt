@@ -1,5 +1,6 @@
--- What comes of a position that was turned into two masks.
-use Rattle.std.proofs.Common.{◌≡◌, ◌≤◌, ◌<◌, ℕ, ◌++◌, ◌∷◌, [], List, Bool, length, true, false, refl, sym, ap, ◌∙◌, arith, inl, inr}
+-- What is written for a position that was turned into two masks, and whether its line is right.
+use Rattle.std.proofs.Common.{◌≡◌, ◌≤◌, ◌<◌, ℕ, ◌++◌, ◌∷◌, [], List, Bool, length, true, false}
+use Rattle.std.proofs.Common.{refl, sym, ap, ◌∙◌, arith, inl, inr}
 use Rattle.std.specs.Prelude.{nat_lt, not}
 use Rattle.std.proofs.lemmas.Bool.{cases_lt, false_from_ne_true, lt-ltb, ltb-true}
 use Rattle.othello_rules.specs.declared.scorings.Scoring.{Scoring}
@@ -17,25 +18,34 @@ use Rattle.move_scores.specs.Scores.{score_fields, score_fields_of}
 use Rattle.move_scores.proofs.EitherSide.{score_fields-discs_of}
 
 pub whole_from : (P : Position) (p : Discs) → position_of P.mover p ≡ P → length P.cells ≡ 64
-whole_from P p meaning = ap (λ (Q : Position). length Q.cells) (sym meaning) ∙ length-cells_of P.mover p
+whole_from P p meaning =
+    ap (λ (Q : Position). length Q.cells) (sym meaning) ∙ length-cells_of P.mover p
 
-module _ (g : Scoring) (limit : ℕ) (line : List ℕ) (entry : Entry) (p : Discs) (whole : length entry.position.cells ≡ 64) (e : p ≡ discs_of entry.position) where
+module _ (g : Scoring) (limit : ℕ) (line : List ℕ) (entry : Entry) (p : Discs)
+    (whole : length entry.position.cells ≡ 64) (e : p ≡ discs_of entry.position) where
   count : empties_of p ≡ empties entry.position
   count = ap empties_of e ∙ empties-discs_of entry.position whole
 
   within : empties_of p ≤ limit → nat_lt limit (empties entry.position) ≡ false
   within few =
       let c = count in
-      false_from_ne_true (nat_lt limit (empties entry.position)) (λ t. let more : limit < empties entry.position = ltb-true limit (empties entry.position) t in omega (arith, c))
+      false_from_ne_true (nat_lt limit (empties entry.position))
+      (λ t.
+      let more : limit < empties entry.position = ltb-true limit (empties entry.position) t in
+      omega (arith, c))
 
   beyond : (empties_of p ≤ limit → ⊥) → nat_lt limit (empties entry.position) ≡ true
   beyond many =
       elim (cases_lt limit (empties_of p)) [
-        | inl l ↦ (let c = count in let above : limit < empties entry.position = omega (arith, c) in lt-ltb limit (empties entry.position) above)
+        | inl l ↦
+            (let c = count in
+            let above : limit < empties entry.position = omega (arith, c) in
+            lt-ltb limit (empties entry.position) above)
         | inr h ↦ absurd (many h)
       ]
 
-  exact : (scores : List Field) → scores ≡ score_fields_of g p → scores ≡ score_fields g entry.position
+  exact : (scores : List Field) → scores ≡ score_fields_of g p
+      → scores ≡ score_fields g entry.position
   exact scores s = s ∙ ap (score_fields_of g) e ∙ score_fields-discs_of g entry.position whole
 
   pub out_scored : (scores : List Field) → empties_of p ≤ limit → scores ≡ score_fields_of g p
@@ -48,9 +58,12 @@ module _ (g : Scoring) (limit : ℕ) (line : List ℕ) (entry : Entry) (p : Disc
   unfolding is_right
   right_scored scores few s = rw (within few, exact scores s) refl
 
-  pub out_many : (found : ℕ) → (empties_of p ≤ limit → ⊥) → found ≡ empties_of p → refused_text (many_text found limit) line ≡ out_text g limit line (Holds entry)
+  pub out_many : (found : ℕ) → (empties_of p ≤ limit → ⊥) → found ≡ empties_of p
+      → refused_text (many_text found limit) line ≡ out_text g limit line (Holds entry)
   unfolding out_text
-  out_many found many f = let all : found ≡ empties entry.position = f ∙ count in rw (beyond many, all) refl
+  out_many found many f =
+      let all : found ≡ empties entry.position = f ∙ count in
+      rw (beyond many, all) refl
 
   pub right_many : (empties_of p ≤ limit → ⊥) → false ≡ is_right g limit line (Holds entry)
   unfolding is_right

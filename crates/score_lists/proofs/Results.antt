@@ -6,7 +6,8 @@ pub on_ok : {T E : Type 0} (r : Result T E) (P Q : Type 0) → (IsOk r → P →
 on_ok (Ok x) P Q f h = f refl h
 on_ok (Err e) P Q f h = h
 
-pub if_ok : {T E : Type 0} (r : Result T E) (P Q : T → Type 0) → (IsOk r → (x : T) → P x → Q x) → IfOk r P → IfOk r Q
+pub if_ok : {T E : Type 0} (r : Result T E) (P Q : T → Type 0) → (IsOk r → (x : T) → P x → Q x)
+    → IfOk r P → IfOk r Q
 if_ok (Ok x) P Q f h = f refl x h
 if_ok (Err e) P Q f h = h
 

@@ -1,5 +1,6 @@
 -- Scores that a line lists have two digits at most.
-use Rattle.std.proofs.Common.{◌≡◌, ℕ, Bool, ℤ, pos, neg_ℤ, ◌<◌, ◌≤◌, ◌+◌, List, [], ◌∷◌, refl, sym, ap, ◌∙◌, subst, inl, inr, arith, Option, Some, None, All}
+use Rattle.std.proofs.Common.{◌≡◌, ℕ, Bool, ℤ, pos, neg_ℤ, ◌<◌, ◌≤◌, ◌+◌, List, [], ◌∷◌, refl, sym}
+use Rattle.std.proofs.Common.{ap, ◌∙◌, subst, inl, inr, arith, Option, Some, None, All}
 use Rattle.std.specs.Prelude.{nat_abs, IfSome, option_map, ◌⊎◌}
 use Rattle.std.specs.List.{find}
 use Rattle.obf_text.proofs.FieldLemmas.{field_from}
@@ -32,21 +33,30 @@ pub claim_small : (piece : List ℕ) (f : Field) → field_of piece ≡ Some f �
 claim_small piece f e = field_small piece f (field_from piece f e)
 
 -- what a list of small scores finds is small
-find_all : (R : Field → Type 0) (p : Field → Bool) (xs : List Field) (f : Field) → All R xs → find p xs ≡ Some f → R f
+find_all : (R : Field → Type 0) (p : Field → Bool) (xs : List Field) (f : Field) → All R xs
+    → find p xs ≡ Some f → R f
 find_all R p [] f all e = cc
 find_all R p (x ∷ xs) f all e =
     elim (cases_Bool (p x)) [
-      | inl b ↦ let same : Some x ≡ Some f = (rw b at e) in let one : x ≡ f = cc in subst R one (all 0 x (omega arith))
+      | inl b ↦ let same : Some x ≡ Some f = (rw b at e) in let one : x ≡ f = cc in
+          subst R one (all 0 x (omega arith))
       | inr b ↦ find_all R p xs f (All-tail R x xs all) (rw b at e)
     ]
 
-small_if : (f : Field) (o : Option Field) (w : Wrong) → ((x : Field) → o ≡ Some x → IsSmall x) → wrong_if f (option_map (λ x. x.1) o) ≡ Some w → IfSome w.score (λ z. nat_abs z < 100)
-small_if f None w h e = let k : wrong f None ≡ w = cc in subst (λ (v : Wrong). IfSome v.score (λ z. nat_abs z < 100)) k search
+small_if : (f : Field) (o : Option Field) (w : Wrong) → ((x : Field) → o ≡ Some x → IsSmall x)
+    → wrong_if f (option_map (λ x. x.1) o) ≡ Some w → IfSome w.score (λ z. nat_abs z < 100)
+small_if f None w h e = let k : wrong f None ≡ w = cc in
+    subst (λ (v : Wrong). IfSome v.score (λ z. nat_abs z < 100)) k search
 small_if f (Some x) w h e =
     elim (cases_Bool (int_eq x.1 f.1)) [
       | inl b ↦ let k : None ≡ Some w = (rw b at e) in cc
-      | inr b ↦ let j : Some (wrong f (Some x.1)) ≡ Some w = (rw b at e) in let k : wrong f (Some x.1) ≡ w = cc in subst (λ (v : Wrong). IfSome v.score (λ z. nat_abs z < 100)) k (h x refl)
+      | inr b ↦ let j : Some (wrong f (Some x.1)) ≡ Some w = (rw b at e) in
+          let k : wrong f (Some x.1) ≡ w = cc in
+          subst (λ (v : Wrong). IfSome v.score (λ z. nat_abs z < 100)) k (h x refl)
     ]
 
-pub wrong_small : (scores : List Field) (f : Field) (w : Wrong) → All IsSmall scores → wrong_in scores f ≡ Some w → IfSome w.score (λ z. nat_abs z < 100)
-wrong_small scores f w all e = small_if f (find (λ x. same_move x.0 f.0) scores) w (λ x k. find_all IsSmall (λ y. same_move y.0 f.0) scores x all k) e
+pub wrong_small : (scores : List Field) (f : Field) (w : Wrong) → All IsSmall scores
+    → wrong_in scores f ≡ Some w → IfSome w.score (λ z. nat_abs z < 100)
+wrong_small scores f w all e =
+    small_if f (find (λ x. same_move x.0 f.0) scores) w
+    (λ x k. find_all IsSmall (λ y. same_move y.0 f.0) scores x all k) e

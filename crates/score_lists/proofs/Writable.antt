@@ -1,5 +1,7 @@
 -- The scores of a position can be written, so that the line that is written for it is read back.
-use Rattle.std.proofs.Common.{◌≡◌, ℕ, zero, suc, ◌+◌, ◌<◌, ◌≤◌, ℤ, neg_ℤ, true, false, cond, Bool, List, [], ◌∷◌, length, map, refl, sym, ap, ◌∙◌, subst, inl, inr, arith}
+use Rattle.std.proofs.Common.{◌≡◌, ℕ, zero, suc, ◌+◌, ◌<◌, ◌≤◌, ℤ, neg_ℤ, true, false, cond, Bool}
+use Rattle.std.proofs.Common.{List, [], ◌∷◌, length, map, refl, sym, ap, ◌∙◌, subst, inl, inr}
+use Rattle.std.proofs.Common.{arith}
 use Rattle.std.specs.Prelude.{nat_abs}
 use Rattle.std.specs.List.{AllByRecursion, filter, fold, range_with_len}
 use Rattle.std.proofs.lemmas.Bool.{cases_Bool}
@@ -29,27 +31,41 @@ module _ (g : Scoring) (P : Position) (whole : length P.cells ≡ 64) where
 
   each : (q : ℕ) → q < 64 → IsWritable (scored g P q)
   each q h =
-      let long : length (play P q).cells ≡ length P.cells = length-play P q in
-      (h, score_size (neg_ℤ (value g (play P q))) (negated (value g (play P q)) (value-IsScore g (play P q) (omega (arith, whole, long)))))
+      let long : length (play P q).cells ≡ length P.cells = length-play P q in (
+        h,
+        score_size (neg_ℤ (value g (play P q)))
+            (negated (value g (play P q))
+            (value-IsScore g (play P q) (omega (arith, whole, long)))),
+      )
 
-  put_writable : (now : List Field) (qs : List ℕ) → AllByRecursion IsWritable now → AllByRecursion (λ q. q < 64) qs → AllByRecursion IsWritable (fold put_in now (map (scored g P) qs))
+  put_writable : (now : List Field) (qs : List ℕ) → AllByRecursion IsWritable now
+      → AllByRecursion (λ q. q < 64) qs
+      → AllByRecursion IsWritable (fold put_in now (map (scored g P) qs))
   put_writable now [] all below = all
-  put_writable now (q ∷ qs) all below = put_writable (put_in now (scored g P q)) qs (all_in IsWritable now (scored g P q) all (each q below.0)) below.1
+  put_writable now (q ∷ qs) all below =
+      put_writable (put_in now (scored g P q)) qs
+      (all_in IsWritable now (scored g P q) all (each q below.0)) below.1
 
-  kept_below : (p : ℕ → Bool) (a n : ℕ) → a + n ≤ 64 → AllByRecursion (λ q. q < 64) (filter p (range_with_len a n))
+  kept_below : (p : ℕ → Bool) (a n : ℕ) → a + n ≤ 64
+      → AllByRecursion (λ q. q < 64) (filter p (range_with_len a n))
   kept_below p a zero h = tt
   kept_below p a (suc n) h =
       let rest = kept_below p (a + 1) n (omega arith) in
-      elim (p a) as (λ t. AllByRecursion (λ q. q < 64) (cond t (a ∷ filter p (range_with_len (a + 1) n)) (filter p (range_with_len (a + 1) n)))) [ true ↦ (omega arith, rest) | false ↦ rest ]
+      elim (p a) as (λ t. AllByRecursion (λ q. q < 64)
+      (cond t (a ∷ filter p (range_with_len (a + 1) n)) (filter p (range_with_len (a + 1) n))))
+      [ true ↦ (omega arith, rest) | false ↦ rest ]
 
   moves_writable : AllByRecursion IsWritable (move_scores g P)
   unfolding move_scores moves squares
-  moves_writable = put_writable [] (filter (is_move P) (range_with_len 0 64)) tt (kept_below (is_move P) 0 64 (omega arith))
+  moves_writable =
+      put_writable [] (filter (is_move P) (range_with_len 0 64)) tt
+      (kept_below (is_move P) 0 64 (omega arith))
 
   pub scores_writable : AreWritable (score_fields g P)
   scores_writable =
       elim (cases_Bool (can_move P)) [
-        | inl h ↦ subst AreWritable (sym (of_move g P h)) (all_writable (move_scores g P) moves_writable)
+        | inl h ↦
+            subst AreWritable (sym (of_move g P h)) (all_writable (move_scores g P) moves_writable)
         | inr h ↦
             elim (cases_Bool (can_move (pass P))) [
               | inl k ↦ subst AreWritable (sym (of_pass g P h k)) ((tt, own_value), tt)

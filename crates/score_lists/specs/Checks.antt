@@ -1,5 +1,6 @@
 -- What is wrong with a move that a line lists.
-use Rattle.std.specs.Prelude.{ℤ, ◌==◌, Bool, true, false, List, Option, Some, None, option_map, if◌then◌else◌}
+use Rattle.std.specs.Prelude.{ℤ, ◌==◌, Bool, true, false, List, Option, Some, None, option_map}
+use Rattle.std.specs.Prelude.{if◌then◌else◌}
 use Rattle.std.specs.List.{find}
 use Rattle.std.specs.Ordering.{int_eq}
 use Rattle.obf_text.specs.Fields.{Field}

@@ -1,5 +1,6 @@
 -- What is remarked of the pieces of a line.
-use Rattle.std.specs.Prelude.{ℕ, ℤ, Bool, true, false, List, [], ◌∷◌, ◌++◌, Option, Some, None, option_map, codes}
+use Rattle.std.specs.Prelude.{ℕ, ℤ, Bool, true, false, List, [], ◌∷◌, ◌++◌, Option, Some, None}
+use Rattle.std.specs.Prelude.{option_map, codes}
 use Rattle.std.specs.List.{filter_map}
 use Rattle.obf_text.specs.Fields.{Field, field_of, without_blanks}
 use Rattle.obf_text.specs.Written.{move_text, score_text}

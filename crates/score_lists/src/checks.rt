@@ -35,7 +35,7 @@ fn same_move(a: ListedMove, b: ListedMove) -> bool
     }
 }
 
-// The field of a move. Apart, so that a contract states what is found.
+// The field of a move. It is a function of its own so that a contract states what is found.
 fn field_in(scores: &[(ListedMove, i8)], listed: ListedMove) -> Option<&(ListedMove, i8)>
     ensures { option_map (λ f. f.now) result ≡ find (λ f. same_move f.0 listed) scores.now }
 {

@@ -4,7 +4,8 @@ ghost use Rattle.std.specs.Prelude.{◌≡◌, ◌≤◌, ◌∷◌, [], IfOk, O
 ghost use Rattle.std.specs.Io.KnownBytes.{Appends};
 ghost use Rattle.obf_text.specs.LineText.{lines_of};
 ghost use Rattle.obf_text.specs.Obf.{item_of};
-ghost use Rattle.score_lists.specs.Lines.{AppendsFront, Prints, are_right, is_right, lists_right, lists_text, out_text, scores_text, texts_of};
+ghost use Rattle.score_lists.specs.Lines.{AppendsFront, Prints, are_right, is_right, lists_right};
+ghost use Rattle.score_lists.specs.Lines.{lists_text, out_text, scores_text, texts_of};
 ghost use Rattle.score_lists.specs.declared.lists.ListFault.TheVariants.{CannotWrite, Memory};
 
 use crate::lines::line_text;
@@ -78,7 +79,8 @@ fn send<W: Write>(writer: &mut W, bytes: &[u8]) -> io::Result<()>
     Err(io::Error::from(ErrorKind::WriteZero))
 }
 
-// Prints a line with its scores and remarks, and sends it on. The answer is whether the line is right.
+// Prints a line with its scores and remarks, and sends it on. The answer is whether the line is
+// right.
 fn write_one<T: Bounds, W: Write>(
     table: &T,
     alloc: Global,

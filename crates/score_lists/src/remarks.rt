@@ -1,10 +1,13 @@
 //! Remarks on the pieces of a line.
 
-ghost use Rattle.std.specs.Prelude.{◌≡◌, ◌<◌, ◌||◌, false, All, IfOk, IfSome, OnOk, is_some, nat_abs};
+ghost use Rattle.std.specs.Prelude.{◌≡◌, ◌<◌, ◌||◌, false, All, IfOk, IfSome, OnOk, is_some};
+ghost use Rattle.std.specs.Prelude.{nat_abs};
 ghost use Rattle.std.specs.Io.KnownBytes.{Appends};
 ghost use Rattle.obf_text.specs.Pieces.{line_pieces};
-ghost use Rattle.score_lists.specs.Remarks.{field_remark, gap_text, has_remarks, one_text, remark_of, remarks};
-ghost use Rattle.score_lists.specs.Remarks.{remarks_text, unread_remark, unread_text, verdict_text, wrong_text};
+ghost use Rattle.score_lists.specs.Remarks.{field_remark, gap_text, has_remarks, one_text};
+ghost use Rattle.score_lists.specs.Remarks.{remark_of, remarks};
+ghost use Rattle.score_lists.specs.Remarks.{remarks_text, unread_remark, unread_text, verdict_text};
+ghost use Rattle.score_lists.specs.Remarks.{wrong_text};
 
 use crate::checks::{Wrong, wrong_in};
 use obf_text::{ListedMove, field_of, line_pieces, move_bytes, score_bytes, without_blanks};

@@ -6,5 +6,6 @@ use Rattle.score_lists.proofs.laws.scores_are_read_again.Goals as goal
 pub returns : goal.returns
 returns c = record {
   bare = λ g P whole. bare_item P (score_fields g P) whole (scores_writable g P whole);
-  commented = λ g P more whole. commented_item P (score_fields g P) more whole (scores_writable g P whole);
+  commented =
+      λ g P more whole. commented_item P (score_fields g P) more whole (scores_writable g P whole);
 }

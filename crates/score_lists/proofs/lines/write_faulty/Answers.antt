@@ -9,5 +9,8 @@ pub returns : goal.returns
 unfolding refused_text
 returns g c =
     on_ok c.write_quoted.result _ _
-    (λ ok w. appends_both _ _ _ (codes "% refused: ") ((fault_text c.args.fault) ++ quoted_text c.args.line.now) c.in_ok-write_all.ensures.bytes (appends_both _ _ _ (fault_text c.args.fault) (quoted_text c.args.line.now) c.in_ok-write_fault.ensures w))
+    (λ ok w. appends_both _ _ _ (codes "% refused: ")
+    ((fault_text c.args.fault) ++ quoted_text c.args.line.now) c.in_ok-write_all.ensures.bytes
+    (appends_both _ _ _ (fault_text c.args.fault) (quoted_text c.args.line.now)
+    c.in_ok-write_fault.ensures w))
     c.write_quoted.ensures

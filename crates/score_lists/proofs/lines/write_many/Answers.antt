@@ -9,5 +9,9 @@ pub returns : goal.returns
 unfolding refused_text
 returns g c =
     on_ok c.write_quoted.result _ _
-    (λ ok w. appends_both _ _ _ (codes "% refused: ") ((many_text c.args.found c.args.limit) ++ quoted_text c.args.line.now) c.in_ok-write_all.ensures.bytes (appends_both _ _ _ (many_text c.args.found c.args.limit) (quoted_text c.args.line.now) c.in_ok-write_empties.ensures w))
+    (λ ok w. appends_both _ _ _ (codes "% refused: ")
+    ((many_text c.args.found c.args.limit) ++ quoted_text c.args.line.now)
+    c.in_ok-write_all.ensures.bytes
+    (appends_both _ _ _ (many_text c.args.found c.args.limit) (quoted_text c.args.line.now)
+    c.in_ok-write_empties.ensures w))
     c.write_quoted.ensures

@@ -6,7 +6,8 @@ use Rattle.endgame_search.specs.Problems.{Problem}
 use Rattle.othello_bits.specs.Discs.{empties_of}
 use Rattle.obf_text.specs.Obf.{entry_of}
 use Rattle.move_scores.specs.Scores.{score_fields_of}
-use Rattle.score_lists.proofs.EntryLines.{out_many, out_scored, right_many, right_scored, whole_from}
+use Rattle.score_lists.proofs.EntryLines.{out_many, out_scored, right_many, right_scored}
+use Rattle.score_lists.proofs.EntryLines.{whole_from}
 use Rattle.score_lists.proofs.lines.write_scored.Goals as goal
 
 pub returns-in-Ok-clause-written : goal.returns-in-Ok-clause-written
@@ -14,11 +15,18 @@ returns-in-Ok-clause-written g c =
     let s = g.T.Bounds.scoring c.args.table.now in
     let p = c.of_grid.result in
     let whole = whole_from c.args.entry.now.grid p c.of_grid.ensures.meaning in
-    let small : empties_of p ≤ c.args.limit = let within = c.in-Ok.ensures.when.0 refl in omega arith in
-    let task : c.score_moves-scored.result ≡ record { position = p; scoring = s } = c.score_moves-scored.ensures ∙ c.in-Ok.ensures.task ∙ ap (λ r. let t : Problem = record { position = p; scoring = r } in t) c.scoring.ensures in
-    let scores : c.fields.result.now ≡ score_fields_of s p = c.fields.ensures.value ∙ ap (λ (t : Problem). score_fields_of t.scoring t.position) task in
-    subst (λ t. OnOk c.write_entry_line.result (Appends (g.W.Write.contents c.args.writer.now) (g.W.Write.contents c.write_entry_line.new.writer) t))
-    (out_scored s c.args.limit c.args.line.now (entry_of c.args.entry.now) p whole c.of_grid.ensures.value c.fields.result.now small scores)
+    let small : empties_of p ≤ c.args.limit = let within = c.in-Ok.ensures.when.0 refl in
+    omega arith in
+    let task : c.score_moves-scored.result ≡ record { position = p; scoring = s } =
+    c.score_moves-scored.ensures ∙ c.in-Ok.ensures.task
+    ∙ ap (λ r. let t : Problem = record { position = p; scoring = r } in t) c.scoring.ensures in
+    let scores : c.fields.result.now ≡ score_fields_of s p =
+    c.fields.ensures.value ∙ ap (λ (t : Problem). score_fields_of t.scoring t.position) task in
+    subst (λ t. OnOk c.write_entry_line.result
+    (Appends (g.W.Write.contents c.args.writer.now)
+    (g.W.Write.contents c.write_entry_line.new.writer) t))
+    (out_scored s c.args.limit c.args.line.now (entry_of c.args.entry.now) p whole
+    c.of_grid.ensures.value c.fields.result.now small scores)
     c.write_entry_line.ensures.written
 
 pub returns-in-Ok-clause-right : goal.returns-in-Ok-clause-right
@@ -26,20 +34,30 @@ returns-in-Ok-clause-right g c =
     let s = g.T.Bounds.scoring c.args.table.now in
     let p = c.of_grid.result in
     let whole = whole_from c.args.entry.now.grid p c.of_grid.ensures.meaning in
-    let small : empties_of p ≤ c.args.limit = let within = c.in-Ok.ensures.when.0 refl in omega arith in
-    let task : c.score_moves-scored.result ≡ record { position = p; scoring = s } = c.score_moves-scored.ensures ∙ c.in-Ok.ensures.task ∙ ap (λ r. let t : Problem = record { position = p; scoring = r } in t) c.scoring.ensures in
-    let scores : c.fields.result.now ≡ score_fields_of s p = c.fields.ensures.value ∙ ap (λ (t : Problem). score_fields_of t.scoring t.position) task in
+    let small : empties_of p ≤ c.args.limit = let within = c.in-Ok.ensures.when.0 refl in
+    omega arith in
+    let task : c.score_moves-scored.result ≡ record { position = p; scoring = s } =
+    c.score_moves-scored.ensures ∙ c.in-Ok.ensures.task
+    ∙ ap (λ r. let t : Problem = record { position = p; scoring = r } in t) c.scoring.ensures in
+    let scores : c.fields.result.now ≡ score_fields_of s p =
+    c.fields.ensures.value ∙ ap (λ (t : Problem). score_fields_of t.scoring t.position) task in
     subst (λ b. IfOk c.write_entry_line.result (λ r. r ≡ b))
-    (right_scored s c.args.limit c.args.line.now (entry_of c.args.entry.now) p whole c.of_grid.ensures.value c.fields.result.now small scores)
+    (right_scored s c.args.limit c.args.line.now (entry_of c.args.entry.now) p whole
+    c.of_grid.ensures.value c.fields.result.now small scores)
     c.write_entry_line.ensures.right
 
-pub returns-in_ok-write_many-in-Err-clause-written : goal.returns-in_ok-write_many-in-Err-clause-written
+pub returns-in_ok-write_many-in-Err-clause-written :
+    goal.returns-in_ok-write_many-in-Err-clause-written
 returns-in_ok-write_many-in-Err-clause-written g c =
     let s = g.T.Bounds.scoring c.args.table.now in
     let p = c.of_grid.result in
     let whole = whole_from c.args.entry.now.grid p c.of_grid.ensures.meaning in
-    subst (Appends (g.W.Write.contents c.args.writer.now) (g.W.Write.contents c.write_many.new.writer))
-    (out_many s c.args.limit c.args.line.now (entry_of c.args.entry.now) p whole c.of_grid.ensures.value c.in-Err.field-0.0 (λ h. false≢true (c.in-Err.ensures.when.1 (let few = c.requires in omega arith))) c.in-Err.ensures.refused)
+    subst (Appends (g.W.Write.contents c.args.writer.now)
+    (g.W.Write.contents c.write_many.new.writer))
+    (out_many s c.args.limit c.args.line.now (entry_of c.args.entry.now) p whole
+    c.of_grid.ensures.value c.in-Err.field-0.0
+    (λ h. false≢true (c.in-Err.ensures.when.1 (let few = c.requires in omega arith)))
+    c.in-Err.ensures.refused)
     c.in_ok-write_many-in-Err.ensures
 
 pub returns-in_ok-write_many-in-Err-clause-right : goal.returns-in_ok-write_many-in-Err-clause-right
@@ -47,4 +65,6 @@ returns-in_ok-write_many-in-Err-clause-right g c =
     let s = g.T.Bounds.scoring c.args.table.now in
     let p = c.of_grid.result in
     let whole = whole_from c.args.entry.now.grid p c.of_grid.ensures.meaning in
-    right_many s c.args.limit c.args.line.now (entry_of c.args.entry.now) p whole c.of_grid.ensures.value (λ h. false≢true (c.in-Err.ensures.when.1 (let few = c.requires in omega arith)))
+    right_many s c.args.limit c.args.line.now (entry_of c.args.entry.now) p whole
+    c.of_grid.ensures.value
+    (λ h. false≢true (c.in-Err.ensures.when.1 (let few = c.requires in omega arith)))

@@ -5,7 +5,10 @@ use Rattle.score_lists.proofs.lists.send.Goals as goal
 pub returns-in_err-rest-clause-front : goal.returns-in_err-rest-clause-front
 returns-in_err-rest-clause-front g c =
     on_err c.from_residual.result _
-    (prints_front _ _ _ c.loop.rest.now c.args.bytes.now c.loop.invariant c.in_err-rest.ensures.front)
+    (prints_front _ _ _ c.loop.rest.now c.args.bytes.now c.loop.invariant
+    c.in_err-rest.ensures.front)
 
 pub loop-preserved : goal.loop-preserved
-loop-preserved g c = prints_both _ _ _ c.loop.rest.now c.in_ok-rest.rest.now c.args.bytes.now c.loop.invariant c.in_ok-rest.ensures.taken
+loop-preserved g c =
+    prints_both _ _ _ c.loop.rest.now c.in_ok-rest.rest.now c.args.bytes.now c.loop.invariant
+    c.in_ok-rest.ensures.taken

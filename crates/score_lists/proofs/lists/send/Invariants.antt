@@ -2,4 +2,5 @@ use Rattle.score_lists.specs.Lines.{Prints}
 use Rattle.score_lists.proofs.lists.send.Given as goal
 
 abbrev pub invariant-loop : goal.invariant-loop
-invariant-loop g l = Prints (g.W.Write.contents l.fn.writer) (g.W.Write.contents l.writer) l.rest l.fn.bytes
+invariant-loop g l =
+    Prints (g.W.Write.contents l.fn.writer) (g.W.Write.contents l.writer) l.rest l.fn.bytes

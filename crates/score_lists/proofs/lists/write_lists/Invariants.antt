@@ -7,5 +7,7 @@ invariant-loop-text g l = record {
   text : Prints (g.W.Write.contents l.fn.writer) (g.W.Write.contents l.writer)
       (lists_text (g.T.Bounds.scoring l.table) l.limit (drop l.text-index (texts_of l.texts)))
       (lists_text (g.T.Bounds.scoring l.table) l.limit (texts_of l.fn.texts));
-  right : (l.right && lists_right (g.T.Bounds.scoring l.table) l.limit (drop l.text-index (texts_of l.texts))) ≡ lists_right (g.T.Bounds.scoring l.table) l.limit (texts_of l.fn.texts);
+  right : (l.right && lists_right (g.T.Bounds.scoring l.table) l.limit
+      (drop l.text-index (texts_of l.texts))) ≡ lists_right (g.T.Bounds.scoring l.table) l.limit
+      (texts_of l.fn.texts);
 }

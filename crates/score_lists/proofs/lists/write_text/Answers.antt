@@ -15,7 +15,8 @@ loop-line-preserved g c =
     let w = c.in_ok-line_right.ensures in
     record {
       text = text_more _ _ _ s limit line left lines _ cut kept.text w.written;
-      right = right_more s limit line left lines c.loop-line.right c.in_ok-line_right.line_right _ _ cut w.right (search rules) kept.right;
+      right = right_more s limit line left lines c.loop-line.right c.in_ok-line_right.line_right _ _
+          cut w.right (search rules) kept.right;
     }
 
 pub returns-in_err-line_right-clause-front : goal.returns-in_err-line_right-clause-front
@@ -23,14 +24,17 @@ returns-in_err-line_right-clause-front g c =
     let left = c.loop-line.line-iterator in
     let cut : left ≡ c.in-Some.line.now ∷ c.next.new.self = search rules in
     on_err c.from_residual.result _
-    (text_stop _ _ _ (g.T.Bounds.scoring c.args.table.now) c.args.limit c.in-Some.line.now left c.next.new.self _ cut c.loop-line.invariant.text c.in_err-line_right.ensures.front)
+    (text_stop _ _ _ (g.T.Bounds.scoring c.args.table.now) c.args.limit c.in-Some.line.now left
+    c.next.new.self _ cut c.loop-line.invariant.text c.in_err-line_right.ensures.front)
 
 pub returns-clause-written : goal.returns-clause-written
 returns-clause-written g c =
     let none : c.loop-line.line-iterator ≡ [] = search rules in
-    text_end _ _ (g.T.Bounds.scoring c.args.table.now) c.args.limit c.loop-line.line-iterator _ none c.loop-line.invariant.text
+    text_end _ _ (g.T.Bounds.scoring c.args.table.now) c.args.limit c.loop-line.line-iterator _ none
+    c.loop-line.invariant.text
 
 pub returns-clause-right : goal.returns-clause-right
 returns-clause-right g c =
     let none : c.loop-line.line-iterator ≡ [] = search rules in
-    right_end (g.T.Bounds.scoring c.args.table.now) c.args.limit c.loop-line.right c.loop-line.line-iterator _ none c.loop-line.invariant.right
+    right_end (g.T.Bounds.scoring c.args.table.now) c.args.limit c.loop-line.right
+    c.loop-line.line-iterator _ none c.loop-line.invariant.right

@@ -8,5 +8,6 @@ invariant-loop-line g l = record {
   text : Prints (g.W.Write.contents l.fn.writer) (g.W.Write.contents l.writer)
       (lines_text (g.T.Bounds.scoring l.table) l.limit l.line-iterator)
       (scores_text (g.T.Bounds.scoring l.table) l.limit l.fn.text);
-  right : (l.right && are_right (g.T.Bounds.scoring l.table) l.limit l.line-iterator) ≡ are_right (g.T.Bounds.scoring l.table) l.limit (lines_of l.fn.text);
+  right : (l.right && are_right (g.T.Bounds.scoring l.table) l.limit l.line-iterator) ≡ are_right
+      (g.T.Bounds.scoring l.table) l.limit (lines_of l.fn.text);
 }

@@ -12,16 +12,19 @@ loop-piece-preserved g c =
     let cut : left ≡ piece ∷ pieces = search rules in
     let w = c.in_ok-found.ensures in
     record {
-      text = remark_more _ _ _ scores left pieces piece c.loop-piece.found _ _ cut w.found kept.text w.written;
+      text = remark_more _ _ _ scores left pieces piece c.loop-piece.found _ _ cut w.found kept.text
+          w.written;
       found = found_more scores left pieces piece c.loop-piece.found _ _ cut w.found kept.found;
     }
 
 pub returns-clause-written : goal.returns-clause-written
 returns-clause-written g c =
     let none : c.loop-piece.piece-iterator ≡ [] = search rules in
-    remark_end _ _ c.args.scores.now c.loop-piece.piece-iterator c.loop-piece.found _ none c.loop-piece.invariant.text
+    remark_end _ _ c.args.scores.now c.loop-piece.piece-iterator c.loop-piece.found _ none
+    c.loop-piece.invariant.text
 
 pub returns-clause-found : goal.returns-clause-found
 returns-clause-found g c =
     let none : c.loop-piece.piece-iterator ≡ [] = search rules in
-    found_end c.args.scores.now c.loop-piece.piece-iterator c.loop-piece.found _ none c.loop-piece.invariant.found
+    found_end c.args.scores.now c.loop-piece.piece-iterator c.loop-piece.found _ none
+    c.loop-piece.invariant.found

@@ -10,5 +10,6 @@ invariant-loop-piece g l = record {
   text : Completes (g.W.Write.contents l.fn.writer) (g.W.Write.contents l.writer)
       (remarks_text l.found (remarks l.scores l.piece-iterator))
       (remarks_text false (remarks l.fn.scores (line_pieces l.fn.line)));
-  found : (l.found || has_remarks (remarks l.scores l.piece-iterator)) ≡ has_remarks (remarks l.fn.scores (line_pieces l.fn.line));
+  found : (l.found || has_remarks (remarks l.scores l.piece-iterator)) ≡ has_remarks
+      (remarks l.fn.scores (line_pieces l.fn.line));
 }
