@@ -182,7 +182,8 @@ fn follows_links(rt: HostRuntime) -> Result<(), Fail> {
 // A book, and a file beside it that another program makes.
 const LATE: Held = &[("late.book", Some(OLD)), ("late.book.0.part", Some(OLD))];
 
-// Whether an empty book is written, where another program makes the file beside after a name was found for it.
+// Whether an empty book is written, where another program makes the file beside after its name was
+// found.
 fn is_put_late<T: Files>(rt: &T, alloc: Global, name: &str, beside: &str) -> Result<bool, Fail> {
     let name = Some(String::from_str(alloc, name)?);
     let ready = ReadyBook::of(rt, alloc, &name, &Book::new(alloc, Scoring::Winner))?;
