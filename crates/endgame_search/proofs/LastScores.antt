@@ -25,7 +25,7 @@ use Rattle.othello_rules.proofs.MoveLaws.{move_empty, opposing_in_flips}
 use Rattle.othello_rules.proofs.PaintLaws.{get_or-painted}
 use Rattle.othello_bits.specs.Discs.{Discs, mem, mask_where, cell_at, position_of, discs_of, flips_of, play_of, final_of, value_of, IsMove}
 use Rattle.othello_bits.proofs.Bits.{in_mask-above, eqb_sym, some_square, none_from_zero}
-use Rattle.othello_bits.proofs.Numbers.{count_below, is_number, ones_number}
+use Rattle.othello_bits.proofs.Numbers.{count_below, both_below, is_number, ones_number}
 use Rattle.othello_bits.proofs.Wheres.{where-number, where_lt, is_where, in_mask-where}
 use Rattle.othello_bits.proofs.TurnedMasks.{ones_count, partition}
 use Rattle.othello_bits.proofs.CellLaws.{AreApart, length-cells_of, get_or-cells_of, same-own_cell, has_empty}
@@ -35,17 +35,6 @@ use Rattle.endgame_search.specs.Lasts.{IsLast}
 use Rattle.endgame_search.proofs.Lasts.{move_free, free_mask, last_worth, full_after}
 
 -- counts of sets of squares
-both_below : (n : ℕ) (f g : ℕ → Bool) → ((i : ℕ) → (f i && g i) ≡ false) → count_below n (λ i. f i || g i) ≡ count_below n f + count_below n g
-unfolding count_below
-both_below zero f g h = refl
-both_below (suc n) f g h = by (count_below n (λ i. f i || g i)) (count_below n f) (count_below n g) (f n) (g n) (both_below n f g h) (h n)
-  where
-    by : (u x y : ℕ) (a b : Bool) → u ≡ x + y → (a && b) ≡ false → cond (a || b) 1 0 + u ≡ (cond a 1 0 + x) + (cond b 1 0 + y)
-    by u x y true true e h = absurd (false≢true (sym h))
-    by u x y true false e h = omega arith
-    by u x y false true e h = omega arith
-    by u x y false false e h = omega arith
-
 none_below : (n : ℕ) (f : ℕ → Bool) → ((i : ℕ) → i < n → f i ≡ false) → count_below n f ≡ 0
 unfolding count_below
 none_below zero f h = refl

@@ -15,13 +15,14 @@ use bound_table::Bounds;
 use othello_bits::{Pos, lowest, without};
 use othello_rules::{Scoring, Square};
 
-// How many discs a disc on the square turns: none where that is no move.
+// How many discs a disc on the last empty square turns: none where that is no move.
 #[inline(always)]
 fn turned_count(position: Pos, square: Square) -> u8
+    requires last { IsLast position square }
     ensures value { result ≡ count_ones (flips_of position square) }
     ensures legal { IsMove position square ↔ (0 < result) }
 {
-    position.flips(square).count_ones() as u8
+    position.count_last_flips(square) as u8
 }
 
 // A position with one empty square, and how many discs its mover turns there.

@@ -1,8 +1,8 @@
 -- The number of a set of squares.
-use Rattle.std.proofs.Common.{◌≡◌, ℕ, zero, suc, ◌+◌, ◌-◌, ◌*◌, ◌^◌, ◌<◌, Bool, true, false, cond, eqb, refl, ap, sym, ◌∙◌, arith, inl, inr}
+use Rattle.std.proofs.Common.{◌≡◌, ℕ, zero, suc, ◌+◌, ◌-◌, ◌*◌, ◌^◌, ◌<◌, Bool, true, false, cond, ◌&&◌, ◌||◌, eqb, ltb, refl, ap, sym, ◌∙◌, arith, inl, inr}
 use Rattle.std.specs.Int.{bit_at}
 use Rattle.std.specs.Int.Count.{ones}
-use Rattle.std.proofs.lemmas.Bool.{cases_eq, false≢true}
+use Rattle.std.proofs.lemmas.Bool.{cases_eq, false≢true, agree_below_at, ltb-true}
 use Rattle.std.proofs.lemmas.Nat.{ones_cat}
 use Rattle.std.proofs.lemmas.Nat.Bits.{bit_at-lt, bit_at_cat_low, bit_at_cat_high, same_from_bits_below}
 use Rattle.std.proofs.Math.Nat.{pow-suc}
@@ -17,6 +17,18 @@ number_below (suc n) f = cond (f n) 1 0 * 2 ^ n + number_below n f
 unfoldable pub count_below : ℕ → (ℕ → Bool) → ℕ
 count_below zero f = 0
 count_below (suc n) f = cond (f n) 1 0 + count_below n f
+
+-- two sets that share no square
+pub both_below : (n : ℕ) (f g : ℕ → Bool) → ((i : ℕ) → (f i && g i) ≡ false) → count_below n (λ i. f i || g i) ≡ count_below n f + count_below n g
+unfolding count_below
+both_below zero f g h = refl
+both_below (suc n) f g h = by (count_below n (λ i. f i || g i)) (count_below n f) (count_below n g) (f n) (g n) (both_below n f g h) (h n)
+  where
+    by : (u x y : ℕ) (a b : Bool) → u ≡ x + y → (a && b) ≡ false → cond (a || b) 1 0 + u ≡ (cond a 1 0 + x) + (cond b 1 0 + y)
+    by u x y true true e h = absurd (false≢true (sym h))
+    by u x y true false e h = omega arith
+    by u x y false true e h = omega arith
+    by u x y false false e h = omega arith
 
 bit_fits : (b : Bool) → cond b 1 0 < 2
 bit_fits true = omega arith
@@ -77,3 +89,6 @@ unfolding number_below count_below ones
 ones_number zero f = refl
 ones_number (suc n) f =
     ones_cat n (cond (f n) 1 0) (number_below n f) (number_lt n f) ∙ rw (ones_bit (f n), ones_number n f)
+
+pub power_lt : (x : ℕ) → x < 64 → 2 ^ x < 2 ^ 64
+power_lt x l = ltb-true (2 ^ x) (2 ^ 64) (agree_below_at (λ x. ltb (2 ^ x) (2 ^ 64)) (λ x. true) 64 x refl l)

@@ -61,7 +61,7 @@ module _ (own opp flips q : ℕ) (hown : own < 2 ^ 64) (hopp : opp < 2 ^ 64) (hf
       (λ i l. rw (in_mask-and (bit_and opp (bit_not w64 flips)) (bit_or own (bit_or (1 * 2 ^ q % 2 ^ 64) flips)) i, after_own i l, after_opp i)
       (keeps_apart (in_mask own i) (in_mask opp i) (in_mask flips i) (eqb i q) (apart i) (λ e. ap (in_mask opp) (eqb-true i q e) ∙ free)))
 
-count-squares : (f : ℕ → Bool) → count_by f squares ≡ count_below 64 f
+pub count-squares : (f : ℕ → Bool) → count_by f squares ≡ count_below 64 f
 unfolding count_below squares
 count-squares f = omega arith
 

@@ -1,6 +1,7 @@
 pub mod Discs
 pub mod Exchanges
 pub mod Images
+pub mod Lasts
 pub mod Shifts
 pub mod Symmetries
 pub mod Worked

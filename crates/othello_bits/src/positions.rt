@@ -1,8 +1,9 @@
 //! A position as two masks.
 
-ghost use Rattle.std.specs.Prelude.{◌≡◌, ◌<◌, ◌≤◌, ◌↔◌, ◌||◌, ℕ, bit_and, true};
+ghost use Rattle.std.specs.Prelude.{◌≡◌, ◌<◌, ◌≤◌, ◌↔◌, ◌||◌, ℕ, bit_and, true, count_ones};
 ghost use Rattle.std.specs.Prelude.{IsSome, IfSome, IsTrue};
 ghost use Rattle.othello_rules.specs.declared.discs.Side.{Side};
+ghost use Rattle.othello_rules.specs.declared.discs.Side.TheVariants.{Black};
 ghost use Rattle.othello_rules.specs.declared.discs.Cell.TheVariants as cell;
 ghost use Rattle.othello_rules.specs.Rules as rules;
 ghost use Rattle.othello_rules.specs.Scores.{final};
@@ -16,8 +17,8 @@ ghost use Rattle.othello_bits.specs.Symmetries.{first_symmetry, canonical, canon
 
 use crate::cells::{cells_of_masks, mask_of_cell};
 use crate::images::Image;
-use crate::lines;
 use crate::symmetries::Sym;
+use crate::{lasts, lines};
 use othello_rules::{Grid, Scoring, Side, Square};
 use std::marker::Model;
 
@@ -112,6 +113,18 @@ impl Pos {
             → result ≡ 0 }
     {
         lines::flips(self.own, self.opp, square.number())
+    }
+
+    /// How many discs a move on the square turns, where no other square is empty: none if it is
+    /// occupied.
+    #[inline(always)]
+    pub fn count_last_flips(self, square: Square) -> u32
+        requires last { (q : ℕ) → rules.has (position_of Black self) cell.Empty q ≡ true
+            → q ≡ square }
+        ensures value { result ≡ count_ones (flips_of self square) }
+        ensures few { result ≤ 64 }
+    {
+        lasts::count_flips(self.own, self.opp, square.number())
     }
 
     /// The position after a move; None where the square is occupied or nothing is turned.

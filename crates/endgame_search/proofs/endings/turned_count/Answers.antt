@@ -1,4 +1,4 @@
-use Rattle.std.proofs.Common.{◌≡◌, ap, inl, inr, arith}
+use Rattle.std.proofs.Common.{◌≡◌, inl, inr, arith}
 use Rattle.std.specs.Int.Count.{ones}
 use Rattle.std.proofs.lemmas.Bool.{cases_eq}
 use Rattle.othello_bits.specs.Discs.{flips_of}
@@ -9,7 +9,7 @@ pub returns-clause-legal : goal.returns-clause-legal
 returns-clause-legal c =
     let p = c.args.position in
     let s = c.args.square in
-    let e : ones c.flips.result ≡ ones (flips_of p s) = ap ones c.flips.ensures.value in (
+    let e : c.count_last_flips.result ≡ ones (flips_of p s) = c.count_last_flips.ensures.value in (
       λ m.
           elim (cases_eq (ones (flips_of p s)) 0) [
             | inl z ↦ absurd (turns_none p s z m)
