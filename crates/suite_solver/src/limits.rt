@@ -3,6 +3,7 @@
 ghost use Rattle.std.specs.Prelude.{◌≡◌, ◌≤◌, ◌↔◌, IsSome, IfSome};
 ghost use Rattle.suite_solver.specs.Limits.{Configuration, IsWithinLimits, defaults};
 
+use bound_table::BoundTable;
 use othello_rules::Scoring;
 use std::marker::Model;
 
@@ -13,7 +14,7 @@ pub const MOST_EMPTIES: u8 = 60;
 /// The most workers.
 pub const MOST_WORKERS: u8 = 64;
 /// The most entries of a table.
-pub const MOST_ENTRIES: u32 = 4_194_304;
+pub const MOST_ENTRIES: u32 = BoundTable::MOST_ENTRIES as u32;
 /// The most files of a run.
 pub const MOST_FILES: usize = 64;
 /// The most bytes of a file.
@@ -92,7 +93,8 @@ impl Settings {
 
     /// The number of entries of the table.
     pub fn table(&self) -> u32
-        ensures { result ≡ self.now.table }
+        ensures value { result ≡ self.now.table }
+        ensures within { result ≤ 4194304 }
     {
         self.table
     }

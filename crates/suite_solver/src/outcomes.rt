@@ -1,11 +1,12 @@
 //! What a run gives.
 
-ghost use Rattle.std.specs.Prelude.{◌≡◌, ◌⊎◌, ◌↔◌, ◌++◌, ◌≤◌, length, map, All, Contains, IfOk, OnOk};
+ghost use Rattle.std.specs.Prelude.{◌≡◌, ◌⊎◌, ◌↔◌, ◌++◌, ◌≤◌, ℕ, List, length, map, All, Contains, IfOk, OnOk};
 ghost use Rattle.othello_bits.specs.Discs.{Discs};
 ghost use Rattle.endgame_search.specs.Problems.{Problem};
 ghost use Rattle.suite_solver.specs.Parts.{IsBookOf, Yield, canonicals, yield_of, yield_report, yield_reports, yield_tasks};
-ghost use Rattle.suite_solver.specs.Runs.{texts_of};
+ghost use Rattle.suite_solver.specs.Runs.{ArePartsOf, Solves, texts_of};
 
+use crate::limits::Settings;
 use crate::parts::Part;
 use crate::report::write_report;
 use crate::rows::ReportRow;
@@ -75,21 +76,18 @@ fn book_of(alloc: Global, scoring: Scoring, parts: &[Part]) -> Result<Book, Allo
     Ok(book)
 }
 
-/// The reports and the book of what comes of files.
+/// The reports and the book of the parts of a run.
 pub(crate) fn outcome_of(
     alloc: Global,
-    scoring: Scoring,
+    settings: &Settings,
     parts: &[Part],
 ) -> Result<Outcome, AllocError>
-    requires few { length parts.now ≤ 64 }
-    requires scored { All (λ (y : Yield). All (λ (t : Problem). t.scoring ≡ scoring) y.1)
-        (map yield_of parts.now) }
-    ensures reports { IfOk result (λ outcome. texts_of outcome.reports.items
-        ≡ yield_reports 0 (map yield_of parts.now)) }
-    ensures book { IfOk result
-        (λ outcome. IsBookOf scoring (yield_tasks (map yield_of parts.now)) outcome.book) }
+    requires { (texts : List (List ℕ)) × (length texts ≤ 64)
+        × ArePartsOf settings.now texts parts.now }
+    ensures { IfOk result (λ outcome. (texts : List (List ℕ))
+        → ArePartsOf settings.now texts parts.now → Solves settings.now texts outcome) }
 {
     let reports = reports_of(alloc, parts)?;
-    let book = book_of(alloc, scoring, parts)?;
+    let book = book_of(alloc, settings.scoring(), parts)?;
     Ok(Outcome { reports, book })
 }

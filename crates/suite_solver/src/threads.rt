@@ -10,12 +10,12 @@ use crate::faults::{RunFault, worse_fault};
 use crate::gates::Gate;
 use crate::limits::Settings;
 use crate::parts::Part;
-use crate::solvers::Solver;
+use crate::solvers::{Solver, new_table};
 use bound_table::{BoundTable, Bounds};
-use job_board::Desk;
+use job_board::{BoardFault, Desk};
 use othello_rules::Scoring;
 use solved_book::Claims;
-use std::alloc::Global;
+use std::alloc::{AllocError, Global};
 use std::marker::Model;
 use std::sync::Wait;
 use std::thread;
@@ -24,14 +24,32 @@ use std::thread::{Promise, PromisedHandle, Scope, Threads};
 /// What all threads of a run share. It has no type parameter and no lifetime: of a closure that captures a type with one,
 /// its caller would know nothing.
 #[derive(Drop)]
-pub(crate) struct Site {
+pub(crate) struct Shared {
     pub(crate) alloc: Global,
     pub(crate) settings: Settings,
     pub(crate) desk: Desk,
     pub(crate) table: BoundTable,
 }
 
-impl Site {
+impl Shared {
+    fn new(alloc: Global, files: &[Vec<u8>], settings: &Settings) -> Result<Shared, AllocError>
+        requires { length files.now ≤ 64 }
+        ensures scoring { IfOk result (λ shared. shared.table.scoring ≡ settings.now.scoring) }
+        ensures settings { IfOk result (λ shared. shared.settings ≡ settings.now) }
+    {
+        let table = new_table(alloc, settings)?;
+        match Desk::new(alloc, files.len() as u32) {
+            Ok(desk) => Ok(Shared {
+                alloc,
+                settings: *settings,
+                desk,
+                table,
+            }),
+            Err(BoardFault::Memory) => Err(AllocError),
+            Err(BoardFault::TooManySenders) => unreachable!(),
+        }
+    }
+
     // The part of one client.
     fn part<R: Wait, G: Gate>(
         &self,
@@ -124,27 +142,27 @@ impl<'a> Started<'a> {
 fn start<'a, E, R: Threads + Wait + Sync, G: Gate>(
     scope: &Scope<'a, E>,
     rt: &'a R,
-    site: &'a Site,
+    shared: &'a Shared,
     claims: &'a Claims,
     gate: &'a G,
     sender: u32,
     text: &'a [u8],
 ) -> Started<'a>
     requires { length text.now ≤ 1048576 }
-    ensures { result ≡ assignment site.now.table.scoring site.now.settings.max_empties text.now }
+    ensures { result ≡ assignment shared.now.table.scoring shared.now.settings.max_empties text.now }
 {
     let promise = PartOf {
-        scoring: site.table.scoring(),
-        limit: site.settings.max_empties(),
+        scoring: shared.table.scoring(),
+        limit: shared.settings.max_empties(),
         text,
     };
     let spawned = scope.spawn_with(
         promise,
         move || -> Result<Part, RunFault>
             requires { length text.now ≤ 1048576 }
-            ensures { GivesPart site.entry.now.table.scoring site.entry.now.settings.max_empties
+            ensures { GivesPart shared.entry.now.table.scoring shared.entry.now.settings.max_empties
                 text.entry.now result }
-        { site.part(rt, claims, gate, sender, text) },
+        { shared.part(rt, claims, gate, sender, text) },
     );
     let progress = match spawned {
         Ok(handle) => Progress::There(handle),
@@ -157,7 +175,7 @@ fn start<'a, E, R: Threads + Wait + Sync, G: Gate>(
 fn start_all<'a, E, R: Threads + Wait + Sync, G: Gate>(
     scope: &Scope<'a, E>,
     rt: &'a R,
-    site: &'a Site,
+    shared: &'a Shared,
     claims: &'a Claims,
     gate: &'a G,
     files: &'a [Vec<u8>],
@@ -168,11 +186,11 @@ fn start_all<'a, E, R: Threads + Wait + Sync, G: Gate>(
     requires none { clients.old.items ≡ [] }
     requires room { length files.now ≤ vec_capacity clients.old }
     ensures { clients.new.items ≡ map
-        (assignment site.now.table.scoring site.now.settings.max_empties) (texts_of files.now) }
+        (assignment shared.now.table.scoring shared.now.settings.max_empties) (texts_of files.now) }
 {
     let mut sender: u32 = 0;
     for file in files {
-        clients.push_reserved(start(scope, rt, site, claims, gate, sender, file));
+        clients.push_reserved(start(scope, rt, shared, claims, gate, sender, file));
         sender += 1;
     }
 }
@@ -181,12 +199,12 @@ fn start_all<'a, E, R: Threads + Wait + Sync, G: Gate>(
 fn start_workers<'a, E, R: Threads + Wait + Sync, G: Gate>(
     scope: &Scope<'a, E>,
     rt: &'a R,
-    site: &'a Site,
+    shared: &'a Shared,
     claims: &'a Claims,
     gate: &'a G,
 ) {
-    for _ in 0..site.settings.workers() {
-        let _ = scope.spawn(move || site.work(rt, claims, gate));
+    for _ in 0..shared.settings.workers() {
+        let _ = scope.spawn(move || shared.work(rt, claims, gate));
     }
 }
 
@@ -239,50 +257,55 @@ pub(crate) fn join_all<R: Threads>(rt: &R, clients: Vec<Started<'_>>, joined: &m
     }
 }
 
-// What comes of all files. All lists are made before the first thread is started, so that nothing can fail between the
-// starts and the joins.
-fn parts_in<'a, E, R: Threads + Wait + Sync, G: Gate>(
+// Solves the positions of all texts. All lists are made before the first thread is started, so that nothing can fail
+// between the starts and the joins.
+fn solve_in_scope<'a, E, R: Threads + Wait + Sync, G: Gate>(
     scope: &Scope<'a, E>,
     rt: &'a R,
-    site: &'a Site,
+    shared: &'a Shared,
     claims: &'a Claims,
     gate: &'a G,
     files: &'a [Vec<u8>],
 ) -> Result<Vec<Part>, RunFault>
     requires few { length files.now ≤ 64 }
     requires small { first_large (texts_of files.now) ≡ None }
-    ensures { GivesParts site.now.table.scoring site.now.settings.max_empties
+    ensures { GivesParts shared.now.table.scoring shared.now.settings.max_empties
         (texts_of files.now) result }
 {
-    let mut clients = Vec::with_capacity(site.alloc, files.len())?;
-    let parts = Vec::with_capacity(site.alloc, files.len())?;
+    let mut clients = Vec::with_capacity(shared.alloc, files.len())?;
+    let parts = Vec::with_capacity(shared.alloc, files.len())?;
     let mut joined = Joined { parts, fault: None };
-    start_workers(scope, rt, site, claims, gate);
-    start_all(scope, rt, site, claims, gate, files, &mut clients);
+    start_workers(scope, rt, shared, claims, gate);
+    start_all(scope, rt, shared, claims, gate, files, &mut clients);
     join_all(rt, clients, &mut joined);
     joined.into_parts()
 }
 
-/// What comes of all files, by a client for each and the workers.
-pub(crate) fn threaded_parts<R: Threads + Wait + Sync, G: Gate>(
+/// Solves the positions of texts, by a client for each text and the workers of the settings, at one desk and over one
+/// table.
+pub(crate) fn solve_texts_on_threads<R: Threads + Wait + Sync, G: Gate>(
     rt: &R,
-    site: &Site,
-    claims: &Claims,
-    gate: &G,
+    alloc: Global,
     files: &[Vec<u8>],
+    settings: &Settings,
+    claims: Option<&Claims>,
+    gate: &G,
 ) -> Result<Vec<Part>, RunFault>
     requires few { length files.now ≤ 64 }
     requires small { first_large (texts_of files.now) ≡ None }
-    ensures { GivesParts site.now.table.scoring site.now.settings.max_empties
-        (texts_of files.now) result }
+    ensures { GivesParts settings.now.scoring settings.now.max_empties (texts_of files.now) result }
 {
+    let shared = Shared::new(alloc, files, settings)?;
+    let none = Claims::new(alloc, settings.scoring());
+    let claims = claims.unwrap_or(&none);
+    let shared = &shared;
     thread::scope(
         thread::scope_env(),
         rt,
         |scope| -> Result<Vec<Part>, RunFault>
             requires { (length files.now ≤ 64) × (first_large (texts_of files.now) ≡ None) }
-            ensures { GivesParts site.entry.now.table.scoring site.entry.now.settings.max_empties
+            ensures { GivesParts shared.entry.now.table.scoring shared.entry.now.settings.max_empties
                 (texts_of files.entry.now) result }
-        { parts_in(scope, rt, site, claims, gate, files) },
+        { solve_in_scope(scope, rt, shared, claims, gate, files) },
     )
 }
