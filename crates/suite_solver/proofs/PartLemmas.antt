@@ -150,7 +150,7 @@ outcome_tasks ys g limit texts e = ap yield_tasks e ∙ yields_tasks g limit tex
 same_members : (xs ys zs : List Discs) → ((p : Discs) → Contains xs p ↔ Contains zs p) → ((p : Discs) → Contains ys p ↔ Contains zs p) → (p : Discs) → Contains xs p ↔ Contains ys p
 same_members xs ys zs f g p = ((λ h. (g p).1 ((f p).0 h)), (λ h. (f p).1 ((g p).0 h)))
 
--- two books of the same tasks are the same
+-- two books of equal tasks are equal
 pub one_book : (g : Scoring) (done : List Problem) (a b : Contents) → IsBookOf g done a → IsBookOf g done b
     → AreBookPositions a.positions → AreBookPositions b.positions → a ≡ b
 one_book g done a b p q r s =

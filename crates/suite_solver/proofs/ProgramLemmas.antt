@@ -21,7 +21,7 @@ whole_front n m all e h =
 ok_no_fault : (o : Outcome) (fault : RunFault) → IsErrOf {T = Outcome} {E = RunFault} (Ok o) fault → ⊥
 ok_no_fault o fault e = cc
 
--- a run that gives reports was given few texts
+-- a run that gives reports has few texts
 pub given_few : (o : Outcome) (n : ℕ) → (IsErrOf {T = Outcome} {E = RunFault} (Ok o) TooManyFiles ↔ 64 < n) → n ≤ 64
 given_few o n iff = elim (cases_lt 64 n) [
   | inl many ↦ absurd (ok_no_fault o TooManyFiles (iff.1 many))
@@ -70,7 +70,7 @@ pub on_ok : (r : Result (Unit {0}) Stop) (P : Type 0) → P → OnOk r P
 on_ok (Ok nothing) P p = p
 on_ok (Err stop) P p = tt
 
--- what was told behind the reports was not told before anything was printed
+-- an error behind the reports is none that comes before anything was printed
 pub told_late : (r : Result (Unit {0}) Stop) (P : Type 0) → IfErr r (λ stop. IsSilent stop → ⊥) → IfErr r (λ stop. IsSilent stop → P)
 told_late (Ok nothing) P h = tt
 told_late (Err stop) P h = λ silent. absurd (h silent)

@@ -16,8 +16,8 @@ use Rattle.suite_solver.specs.declared.checks.Check.TheVariants.{Agree, Differ, 
 abbrev pub fields_with : ℤ → List Field → List Field
 fields_with score fields = filter (λ f. int_eq f.1 score) fields
 
--- a square is best if it is one of the best moves, a pass where the answer is a pass, and the end of the game
--- where it is over
+-- a square is best if it is one of the best moves, a pass where the answer is a pass, and the end
+-- of the game where it is over
 abbrev pub is_best_in : Best → ListedMove → Bool
 is_best_in (best.Moves mask) (listed.At q) = in_mask mask q
 is_best_in best.Pass listed.Pass = true

@@ -113,7 +113,8 @@ pub record HasListSettings (c : Configuration) (rows : List Row) : Type 0 where
 abbrev pub names_of : List (String Global) → List Text
 names_of names = map string_bytes names
 
--- settings, the names of a book to read and of one to write, where they are given, and the names of files
+-- settings, the names of a book to read and of one to write, where there are any, and the names of
+-- files
 pub record Request : Type 0 where
   pub settings : Configuration
   pub book_in : Option Text
@@ -128,8 +129,8 @@ request_of o = record {
   files = names_of o.files.items;
 }
 
--- The words ask for this: clap finds no fault in them, and it stands in the matches that clap defines for the words and
--- the command.
+-- The words ask for this: clap finds no fault in them, and it stands in the matches that clap
+-- defines for the words and the command.
 pub record Asks (words : List Text) (r : Request) : Type 0 where
   pub names : NameList
   pub named : NamesScorings names

@@ -16,6 +16,6 @@ pub record IsWithinLimits (c : Configuration) : Type 0 where
   pub few_workers : c.workers ≤ 64
   pub few_entries : c.table ≤ 4194304
 
--- what the program takes where it is not told otherwise
+-- the settings that stand where no option says another
 abbrev pub defaults : Configuration
 defaults = record { max_empties = 20; workers = 2; table = 65536; scoring = Winner }

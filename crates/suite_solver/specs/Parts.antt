@@ -32,7 +32,7 @@ abbrev pub GivesPart : Scoring → ℕ → List ℕ → Result Part RunFault →
 GivesPart g limit text (Ok part) = yield_of part ≡ yield g limit text
 GivesPart g limit text (Err fault) = (fault ≡ Memory) ⊎ (fault ≡ Mixed)
 
--- the same of all texts
+-- all texts yield their parts, or memory or a desk refused one
 abbrev pub GivesParts : Scoring → ℕ → List (List ℕ) → Result (Vec Part Global) RunFault → Type 0
 GivesParts g limit texts (Ok parts) = map yield_of parts.items ≡ map (yield g limit) texts
 GivesParts g limit texts (Err fault) = (fault ≡ Memory) ⊎ (fault ≡ Mixed)

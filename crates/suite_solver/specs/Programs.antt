@@ -16,20 +16,20 @@ use Rattle.suite_solver.specs.declared.faults.RunFault.TheVariants.{Memory, Mixe
 use Rattle.suite_solver.specs.declared.stops.Stop.{Stop}
 use Rattle.suite_solver.specs.declared.stops.Stop.TheVariants.{Run, BadWords, BadBook, CannotRead, NoPlace, CannotWrite}
 
--- The texts of a run: what standard input gives, where that is known, if no file is named; else one for each name.
--- What a file holds is not known.
+-- The texts of a run: what standard input gives, where that is known, if no file is named; else one
+-- for each name. What a file holds is not known.
 abbrev pub AreTextsOf : List (List ℕ) → Option (List ℕ) → List (List ℕ) → Type 0
 AreTextsOf [] given texts = IfSome given (λ text. texts ≡ text ∷ [])
 AreTextsOf (name ∷ names) given texts = length texts ≡ length (name ∷ names)
 
--- the same of the bytes that are read: one more than a file may have, where there are so many, and of one file more than
--- there may be
+-- These are the fronts of the texts that are read: of each text one byte more than a file may have,
+-- if it has them, and of one text more than there may be, if there are more.
 abbrev pub AreFrontsOf : List (List ℕ) → Option (List ℕ) → List (List ℕ) → Type 0
 AreFrontsOf [] given fronts = IfSome given (λ text. fronts ≡ take 1048577 text ∷ [])
 AreFrontsOf (name ∷ names) given fronts = length fronts ≡ min 65 (length (name ∷ names))
 
--- A run refuses none of the texts, and their reports were written to standard output, one after the other: it held
--- `old` before and holds `new` now.
+-- A run refuses none of the texts, and their reports were written to standard output, one after the
+-- other: it held `old` before and holds `new` now.
 pub record PrintsReports (c : Configuration) (texts : List (List ℕ)) (old new : Option (List ℕ))
     : Type 0 where
   pub few : length texts ≤ 64

@@ -1,4 +1,4 @@
--- What the lines of a text ask, and what comes of them.
+-- What the lines of a text ask, and their results.
 use Rattle.std.specs.Prelude.{List, Option, Some, None}
 use Rattle.std.specs.List.{filter_map}
 use Rattle.endgame_search.specs.Problems.{Problem}

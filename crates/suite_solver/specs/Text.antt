@@ -59,7 +59,7 @@ is_solved (Refused refusal) = false
 unfoldable pub solved_count : List ReportRow → ℕ
 solved_count rows = count_by (λ row. is_solved row.result) rows
 
--- senders count from 0, and are told from 1
+-- senders count from 0, and are printed from 1
 unfoldable pub head_text : ℕ → List ℕ
 head_text sender = codes "[" ++ (decimal (sender + 1) ++ (codes "]" ++ 10 ∷ []))
 

@@ -20,12 +20,12 @@ assignment g limit text = record { scoring = g; limit = limit; text = text }
 abbrev pub assignment_of : PartOf → Assignment
 assignment_of promise = assignment promise.scoring promise.limit promise.text.now
 
--- the client's thread gives what comes of the text, or it was given
+-- the client's thread gives the part of its text, or the calling thread made it
 abbrev pub IsFor : Assignment → Progress → Type 0
 IsFor a (There handle) = assignment_of handle.promise ≡ a
 IsFor a (Here part) = GivesPart a.scoring a.limit a.text part
 
--- what comes of a client
+-- what a client's text yields
 abbrev pub yield_at : Assignment → Yield
 yield_at a = yield a.scoring a.limit a.text
 

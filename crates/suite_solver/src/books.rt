@@ -117,8 +117,8 @@ impl<'a> ReadyBook<'a> {
         }
     }
 
-    // A regular file, and one that isn't there yet, is written beside and renamed. What is no regular file, as a device, a
-    // pipe or a link, is written as it is.
+    // A regular file, and one that isn't there yet, is written beside and renamed. What is no
+    // regular file, as a device, a pipe or a link, is written as it is.
     fn place<T: Files>(&self, rt: &T) -> io::Result<()> {
         match fs::symlink_metadata(rt, self.name) {
             Ok(found) => {
@@ -135,8 +135,9 @@ impl<'a> ReadyBook<'a> {
         }
     }
 
-    // Makes a file beside, gives it the permissions of the one that stood there, and renames it. A file that may not be
-    // written is not replaced. Where another program made the file beside meanwhile, it is left alone.
+    // Makes a file beside, gives it the permissions of the one that stood there, and renames it. A
+    // file that may not be written is not replaced. Where another program made the file beside
+    // meanwhile, it is left alone.
     fn replace<T: Files>(&self, rt: &T, permissions: Option<fs::Permissions>) -> io::Result<()> {
         if permissions.is_some() {
             OpenOptions::new().write(true).open(rt, self.name)?;

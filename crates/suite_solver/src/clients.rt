@@ -36,8 +36,8 @@ fn send_all<R: Wait>(
     Ok(())
 }
 
-// Solves a job that was taken, and finishes it. One of another scoring than the table's is given back. `Mixed` then, and
-// where the desk refuses the answer.
+// Solves a job that was taken, and finishes it. One of another scoring than the table's is given
+// back. `Mixed` then, and where the desk refuses the answer.
 fn solve_job<R: Wait, T: Bounds, G: Gate>(
     rt: &R,
     desk: &Desk,
@@ -60,7 +60,8 @@ fn solve_job<R: Wait, T: Bounds, G: Gate>(
     }
 }
 
-// Takes the answers of all that the client sent, in their order, and solves the jobs that it is given meanwhile.
+// Receives the answers of all that the client sent, in their order, and solves the jobs that it
+// takes meanwhile.
 fn receive_all<R: Wait, T: Bounds, G: Gate>(
     rt: &R,
     alloc: Global,
@@ -93,7 +94,8 @@ fn receive_all<R: Wait, T: Bounds, G: Gate>(
     unreachable!()
 }
 
-/// A worker's part: it solves what jobs it is given until the desk is done. It ends after a job that was refused.
+/// A worker's part: it takes jobs and solves them until the desk is done. It ends after a job that
+/// was refused.
 pub(crate) fn work<R: Wait, T: Bounds, G: Gate>(
     rt: &R,
     desk: &Desk,
@@ -110,8 +112,8 @@ pub(crate) fn work<R: Wait, T: Bounds, G: Gate>(
     }
 }
 
-// Submits the tasks of what was read, where there was memory for that, and closes the sender in any case, since others
-// wait for the close.
+// Submits the tasks of what was read, where there was memory for that, and closes the sender in any
+// case, since others wait for the close.
 pub(crate) fn send_and_close<R: Wait>(
     rt: &R,
     desk: &Desk,
@@ -137,12 +139,13 @@ pub(crate) fn send_and_close<R: Wait>(
     }
 }
 
-/// The whole part of one client: it submits the tasks of the text's lines for its sender, closes it, and solves what
-/// jobs it is given until all of its answers came back. The tasks are under the scoring of the table. Where it is Ok,
-/// its rows are those of the text, and its solved positions are those of the text's lines, in their order, at any desk,
-/// whatever is claimed, and whatever other threads do there. `Memory` where that was refused; `Mixed` for any other
-/// refusal of the desk. After a fault the desk keeps the steps that were made, and the sender is closed. It may wait for
-/// other threads.
+/// The whole part of one client: it submits the tasks of the text's lines for its sender, closes
+/// it, and solves what jobs it is given until all of its answers came back. The tasks are under the
+/// scoring of the table. Where it is Ok, its rows are those of the text, and its solved positions
+/// are those of the text's lines, in their order, at any desk, whatever is claimed, and whatever
+/// other threads do there. `Memory` where that was refused; `Mixed` for any other refusal of the
+/// desk. After a fault the desk keeps the steps that were made, and the sender is closed. It may
+/// wait for other threads.
 pub fn client_part<R: Wait, T: Bounds, G: Gate>(
     rt: &R,
     alloc: Global,

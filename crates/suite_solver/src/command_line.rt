@@ -215,7 +215,7 @@ fn settings_of(matches: &ArgMatches<'_>) -> Option<Settings>
     Settings::new(max_empties, workers, table, scoring)
 }
 
-// The same of `ffoscores`, which has no workers.
+// The settings that the matches of `ffoscores` hold. It has no workers.
 fn list_settings_of(matches: &ArgMatches<'_>) -> Option<Settings>
     ensures { IfSome result
         (λ settings. HasListSettings settings (rows_of (found_of matches.now))) }
@@ -236,7 +236,7 @@ fn copy_names(alloc: Global, names: &[&str]) -> Result<Vec<String>, AllocError>
     Ok(all)
 }
 
-// The name of a book, where it is given.
+// The name of a book, where the words have one.
 fn book_of(alloc: Global, matches: &ArgMatches<'_>, id: &str) -> Result<Option<String>, AllocError>
     ensures { IfOk result (λ name. option_map string_bytes name
         ≡ first_value (found_of matches.now) id.now) }
@@ -257,8 +257,8 @@ fn files_of(alloc: Global, matches: &ArgMatches<'_>) -> Result<Vec<String>, Allo
     }
 }
 
-/// Reads the words of a command line, the program's name first. A refusal for want of memory is `Memory`; any other
-/// has clap's error, which can also be the help that the words ask for.
+/// Reads the words of a command line, the program's name first. A refusal for want of memory is
+/// `Memory`; any other has clap's error, which can also be the help that the words ask for.
 pub fn options(alloc: Global, words: &[&str]) -> Result<Options, OptionFault>
     // For words that clap takes, only memory can be wanting.
     ensures taken { IsTaken (map (λ word. word.now) words.now)
@@ -285,7 +285,8 @@ pub fn options(alloc: Global, words: &[&str]) -> Result<Options, OptionFault>
     })
 }
 
-/// Reads the words of a command line of `ffoscores`, the program's name first, as `options` does those of `ffosolve`.
+/// Reads the words of a command line of `ffoscores`, the program's name first, as `options` does
+/// those of `ffosolve`.
 pub fn list_options(alloc: Global, words: &[&str]) -> Result<ListOptions, OptionFault>
     // For words that clap takes, only memory can be wanting.
     ensures taken { IsTakenBy ffoscores (map (λ word. word.now) words.now)

@@ -15,8 +15,8 @@ use std::rt::Files;
 use std::sync::Wait;
 use std::thread::Threads;
 
-/// How the program ended. `program_at` alone makes one, and it is no value that may be let go: so a `main` that calls it
-/// gives it, and ends with the program's status.
+/// How the program ended. `program_at` alone makes one, and it is no value that may be let go: so a
+/// `main` that calls it gives it, and ends with the program's status.
 pub struct Ended {
     status: u8,
 }
@@ -30,7 +30,8 @@ impl Termination for Ended {
     }
 }
 
-/// A stream for what ends the program early. Standard output is none, and can't be handed over as one.
+/// A stream for what ends the program early. Standard output is none, and can't be handed over as
+/// one.
 pub trait Errors: Write {}
 
 impl Errors for Stderr {}

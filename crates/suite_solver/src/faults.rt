@@ -13,7 +13,8 @@ use thiserror::Error;
 pub enum RunFault {
     #[error("out of memory")]
     Memory,
-    /// A step of the job board was refused, as where an answer came back that belongs to another position.
+    /// A step of the job board was refused, as where an answer came back that belongs to another
+    /// position.
     #[error("answers mixed")]
     Mixed,
     /// There are more than 64 files.
@@ -51,7 +52,7 @@ impl From<SubmitFault> for RunFault {
     }
 }
 
-/// The worse_fault of two faults: want of memory is told before any other.
+/// The worse of two faults: want of memory comes before any other.
 pub(crate) fn worse_fault(before: Option<RunFault>, fault: RunFault) -> RunFault
     ensures { result ≡ worse_fault before fault }
 {

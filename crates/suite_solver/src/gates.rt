@@ -1,9 +1,10 @@
-//! What is told of the jobs of a run.
+//! Calls before and after each job of a run.
 
 use std::marker::Sync;
 use std::sync::Wait;
 
-/// Is told when a thread of a run begins and ends a job. Senders and job numbers count from 0.
+/// Its calls are made when a thread of a run begins and ends a job. Senders and job numbers count
+/// from 0.
 pub trait Gate: Sync {
     /// Called after a thread took a job, and before it solves it.
     fn enter<R: Wait>(&self, rt: &R, sender: u32, number: u32);

@@ -1,4 +1,4 @@
-//! Reads what a run is given.
+//! Reads the files of a run.
 
 ghost use Rattle.std.specs.Prelude.{◌≡◌, ◌≤◌, ◌⊎◌, [], ◌∷◌, IfOk, IfErr, IfSome, length, min, take, vec_len};
 ghost use Rattle.suite_solver.specs.CommandLine.{names_of};
@@ -11,13 +11,14 @@ use std::io::Read;
 use std::rt::Files;
 use std::{fs, io};
 
-/// One byte more than a file may have: a file that is too large is told by it.
+/// One byte more than a file may have: by it a file that is too large is known.
 pub(crate) const MOST_READ: usize = 1_048_577;
 
-/// One file more than a run may have: that there are too many is told by it.
+/// One file more than a run may have: by it too many files are known.
 pub(crate) const MOST_KEPT: usize = 65;
 
-// The front of what a reader gives. A reader that tells nothing of its bytes is cut again.
+// The first bytes of a reader. They are cut once more, for a reader of which no contract says what
+// bytes it gives.
 fn read_capped<R: Read>(alloc: Global, reader: &mut R) -> io::Result<Vec<u8>>
     ensures most { IfOk result (λ bytes. vec_len bytes ≤ 1048577) }
     ensures front { IfOk result

@@ -1,4 +1,5 @@
-//! The part of one client of a run, and what holds of two runs. A law's body is empty: its contract is the law.
+//! The part of one client of a run, and what holds of two runs. A law's body is empty: its contract
+//! is the law.
 
 ghost use Rattle.std.specs.Prelude.{◌≡◌, List};
 ghost use Rattle.othello_rules.specs.declared.scorings.Scoring.{Scoring};
@@ -9,9 +10,9 @@ ghost use Rattle.suite_solver.specs.Parts.{IsBookOf};
 
 pub use crate::clients::client_part;
 
-/// Two books of the same tasks are the same. So runs on the same files, under the same scoring and limit, write the same
-/// book, whatever their workers, tables, claims and gates. That its positions stand in order, each call of `Book::len` and
-/// of `Book::write` says.
+/// Two books of equal tasks are equal. So runs on equal files, under one scoring and limit, write
+/// equal books, whatever their workers, tables, claims and gates. That its positions stand in
+/// order, each call of `Book::len` and of `Book::write` says.
 pub fn books_are_one()
     ensures { (g : Scoring) (tasks : List Problem) (a b : Contents)
         → IsBookOf g tasks a → IsBookOf g tasks b

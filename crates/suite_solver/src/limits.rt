@@ -57,8 +57,8 @@ impl Model for Settings {
 }
 
 impl Settings {
-    /// Positions of at most `max_empties` empty squares, so many worker threads, a table of so many entries.
-    /// None where a number is above its limit.
+    /// Positions of at most `max_empties` empty squares, `workers` threads beside the clients, a
+    /// table of `table` entries. None where a number is above its limit.
     pub fn new(max_empties: u8, workers: u8, table: u32, scoring: Scoring) -> Option<Settings>
         ensures within { IsSome result ↔ IsWithinLimits (record
             { max_empties = max_empties; workers = workers; table = table; scoring = scoring }) }

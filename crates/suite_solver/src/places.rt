@@ -32,8 +32,8 @@ fn try_beside<T: Files>(rt: &T, alloc: Global, name: &str) -> io::Result<()> {
     fs::remove_file(rt, beside.as_str())
 }
 
-// Looks whether a place can be opened for writing. What stands there is left as it is; where a link leads to no file, an
-// empty one is made.
+// Looks whether a place can be opened for writing. What stands there is left as it is; where a link
+// leads to no file, an empty one is made.
 fn try_open<T: Files>(rt: &T, name: &str) -> io::Result<()> {
     OpenOptions::new().write(true).create(true).open(rt, name)?;
     Ok(())
@@ -46,7 +46,8 @@ fn is_pipe<T: Files>(rt: &T, name: &str) -> bool {
     }
 }
 
-// Looks whether a book can be written there. A pipe is not opened: that waits for its reader, which would see its end.
+// Looks whether a book can be written there. A pipe is not opened: that waits for its reader, which
+// would see its end.
 fn try_place<T: Files>(rt: &T, alloc: Global, name: &str) -> io::Result<()> {
     match fs::symlink_metadata(rt, name) {
         Ok(found) => {
@@ -87,8 +88,9 @@ fn is_among<T: Files>(rt: &T, name: &str, names: &[String]) -> bool {
     false
 }
 
-/// Looks whether the book that is asked for, where one is, can be written in its place: a file can be made beside a
-/// regular file, or where none is yet, and what stands there opens. A file that is read as a list is no such place.
+/// Looks whether the book that is asked for, where one is, can be written in its place: a file can
+/// be made beside a regular file, or where none is yet, and what stands there opens. A file that is
+/// read as a list is no such place.
 pub(crate) fn check_place<'a, T: Files>(
     rt: &T,
     alloc: Global,

@@ -49,7 +49,7 @@ impl Reading {
         }
     }
 
-    /// What comes of the line. A position takes the next of the answers.
+    /// The result of the line in its row. A position takes the next of the answers.
     pub(crate) fn result(&self, answers: &mut Iter<'_, Solved>) -> RowResult
         requires { (task : Problem) → task_in self.now ≡ Some task
             → slice_get (iter_rest answers.old) 0 ≡ Some task }

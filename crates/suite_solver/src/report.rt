@@ -150,8 +150,9 @@ fn write_last<W: Write>(writer: &mut W, rows: &[ReportRow]) -> io::Result<()>
     write!(writer, "solved {solved} refused {refused}\n")
 }
 
-/// Writes the report of a sender's rows: its number plus 1, a line for each row, and the two sums. Each line ends
-/// with LF. After a fault nothing is said of how much went out. It takes no memory of its own.
+/// Writes the report of a sender's rows: its number plus 1, a line for each row, and the two sums.
+/// Each line ends with LF. After a fault nothing is said of how much went out. It takes no memory
+/// of its own.
 pub fn write_report<W: Write>(writer: &mut W, sender: u32, rows: &[ReportRow]) -> io::Result<()>
     ensures { OnOk result
         (Appends (W.contents writer.old) (W.contents writer.new) (report_text sender rows.now)) }

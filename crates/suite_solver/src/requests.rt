@@ -13,11 +13,12 @@ use thiserror::Error;
 #[derive(Debug, Drop)]
 pub struct Options {
     pub settings: Settings,
-    /// The name of a book to read, as given.
+    /// The name of a book to read, as the words have it.
     pub book_in: Option<String>,
-    /// The name of a book to write, as given.
+    /// The name of a book to write, as the words have it.
     pub book_out: Option<String>,
-    /// The names of the files as given, in their order. Without any, standard input is the one file.
+    /// The names of the files as given, in their order. Without any, standard input is the one
+    /// file.
     pub files: Vec<String>,
 }
 
@@ -26,7 +27,8 @@ pub struct Options {
 pub struct ListOptions {
     /// No workers.
     pub settings: Settings,
-    /// The names of the files as given, in their order. Without any, standard input is the one file.
+    /// The names of the files as given, in their order. Without any, standard input is the one
+    /// file.
     pub files: Vec<String>,
 }
 

@@ -6,7 +6,7 @@ use othello_rules::Answer;
 /// Why a line was not solved.
 #[derive(Clone, Copy, PartialEq, Eq, Debug)]
 pub enum Refusal {
-    /// The board has so many squares, fewer than 64.
+    /// The number of squares on the line, fewer than 64.
     Short(u32),
     /// A byte that is no square, at this column, counted from 1.
     BadCell(u32),

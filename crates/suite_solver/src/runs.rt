@@ -18,7 +18,8 @@ use std::alloc::Global;
 use std::sync::Wait;
 use std::thread::Threads;
 
-// By the files as they are given. `first_large` says it of their texts, of which the definitions speak.
+// The place of the first file that is too large. `first_large` says it of the texts, of which the
+// definitions speak.
 fn large_file(files: &[Vec<u8>]) -> Option<usize>
     ensures { result ≡ position (λ file. is_large file.items) files.now }
 {
@@ -67,14 +68,16 @@ fn run_files(
     Ok(outcome)
 }
 
-/// Solves the positions of files on the calling thread, over one table of bounds. The workers of the settings are not
-/// used. A position that is claimed under the scoring of the settings is confirmed, and any other solved.
+/// Solves the positions of files on the calling thread, over one table of bounds. The workers of
+/// the settings are not used. A position that is claimed under the scoring of the settings is
+/// confirmed, and any other solved.
 ///
-/// The reports are those of the files, in their order. The book holds the canonical form of each solved position, and
-/// nothing else. Both are the same for every table size and whatever is claimed.
+/// The reports are those of the files, in their order. The book holds the canonical form of each
+/// solved position, and nothing else. Neither depends on the table's size or on what is claimed.
 ///
-/// More than 64 files are `TooManyFiles`, else the first of more than 1,048,576 bytes is `FileTooLarge`, before anything
-/// is solved; `Memory` comes where a growth was refused. It is never `Mixed`.
+/// More than 64 files are `TooManyFiles`, else the first of more than 1,048,576 bytes is
+/// `FileTooLarge`, before anything is solved; `Memory` comes where a growth was refused. It is
+/// never `Mixed`.
 pub fn run_serial(
     alloc: Global,
     files: &[Vec<u8>],
@@ -112,13 +115,14 @@ fn run_threads<R: Threads + Wait + Sync, G: Gate>(
     Ok(outcome)
 }
 
-/// Solves the positions of files on threads: a client for each file, and the workers of the settings, at one board of jobs
-/// and over one table of bounds. Where a worker can't be started there are fewer; where a client can't, the calling thread does its part.
-/// The gate is told of each job. It returns when all threads have ended, and may wait for them.
+/// Solves the positions of files on threads: a client for each file, and the workers of the
+/// settings, at one board of jobs and over one table of bounds. Where a worker can't be started
+/// there are fewer; where a client can't, the calling thread does its part. The gate is called
+/// before and after each job. It returns when all threads have ended, and may wait for them.
 ///
-/// Reports and book are those of `run_serial`, for every number of workers and every gate, and so are the refusals of
-/// limits, which come before a thread is started or the gate is told anything. `Memory` of any part comes before `Mixed`,
-/// which tells that a step of the board was refused.
+/// Reports and book are those of `run_serial`, for every number of workers and every gate, and so
+/// are the refusals of limits, which come before a thread is started or the gate is called.
+/// `Memory` of any part comes before `Mixed`, which says that a step of the board was refused.
 pub fn run<R: Threads + Wait + Sync, G: Gate>(
     rt: &R,
     alloc: Global,

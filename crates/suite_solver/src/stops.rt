@@ -1,4 +1,4 @@
-//! What ends the program early.
+//! The errors that end the program early.
 
 ghost use Rattle.std.specs.Prelude.{◌≡◌, ◌⊎◌, ◌++◌, OnOk, codes};
 ghost use Rattle.std.specs.Fmt.{decimal};
@@ -15,13 +15,14 @@ use std::alloc::{AllocError, AllocFailed};
 use std::io;
 use std::io::{ErrorKind, Write};
 
-/// What ends the program early. Names are those of files as given, or of a standard stream.
+/// An error that ends the program early. Names are those of files as the words have them, or of a
+/// standard stream.
 #[derive(Drop)]
 pub(crate) enum Stop<'a> {
     Run(RunFault),
     /// A word of the command line is no text.
     BadWords,
-    /// The text that was read is no book. Want of memory is never told here.
+    /// The text that was read is no book. Want of memory is `Run(Memory)`.
     BadBook(BookFault),
     CannotRead(&'a str),
     /// The place of a book, before anything is solved.
@@ -132,7 +133,8 @@ fn write_reason<E: Write>(errors: &mut E, stop: &Stop<'_>) -> io::Result<()>
     }
 }
 
-// Why standard input, or a file of this name, can't be read: it has failed, or there was no memory for its bytes.
+// Why standard input, or a file of this name, can't be read: it has failed, or there was no memory
+// for its bytes.
 pub(crate) fn read_stop<'a>(fault: &io::Error, name: &'a str) -> Stop<'a>
     ensures memory { error_kind fault.now ≡ ErrorKind.OutOfMemory → result ≡ Run Memory }
     ensures name { (error_kind fault.now ≡ ErrorKind.OutOfMemory → ⊥)
@@ -146,7 +148,8 @@ pub(crate) fn read_stop<'a>(fault: &io::Error, name: &'a str) -> Stop<'a>
     }
 }
 
-// Why a book can't be written in a place, before anything is solved, or that there was no memory to try it.
+// Why a book can't be written in a place, before anything is solved, or that there was no memory to
+// try it.
 pub(crate) fn place_stop<'a>(fault: &io::Error, name: &'a str) -> Stop<'a>
     ensures memory { error_kind fault.now ≡ ErrorKind.OutOfMemory → result ≡ Run Memory }
     ensures name { (error_kind fault.now ≡ ErrorKind.OutOfMemory → ⊥)

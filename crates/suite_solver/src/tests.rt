@@ -1,4 +1,5 @@
-//! Whole runs and programs on small positions whose answers are known, and streams, gates and allocations that fail.
+//! Whole runs and programs on small positions whose answers are known, and streams, gates and
+//! allocations that fail.
 
 mod alone;
 mod books;
@@ -22,8 +23,8 @@ use std::sync::Wait;
 use std::sync::atomic::{AtomicU32, Ordering};
 use std::thread::Threads;
 
-// The words of a command line with spaces between, standard input, and the status, standard output and standard error
-// that the program ends with.
+// The words of a command line with spaces between, standard input, and the status, standard output
+// and standard error that the program ends with.
 type Run<'a> = (&'a str, &'a [u8], u8, &'a [u8], &'a [u8]);
 
 // How a program ended.

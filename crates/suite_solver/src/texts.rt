@@ -1,4 +1,4 @@
-//! The lines of a text: read once, and told as rows when their positions are solved.
+//! The lines of a text: read once, and made rows when their positions are solved.
 
 ghost use Rattle.std.specs.Prelude.{◌≡◌, ◌≤◌, length, map, IfOk};
 ghost use Rattle.suite_solver.specs.Readings.{row_in, task_in, tasks_in};

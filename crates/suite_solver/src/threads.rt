@@ -21,8 +21,8 @@ use std::sync::Wait;
 use std::thread;
 use std::thread::{Promise, PromisedHandle, Scope, Threads};
 
-/// What all threads of a run share. It has no type parameter and no lifetime: of a closure that captures a type with one,
-/// its caller would know nothing.
+/// What all threads of a run share. It has no type parameter and no lifetime: of a closure that
+/// captures a type with one, its caller would know nothing.
 #[derive(Drop)]
 pub(crate) struct Shared {
     pub(crate) alloc: Global,
@@ -86,7 +86,7 @@ impl Shared {
     }
 }
 
-// That a thread gives what comes of a text.
+// That a thread gives the part of a text.
 #[derive(Clone, Copy)]
 pub(crate) struct PartOf<'a> {
     pub(crate) scoring: Scoring,
@@ -257,8 +257,8 @@ pub(crate) fn join_all<R: Threads>(rt: &R, clients: Vec<Started<'_>>, joined: &m
     }
 }
 
-// Solves the positions of all texts. All lists are made before the first thread is started, so that nothing can fail
-// between the starts and the joins.
+// Solves the positions of all texts. All lists are made before the first thread is started, so that
+// nothing can fail between the starts and the joins.
 fn solve_in_scope<'a, E, R: Threads + Wait + Sync, G: Gate>(
     scope: &Scope<'a, E>,
     rt: &'a R,
@@ -281,8 +281,8 @@ fn solve_in_scope<'a, E, R: Threads + Wait + Sync, G: Gate>(
     joined.into_parts()
 }
 
-/// Solves the positions of texts, by a client for each text and the workers of the settings, at one desk and over one
-/// table.
+/// Solves the positions of texts, by a client for each text and the workers of the settings, at one
+/// desk and over one table.
 pub(crate) fn solve_texts_on_threads<R: Threads + Wait + Sync, G: Gate>(
     rt: &R,
     alloc: Global,

@@ -1,5 +1,5 @@
-//! A worker alone at a desk, and one that watches it for ten seconds: where workers don't end, this test tells so before
-//! the others that wait for them take a minute each.
+//! A worker alone at a desk, and one that watches it for ten seconds: where workers don't end, this
+//! test tells so before the others that wait for them take a minute each.
 
 use super::FIRST_POSITION;
 use crate::NoGate;

@@ -8,7 +8,8 @@ use std::sync::Wait;
 use std::test::Fail;
 use std::thread::Threads;
 
-// The canonical positions of -OOOOOOX, --OOOOOX and -OOXXOO- above seven rows of black discs, in the order of a book.
+// The canonical positions of -OOOOOOX, --OOOOOX and -OOXXOO- above seven rows of black discs, in
+// the order of a book.
 pub(super) const BOOK: &[u8] = b"% ffobook 2 winner\n\
 XXXXXXXXXXXXXXXXXXXXXXXXXXXXXXXXXXXXXXXXXXXXXXXXXXXXXXXXXOOOOO-- X; G8:+64;\n\
 XXXXXXXXXXXXXXXXXXXXXXXXXXXXXXXXXXXXXXXXXXXXXXXXXXXXXXXXXOOOOOO- X; H8:+64;\n\
@@ -168,7 +169,8 @@ const READ: &[Run] = &[
     ("ffosolve --book-in in.book", TWO, 0, TWO_BY_WINNER, b""),
 ];
 
-// Whether a book is read before the files and what it claims changes no report, or what is told of it.
+// Whether a book is read before the files and what it claims changes no report, or what is told of
+// it.
 fn is_told_so<T: Files + Threads + Wait + Sync>(
     rt: &T,
     alloc: Global,
@@ -251,7 +253,8 @@ fn reads_cut_off_books(rt: HostRuntime) -> Result<(), Fail> {
     Ok(())
 }
 
-// Books that can't be read, and places that can't be written, of which a full device alone is told behind the reports.
+// Books that can't be read, and places that can't be written, of which a full device alone is told
+// behind the reports.
 const PLACES: &[Run] = &[
     (
         "ffosolve --book-in no.book",

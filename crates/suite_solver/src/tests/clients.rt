@@ -75,8 +75,8 @@ fn is_mixed_part<R: Wait, G: Gate>(
     }
 }
 
-// Whether the parts of two clients are refused: one that takes a job of another scoring, and one whose sender is not the
-// desk's.
+// Whether the parts of two clients are refused: one that takes a job of another scoring, and one
+// whose sender is not the desk's.
 fn are_mixed<R: Wait, G: Gate>(
     rt: &R,
     alloc: Global,
@@ -110,7 +110,8 @@ fn clients_are_refused(rt: HostRuntime) -> Result<(), Fail> {
 // A sender and a job's number, and whether the job was found finished.
 type Told = (u32, u32, bool);
 
-// Keeps what it is told. Whether a job that is left was finished, the desk tells: one that is still taken is given back.
+// Keeps what it is told. Whether a job that is left was finished, the desk tells: one that is still
+// taken is given back.
 #[derive(Drop)]
 struct NotingGate<'a> {
     desk: &'a Desk,
@@ -200,7 +201,8 @@ fn sent_client<R: Wait>(
     Ok(client)
 }
 
-// A sender that has all jobs that it may have but one: the part's second task is refused, and the sender is closed.
+// A sender that has all jobs that it may have but one: the part's second task is refused, and the
+// sender is closed.
 #[test]
 fn a_refused_submit_closes_the_sender(rt: HostRuntime) -> Result<(), Fail> {
     let alloc = rt.alloc();

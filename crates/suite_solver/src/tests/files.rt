@@ -58,8 +58,9 @@ fn write_files<T: Files>(rt: &T, alloc: Global) -> Result<(), Fail> {
     Ok(())
 }
 
-// So many files and one more, and the status and the words that a run on them ends with. A folder can be opened, and not
-// read: from the 66th file on none is read, and that one can't be opened is told before there being too many.
+// So many files and one more, and the status and the words that a run on them ends with. A folder
+// can be opened, and not read: from the 66th file on none is read, and that one can't be opened is
+// told before there being too many.
 const MANY: &[(u32, &str, u8, &[u8])] = &[
     (64, "first.obf", 1, MANY_FILES),
     (65, ".", 1, MANY_FILES),
@@ -91,7 +92,8 @@ fn runs_on_files(rt: HostRuntime) -> Result<(), Fail> {
     Ok(())
 }
 
-// Whether a file of as many bytes as may be is read, all of them the same, and one byte more refused.
+// Whether a file of as many bytes as may be is read, all of them the same, and one byte more
+// refused.
 fn is_measured<T: Files + Threads + Wait + Sync>(
     rt: &T,
     alloc: Global,

@@ -124,7 +124,8 @@ fn hold<T: Alloc + Files>(rt: &T, held: Held) -> Result<bool, Fail> {
     Ok(true)
 }
 
-// What is left where the book is put: the book's other name has the old file, and the file beside is another's.
+// What is left where the book is put: the book's other name has the old file, and the file beside
+// is another's.
 const PUT: Held = &[
     ("kept.book", Some(NEW)),
     ("twin.book", Some(OLD)),
@@ -146,8 +147,8 @@ fn remove_all<T: Files>(rt: &T, names: &[&str]) -> Result<(), Fail> {
     Ok(())
 }
 
-// A place is tried without a trace. A book is whole before it takes the place of another, whose permissions it keeps; a
-// file beside it is left alone.
+// A place is tried without a trace. A book is whole before it takes the place of another, whose
+// permissions it keeps; a file beside it is left alone.
 #[test]
 fn puts_books(rt: HostRuntime) -> Result<(), Fail> {
     fs::write(&rt, "kept.book", OLD)?;

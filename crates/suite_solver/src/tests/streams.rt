@@ -172,7 +172,8 @@ fn tells_outputs<T: Files + Threads + Wait + Sync>(
     Ok(told && !fs::exists(rt, "unwritten.book")?)
 }
 
-// The report has 77 bytes, which are 26 writes of three bytes and less. Help has more. No book is written.
+// The report has 77 bytes, which are 26 writes of three bytes and less. Help has more. No book is
+// written.
 #[test]
 fn tells_failing_output(rt: HostRuntime) -> Result<(), Fail> {
     for calls_left in 0..26 {
