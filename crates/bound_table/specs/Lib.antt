@@ -1,2 +1,2 @@
-pub mod Ranges
-pub mod Tables
+pub mod Range
+pub mod Table

@@ -2,7 +2,7 @@
 
 ghost use Rattle.std.specs.Prelude.{◌≡◌, ◌<◌, ◌≤◌, ◌↔◌, IfSome, IfOk, IsOk, IsNone, IsTrue};
 ghost use Rattle.bound_table.specs.declared.faults.TableFault.TheVariants as fault;
-ghost use Rattle.bound_table.specs.Ranges.{IsTrueOf};
+ghost use Rattle.bound_table.specs.Range.{IsTrueOf};
 
 use crate::entries::{Entry, Slot, empty_slot, read, write};
 use crate::faults::TableFault;
@@ -28,9 +28,9 @@ pub struct BoundTable {
 
 impl Model for BoundTable {
     ghost use Rattle.std.specs.Prelude.{length};
-    ghost use Rattle.bound_table.specs.Tables.{Table, IsTable};
+    ghost use Rattle.bound_table.specs.Table.{TableView, IsTable};
 
-    ghost Value = { Table };
+    ghost Value = { TableView };
 
     ghost view = { λ t. record { scoring = t.scoring; entries = length t.slots.items } };
 

@@ -8,7 +8,7 @@ ghost use Rattle.std.specs.Prelude.{◌≡◌, ◌<◌, ◌+◌, ◌^◌, IfSome
 ghost use Rattle.std.specs.Option.{SomeIff};
 ghost use Rattle.counted_slot.specs.Counting.{IsTurn};
 ghost use Rattle.othello_bits.specs.Symmetries.{canonical_of};
-ghost use Rattle.bound_table.specs.Tables.{IsKnown};
+ghost use Rattle.bound_table.specs.Table.{IsKnown};
 
 use crate::ranges::Range;
 use counted_slot::{Counted, FREE, Fits, MOST_READERS, ONE_READER, PRESENT, TAKEN};

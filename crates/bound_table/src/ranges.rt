@@ -1,7 +1,7 @@
 //! Ranges of scores.
 
 ghost use Rattle.std.specs.Prelude.{◌≡◌, ◌↔◌, negsuc, pos, IsSome, IfSome};
-ghost use Rattle.bound_table.specs.Ranges.{interval, IsInterval};
+ghost use Rattle.bound_table.specs.Range.{range_view, IsRange};
 
 use std::marker::Model;
 
@@ -14,13 +14,13 @@ pub struct Range {
 }
 
 impl Model for Range {
-    ghost use Rattle.bound_table.specs.Ranges.{Interval, interval, IsInterval};
+    ghost use Rattle.bound_table.specs.Range.{RangeView, range_view, IsRange};
 
-    ghost Value = { Interval };
+    ghost Value = { RangeView };
 
-    ghost view = { λ r. interval r.low r.high };
+    ghost view = { λ r. range_view r.low r.high };
 
-    ghost invariant = { λ r. IsInterval (interval r.low r.high) };
+    ghost invariant = { λ r. IsRange (range_view r.low r.high) };
 
     ghost inverse = { λ i. record { low = i.low; high = i.high } };
 }
@@ -29,8 +29,8 @@ impl Range {
     /// None unless `-64 <= low <= high <= 64`.
     #[inline]
     pub fn new(low: i8, high: i8) -> Option<Range>
-        ensures ordered { IsSome result ↔ IsInterval (interval low high) }
-        ensures value { IfSome result (λ r. r ≡ interval low high) }
+        ensures ordered { IsSome result ↔ IsRange (range_view low high) }
+        ensures value { IfSome result (λ r. r ≡ range_view low high) }
     {
         if -64 <= low && low <= high && high <= 64 {
             Some(Range { low, high })
@@ -42,7 +42,7 @@ impl Range {
     /// The range of all scores.
     #[inline]
     pub(crate) fn of_all_scores() -> Range
-        ensures { result ≡ interval (negsuc 63) (pos 64) }
+        ensures { result ≡ range_view (negsuc 63) (pos 64) }
     {
         Range { low: -64, high: 64 }
     }
@@ -51,7 +51,7 @@ impl Range {
     #[inline]
     pub fn low(self) -> i8
         ensures value { result ≡ self.low }
-        ensures ordered { IsInterval self }
+        ensures ordered { IsRange self }
     {
         self.low
     }
@@ -60,7 +60,7 @@ impl Range {
     #[inline]
     pub fn high(self) -> i8
         ensures value { result ≡ self.high }
-        ensures ordered { IsInterval self }
+        ensures ordered { IsRange self }
     {
         self.high
     }

@@ -2,7 +2,7 @@
 
 ghost use Rattle.std.specs.Prelude.{◌≡◌, IfSome, IsNone};
 ghost use Rattle.othello_rules.specs.declared.scorings.Scoring.{Scoring};
-ghost use Rattle.bound_table.specs.Ranges.{IsTrueOf};
+ghost use Rattle.bound_table.specs.Range.{IsTrueOf};
 
 use crate::ranges::Range;
 use othello_bits::Pos;

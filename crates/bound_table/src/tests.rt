@@ -3,7 +3,7 @@
 
 ghost use Rattle.std.specs.Prelude.{◌≡◌};
 ghost use Rattle.othello_rules.specs.declared.scorings.Scoring.TheVariants.{Winner};
-ghost use Rattle.bound_table.specs.Ranges.{IsTrueOf};
+ghost use Rattle.bound_table.specs.Range.{IsTrueOf};
 
 use crate::{BoundTable, Bounds, NoTable, Range, TableFault};
 use othello_bits::{Pos, Sym};

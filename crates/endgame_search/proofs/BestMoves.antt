@@ -10,12 +10,12 @@ use Rattle.othello_rules.specs.Board.{squares}
 use Rattle.othello_rules.specs.Masks.{in_mask, squares_of}
 use Rattle.othello_rules.proofs.ListLaws.{Contains-filter, passes_in_filter}
 use Rattle.othello_rules.proofs.MoveLaws.{Contains-squares}
-use Rattle.othello_bits.specs.Discs.{Discs, mask_where, moves_of, play_of, value_of, is_best_move, IsMove}
+use Rattle.othello_bits.specs.Pos.{PosView, mask_where, moves_of, play_of, value_of, is_best_move, IsMove}
 use Rattle.othello_bits.proofs.GameLaws.{value_above}
 use Rattle.othello_bits.proofs.MaskMeaning.{IsMove-on_board}
-use Rattle.othello_bits.proofs.Wheres.{is_where}
+use Rattle.othello_bits.proofs.TestMasks.{is_where}
 use Rattle.endgame_search.specs.Windows.{Places}
-use Rattle.endgame_search.proofs.Takes.{other, gone}
+use Rattle.endgame_search.proofs.TakenSquares.{other, gone}
 
 -- a test of the code, as a fact
 pub le_in : (a b : ℤ) → le_z a b ≡ true → a ≤ℤ b
@@ -51,7 +51,7 @@ whole_window v r p =
     omega (arith, ints)
 
 -- a move is best exactly if it is worth at least the value
-module _ (g : Scoring) (p : Discs) (q : ℕ) (s : ℤ) (move : IsMove p q) (value : s ≡ value_of g p) where
+module _ (g : Scoring) (p : PosView) (q : ℕ) (s : ℤ) (move : IsMove p q) (value : s ≡ value_of g p) where
   pub worth_best : s ≤ℤ neg_ℤ (value_of g (play_of p q)) → is_best_move g p q ≡ true
   worth_best k =
       let a = value_above g p q move in
@@ -65,13 +65,13 @@ module _ (g : Scoring) (p : Discs) (q : ℕ) (s : ℤ) (move : IsMove p q) (valu
       n (omega (arith, ints)))
 
 -- a mask that has every best move, moves alone, and of the squares tested best moves alone
-pub record HoldsBest (g : Scoring) (p : Discs) (tested : List ℕ) (best : ℕ) : Type 0 where
+pub record HoldsBest (g : Scoring) (p : PosView) (tested : List ℕ) (best : ℕ) : Type 0 where
   pub small : best < 2 ^ 64
   pub every : (q : ℕ) → is_best_move g p q ≡ true → in_mask best q ≡ true
   pub moves : (q : ℕ) → in_mask best q ≡ true → IsMove p q
   pub alone : All (λ q. in_mask best q ≡ true → is_best_move g p q ≡ true) tested
 
-pub holds_moves : (g : Scoring) (p : Discs) (m : ℕ) → m ≡ moves_of p → m < 2 ^ 64 → HoldsBest g p [] m
+pub holds_moves : (g : Scoring) (p : PosView) (m : ℕ) → m ≡ moves_of p → m < 2 ^ 64 → HoldsBest g p [] m
 holds_moves g p m e small =
     record {
       small = small;
@@ -80,7 +80,7 @@ holds_moves g p m e small =
       alone = λ k d h. absurd (omega (arith, h));
     }
 
-module _ (g : Scoring) (p : Discs) (items : List ℕ) (i x best : ℕ) (here : i < length items) (is : x ≡ get_or items i x) (held : HoldsBest g p (take i items) best) where
+module _ (g : Scoring) (p : PosView) (items : List ℕ) (i x best : ℕ) (here : i < length items) (is : x ≡ get_or items i x) (held : HoldsBest g p (take i items) best) where
   pub best_kept : is_best_move g p x ≡ true → HoldsBest g p (take (i + 1) items) best
   best_kept b =
       record {
@@ -109,7 +109,7 @@ unfolding squares_of
 square_listed m q h b = Contains-filter (in_mask m) squares q (Contains-squares q h) b
 
 -- where all moves are tested, it is the mask of the best moves
-pub all_held : (g : Scoring) (p : Discs) (items : List ℕ) (best : ℕ) → items ≡ squares_of (moves_of p) → HoldsBest g p items best → best ≡ mask_where (is_best_move g p)
+pub all_held : (g : Scoring) (p : PosView) (items : List ℕ) (best : ℕ) → items ≡ squares_of (moves_of p) → HoldsBest g p items best → best ≡ mask_where (is_best_move g p)
 all_held g p items best e held =
     is_where best (is_best_move g p) held.small (λ q h.
     elim (cases_Bool (is_best_move g p q)) [

@@ -3,7 +3,7 @@ use Rattle.std.proofs.Common.{◌≡◌, ℤ, pos, negsuc, neg_ℤ, ◌+ℤ◌, 
 use lib.Signed.{lt_z}
 use Rattle.std.specs.Int.{int_max}
 use Rattle.std.proofs.lemmas.Int.{ints, clamps}
-use Rattle.othello_rules.specs.Solution.{IsScore}
+use Rattle.othello_rules.specs.Answer.{IsScore}
 use Rattle.endgame_search.specs.Windows.{IsBound, IsWindow, Places}
 use Rattle.endgame_search.proofs.Windows.{shown, shown_same, recast, recast_window}
 

@@ -7,13 +7,13 @@ use Rattle.othello_rules.specs.declared.scorings.Scoring.TheVariants.{Winner}
 use Rattle.othello_rules.specs.declared.discs.Side.TheVariants.{Black}
 use Rattle.othello_rules.specs.Board.{squares}
 use Rattle.othello_rules.specs.Masks.{in_mask}
-use Rattle.othello_bits.specs.Discs.{Discs, moves_of, empties_of}
+use Rattle.othello_bits.specs.Pos.{PosView, moves_of, empties_of}
 use Rattle.othello_bits.proofs.CountMeaning.{count-empty}
 use Rattle.othello_bits.proofs.GameLaws.{value_reached, empties_positive}
 use Rattle.othello_bits.proofs.Numbers.{count_below, is_number, ones_number}
 use Rattle.endgame_search.specs.Lasts.{IsFree, AreLast}
 use Rattle.endgame_search.proofs.Lasts.{move_free, free_mask, free_below}
-use Rattle.endgame_search.proofs.Takes.{one_less, only_one, still_there}
+use Rattle.endgame_search.proofs.TakenSquares.{one_less, only_one, still_there}
 
 more_below : (n : ℕ) (f g : ℕ → Bool) → ((i : ℕ) → f i ≡ true → g i ≡ true) → count_below n f ≤ count_below n g
 unfolding count_below
@@ -30,7 +30,7 @@ count-squares : (f : ℕ → Bool) → count_by f squares ≡ count_below 64 f
 unfolding count_below squares
 count-squares f = omega arith
 
-pub few_moves : (p : Discs) (m : ℕ) → m ≡ moves_of p → m < 2 ^ 64 → ones m ≤ empties_of p
+pub few_moves : (p : PosView) (m : ℕ) → m ≡ moves_of p → m < 2 ^ 64 → ones m ≤ empties_of p
 unfolding empties_of
 few_moves p m is fits =
     let free : ℕ → Bool = λ i. not (in_mask p.own i || in_mask p.opp i) in
@@ -39,11 +39,11 @@ few_moves p m is fits =
     let c = more_below 64 (in_mask m) free (λ i h. free_mask p i (move_free p i (subst (λ n. in_mask n i ≡ true) is h))) in
     omega (arith, a, b, c)
 
-pub some_empty : (p : Discs) → moves_of p ≢ 0 → 1 ≤ empties_of p
+pub some_empty : (p : PosView) → moves_of p ≢ 0 → 1 ≤ empties_of p
 some_empty p some = let r = value_reached Winner p some in omega (arith, empties_positive p r.0 r.1)
 
 -- s is one of two empty squares, and rest the mask of all but s
-module _ (p : Discs) (free rest s : ℕ) (two : empties_of p ≡ 2) (all : (q : ℕ) → IsFree p q → in_mask free q ≡ true) (count : ones free ≡ empties_of p) (here : IsFree p s)
+module _ (p : PosView) (free rest s : ℕ) (two : empties_of p ≡ 2) (all : (q : ℕ) → IsFree p q → in_mask free q ≡ true) (count : ones free ≡ empties_of p) (here : IsFree p s)
     (taken : (i : ℕ) → in_mask rest i ≡ (in_mask free i && not (nat_eq s i))) (free_fits : free < 2 ^ 64) (rest_fits : rest < 2 ^ 64) where
   one_left : ones rest ≡ 1
   one_left = omega (arith, one_less free rest s (all s here) taken free_fits rest_fits (free_below p s here), two, count)

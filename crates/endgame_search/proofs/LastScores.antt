@@ -11,22 +11,22 @@ use Rattle.std.proofs.Math.Bool.{or-true, or-false}
 use Rattle.std.proofs.lemmas.Map.Views.{Contains-from_any}
 use Rattle.std.proofs.lemmas.Option.{slice_get-get_or}
 use Rattle.othello_rules.specs.declared.scorings.Scoring.{Scoring}
-use Rattle.othello_rules.specs.declared.scorings.Scoring.TheVariants.{Winner, Discs as PlainDiscs, Sign}
+use Rattle.othello_rules.specs.declared.scorings.Scoring.TheVariants.{Winner, PosView as PlainDiscs, Sign}
 use Rattle.othello_rules.specs.declared.discs.Cell.{Cell}
 use Rattle.othello_rules.specs.declared.discs.Cell.TheVariants as cell
 use Rattle.othello_rules.specs.declared.discs.Side.TheVariants.{Black}
 use Rattle.othello_rules.specs.Board.{squares}
 use Rattle.othello_rules.specs.Scores.{score_of}
 use Rattle.othello_rules.specs.Rules as rules
-use Rattle.othello_rules.specs.Rules.{Position, has, own, opposing, same_cell, is_some_cell}
+use Rattle.othello_rules.specs.Rules.{GridView, has, own, opposing, same_cell, is_some_cell}
 use Rattle.othello_rules.specs.Masks.{in_mask}
 use Rattle.othello_rules.proofs.CountLaws as counts
 use Rattle.othello_rules.proofs.MoveLaws.{move_empty, opposing_in_flips}
 use Rattle.othello_rules.proofs.PaintLaws.{get_or-painted}
-use Rattle.othello_bits.specs.Discs.{Discs, mem, mask_where, cell_at, position_of, discs_of, flips_of, play_of, final_of, value_of, IsMove}
+use Rattle.othello_bits.specs.Pos.{PosView, mem, mask_where, cell_at, position_of, discs_of, flips_of, play_of, final_of, value_of, IsMove}
 use Rattle.othello_bits.proofs.Bits.{in_mask-above, eqb_sym, some_square, none_from_zero}
 use Rattle.othello_bits.proofs.Numbers.{count_below, both_below, is_number, ones_number}
-use Rattle.othello_bits.proofs.Wheres.{where-number, where_lt, is_where, in_mask-where}
+use Rattle.othello_bits.proofs.TestMasks.{where-number, where_lt, is_where, in_mask-where}
 use Rattle.othello_bits.proofs.TurnedMasks.{ones_count, partition}
 use Rattle.othello_bits.proofs.CellLaws.{AreApart, length-cells_of, get_or-cells_of, same-own_cell, has_empty}
 use Rattle.othello_bits.proofs.CountMeaning.{final-meaning}
@@ -108,7 +108,7 @@ not_empty [] i e = absurd (false≢true e)
 not_empty (x ∷ xs) i e = refl
 
 -- the masks after a move share no square
-play_apart : (p : Discs) (s : ℕ) → AreApart (play_of p s)
+play_apart : (p : PosView) (s : ℕ) → AreApart (play_of p s)
 unfolding play_of discs_of rules.play
 play_apart p s =
     let Q = rules.play (position_of Black p) s in
@@ -122,7 +122,7 @@ play_apart p s =
           ];
     }
 
-module _ (p : Discs) (s : ℕ) (m : IsMove p s) where
+module _ (p : PosView) (s : ℕ) (m : IsMove p s) where
   turns : ℕ → Bool
   turns i = mem i (rules.flips (position_of Black p) s)
 
@@ -212,7 +212,7 @@ module _ (p : Discs) (s : ℕ) (m : IsMove p s) where
       last_worth p s last g m ∙ ap neg_ℤ f ∙ score-turned g (64 - n) n
 
 -- a disc turns something exactly where it is a move
-pub turns_none : (p : Discs) (s : ℕ) → ones (flips_of p s) ≡ 0 → IsMove p s → ⊥
+pub turns_none : (p : PosView) (s : ℕ) → ones (flips_of p s) ≡ 0 → IsMove p s → ⊥
 unfolding flips_of turns
 turns_none p s e m =
     let P = position_of Black p in
@@ -221,7 +221,7 @@ turns_none p s e m =
     let low : t.0 < 64 = subst (λ n. t.0 < n) (length-cells_of Black p) (counts.has_within P cell.White t.0 h) in
     both_ways (in_mask (mask_where (λ i. mem i (rules.flips P s))) t.0) (none_from_zero _ (zero_from_ones (mask_where (λ i. mem i (rules.flips P s))) e) t.0) (in_mask-where (λ i. mem i (rules.flips P s)) t.0 low ∙ t.1)
 
-pub turns_some : (p : Discs) (s : ℕ) → 0 < ones (flips_of p s) → IsMove p s
+pub turns_some : (p : PosView) (s : ℕ) → 0 < ones (flips_of p s) → IsMove p s
 unfolding flips_of ones
 turns_some p s h =
     let P = position_of Black p in

@@ -10,12 +10,12 @@ use Rattle.othello_rules.specs.declared.discs.Cell.TheVariants as cell
 use Rattle.othello_rules.specs.declared.discs.Side.{Side}
 use Rattle.othello_rules.specs.declared.discs.Side.TheVariants as side
 use Rattle.othello_rules.specs.Rules as rules
-use Rattle.othello_rules.specs.Rules.{Position, has, own, disc, same_cell}
+use Rattle.othello_rules.specs.Rules.{GridView, has, own, disc, same_cell}
 use Rattle.othello_rules.specs.Masks.{in_mask}
 use Rattle.othello_rules.proofs.MoveLaws.{move_empty}
 use Rattle.othello_rules.proofs.PaintLaws.{get_or-painted}
 use Rattle.othello_rules.proofs.CountLaws as counts
-use Rattle.othello_bits.specs.Discs.{Discs, position_of, cell_at, moves_of, play_of, pass_of, final_of, value_of, IsMove, HasNoMove}
+use Rattle.othello_bits.specs.Pos.{PosView, position_of, cell_at, moves_of, play_of, pass_of, final_of, value_of, IsMove, HasNoMove}
 use Rattle.othello_bits.proofs.Bits.{none_from_zero}
 use Rattle.othello_bits.proofs.CellLaws.{length-cells_of, get_or-cells_of, same-empty_cell, has_empty}
 use Rattle.othello_bits.proofs.MaskMeaning.{is_move-from_IsMove}
@@ -23,23 +23,23 @@ use Rattle.othello_bits.proofs.PlayMeaning.{position_of-discs_of}
 use Rattle.othello_bits.proofs.GameLaws.{value-over, value_above, value_reached}
 use Rattle.endgame_search.specs.Lasts.{IsFree, IsLast, AreLast}
 
-on_board : (s : Side) (p : Discs) (q : ℕ) → has (position_of s p) cell.Empty q ≡ true → q < 64
+on_board : (s : Side) (p : PosView) (q : ℕ) → has (position_of s p) cell.Empty q ≡ true → q < 64
 on_board s p q h = subst (λ n. q < n) (length-cells_of s p) (counts.has_within (position_of s p) cell.Empty q h)
 
 -- whichever side is the mover
-free-either : (s t : Side) (p : Discs) (q : ℕ) → has (position_of s p) cell.Empty q ≡ true → has (position_of t p) cell.Empty q ≡ true
+free-either : (s t : Side) (p : PosView) (q : ℕ) → has (position_of s p) cell.Empty q ≡ true → has (position_of t p) cell.Empty q ≡ true
 free-either s t p q h = has_empty t p q (on_board s p q h) ∙ sym (has_empty s p q (on_board s p q h)) ∙ h
 
-pub free_mask : (p : Discs) (q : ℕ) → IsFree p q → not (in_mask p.own q || in_mask p.opp q) ≡ true
+pub free_mask : (p : PosView) (q : ℕ) → IsFree p q → not (in_mask p.own q || in_mask p.opp q) ≡ true
 free_mask p q h = sym (has_empty side.Black p q (on_board side.Black p q h)) ∙ h
 
-pub free_below : (p : Discs) (q : ℕ) → IsFree p q → q < 64
+pub free_below : (p : PosView) (q : ℕ) → IsFree p q → q < 64
 free_below p q h = on_board side.Black p q h
 
-pub move_free : (p : Discs) (q : ℕ) → IsMove p q → IsFree p q
+pub move_free : (p : PosView) (q : ℕ) → IsMove p q → IsFree p q
 move_free p q m = move_empty (position_of side.Black p) q (is_move-from_IsMove p q m)
 
-pub pass_free : (p : Discs) (q : ℕ) → IsFree (pass_of p) q → IsFree p q
+pub pass_free : (p : PosView) (q : ℕ) → IsFree (pass_of p) q → IsFree p q
 unfolding pass_of
 pass_free p q h =
     let e : position_of side.White (pass_of p) ≡ rules.pass (position_of side.Black p) = position_of-discs_of (rules.pass (position_of side.Black p)) (length-cells_of side.Black p) in
@@ -50,7 +50,7 @@ disc-no_empty side.Black = refl
 disc-no_empty side.White = refl
 
 -- a square that is empty after a move was empty before it, and is not the move's
-pub play_free : (p : Discs) (q i : ℕ) → IsFree (play_of p q) i → IsFree p i × (i ≢ q)
+pub play_free : (p : PosView) (q i : ℕ) → IsFree (play_of p q) i → IsFree p i × (i ≢ q)
 unfolding play_of rules.play
 play_free p q i h =
     let P = position_of side.Black p in
@@ -72,21 +72,21 @@ play_free p q i h =
           )
     ]
 
-pub no_moves_from : (p : Discs) → ((q : ℕ) → IsMove p q → ⊥) → HasNoMove p
+pub no_moves_from : (p : PosView) → ((q : ℕ) → IsMove p q → ⊥) → HasNoMove p
 no_moves_from p none =
     elim (cases_eq (moves_of p) 0) [
       | inl e ↦ e
       | inr n ↦ let r = value_reached Winner p n in absurd (none r.0 r.1)
     ]
 
-pub last_some : (p : Discs) (s : ℕ) → IsMove p s → moves_of p ≢ 0
+pub last_some : (p : PosView) (s : ℕ) → IsMove p s → moves_of p ≢ 0
 last_some p s m z = both_ways (in_mask (moves_of p) s) (none_from_zero (moves_of p) z s) m
 
-module _ (p : Discs) (full : (q : ℕ) → IsFree p q → ⊥) where
+module _ (p : PosView) (full : (q : ℕ) → IsFree p q → ⊥) where
   full_over : HasNoMove p × HasNoMove (pass_of p)
   full_over = (no_moves_from p (λ q m. full q (move_free p q m)), no_moves_from (pass_of p) (λ q m. full q (pass_free p q (move_free (pass_of p) q m))))
 
-module _ (p : Discs) (s : ℕ) (last : IsLast p s) where
+module _ (p : PosView) (s : ℕ) (last : IsLast p s) where
   pub full_after : (q : ℕ) → IsFree (play_of p s) q → ⊥
   full_after q h = let f = play_free p s q h in f.1 (last q f.0)
 
@@ -103,15 +103,15 @@ module _ (p : Discs) (s : ℕ) (last : IsLast p s) where
       sym r.2 ∙ ap (λ q. neg_ℤ (value_of g (play_of p q))) e ∙ ap neg_ℤ (value-over g (play_of p s) (full_over (play_of p s) full_after))
 
 -- one of two empty squares is filled
-pub last_left : (p : Discs) (a b : ℕ) → AreLast p a b → IsLast (play_of p a) b
+pub last_left : (p : PosView) (a b : ℕ) → AreLast p a b → IsLast (play_of p a) b
 last_left p a b last q h =
     let f = play_free p a q h in
     elim (last q f.0) [ inl e ↦ absurd (f.1 e) | inr e ↦ e ]
 
-pub swapped : (p : Discs) (a b : ℕ) → AreLast p a b → AreLast p b a
+pub swapped : (p : PosView) (a b : ℕ) → AreLast p a b → AreLast p b a
 swapped p a b last q h = elim (last q h) [ inl e ↦ inr e | inr e ↦ inl e ]
 
-module _ (g : Scoring) (p : Discs) (a b : ℕ) (last : AreLast p a b) where
+module _ (g : Scoring) (p : PosView) (a b : ℕ) (last : AreLast p a b) where
   pub both_worth : IsMove p a → IsMove p b → value_of g p ≡ int_max (neg_ℤ (value_of g (play_of p a))) (neg_ℤ (value_of g (play_of p b)))
   both_worth m n =
       let r = value_reached g p (last_some p a m) in
@@ -123,13 +123,13 @@ module _ (g : Scoring) (p : Discs) (a b : ℕ) (last : AreLast p a b) where
       ]
 
 -- a is the only move
-pub sole_worth : (g : Scoring) (p : Discs) (a : ℕ) → IsMove p a → ((q : ℕ) → IsMove p q → q ≡ a) → value_of g p ≡ neg_ℤ (value_of g (play_of p a))
+pub sole_worth : (g : Scoring) (p : PosView) (a : ℕ) → IsMove p a → ((q : ℕ) → IsMove p q → q ≡ a) → value_of g p ≡ neg_ℤ (value_of g (play_of p a))
 sole_worth g p a m only =
     let r = value_reached g p (last_some p a m) in
     sym r.2 ∙ ap (λ q. neg_ℤ (value_of g (play_of p q))) (only r.0 r.1)
 
 -- two moves are the two empty squares
-pub both_moves : (p : Discs) (a b q r : ℕ) → AreLast p a b → IsMove p q → IsMove p r → q ≢ r → IsMove p a × IsMove p b
+pub both_moves : (p : PosView) (a b q r : ℕ) → AreLast p a b → IsMove p q → IsMove p r → q ≢ r → IsMove p a × IsMove p b
 both_moves p a b q r last m n apart =
     elim (last q (move_free p q m)) [
       | inl e ↦

@@ -4,27 +4,27 @@ use Rattle.othello_rules.specs.Masks.{in_mask}
 use Rattle.std.proofs.lemmas.Int.{ints}
 use Rattle.std.proofs.lemmas.List.Elements.{All-map, All-contains, All-more, All-weaker}
 use Rattle.othello_rules.specs.declared.scorings.Scoring.{Scoring}
-use Rattle.othello_bits.specs.Discs.{Discs, moves_of, play_of, pass_of, empties_of, value_of, HasNoMove}
+use Rattle.othello_bits.specs.Pos.{PosView, moves_of, play_of, pass_of, empties_of, value_of, HasNoMove}
 use Rattle.othello_bits.proofs.GameLaws.{value_above, value_reached, value-pass, empties_positive, empties-play, empties-pass}
 use Rattle.endgame_search.specs.declared.children.Child.{Child}
 use Rattle.endgame_search.specs.declared.children.Stuck.{Stuck}
 use Rattle.endgame_search.specs.Children.{IsChildOf, AreChildrenOf, AreOthersOf, AreUpTo, squares_of}
 
 -- what the move to a child is worth, and how many squares are empty there
-pub child_worth : (g : Scoring) (p : Discs) (c : Child) → IsChildOf p c → neg_ℤ (value_of g c.position) ≤ℤ value_of g p
+pub child_worth : (g : Scoring) (p : PosView) (c : Child) → IsChildOf p c → neg_ℤ (value_of g c.position) ≤ℤ value_of g p
 child_worth g p c h = subst (λ d. neg_ℤ (value_of g d) ≤ℤ value_of g p) (sym h.position) (value_above g p c.square h.legal)
 
-pub child_empties : (p : Discs) (c : Child) → IsChildOf p c → empties_of c.position + 1 ≡ empties_of p
+pub child_empties : (p : PosView) (c : Child) → IsChildOf p c → empties_of c.position + 1 ≡ empties_of p
 child_empties p c h =
     let e : empties_of c.position ≡ empties_of (play_of p c.square) = ap empties_of h.position in
     omega (arith, e, empties_positive p c.square h.legal, empties-play p c.square h.legal)
 
 -- a pass where the opponent has a move
-pub passed_worth : (g : Scoring) (p c : Discs) (replies : ℕ) → HasNoMove p → c ≡ pass_of p → replies ≡ moves_of c → replies ≢ 0 → value_of g p ≡ neg_ℤ (value_of g c)
+pub passed_worth : (g : Scoring) (p c : PosView) (replies : ℕ) → HasNoMove p → c ≡ pass_of p → replies ≡ moves_of c → replies ≢ 0 → value_of g p ≡ neg_ℤ (value_of g c)
 passed_worth g p c replies none e r some =
     value-pass g p none (λ z. some (r ∙ ap moves_of e ∙ z)) ∙ ap (λ d. neg_ℤ (value_of g d)) (sym e)
 
-pub passed_empties : (p c : Discs) → c ≡ pass_of p → empties_of c ≡ empties_of p
+pub passed_empties : (p c : PosView) → c ≡ pass_of p → empties_of c ≡ empties_of p
 passed_empties p c e = ap empties_of e ∙ empties-pass p
 
 -- the element that a loop is at
@@ -43,7 +43,7 @@ searched_more g items i x best more h is grow one all =
     (subst (λ (c : Child). neg_ℤ (value_of g c.position) ≤ℤ more) is one)
 
 -- where every move is worth no more than the best, nor is the value
-pub best_of_others : (g : Scoring) (p : Discs) (items : List Child) (searched best : ℤ) → moves_of p ≢ 0 → AreOthersOf g p searched items → searched ≤ℤ best
+pub best_of_others : (g : Scoring) (p : PosView) (items : List Child) (searched best : ℤ) → moves_of p ≢ 0 → AreOthersOf g p searched items → searched ≤ℤ best
     → All (λ (c : Child). neg_ℤ (value_of g c.position) ≤ℤ best) items
     → value_of g p ≤ℤ best
 best_of_others g p items searched best some others more all =
@@ -59,17 +59,17 @@ best_of_others g p items searched best some others more all =
     ] in
     subst (λ z. z ≤ℤ best) r.2 reached
 
-pub all_others : (g : Scoring) (p : Discs) (items : List Child) (best : ℤ) → AreChildrenOf p items → AreOthersOf g p best items
+pub all_others : (g : Scoring) (p : PosView) (items : List Child) (best : ℤ) → AreChildrenOf p items → AreOthersOf g p best items
 all_others g p items best children = record { each = children.each; every = λ q m. inl (children.every q m) }
 
-pub best_of_all : (g : Scoring) (p : Discs) (items : List Child) (best : ℤ) → moves_of p ≢ 0 → AreChildrenOf p items
+pub best_of_all : (g : Scoring) (p : PosView) (items : List Child) (best : ℤ) → moves_of p ≢ 0 → AreChildrenOf p items
     → All (λ (c : Child). neg_ℤ (value_of g c.position) ≤ℤ best) items
     → value_of g p ≤ℤ best
 best_of_all g p items best some children all =
     best_of_others g p items best best some (all_others g p items best children) (omega (arith, ints)) all
 
 -- the children after one without replies that was searched
-pub others_left : (g : Scoring) (p : Discs) (s : Stuck) (items more : List Child) (best : ℤ) → AreUpTo p s items → neg_ℤ (value_of g s.child.position) ≤ℤ best
+pub others_left : (g : Scoring) (p : PosView) (s : Stuck) (items more : List Child) (best : ℤ) → AreUpTo p s items → neg_ℤ (value_of g s.child.position) ≤ℤ best
     → All (IsChildOf p) more → ((q : ℕ) → (in_mask s.rest q ≡ true) ⊎ Contains (squares_of items) q → Contains (squares_of more) q)
     → AreOthersOf g p best more
 others_left g p s items more best up worth each every =

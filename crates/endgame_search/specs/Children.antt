@@ -2,7 +2,7 @@
 use Rattle.std.specs.Prelude.{◌≡◌, ◌⊎◌, ◌≤ℤ◌, ℕ, ℤ, neg_ℤ, true, List, map, All, Contains}
 use Rattle.othello_rules.specs.declared.scorings.Scoring.{Scoring}
 use Rattle.othello_rules.specs.Masks.{in_mask}
-use Rattle.othello_bits.specs.Discs.{Discs, moves_of, play_of, value_of, IsMove}
+use Rattle.othello_bits.specs.Pos.{PosView, moves_of, play_of, value_of, IsMove}
 use Rattle.endgame_search.specs.declared.children.Child.{Child}
 use Rattle.endgame_search.specs.declared.children.Stuck.{Stuck}
 
@@ -11,18 +11,18 @@ abbrev pub squares_of : List Child → List ℕ
 squares_of cs = map (λ (c : Child). c.square) cs
 
 -- c holds a move of p, the position after it and the mask of the moves there
-pub record IsChildOf (p : Discs) (c : Child) : Type 0 where
+pub record IsChildOf (p : PosView) (c : Child) : Type 0 where
   pub legal : IsMove p c.square
   pub position : c.position ≡ play_of p c.square
   pub replies : c.replies ≡ moves_of c.position
 
 -- the list holds a child for each move of p, and nothing else
-pub record AreChildrenOf (p : Discs) (cs : List Child) : Type 0 where
+pub record AreChildrenOf (p : PosView) (cs : List Child) : Type 0 where
   pub each : All (IsChildOf p) cs
   pub every : (q : ℕ) → IsMove p q → Contains (squares_of cs) q
 
 -- s holds a child of p without replies and a mask of moves of p, and the list children of p: together, all of them
-pub record AreUpTo (p : Discs) (s : Stuck) (cs : List Child) : Type 0 where
+pub record AreUpTo (p : PosView) (s : Stuck) (cs : List Child) : Type 0 where
   pub child : IsChildOf p s.child
   pub stuck : s.child.replies ≡ 0
   pub rest : (q : ℕ) → in_mask s.rest q ≡ true → IsMove p q
@@ -31,7 +31,7 @@ pub record AreUpTo (p : Discs) (s : Stuck) (cs : List Child) : Type 0 where
       → (q ≡ s.child.square) ⊎ ((in_mask s.rest q ≡ true) ⊎ Contains (squares_of cs) q)
 
 -- the list holds children of p, and a move of p that leads to none of them is worth at most best
-pub record AreOthersOf (g : Scoring) (p : Discs) (best : ℤ) (cs : List Child) : Type 0 where
+pub record AreOthersOf (g : Scoring) (p : PosView) (best : ℤ) (cs : List Child) : Type 0 where
   pub each : All (IsChildOf p) cs
   pub every : (q : ℕ) → IsMove p q
       → Contains (squares_of cs) q ⊎ (neg_ℤ (value_of g (play_of p q)) ≤ℤ best)

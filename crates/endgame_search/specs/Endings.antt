@@ -1,6 +1,6 @@
 -- Positions with one empty square, as the search holds them.
 use Rattle.std.specs.Prelude.{◌≡◌, ◌<◌, ◌↔◌, count_ones}
-use Rattle.othello_bits.specs.Discs.{flips_of, IsMove}
+use Rattle.othello_bits.specs.Pos.{flips_of, IsMove}
 use Rattle.endgame_search.specs.declared.endings.Ending.{Ending}
 use Rattle.endgame_search.specs.Lasts.{IsLast}
 

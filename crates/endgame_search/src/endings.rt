@@ -4,13 +4,13 @@
 ghost use Rattle.std.specs.Prelude.{◌≡◌, ◌≢◌, ◌<◌, ◌↔◌, ◌+ℤ◌, ℕ, neg_ℤ, pos, true, count_ones};
 ghost use Rattle.std.specs.Int.{int_max};
 ghost use Rattle.othello_rules.specs.Masks.{in_mask};
-ghost use Rattle.othello_bits.specs.Discs.{play_of, flips_of, value_of, moves_of, empties_of};
-ghost use Rattle.othello_bits.specs.Discs.{IsMove};
+ghost use Rattle.othello_bits.specs.Pos.{play_of, flips_of, value_of, moves_of, empties_of};
+ghost use Rattle.othello_bits.specs.Pos.{IsMove};
 ghost use Rattle.endgame_search.specs.Windows.{IsBound, Places};
 ghost use Rattle.endgame_search.specs.Endings.{IsEnding};
 ghost use Rattle.endgame_search.specs.Lasts.{IsFree, IsLast, AreLast};
 
-use crate::ranges::decide;
+use crate::cutoffs::decide;
 use bound_table::Bounds;
 use othello_bits::{Pos, lowest, without};
 use othello_rules::{Scoring, Square};

@@ -2,13 +2,13 @@
 //! and no child is looked up before it is searched. A list of 8 children would take a call to make.
 
 ghost use Rattle.std.specs.Prelude.{◌≡◌, ◌≢◌, ◌≤◌, ◌≤ℤ◌, ◌+ℤ◌, pos, negsuc, IsTrue};
-ghost use Rattle.othello_bits.specs.Discs.{moves_of, empties_of, value_of, HasNoMove};
+ghost use Rattle.othello_bits.specs.Pos.{moves_of, empties_of, value_of, HasNoMove};
 ghost use Rattle.endgame_search.specs.Windows.{IsBound, IsWindow, Places};
 ghost use Rattle.endgame_search.specs.Children.{AreOthersOf};
 
 use crate::children::{Child, order_children, order_until_stuck};
 use crate::endings::search_two;
-use crate::ranges::decide;
+use crate::cutoffs::decide;
 use arrayvec::ArrayVec;
 use bound_table::Bounds;
 use othello_bits::Pos;

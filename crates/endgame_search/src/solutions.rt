@@ -2,13 +2,13 @@
 
 ghost use Rattle.std.specs.Prelude.{◌≡◌, ◌≢◌, ◌↔◌, ◌≤ℤ◌, neg_ℤ, IsTrue};
 ghost use Rattle.othello_rules.specs.declared.scorings.Scoring.TheVariants.{Sign};
-ghost use Rattle.othello_rules.specs.Solution.{IsScore};
+ghost use Rattle.othello_rules.specs.Answer.{IsScore};
 ghost use Rattle.std.proofs.Common.{sym};
-ghost use Rattle.endgame_search.specs.Problems.{Problem};
-ghost use Rattle.othello_bits.specs.Discs.{moves_of, play_of, value_of, answer_of, best_answer};
-ghost use Rattle.othello_bits.specs.Discs.{is_best_move, mask_where, IsMove};
+ghost use Rattle.endgame_search.specs.Task.{TaskView};
+ghost use Rattle.othello_bits.specs.Pos.{moves_of, play_of, value_of, answer_of, best_answer};
+ghost use Rattle.othello_bits.specs.Pos.{is_best_move, mask_where, IsMove};
 
-use crate::ranges::{decide, score_limit, store};
+use crate::cutoffs::{decide, score_limit, store};
 use crate::roots::leading_moves;
 use crate::searches::search_scores;
 use crate::tasks::Task;
@@ -27,7 +27,7 @@ pub struct Solved {
 }
 
 impl Model for Solved {
-    ghost Value = { Problem };
+    ghost Value = { TaskView };
 
     ghost view = { λ solved. record { position = solved.position; scoring = solved.scoring } };
 

@@ -1,8 +1,8 @@
 //! Positions to be solved.
 
 ghost use Rattle.std.specs.Prelude.{◌≡◌, ◌≤◌, ◌↔◌, min, IsOk, IfOk, IfErr};
-ghost use Rattle.othello_bits.specs.Discs.{empties_of};
-ghost use Rattle.endgame_search.specs.Problems.{Problem};
+ghost use Rattle.othello_bits.specs.Pos.{empties_of};
+ghost use Rattle.endgame_search.specs.Task.{TaskView};
 
 use othello_bits::Pos;
 use othello_rules::Scoring;
@@ -17,7 +17,7 @@ pub struct Task {
 }
 
 impl Model for Task {
-    ghost Value = { Problem };
+    ghost Value = { TaskView };
 
     ghost view = { λ task. record { position = task.position; scoring = task.scoring } };
 

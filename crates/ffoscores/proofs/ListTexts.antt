@@ -10,7 +10,7 @@ use Rattle.score_lists.specs.Lines.{texts_of}
 use Rattle.suite_solver.specs.CommandLine.{names_of}
 use Rattle.suite_solver.specs.Programs.{AreTextsOf}
 use Rattle.ffoscores.specs.Programs.{AreLists}
-use Rattle.ffoscores.specs.declared.stops.Stop.{Stop}
+use Rattle.ffoscores.specs.declared.errors.ProgramError.{ProgramError}
 
 -- a front that is no longer than n is the whole, where one element more was asked for
 whole_front : {X : Type 0} (n m : ℕ) (all : List X) → m ≡ n + 1 → length (take m all) ≤ n → take m all ≡ all
@@ -59,12 +59,12 @@ named_lists names known files some few e small =
     }
 
 -- the files of names were read, or not
-pub named_read : (r : Result (Vec (Vec ℕ Global) Global) Stop) (names : List (String Global)) (known : Option (List ℕ)) → (names ≡ [] → ⊥)
+pub named_read : (r : Result (Vec (Vec ℕ Global) Global) ProgramError) (names : List (String Global)) (known : Option (List ℕ)) → (names ≡ [] → ⊥)
     → length names ≤ 64 → IfOk r (λ files. length files.items ≡ length names)
     → IfOk r (λ files. All (λ text. length text ≤ 1048576) (texts_of files.items))
     → IfOk r (λ files. AreLists (names_of names) known (texts_of files.items))
 named_read (Ok files) names known some few e small = named_lists names known files.items some few e small
-named_read (Err stop) names known some few e small = tt
+named_read (Err error) names known some few e small = tt
 
 not_both : (b : Bool) → b ≡ true → b ≡ false → ⊥
 not_both b t f = cc

@@ -3,7 +3,7 @@ use Rattle.std.specs.Prelude.{◌≡◌, ◌⊎◌, ℕ, ◌≤◌, Bool, All, L
 use Rattle.std.specs.Io.KnownBytes.{Appends}
 use Rattle.score_lists.specs.Lines.{AppendsFront, lists_right, lists_text}
 use Rattle.suite_solver.specs.CommandLine.{AsksLists, ListRequest}
-use Rattle.suite_solver.specs.Limits.{Configuration}
+use Rattle.suite_solver.specs.Settings.{SettingsView}
 use Rattle.suite_solver.specs.Programs.{AreTextsOf}
 
 -- These are the texts of the names, or of standard input, and within the limits: no more than 64, each of no more than
@@ -14,20 +14,20 @@ pub record AreLists (names : List (List ℕ)) (given : Option (List ℕ)) (texts
   pub small : All (λ text. length text ≤ 1048576) texts
 
 -- The lists were printed with every move's score, and this is whether nothing is wrong in them.
-pub record Prints (c : Configuration) (names : List (List ℕ)) (given old new : Option (List ℕ)) (right : Bool) : Type 0 where
+pub record Prints (c : SettingsView) (names : List (List ℕ)) (given old new : Option (List ℕ)) (right : Bool) : Type 0 where
   pub texts : List (List ℕ)
   pub lists : AreLists names given texts
   pub written : Appends old new (lists_text c.scoring c.max_empties texts)
   pub told : right ≡ lists_right c.scoring c.max_empties texts
 
 -- a front of that was printed
-pub record PrintsFront (c : Configuration) (names : List (List ℕ)) (given old new : Option (List ℕ)) : Type 0 where
+pub record PrintsFront (c : SettingsView) (names : List (List ℕ)) (given old new : Option (List ℕ)) : Type 0 where
   pub texts : List (List ℕ)
   pub lists : AreLists names given texts
   pub front : AppendsFront old new (lists_text c.scoring c.max_empties texts)
 
 -- nothing was printed, or a front
-abbrev pub Stops : Configuration → List (List ℕ) → Option (List ℕ) → Option (List ℕ) → Option (List ℕ) → Type 0
+abbrev pub Stops : SettingsView → List (List ℕ) → Option (List ℕ) → Option (List ℕ) → Option (List ℕ) → Type 0
 Stops c names given old new = (new ≡ old) ⊎ PrintsFront c names given old new
 
 -- the words ask for settings and files, and their lists were printed

@@ -4,9 +4,9 @@ ghost use Rattle.std.specs.Prelude.{◌≡◌, ◌≤◌, [], All, IfErr, IfOk, 
 ghost use Rattle.suite_solver.specs.CommandLine.{names_of};
 ghost use Rattle.score_lists.specs.Lines.{texts_of};
 ghost use Rattle.ffoscores.specs.Programs.{AreLists};
-ghost use Rattle.ffoscores.specs.Stops.{status_of};
+ghost use Rattle.ffoscores.specs.Errors.{status_of};
 
-use crate::stops::{Stop, read_stop};
+use crate::errors::{ProgramError, read_error};
 use std::alloc::Global;
 use std::io::Read;
 use std::rt::Files;
@@ -33,20 +33,20 @@ fn read_whole<'a, R: Read>(
     reader: &mut R,
     number: usize,
     name: &'a str,
-) -> Result<Vec<u8>, Stop<'a>>
+) -> Result<Vec<u8>, ProgramError<'a>>
     ensures small { IfOk result (λ text. length text.items ≤ 1048576) }
     ensures whole { IfOk result
         (λ text. IfSome (R.remaining reader.old) (λ all. text.items ≡ all)) }
-    ensures err { IfErr result (λ stop. status_of stop ≡ 3) }
+    ensures err { IfErr result (λ error. status_of error ≡ 3) }
 {
     match read_front(alloc, reader) {
         Ok(text) => {
             if text.len() > MOST_BYTES {
-                return Err(Stop::FileTooLarge(number));
+                return Err(ProgramError::FileTooLarge(number));
             }
             Ok(text)
         }
-        Err(fault) => Err(read_stop(&fault, name)),
+        Err(fault) => Err(read_error(&fault, name)),
     }
 }
 
@@ -56,21 +56,21 @@ fn read_file<'a, T: Files>(
     alloc: Global,
     number: usize,
     name: &'a str,
-) -> Result<Vec<u8>, Stop<'a>>
+) -> Result<Vec<u8>, ProgramError<'a>>
     ensures small { IfOk result (λ text. length text.items ≤ 1048576) }
-    ensures err { IfErr result (λ stop. status_of stop ≡ 3) }
+    ensures err { IfErr result (λ error. status_of error ≡ 3) }
 {
     match fs::open(rt, name) {
         Ok(mut file) => read_whole(alloc, &mut file, number, name),
-        Err(fault) => Err(read_stop(&fault, name)),
+        Err(fault) => Err(read_error(&fault, name)),
     }
 }
 
 // Standard input as the one file.
-fn read_input<R: Read>(alloc: Global, input: &mut R) -> Result<Vec<Vec<u8>>, Stop<'static>>
+fn read_input<R: Read>(alloc: Global, input: &mut R) -> Result<Vec<Vec<u8>>, ProgramError<'static>>
     ensures ok { IfOk result
         (λ texts. AreLists (names_of []) (R.remaining input.old) (texts_of texts.items)) }
-    ensures err { IfErr result (λ stop. status_of stop ≡ 3) }
+    ensures err { IfErr result (λ error. status_of error ≡ 3) }
 {
     let text = read_whole(alloc, input, 1, "standard input")?;
     let mut texts = Vec::new(alloc);
@@ -83,10 +83,10 @@ fn read_named<'a, T: Files>(
     rt: &T,
     alloc: Global,
     names: &'a [String],
-) -> Result<Vec<Vec<u8>>, Stop<'a>>
+) -> Result<Vec<Vec<u8>>, ProgramError<'a>>
     ensures len { IfOk result (λ texts. length texts.items ≡ length names.now) }
     ensures small { IfOk result (λ texts. All (λ text. length text ≤ 1048576) (texts_of texts.items)) }
-    ensures err { IfErr result (λ stop. status_of stop ≡ 3) }
+    ensures err { IfErr result (λ error. status_of error ≡ 3) }
 {
     let mut texts = Vec::new(alloc);
     for name in names {
@@ -102,16 +102,16 @@ pub(crate) fn read_lists<'a, T: Files, R: Read>(
     alloc: Global,
     names: &'a [String],
     input: &mut R,
-) -> Result<Vec<Vec<u8>>, Stop<'a>>
+) -> Result<Vec<Vec<u8>>, ProgramError<'a>>
     ensures ok { IfOk result
         (λ texts. AreLists (names_of names.now) (R.remaining input.old) (texts_of texts.items)) }
-    ensures err { IfErr result (λ stop. status_of stop ≡ 3) }
+    ensures err { IfErr result (λ error. status_of error ≡ 3) }
 {
     if names.is_empty() {
         return read_input(alloc, input);
     }
     if names.len() > MOST_FILES {
-        return Err(Stop::TooManyFiles);
+        return Err(ProgramError::TooManyFiles);
     }
     read_named(rt, alloc, names)
 }

@@ -4,7 +4,7 @@
 mod endings;
 mod inputs;
 mod programs;
-mod stops;
+mod errors;
 #[cfg(test)]
 mod tests;
 

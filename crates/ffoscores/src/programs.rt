@@ -6,10 +6,10 @@ ghost use Rattle.clap.specs.Words.{kind_of};
 ghost use Rattle.score_lists.specs.Lines.{AppendsFront, lists_right, lists_text, texts_of};
 ghost use Rattle.suite_solver.specs.CommandLine.{AsksForText, IsTakenBy, IsTextKind, ffoscores, names_of};
 ghost use Rattle.ffoscores.specs.Programs.{IsAnswered, IsBegun, Prints, Stops};
-ghost use Rattle.ffoscores.specs.Stops.{status_of};
+ghost use Rattle.ffoscores.specs.Errors.{status_of};
 
 use crate::inputs::read_lists;
-use crate::stops::{Stop, words_stop};
+use crate::errors::{ProgramError, words_error};
 use bound_table::BoundTable;
 use clap::error::ErrorKind;
 use score_lists::write_lists;
@@ -25,22 +25,22 @@ fn print_lists<W: Write>(
     settings: &Settings,
     texts: &[Vec<u8>],
     output: &mut W,
-) -> Result<bool, Stop<'static>>
+) -> Result<bool, ProgramError<'static>>
     ensures written { OnOk result (Appends (W.contents output.old) (W.contents output.new)
         (lists_text settings.now.scoring settings.now.max_empties (texts_of texts.now))) }
     ensures front { OnErr result (AppendsFront (W.contents output.old) (W.contents output.new)
         (lists_text settings.now.scoring settings.now.max_empties (texts_of texts.now))) }
     ensures right { IfOk result (λ right. right
         ≡ lists_right settings.now.scoring settings.now.max_empties (texts_of texts.now)) }
-    ensures status { IfErr result (λ stop. status_of stop ≡ 3) }
+    ensures status { IfErr result (λ error. status_of error ≡ 3) }
 {
     let entries = settings.table() as usize;
     let Ok(table) = BoundTable::new(alloc, entries, settings.scoring()) else {
-        return Err(Stop::Memory);
+        return Err(ProgramError::Memory);
     };
     match write_lists(&table, alloc, output, settings.max_empties(), texts) {
         Ok(right) => Ok(right),
-        Err(fault) => Err(Stop::from(fault)),
+        Err(fault) => Err(ProgramError::from(fault)),
     }
 }
 
@@ -51,25 +51,25 @@ fn carry_out<'a, T: Files, R: Read, W: Write>(
     asked: &'a ListOptions,
     input: &mut R,
     output: &mut W,
-) -> Result<bool, Stop<'a>>
+) -> Result<bool, ProgramError<'a>>
     ensures printed { IfOk result
         (Prints asked.now.settings (names_of asked.now.files.items)
         (R.remaining input.old) (W.contents output.old) (W.contents output.new)) }
     ensures stopped { OnErr result
         (Stops asked.now.settings (names_of asked.now.files.items)
         (R.remaining input.old) (W.contents output.old) (W.contents output.new)) }
-    ensures status { IfErr result (λ stop. status_of stop ≡ 3) }
+    ensures status { IfErr result (λ error. status_of error ≡ 3) }
 {
     let texts = read_lists(rt, alloc, &asked.files, input)?;
     print_lists(alloc, &asked.settings, &texts, output)
 }
 
 // Tells what ends the program, and gives its status. A standard error that fails changes nothing.
-fn tell_end<E: Write>(stop: &Stop<'_>, errors: &mut E) -> u8
-    ensures { result ≡ status_of stop.now }
+fn print_error<E: Write>(error: &ProgramError<'_>, errors: &mut E) -> u8
+    ensures { result ≡ status_of error.now }
 {
-    let _ = stop.tell(errors);
-    stop.status()
+    let _ = error.print(errors);
+    error.status()
 }
 
 // Writes help, or the version.
@@ -88,7 +88,7 @@ fn explain<W: Write, E: Write>(error: &clap::Error, output: &mut W, errors: &mut
     match error.kind() {
         ErrorKind::DisplayHelp | ErrorKind::DisplayVersion => match write_help(output, error) {
             Ok(()) => 0,
-            Err(_) => tell_end(&Stop::CannotWrite, errors),
+            Err(_) => print_error(&ProgramError::CannotWrite, errors),
         },
         _ => {
             let _ = write!(errors, "{error}");
@@ -132,9 +132,9 @@ pub(crate) fn program<T: Files, R: Read, W: Write, E: Write>(
         Ok(asked) => match carry_out(rt, alloc, &asked, input, output) {
             Ok(true) => 0,
             Ok(false) => 1,
-            Err(stop) => tell_end(&stop, errors),
+            Err(error) => print_error(&error, errors),
         },
-        Err(OptionFault::Memory) => tell_end(&Stop::Memory, errors),
+        Err(OptionFault::Memory) => print_error(&ProgramError::Memory, errors),
         Err(OptionFault::Refused(error)) => explain(&error, output, errors),
     }
 }
@@ -174,10 +174,10 @@ pub(crate) fn program_of<T: Files, R: Read, W: Write, E: Write>(
 {
     let words = match words {
         Ok(words) => words,
-        Err(fault) => return tell_end(&words_stop(&fault), errors),
+        Err(fault) => return print_error(&words_error(&fault), errors),
     };
     match borrow_words(alloc, &words) {
         Ok(borrowed) => program(rt, alloc, &borrowed, input, output, errors),
-        Err(_) => tell_end(&Stop::Memory, errors),
+        Err(_) => print_error(&ProgramError::Memory, errors),
     }
 }

@@ -4,13 +4,13 @@ use Rattle.std.specs.Prelude.{None, is_some, option_and_then, position, slice_ge
 use Rattle.std.specs.Prelude.{nat_lt, neg_ℤ, if◌then◌else◌}
 use Rattle.othello_rules.specs.Board.{squares}
 use Rattle.othello_rules.specs.Masks.{in_mask}
-use Rattle.othello_rules.specs.Solution.{Solution}
+use Rattle.othello_rules.specs.Answer.{AnswerView}
 use Rattle.othello_rules.specs.declared.answers.Best.{Best}
 use Rattle.othello_rules.specs.declared.answers.Best.TheVariants.{Moves, Pass, Over}
 use Rattle.othello_rules.specs.declared.scorings.Scoring.{Scoring}
 use Rattle.othello_rules.specs.declared.scorings.Scoring.TheVariants as scoring
-use Rattle.othello_bits.specs.Discs.{Discs, discs, empties_of, moves_of, play_of, value_of}
-use Rattle.othello_bits.specs.Discs.{answer_of}
+use Rattle.othello_bits.specs.Pos.{PosView, discs, empties_of, moves_of, play_of, value_of}
+use Rattle.othello_bits.specs.Pos.{answer_of}
 use Rattle.ffosolve_c.specs.declared.answers.FfosolveAnswer.{FfosolveAnswer}
 use Rattle.ffosolve_c.specs.declared.positions.FfosolvePosition.{FfosolvePosition}
 use Rattle.ffosolve_c.specs.declared.refusals.Refusal.{Refusal}
@@ -26,11 +26,11 @@ scoring_of n =
     else (if nat_eq n 2 then Some scoring.Sign else None))
 
 -- the position of the masks
-abbrev pub discs_at : FfosolvePosition → Discs
+abbrev pub discs_at : FfosolvePosition → PosView
 discs_at p = discs p.own p.opp
 
 -- a position as C reads it
-abbrev pub c_position : Discs → FfosolvePosition
+abbrev pub c_position : PosView → FfosolvePosition
 c_position p = record { own = p.own; opp = p.opp }
 
 -- what attains the score, as a kind: 0 moves, 1 a pass, 2 the end of the game; and the mask of the
@@ -46,7 +46,7 @@ moves_in Pass = 0
 moves_in Over = 0
 
 -- an answer as C reads it, and the answer of a position
-abbrev pub c_answer : Solution → FfosolveAnswer
+abbrev pub c_answer : AnswerView → FfosolveAnswer
 c_answer answer =
     record { score = answer.score; kind = kind_of answer.best; best = moves_in answer.best }
 
@@ -61,7 +61,7 @@ abbrev pub AreAnswers : ℕ → List FfosolvePosition → List FfosolveAnswer �
 AreAnswers scoring ps answers = IfSome (scoring_of scoring) (λ g. answers ≡ map (answer_at g) ps)
 
 -- what a move to the square is worth to the mover, and 127 where it is none
-abbrev pub score_at : Scoring → Discs → ℕ → ℤ
+abbrev pub score_at : Scoring → PosView → ℕ → ℤ
 score_at g p q = if in_mask (moves_of p) q then neg_ℤ (value_of g (play_of p q)) else pos 127
 
 -- that of each square, under the scoring of this number

@@ -21,7 +21,7 @@ mod scores;
 mod tests;
 
 ghost use Rattle.std.specs.Prelude.{◌≡◌, ◌≢◌, ◌↔◌, pos, Some, bit_and, length};
-ghost use Rattle.othello_bits.specs.Discs.{moves_of, play_of, IsMove};
+ghost use Rattle.othello_bits.specs.Pos.{moves_of, play_of, IsMove};
 ghost use Rattle.ffosolve_c.specs.declared.refusals.Refusal.TheVariants as refusal;
 ghost use Rattle.ffosolve_c.specs.Exports.{discs_at, first_refused, c_position, refusal_of};
 ghost use Rattle.ffosolve_c.specs.Exports.{refusal_of_all, status_of, version, AreAnswers};

@@ -1,7 +1,7 @@
 //! Positions as C hands them in, and what can be played on them.
 
 ghost use Rattle.std.specs.Prelude.{◌≡◌, ◌≢◌, ◌↔◌, bit_and, Some, None, Err, IfOk, IfErr};
-ghost use Rattle.othello_bits.specs.Discs.{play_of, IsMove};
+ghost use Rattle.othello_bits.specs.Pos.{play_of, IsMove};
 ghost use Rattle.ffosolve_c.specs.declared.refusals.Refusal.TheVariants as refusal;
 ghost use Rattle.ffosolve_c.specs.Exports.{discs_at, c_position, position_refusal, status_of};
 ghost use Rattle.ffosolve_c.specs.Exports.{IsOfPosition};

@@ -1,7 +1,7 @@
 //! Requests for an answer.
 
 ghost use Rattle.std.specs.Prelude.{◌≡◌, ◌≢◌, ◌≤◌, Some, None, IfOk, IfErr};
-ghost use Rattle.othello_bits.specs.Discs.{answer_of};
+ghost use Rattle.othello_bits.specs.Pos.{answer_of};
 ghost use Rattle.ffosolve_c.specs.declared.refusals.Refusal.TheVariants as refusal;
 ghost use Rattle.ffosolve_c.specs.Exports.{refusal_of, scoring_of, status_of, table_refusal};
 ghost use Rattle.ffosolve_c.specs.Exports.{IsAnswer, IsOfPosition, IsRefusal};

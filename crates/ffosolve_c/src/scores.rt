@@ -2,7 +2,7 @@
 
 ghost use Rattle.std.specs.Prelude.{◌≡◌, ◌≢◌, Some, None, length, map, IfOk, IfErr, OnErr};
 ghost use Rattle.othello_rules.specs.Board.{squares};
-ghost use Rattle.othello_bits.specs.Discs.{moves_of};
+ghost use Rattle.othello_bits.specs.Pos.{moves_of};
 ghost use Rattle.ffosolve_c.specs.declared.refusals.Refusal.TheVariants as refusal;
 ghost use Rattle.ffosolve_c.specs.Exports.{discs_at, refusal_of, score_at, AreScores, IsRefusal};
 

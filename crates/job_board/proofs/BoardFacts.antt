@@ -10,7 +10,7 @@ use Rattle.std.proofs.lemmas.Bool.{cases_eq, false≢true, le-ltb, ltb-false}
 use borrow.Author.Count.{below_more}
 use Rattle.std.proofs.lemmas.Bool.Decides.{nat_tests}
 use Rattle.std.proofs.lemmas.Grind.{common_steps}
-use Rattle.endgame_search.specs.Problems.{Problem}
+use Rattle.endgame_search.specs.Task.{TaskView}
 use Rattle.job_board.specs.declared.jobs.JobId.{JobId}
 use Rattle.job_board.specs.declared.jobs.Stage.{Stage}
 use Rattle.job_board.specs.declared.jobs.Stage.TheVariants.{Waiting, Taken, Finished}
@@ -21,8 +21,8 @@ use Rattle.job_board.specs.declared.faults.SubmitFault.{SubmitFault}
 use Rattle.job_board.specs.declared.faults.SubmitFault.TheVariants as fault
 use Rattle.job_board.specs.declared.faults.JobFault.{JobFault}
 use Rattle.job_board.specs.Queues.{is_id_of, id_count}
-use Rattle.job_board.specs.Contents.{State, Content, content_with, content_by, stage_in, stage_at, task_in, is_waiting, is_taken, is_finished, with_stage, with_task, with_one_handed, empty_state, empty_content}
-use Rattle.job_board.specs.Boards.{IsState, IsContent, bit, ListsWaiting, taken_in, taken_count, IsBoard, AllDone}
+use Rattle.job_board.specs.Senders.{SenderView, BoardView, content_with, content_by, stage_in, stage_at, task_in, is_waiting, is_taken, is_finished, with_stage, with_task, with_one_handed, empty_state, empty_content}
+use Rattle.job_board.specs.Boards.{IsSender, IsBoardView, bit, ListsWaiting, taken_in, taken_count, IsBoard, AllDone}
 use Rattle.job_board.specs.Replies.{Submits, SubmitAs, submit_refusal, task_count, FinishAs, Finishes, give_back_reply_at, deliver_reply_at, deliver_reply_of, state_after_handed, after_deliver}
 
 pub slice_get-set_same : {X : Type 0} (xs : List X) (i : ℕ) (y : X) → i < length xs → slice_get (set xs i y) i ≡ Some y
@@ -48,7 +48,7 @@ slice_get-push_other [] y (suc i) ne = refl
 slice_get-push_other (x ∷ xs) y zero ne = refl
 slice_get-push_other (x ∷ xs) y (suc i) ne = slice_get-push_other xs y i (λ e. ne (omega arith))
 
-pub change_at : (c : Content) (s : ℕ) (state : State) (f : State → State) → slice_get c s ≡ Some state → content_with c s f ≡ set c s (f state)
+pub change_at : (c : BoardView) (s : ℕ) (state : SenderView) (f : SenderView → SenderView) → slice_get c s ≡ Some state → content_with c s f ≡ set c s (f state)
 change_at c s state f h = ap (content_by c s f) h
 
 pub id_count-pushed : (s k : ℕ) (id : JobId) (ids ids' : List JobId) → IsPermutation (id ∷ ids) ids' → id_count s k ids' ≡ bit (is_id_of s k id) + id_count s k ids
@@ -58,15 +58,15 @@ pub id_count-popped : (s k : ℕ) (id : JobId) (ids ids' : List JobId) → IsPer
 id_count-popped s k id ids ids' h = sum_by_popped (λ x. cond (is_id_of s k x) 1 0) id ids ids' h
 
 -- the states of the others stay, and this state keeps its facts
-pub content_set : (c : Content) (s : ℕ) (state : State) → s < length c → IsContent c → IsState state → IsContent (set c s state)
+pub content_set : (c : BoardView) (s : ℕ) (state : SenderView) → s < length c → IsBoardView c → IsSender state → IsBoardView (set c s state)
 content_set c s state h kept new s' state' at =
     elim (cases_eq s' s) [
-      | inl e ↦ let P : State → Type 0 = IsState in subst P (same_Some state state' (sym (slice_get-set_same c s state h) ∙ (ap (slice_get (set c s state)) (sym e) ∙ at))) new
+      | inl e ↦ let P : SenderView → Type 0 = IsSender in subst P (same_Some state state' (sym (slice_get-set_same c s state h) ∙ (ap (slice_get (set c s state)) (sym e) ∙ at))) new
       | inr ne ↦ kept s' state' (sym (slice_get-set_other c s s' state ne) ∙ at)
     ]
 
 -- the list of waiting jobs and one state change together
-pub lists_set : (c : Content) (s : ℕ) (state new : State) (ids ids' : List JobId) → slice_get c s ≡ Some state
+pub lists_set : (c : BoardView) (s : ℕ) (state new : SenderView) (ids ids' : List JobId) → slice_get c s ≡ Some state
     → ListsWaiting ids c
     → ((k : ℕ) → id_count s k ids' + bit (is_waiting (slice_get state.stages k)) ≡ id_count s k ids + bit (is_waiting (slice_get new.stages k)))
     → ((s' k : ℕ) → s' ≢ s → id_count s' k ids' ≡ id_count s' k ids)
@@ -86,7 +86,7 @@ lists_set c s state new ids ids' at kept here there s' k =
     ]
 
 -- how the count of taken jobs changes with one state
-pub taken-set : (c : Content) (s : ℕ) (state new : State) → slice_get c s ≡ Some state → taken_count (set c s new) + taken_in state ≡ taken_count c + taken_in new
+pub taken-set : (c : BoardView) (s : ℕ) (state new : SenderView) → slice_get c s ≡ Some state → taken_count (set c s new) + taken_in state ≡ taken_count c + taken_in new
 taken-set c s state new at =
     let e = sum_by-set taken_in c s new state (slice_get_within c s state at) in
     omega (arith, e, ap taken_in (get_or_from_slice_get c s state state at))
@@ -108,8 +108,8 @@ bit_other id s k (inl ne) = grind (arith, nat_tests)
 bit_other id s k (inr ne) = grind (arith, nat_tests)
 
 -- one state changes, and none of its stages
-pub keeps : (c : Content) (ids : List JobId) (taken room s : ℕ) (state new : State) → IsBoard c ids taken room → slice_get c s ≡ Some state
-    → new.stages ≡ state.stages → IsState new → IsBoard (set c s new) ids taken room
+pub keeps : (c : BoardView) (ids : List JobId) (taken room s : ℕ) (state new : SenderView) → IsBoard c ids taken room → slice_get c s ≡ Some state
+    → new.stages ≡ state.stages → IsSender new → IsBoard (set c s new) ids taken room
 keeps c ids taken room s state new b at same is_state = record {
   few = omega (arith, b.few, length-set c s new);
   content = content_set c s new (slice_get_within c s state at) b.content is_state;
@@ -119,7 +119,7 @@ keeps c ids taken room s state new b at same is_state = record {
 }
 
 -- one stage changes, and the list of waiting jobs with it
-pub lists_restaged : (c : Content) (s k : ℕ) (state : State) (old new : Stage) (ids ids' : List JobId) → slice_get c s ≡ Some state → slice_get state.stages k ≡ Some old
+pub lists_restaged : (c : BoardView) (s k : ℕ) (state : SenderView) (old new : Stage) (ids ids' : List JobId) → slice_get c s ≡ Some state → slice_get state.stages k ≡ Some old
     → ListsWaiting ids c
     → id_count s k ids' + bit (is_waiting (Some old)) ≡ id_count s k ids + bit (is_waiting (Some new))
     → ((s' k' : ℕ) → (s' ≢ s) ⊎ (k' ≢ k) → id_count s' k' ids' ≡ id_count s' k' ids)
@@ -135,8 +135,8 @@ lists_restaged c s k state old new ids ids' at was kept here there =
     ])
     (λ s' k' ne. there s' k' (inl ne))
 
-pub state_restaged : (state : State) (k : ℕ) (old new : Stage) → IsState state → slice_get state.stages k ≡ Some old → is_finished (Some old) ≡ false
-    → ((a : Problem) → new ≡ Finished a → slice_get state.tasks k ≡ Some a) → IsState (with_stage k new state)
+pub state_restaged : (state : SenderView) (k : ℕ) (old new : Stage) → IsSender state → slice_get state.stages k ≡ Some old → is_finished (Some old) ≡ false
+    → ((a : TaskView) → new ≡ Finished a → slice_get state.tasks k ≡ Some a) → IsSender (with_stage k new state)
 state_restaged state k old new h was undone fits = record {
   stages = length-set state.stages k new ∙ h.stages;
   most = h.most;
@@ -148,22 +148,22 @@ state_restaged state k old new h was undone fits = record {
   solved = λ k' a at. elim (cases_eq k' k) [
     | inl e ↦
         let now : Some new ≡ Some (Finished a) = sym (slice_get-set_same state.stages k new (slice_get_within state.stages k old was)) ∙ (ap (slice_get (set state.stages k new)) (sym e) ∙ at) in
-        let P : Option Problem → Type 0 = λ o. o ≡ Some a in
+        let P : Option TaskView → Type 0 = λ o. o ≡ Some a in
         subst P (ap (slice_get state.tasks) (sym e)) (fits a (same_Some new (Finished a) now))
     | inr ne ↦ h.solved k' a (sym (slice_get-set_other state.stages k k' new ne) ∙ at)
   ];
 }
 
 -- what one changed stage does to the count of taken jobs
-pub taken_restaged : (c : Content) (s k : ℕ) (state : State) (old new : Stage) → slice_get c s ≡ Some state → slice_get state.stages k ≡ Some old
+pub taken_restaged : (c : BoardView) (s k : ℕ) (state : SenderView) (old new : Stage) → slice_get c s ≡ Some state → slice_get state.stages k ≡ Some old
     → taken_count (set c s (with_stage k new state)) + bit (is_taken old) ≡ taken_count c + bit (is_taken new)
 taken_restaged c s k state old new at was =
     omega (arith, taken-set c s state (with_stage k new state) at, taken-stage state.stages k old new was)
 
-pub some_taken : (c : Content) (ids : List JobId) (taken room s k : ℕ) (state : State) → IsBoard c ids taken room → slice_get c s ≡ Some state → slice_get state.stages k ≡ Some Taken → 1 ≤ taken
+pub some_taken : (c : BoardView) (ids : List JobId) (taken room s k : ℕ) (state : SenderView) → IsBoard c ids taken room → slice_get c s ≡ Some state → slice_get state.stages k ≡ Some Taken → 1 ≤ taken
 some_taken c ids taken room s k state b at was = omega (arith, b.counts, taken_restaged c s k state Taken Waiting at was)
 
-pub takes : (c : Content) (id : JobId) (ids ids' : List JobId) (taken room : ℕ) (state : State) → IsBoard c ids taken room → IsPermutation ids (id ∷ ids')
+pub takes : (c : BoardView) (id : JobId) (ids ids' : List JobId) (taken room : ℕ) (state : SenderView) → IsBoard c ids taken room → IsPermutation ids (id ∷ ids')
     → slice_get c id.sender ≡ Some state → slice_get state.stages id.number ≡ Some Waiting
     → IsBoard (set c id.sender (with_stage id.number Taken state)) ids' (taken + 1) room
 takes c id ids ids' taken room state b moved at was = record {
@@ -174,7 +174,7 @@ takes c id ids ids' taken room state b moved at was = record {
   has_room = omega (arith, b.has_room, length_permutation ids (id ∷ ids') moved);
 }
 
-pub gives_back : (c : Content) (id : JobId) (ids ids' : List JobId) (taken room room' : ℕ) (state : State) → IsBoard c ids taken room → IsPermutation (id ∷ ids) ids' → room ≤ room'
+pub gives_back : (c : BoardView) (id : JobId) (ids ids' : List JobId) (taken room room' : ℕ) (state : SenderView) → IsBoard c ids taken room → IsPermutation (id ∷ ids) ids' → room ≤ room'
     → slice_get c id.sender ≡ Some state → slice_get state.stages id.number ≡ Some Taken
     → IsBoard (set c id.sender (with_stage id.number Waiting state)) ids' (taken - 1) room'
 gives_back c id ids ids' taken room room' state b moved more at was =
@@ -187,10 +187,10 @@ gives_back c id ids ids' taken room room' state b moved more at was =
       has_room = omega (arith, b.has_room, some, more, length_permutation (id ∷ ids) ids' moved);
     }
 
-pub same_finished : (a b : Problem) → Finished a ≡ Finished b → a ≡ b
+pub same_finished : (a b : TaskView) → Finished a ≡ Finished b → a ≡ b
 same_finished a b e = cc
 
-pub finishes : (c : Content) (s k : ℕ) (a : Problem) (ids : List JobId) (taken room : ℕ) (state : State) → IsBoard c ids taken room
+pub finishes : (c : BoardView) (s k : ℕ) (a : TaskView) (ids : List JobId) (taken room : ℕ) (state : SenderView) → IsBoard c ids taken room
     → slice_get c s ≡ Some state → slice_get state.stages k ≡ Some Taken → slice_get state.tasks k ≡ Some a
     → IsBoard (set c s (with_stage k (Finished a) state)) ids (taken - 1) room
 finishes c s k a ids taken room state b at was fits =
@@ -203,15 +203,15 @@ finishes c s k a ids taken room state b at was fits =
       has_room = omega (arith, b.has_room);
     }
 
-not_next : (state : State) (b : Bool) → state_after_handed state (cond b handed.Drained handed.Waiting) ≡ state
+not_next : (state : SenderView) (b : Bool) → state_after_handed state (cond b handed.Drained handed.Waiting) ≡ state
 not_next state true = refl
 not_next state false = refl
 
 -- a state after a deliver
-pub handed_is_state : (state : State) (o : Option Stage) → slice_get state.stages state.handed ≡ o → IsState state → IsState (state_after_handed state (deliver_reply_at state o))
-handed_is_state state None at h = let P : State → Type 0 = IsState in subst P (sym (not_next state (state.closed && (state.handed == length state.tasks)))) h
-handed_is_state state (Some Waiting) at h = let P : State → Type 0 = IsState in subst P (sym (not_next state (state.closed && (state.handed == length state.tasks)))) h
-handed_is_state state (Some Taken) at h = let P : State → Type 0 = IsState in subst P (sym (not_next state (state.closed && (state.handed == length state.tasks)))) h
+pub handed_is_state : (state : SenderView) (o : Option Stage) → slice_get state.stages state.handed ≡ o → IsSender state → IsSender (state_after_handed state (deliver_reply_at state o))
+handed_is_state state None at h = let P : SenderView → Type 0 = IsSender in subst P (sym (not_next state (state.closed && (state.handed == length state.tasks)))) h
+handed_is_state state (Some Waiting) at h = let P : SenderView → Type 0 = IsSender in subst P (sym (not_next state (state.closed && (state.handed == length state.tasks)))) h
+handed_is_state state (Some Taken) at h = let P : SenderView → Type 0 = IsSender in subst P (sym (not_next state (state.closed && (state.handed == length state.tasks)))) h
 handed_is_state state (Some (Finished a)) at h = record {
   stages = h.stages;
   most = h.most;
@@ -220,39 +220,39 @@ handed_is_state state (Some (Finished a)) at h = record {
   solved = h.solved;
 }
 
-pub handed_same_stages : (state : State) (r : Handed) → (state_after_handed state r).stages ≡ state.stages
+pub handed_same_stages : (state : SenderView) (r : Handed) → (state_after_handed state r).stages ≡ state.stages
 handed_same_stages state (handed.Next d) = refl
 handed_same_stages state handed.Waiting = refl
 handed_same_stages state handed.Drained = refl
 handed_same_stages state handed.NoSender = refl
 
-pub delivers : (c : Content) (ids : List JobId) (taken room s : ℕ) (state : State) → IsBoard c ids taken room → slice_get c s ≡ Some state
+pub delivers : (c : BoardView) (ids : List JobId) (taken room s : ℕ) (state : SenderView) → IsBoard c ids taken room → slice_get c s ≡ Some state
     → IsBoard (set c s (state_after_handed state (deliver_reply_of state))) ids taken room
 delivers c ids taken room s state b at =
     keeps c ids taken room s state (state_after_handed state (deliver_reply_of state)) b at (handed_same_stages state (deliver_reply_of state)) (handed_is_state state (slice_get state.stages state.handed) refl (b.content s state at))
 
-pub delivered : (c : Content) (s : ℕ) (state : State) (r : Handed) → slice_get c s ≡ Some state → set c s (state_after_handed state r) ≡ after_deliver c s r
+pub delivered : (c : BoardView) (s : ℕ) (state : SenderView) (r : Handed) → slice_get c s ≡ Some state → set c s (state_after_handed state r) ≡ after_deliver c s r
 delivered c s state (handed.Next d) at = sym (change_at c s state with_one_handed at)
 delivered c s state handed.Waiting at = set_same c s state at
 delivered c s state handed.Drained at = set_same c s state at
 delivered c s state handed.NoSender at = set_same c s state at
 
 -- what an accepted finish shows
-pub finish_ok : (o : Option Stage) (task : Option Problem) (a : Problem) (u : Unit {0}) → FinishAs o task a (Ok u) → (o ≡ Some Taken) × (task ≡ Some a)
+pub finish_ok : (o : Option Stage) (task : Option TaskView) (a : TaskView) (u : Unit {0}) → FinishAs o task a (Ok u) → (o ≡ Some Taken) × (task ≡ Some a)
 finish_ok None task a u h = cc
 finish_ok (Some Waiting) task a u h = cc
 finish_ok (Some Taken) task a u h = (refl, h)
 finish_ok (Some (Finished b)) task a u h = cc
 
 -- the reply of the state of s is that of the board
-pub finish_at : (c : Content) (id : JobId) (a : Problem) (r : Result (Unit {0}) JobFault) (state : State) → slice_get c id.sender ≡ Some state
+pub finish_at : (c : BoardView) (id : JobId) (a : TaskView) (r : Result (Unit {0}) JobFault) (state : SenderView) → slice_get c id.sender ≡ Some state
     → FinishAs (slice_get state.stages id.number) (slice_get state.tasks id.number) a r → Finishes c id a r
-finish_at c id a r state at h = let P : Option State → Type 0 = λ o. FinishAs (stage_in id.number o) (task_in id.number o) a r in subst P (sym at) h
+finish_at c id a r state at h = let P : Option SenderView → Type 0 = λ o. FinishAs (stage_in id.number o) (task_in id.number o) a r in subst P (sym at) h
 
 -- the same, from the board to the state
-pub finish_from : (c : Content) (id : JobId) (a : Problem) (r : Result (Unit {0}) JobFault) (state : State) → slice_get c id.sender ≡ Some state
+pub finish_from : (c : BoardView) (id : JobId) (a : TaskView) (r : Result (Unit {0}) JobFault) (state : SenderView) → slice_get c id.sender ≡ Some state
     → Finishes c id a r → FinishAs (slice_get state.stages id.number) (slice_get state.tasks id.number) a r
-finish_from c id a r state at h = let P : Option State → Type 0 = λ o. FinishAs (stage_in id.number o) (task_in id.number o) a r in subst P at h
+finish_from c id a r state at h = let P : Option SenderView → Type 0 = λ o. FinishAs (stage_in id.number o) (task_in id.number o) a r in subst P at h
 
 -- what an accepted give back shows
 pub give_back_ok : (o : Option Stage) (u : Unit {0}) → Ok u ≡ give_back_reply_at o → o ≡ Some Taken
@@ -267,19 +267,19 @@ waiting_from (Some Waiting) h = refl
 waiting_from (Some Taken) h = absurd (omega arith)
 waiting_from (Some (Finished a)) h = absurd (omega arith)
 
-state_from : (k : ℕ) (o : Option State) → stage_in k o ≡ Some Waiting → (state : State) × (o ≡ Some state) × (slice_get state.stages k ≡ Some Waiting)
+state_from : (k : ℕ) (o : Option SenderView) → stage_in k o ≡ Some Waiting → (state : SenderView) × (o ≡ Some state) × (slice_get state.stages k ≡ Some Waiting)
 state_from k None e = cc
 state_from k (Some state) e = (state, refl, e)
 
 -- a job that the queue gave waits
-pub first_waits : (c : Content) (id : JobId) (ids ids' : List JobId) (taken room : ℕ) → IsBoard c ids taken room → IsPermutation ids (id ∷ ids') → stage_at c id.sender id.number ≡ Some Waiting
+pub first_waits : (c : BoardView) (id : JobId) (ids ids' : List JobId) (taken room : ℕ) → IsBoard c ids taken room → IsPermutation ids (id ∷ ids') → stage_at c id.sender id.number ≡ Some Waiting
 first_waits c id ids ids' taken room b moved = waiting_from (stage_at c id.sender id.number) (omega (arith, b.lists id.sender id.number, bit_same id, id_count-popped id.sender id.number id ids ids' moved))
 
-pub first_state : (c : Content) (id : JobId) (ids ids' : List JobId) (taken room : ℕ) → IsBoard c ids taken room → IsPermutation ids (id ∷ ids') → (state : State) × (slice_get c id.sender ≡ Some state) × (slice_get state.stages id.number ≡ Some Waiting)
+pub first_state : (c : BoardView) (id : JobId) (ids ids' : List JobId) (taken room : ℕ) → IsBoard c ids taken room → IsPermutation ids (id ∷ ids') → (state : SenderView) × (slice_get c id.sender ≡ Some state) × (slice_get state.stages id.number ≡ Some Waiting)
 first_state c id ids ids' taken room b moved = state_from id.number (slice_get c id.sender) (first_waits c id ids ids' taken room b moved)
 
 -- the same of a state that was found there
-pub first_stage : (c : Content) (id : JobId) (ids ids' : List JobId) (taken room : ℕ) (state : State) → IsBoard c ids taken room → IsPermutation ids (id ∷ ids') → slice_get c id.sender ≡ Some state → slice_get state.stages id.number ≡ Some Waiting
+pub first_stage : (c : BoardView) (id : JobId) (ids ids' : List JobId) (taken room : ℕ) (state : SenderView) → IsBoard c ids taken room → IsPermutation ids (id ∷ ids') → slice_get c id.sender ≡ Some state → slice_get state.stages id.number ≡ Some Waiting
 first_stage c id ids ids' taken room state b moved at = sym (ap (stage_in id.number) at) ∙ first_waits c id ids ids' taken room b moved
 
 slice_get_none_past : {X : Type 0} (xs : List X) (k : ℕ) → k < length xs → slice_get xs k ≡ None → ⊥
@@ -288,7 +288,7 @@ slice_get_none_past (x ∷ xs) zero lt e = cc
 slice_get_none_past (x ∷ xs) (suc k) lt e = slice_get_none_past xs k (omega arith) e
 
 -- a job that has a stage has a task
-pub has_task : (state : State) (k : ℕ) (st : Stage) → IsState state → slice_get state.stages k ≡ Some st → slice_get state.tasks k ≡ None → ⊥
+pub has_task : (state : SenderView) (k : ℕ) (st : Stage) → IsSender state → slice_get state.stages k ≡ Some st → slice_get state.tasks k ≡ None → ⊥
 has_task state k st h at none =
     let lt : k < length state.tasks = omega (arith, h.stages, slice_get_within state.stages k st at) in
     slice_get_none_past state.tasks k lt none
@@ -296,7 +296,7 @@ has_task state k st h at none =
 taken-push : (stages : List Stage) → count_by is_taken (stages ++ Waiting ∷ []) ≡ count_by is_taken stages
 taken-push stages = grind (arith, common_steps)
 
-pub state_with_task : (state : State) (t : Problem) → IsState state → length state.tasks < 65535 → IsState (with_task t state)
+pub state_with_task : (state : SenderView) (t : TaskView) → IsSender state → length state.tasks < 65535 → IsSender (with_task t state)
 state_with_task state t h few = record {
   stages = omega (arith, h.stages, length-append state.stages (Waiting ∷ []), length-append state.tasks (t ∷ []));
   most = omega (arith, length-append state.tasks (t ∷ []));
@@ -306,16 +306,16 @@ state_with_task state t h few = record {
     | inl e ↦ let now : Some Waiting ≡ Some (Finished a) = sym (slice_get-push_same state.stages Waiting k e) ∙ got in cc
     | inr ne ↦
         let was : slice_get state.stages k ≡ Some (Finished a) = sym (slice_get-push_other state.stages Waiting k ne) ∙ got in
-        let P : Option Problem → Type 0 = λ o. o ≡ Some a in
+        let P : Option TaskView → Type 0 = λ o. o ≡ Some a in
         subst P (sym (slice_get-push_other state.tasks t k (λ e. ne (e ∙ sym h.stages)))) (h.solved k a was)
   ];
 }
 
 -- a state whose answer was delivered
-pub state_handed : (state : State) (d : Delivery) → IsState state → handed.Next d ≡ deliver_reply_of state → IsState (with_one_handed state)
-state_handed state d h e = let P : Handed → Type 0 = λ r. IsState (state_after_handed state r) in subst P (sym e) (handed_is_state state (slice_get state.stages state.handed) refl h)
+pub state_handed : (state : SenderView) (d : Delivery) → IsSender state → handed.Next d ≡ deliver_reply_of state → IsSender (with_one_handed state)
+state_handed state d h e = let P : Handed → Type 0 = λ r. IsSender (state_after_handed state r) in subst P (sym e) (handed_is_state state (slice_get state.stages state.handed) refl h)
 
-pub submits : (c : Content) (s : ℕ) (t : Problem) (ids ids' : List JobId) (taken room room' : ℕ) (state : State) → IsBoard c ids taken room
+pub submits : (c : BoardView) (s : ℕ) (t : TaskView) (ids ids' : List JobId) (taken room room' : ℕ) (state : SenderView) → IsBoard c ids taken room
     → slice_get c s ≡ Some state → length state.tasks < 65535 → IsPermutation (record { sender = s; number = length state.tasks } ∷ ids) ids' → length ids + (taken + 1) ≤ room'
     → IsBoard (set c s (with_task t state)) ids' taken room'
 submits c s t ids ids' taken room room' state b at few moved enough =
@@ -340,21 +340,21 @@ submits c s t ids ids' taken room room' state b at few moved enough =
       has_room = omega (arith, enough, length_permutation (id ∷ ids) ids' moved);
     }
 
-pub with_ids : (c : Content) (ids ids' : List JobId) (taken room : ℕ) → IsBoard c ids taken room → ids ≡ ids' → IsBoard c ids' taken room
+pub with_ids : (c : BoardView) (ids ids' : List JobId) (taken room : ℕ) → IsBoard c ids taken room → ids ≡ ids' → IsBoard c ids' taken room
 with_ids c ids ids' taken room b e = let P : List JobId → Type 0 = λ l. IsBoard c l taken room in subst P e b
 
 -- the same with more room
-pub with_room : (c : Content) (ids : List JobId) (taken room room' : ℕ) → IsBoard c ids taken room → room ≤ room' → IsBoard c ids taken room'
+pub with_room : (c : BoardView) (ids : List JobId) (taken room room' : ℕ) → IsBoard c ids taken room → room ≤ room' → IsBoard c ids taken room'
 with_room c ids taken room room' b more = record { few = b.few; content = b.content; lists = b.lists; counts = b.counts; has_room = omega (arith, b.has_room) }
 
-pub submit_lawful : (c : Content) (s : ℕ) (state : State) (r : Result ℕ SubmitFault) → slice_get c s ≡ Some state → submit_refusal (Some state) ≡ None
+pub submit_lawful : (c : BoardView) (s : ℕ) (state : SenderView) (r : Result ℕ SubmitFault) → slice_get c s ≡ Some state → submit_refusal (Some state) ≡ None
     → (r ≡ Ok (length state.tasks)) ⊎ (r ≡ Err fault.Memory) → Submits c s r
 submit_lawful c s state r at none ok =
-    let P : Option State → Type 0 = λ o. SubmitAs (submit_refusal o) (task_count o) r in
+    let P : Option SenderView → Type 0 = λ o. SubmitAs (submit_refusal o) (task_count o) r in
     let Q : Option SubmitFault → Type 0 = λ o. SubmitAs o (length state.tasks) r in
     subst P (sym at) (subst Q (sym none) ok)
 
-pub not_refused : (state : State) → state.closed ≡ false → length state.tasks < 65535 → submit_refusal (Some state) ≡ None
+pub not_refused : (state : SenderView) → state.closed ≡ false → length state.tasks < 65535 → submit_refusal (Some state) ≡ None
 not_refused state open_ few =
     ap (λ b. cond b (Some fault.Closed) (cond (ltb 65534 (length state.tasks)) (Some fault.Full) None)) open_ ∙ ap (λ b. cond b (Some fault.Full) None) (le-ltb 65534 (length state.tasks) (omega arith))
 
@@ -364,7 +364,7 @@ few_if false true e = cc
 few_if false false e = refl
 
 -- a sender that is not refused has room for a task
-pub few_tasks : (state : State) → submit_refusal (Some state) ≡ None → length state.tasks < 65535
+pub few_tasks : (state : SenderView) → submit_refusal (Some state) ≡ None → length state.tasks < 65535
 few_tasks state e = omega (arith, ltb-false 65534 (length state.tasks) (few_if state.closed (ltb 65534 (length state.tasks)) e))
 
 pub read_again : {X : Type 0} (xs : List X) (i : ℕ) (y x : X) → slice_get xs i ≡ Some y → x ≡ get_or xs i x → slice_get xs i ≡ Some x
@@ -375,24 +375,24 @@ replicated zero x s y e = cc
 replicated (suc n) x zero y e = same_Some x y e
 replicated (suc n) x (suc s) y e = replicated n x s y e
 
-unqueued : (k : ℕ) (o : Option State) → ((state : State) → o ≡ Some state → state.stages ≡ []) → is_waiting (stage_in k o) ≡ false
+unqueued : (k : ℕ) (o : Option SenderView) → ((state : SenderView) → o ≡ Some state → state.stages ≡ []) → is_waiting (stage_in k o) ≡ false
 unqueued k None h = refl
 unqueued k (Some state) h = ap (λ (l : List Stage). is_waiting (slice_get l k)) (h state refl)
 
-all_at : (c : Content) (s : ℕ) (state : State) → All (λ (state : State). state.closed ≡ true) c → slice_get c s ≡ Some state → state.closed ≡ true
-all_at c s state h at = ap (λ (l : State). l.closed) (sym (get_or_from_slice_get c s state state at)) ∙ h s state (slice_get_within c s state at)
+all_at : (c : BoardView) (s : ℕ) (state : SenderView) → All (λ (state : SenderView). state.closed ≡ true) c → slice_get c s ≡ Some state → state.closed ≡ true
+all_at c s state h at = ap (λ (l : SenderView). l.closed) (sym (get_or_from_slice_get c s state state at)) ∙ h s state (slice_get_within c s state at)
 
-pub closed_all : (c : Content) → AllDone c → All (λ (state : State). state.closed ≡ true) c
+pub closed_all : (c : BoardView) → AllDone c → All (λ (state : SenderView). state.closed ≡ true) c
 closed_all c done k d lt = (done k (get_or c k d) (slice_get-get_or c k d lt)).0
 
-stage_done : (c : Content) (taken room : ℕ) → IsBoard c [] taken room → taken ≡ 0 → (s k : ℕ) (state : State) (stage : Stage) → slice_get c s ≡ Some state → slice_get state.stages k ≡ Some stage → is_finished (Some stage) ≡ true
+stage_done : (c : BoardView) (taken room : ℕ) → IsBoard c [] taken room → taken ≡ 0 → (s k : ℕ) (state : SenderView) (stage : Stage) → slice_get c s ≡ Some state → slice_get state.stages k ≡ Some stage → is_finished (Some stage) ≡ true
 stage_done c taken room b none s k state Waiting at was =
     let there : stage_at c s k ≡ Some Waiting = ap (stage_in k) at ∙ was in
     absurd (omega (arith, b.lists s k, ap (λ o. bit (is_waiting o)) there))
 stage_done c taken room b none s k state Taken at was = absurd (omega (arith, some_taken c [] taken room s k state b at was))
 stage_done c taken room b none s k state (Finished a) at was = refl
 
-sum_zero : (c : Content) → ((s : ℕ) (state : State) → slice_get c s ≡ Some state → taken_in state ≡ 0) → taken_count c ≡ 0
+sum_zero : (c : BoardView) → ((s : ℕ) (state : SenderView) → slice_get c s ≡ Some state → taken_in state ≡ 0) → taken_count c ≡ 0
 sum_zero [] h = refl
 sum_zero (state ∷ c) h = omega (arith, sum_by-cons taken_in state c, h zero state refl, sum_zero c (λ s state' at. h (suc s) state' at))
 
@@ -405,36 +405,36 @@ none_taken (Finished a ∷ stages) h = omega (arith, sum_by-cons (λ x. cond (is
 pub new_board : (n room : ℕ) → n ≤ 64 → IsBoard (empty_content n) [] 0 room
 new_board n room h = record {
   few = omega (arith, h, length-replicate n empty_state);
-  content = λ s state at. let P : State → Type 0 = IsState in subst P (replicated n empty_state s state at) (record { stages = refl; most = omega arith; handed = omega arith; finished = λ k lt. absurd (omega arith); solved = λ k a e. cc });
-  lists = λ s k. sym (ap bit (unqueued k (slice_get (empty_content n) s) (λ state at. ap (λ (l : State). l.stages) (sym (replicated n empty_state s state at)))));
+  content = λ s state at. let P : SenderView → Type 0 = IsSender in subst P (replicated n empty_state s state at) (record { stages = refl; most = omega arith; handed = omega arith; finished = λ k lt. absurd (omega arith); solved = λ k a e. cc });
+  lists = λ s k. sym (ap bit (unqueued k (slice_get (empty_content n) s) (λ state at. ap (λ (l : SenderView). l.stages) (sym (replicated n empty_state s state at)))));
   counts = sym (sum_by-replicate taken_in n empty_state ∙ omega arith);
   has_room = omega arith;
 }
 
 -- a board with nothing waiting and nothing taken, and closed senders, is done
-pub done_by : (c : Content) (ids : List JobId) (taken room : ℕ) → IsBoard c ids taken room → length ids ≡ 0 → taken ≡ 0 → All (λ (state : State). state.closed ≡ true) c → AllDone c
+pub done_by : (c : BoardView) (ids : List JobId) (taken room : ℕ) → IsBoard c ids taken room → length ids ≡ 0 → taken ≡ 0 → All (λ (state : SenderView). state.closed ≡ true) c → AllDone c
 done_by c [] taken room b empty none closed s state at = (
   all_at c s state closed at,
   λ k stage was. stage_done c taken room b none s k state stage at was,
 )
 done_by c (id ∷ ids) taken room b empty none closed s state at = absurd (omega arith)
 
-pub done_none_waits : (c : Content) (ids : List JobId) (taken room : ℕ) → IsBoard c ids taken room → AllDone c → length ids ≡ 0
+pub done_none_waits : (c : BoardView) (ids : List JobId) (taken room : ℕ) → IsBoard c ids taken room → AllDone c → length ids ≡ 0
 done_none_waits c [] taken room b done = refl
 done_none_waits c (id ∷ ids) taken room b done =
-    let found : (state : State) × (slice_get c id.sender ≡ Some state) × (slice_get state.stages id.number ≡ Some Waiting) = first_state c id (id ∷ ids) ids taken room b (IsPermutation-refl (id ∷ ids)) in
+    let found : (state : SenderView) × (slice_get c id.sender ≡ Some state) × (slice_get state.stages id.number ≡ Some Waiting) = first_state c id (id ∷ ids) ids taken room b (IsPermutation-refl (id ∷ ids)) in
     absurd (false≢true ((done id.sender found.0 found.1).1 id.number Waiting found.2))
 
-pub done_none_taken : (c : Content) (ids : List JobId) (taken room : ℕ) → IsBoard c ids taken room → AllDone c → taken ≡ 0
+pub done_none_taken : (c : BoardView) (ids : List JobId) (taken room : ℕ) → IsBoard c ids taken room → AllDone c → taken ≡ 0
 done_none_taken c ids taken room b done = b.counts ∙ sum_zero c (λ s state at. none_taken state.stages (λ k stage was. (done s state at).1 k stage was))
 
-few_counted : (c : Content) → IsContent c → taken_count c ≤ length c * 65535
+few_counted : (c : BoardView) → IsBoardView c → taken_count c ≤ length c * 65535
 few_counted [] all = omega arith
 few_counted (state ∷ c) all =
     let h = all 0 state refl in
     omega (arith, sum_by-cons taken_in state c, count_by-le-length is_taken state.stages, h.stages, h.most, few_counted c (λ s state' at. all (suc s) state' at))
 
-pub few_taken : (c : Content) (ids : List JobId) (taken room : ℕ) → IsBoard c ids taken room → taken ≤ 64 * 65535
+pub few_taken : (c : BoardView) (ids : List JobId) (taken room : ℕ) → IsBoard c ids taken room → taken ≤ 64 * 65535
 few_taken c ids taken room b = omega (arith, b.few, b.counts, few_counted c b.content)
 
 not_next_if : (d : Delivery) (b : Bool) → handed.Next d ≡ cond b handed.Drained handed.Waiting → ⊥
@@ -442,7 +442,7 @@ not_next_if d true e = cc
 not_next_if d false e = cc
 
 -- what the next answer shows
-pub next_facts : (state : State) (d : Delivery) (o : Option Stage) → handed.Next d ≡ deliver_reply_at state o → (d.number ≡ state.handed) × (o ≡ Some (Finished d.solved))
+pub next_facts : (state : SenderView) (d : Delivery) (o : Option Stage) → handed.Next d ≡ deliver_reply_at state o → (d.number ≡ state.handed) × (o ≡ Some (Finished d.solved))
 next_facts state d None e = absurd (not_next_if d (state.closed && (state.handed == length state.tasks)) e)
 next_facts state d (Some Waiting) e = absurd (not_next_if d (state.closed && (state.handed == length state.tasks)) e)
 next_facts state d (Some Taken) e = absurd (not_next_if d (state.closed && (state.handed == length state.tasks)) e)

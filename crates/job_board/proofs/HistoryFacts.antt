@@ -3,7 +3,7 @@ use Rattle.std.proofs.Common.{◌≡◌, ℕ, suc, zero, ◌<◌, ◌==◌, ◌&
 use Rattle.std.proofs.lemmas.Option.{slice_get_within, slice_get_past, same_Some}
 use Rattle.std.proofs.lemmas.List.{length-replicate}
 use Rattle.std.proofs.lemmas.Bool.{cases_eq, eq-eqb, ne_eqb, eqb-true}
-use Rattle.endgame_search.specs.Problems.{Problem}
+use Rattle.endgame_search.specs.Task.{TaskView}
 use Rattle.job_board.specs.declared.jobs.JobId.{JobId}
 use Rattle.job_board.specs.declared.jobs.Delivery.{Delivery}
 use Rattle.job_board.specs.declared.jobs.Stage.{Stage}
@@ -14,8 +14,8 @@ use Rattle.job_board.specs.declared.steps.Step.{Step}
 use Rattle.job_board.specs.declared.steps.Step.TheVariants as step
 use Rattle.job_board.specs.declared.steps.Reply.{Reply}
 use Rattle.job_board.specs.declared.steps.Reply.TheVariants as reply
-use Rattle.job_board.specs.Contents.{State, Content, content_by, with_task, with_stage, with_one_handed, closed_state, stage_in, empty_state, empty_content}
-use Rattle.job_board.specs.Boards.{IsState, IsContent}
+use Rattle.job_board.specs.Senders.{SenderView, BoardView, content_by, with_task, with_stage, with_one_handed, closed_state, stage_in, empty_state, empty_content}
+use Rattle.job_board.specs.Boards.{IsSender, IsBoardView}
 use Rattle.job_board.specs.Replies.{deliver_reply_in, deliver_reply, close_reply_in, give_back_reply_at}
 use Rattle.job_board.specs.Steps.{IsLawful, after, AreLawful, after_all}
 use Rattle.job_board.specs.Queues.{is_id_of}
@@ -24,11 +24,11 @@ use Rattle.job_board.proofs.BoardFacts.{slice_get-set_same, slice_get-set_other,
 use Rattle.job_board.proofs.StateSteps.{state_step, state_after, state_kept, cond_same, slice_get-replicate, empty_is_state}
 use Rattle.job_board.proofs.Deliveries.{state_all, state_after_all, tasks_all, handed_all, in_order, accepted_closed, drained_stage}
 
-put_length : (c : Content) (s : ℕ) (f : State → State) (o : Option State) → length (content_by c s f o) ≡ length c
+put_length : (c : BoardView) (s : ℕ) (f : SenderView → SenderView) (o : Option SenderView) → length (content_by c s f o) ≡ length c
 put_length c s f None = refl
 put_length c s f (Some state) = length-set c s (f state)
 
-length_after : (c : Content) (st : Step) (r : Reply) → length (after c st r) ≡ length c
+length_after : (c : BoardView) (st : Step) (r : Reply) → length (after c st r) ≡ length c
 length_after c (step.Submit s t) (reply.Submitted (Ok n)) = put_length c s (with_task t) (slice_get c s)
 length_after c step.Take (reply.Took (Some job)) = put_length c job.id.sender (with_stage job.id.number Taken) (slice_get c job.id.sender)
 length_after c (step.Finish id a) (reply.Finished (Ok u)) = put_length c id.sender (with_stage id.number (Finished a)) (slice_get c id.sender)
@@ -37,7 +37,7 @@ length_after c (step.Deliver s) (reply.Handed (handed.Next d)) = put_length c s 
 length_after c (step.Close s) (reply.Closed r) = put_length c s closed_state (slice_get c s)
 length_after c _ _ = refl
 
-length_all : (c : Content) (ss : List Step) (rs : List Reply) → length (after_all c ss rs) ≡ length c
+length_all : (c : BoardView) (ss : List Step) (rs : List Reply) → length (after_all c ss rs) ≡ length c
 length_all c [] [] = refl
 length_all c [] (r ∷ rs) = refl
 length_all c (st ∷ ss) [] = refl
@@ -47,7 +47,7 @@ length_all c (st ∷ ss) (r ∷ rs) = length_all (after c st r) ss rs ∙ length
 pub senders_all : (n : ℕ) (ss : List Step) (rs : List Reply) → length (after_all (empty_content n) ss rs) ≡ n
 senders_all n ss rs = length_all (empty_content n) ss rs ∙ length-replicate n empty_state
 
-kept_all : (c : Content) (s : ℕ) (state : State) (ss : List Step) (rs : List Reply) → slice_get c s ≡ Some state → IsState state → AreLawful c ss rs → IsState (state_all s state ss rs)
+kept_all : (c : BoardView) (s : ℕ) (state : SenderView) (ss : List Step) (rs : List Reply) → slice_get c s ≡ Some state → IsSender state → AreLawful c ss rs → IsSender (state_all s state ss rs)
 kept_all c s state [] [] at h law = h
 kept_all c s state [] (r ∷ rs) at h law = h
 kept_all c s state (st ∷ ss) [] at h law = h
@@ -65,7 +65,7 @@ or-assoc : (x y z : Bool) → ((x || y) || z) ≡ (x || (y || z))
 or-assoc true y z = refl
 or-assoc false y z = refl
 
-closes_if : (b : Bool) (state : State) → (cond b (closed_state state) state).closed ≡ (state.closed || b)
+closes_if : (b : Bool) (state : SenderView) → (cond b (closed_state state) state).closed ≡ (state.closed || b)
 closes_if true state = sym (or-true state.closed)
 closes_if false state = sym (or-false state.closed)
 
@@ -74,7 +74,7 @@ was_closed true r is e = refl
 was_closed false r is e = cc
 
 -- what a lawful step adds to whether a state is closed
-closed_next : (c : Content) (s : ℕ) (state : State) (st : Step) (r : Reply) → slice_get c s ≡ Some state → IsLawful c st r → (state_step s state st r).closed ≡ (state.closed || is_closed_by s st r)
+closed_next : (c : BoardView) (s : ℕ) (state : SenderView) (st : Step) (r : Reply) → slice_get c s ≡ Some state → IsLawful c st r → (state_step s state st r).closed ≡ (state.closed || is_closed_by s st r)
 closed_next c s state (step.Submit s' t) (reply.Submitted (Ok n)) at law = cond_same (λ l. l.closed) (s' == s) (with_task t state) state refl ∙ sym (or-false state.closed)
 closed_next c s state step.Take (reply.Took (Some job)) at law = cond_same (λ l. l.closed) (job.id.sender == s) (with_stage job.id.number Taken state) state refl ∙ sym (or-false state.closed)
 closed_next c s state (step.Finish id a) (reply.Finished (Ok u)) at law = cond_same (λ l. l.closed) (id.sender == s) (with_stage id.number (Finished a) state) state refl ∙ sym (or-false state.closed)
@@ -95,7 +95,7 @@ closed_next c s state (step.Close s') (reply.Closed (Err e)) at law =
     ]
 closed_next c s state _ _ at law = sym (or-false state.closed)
 
-closed_all : (c : Content) (s : ℕ) (state : State) (ss : List Step) (rs : List Reply) → slice_get c s ≡ Some state → AreLawful c ss rs → (state_all s state ss rs).closed ≡ (state.closed || is_closed s ss rs)
+closed_all : (c : BoardView) (s : ℕ) (state : SenderView) (ss : List Step) (rs : List Reply) → slice_get c s ≡ Some state → AreLawful c ss rs → (state_all s state ss rs).closed ≡ (state.closed || is_closed s ss rs)
 closed_all c s state [] [] at law = sym (or-false state.closed)
 closed_all c s state [] (r ∷ rs) at law = absurd law
 closed_all c s state (st ∷ ss) [] at law = absurd law
@@ -114,11 +114,11 @@ push_waiting [] (suc k) = refl
 push_waiting (x ∷ stages) zero = refl
 push_waiting (x ∷ stages) (suc k) = push_waiting stages k
 
-push_if : (b : Bool) (t : Problem) (state : State) (k : ℕ) → or_waiting (slice_get (cond b (with_task t state) state).stages k) ≡ or_waiting (slice_get state.stages k)
+push_if : (b : Bool) (t : TaskView) (state : SenderView) (k : ℕ) → or_waiting (slice_get (cond b (with_task t state) state).stages k) ≡ or_waiting (slice_get state.stages k)
 push_if true t state k = push_waiting state.stages k
 push_if false t state k = refl
 
-restaged_if : (id : JobId) (s k : ℕ) (new : Stage) (state : State) → (id.sender ≡ s → id.number < length state.stages)
+restaged_if : (id : JobId) (s k : ℕ) (new : Stage) (state : SenderView) → (id.sender ≡ s → id.number < length state.stages)
     → or_waiting (slice_get (cond (id.sender == s) (with_stage id.number new state) state).stages k) ≡ cond (is_id_of s k id) new (or_waiting (slice_get state.stages k))
 restaged_if id s k new state within =
     elim (cases_eq id.sender s) [
@@ -138,7 +138,7 @@ restaged_if id s k new state within =
     ]
 
 -- the stage to which a lawful step brings a job
-stage_next : (c : Content) (s k : ℕ) (state : State) (st : Step) (r : Reply) → slice_get c s ≡ Some state → IsLawful c st r
+stage_next : (c : BoardView) (s k : ℕ) (state : SenderView) (st : Step) (r : Reply) → slice_get c s ≡ Some state → IsLawful c st r
     → or_waiting (slice_get (state_step s state st r).stages k) ≡ stage_by s k (or_waiting (slice_get state.stages k)) st r
 stage_next c s k state (step.Submit s' t) (reply.Submitted (Ok n)) at law = push_if (s' == s) t state k
 stage_next c s k state step.Take (reply.Took (Some job)) at law =
@@ -151,7 +151,7 @@ stage_next c s k state (step.Deliver s') (reply.Handed (handed.Next d)) at law =
 stage_next c s k state (step.Close s') (reply.Closed r) at law = cond_same (λ l. or_waiting (slice_get l.stages k)) (s' == s) (closed_state state) state refl
 stage_next c s k state _ _ at law = refl
 
-stages_all : (c : Content) (s k : ℕ) (state : State) (ss : List Step) (rs : List Reply) → slice_get c s ≡ Some state → AreLawful c ss rs
+stages_all : (c : BoardView) (s k : ℕ) (state : SenderView) (ss : List Step) (rs : List Reply) → slice_get c s ≡ Some state → AreLawful c ss rs
     → or_waiting (slice_get (state_all s state ss rs).stages k) ≡ stage_after s k (or_waiting (slice_get state.stages k)) ss rs
 stages_all c s k state [] [] at law = refl
 stages_all c s k state [] (r ∷ rs) at law = absurd law
@@ -165,10 +165,10 @@ some_stage [] k lt = absurd (omega arith)
 some_stage (x ∷ stages) zero lt = refl
 some_stage (x ∷ stages) (suc k) lt = some_stage stages k (omega arith)
 
-state_of_all : (s : ℕ) (c : Content) (ss : List Step) (rs : List Reply) → slice_get c s ≡ Some empty_state → AreLawful c ss rs → IsStateOf s ss rs (state_all s empty_state ss rs)
+state_of_all : (s : ℕ) (c : BoardView) (ss : List Step) (rs : List Reply) → slice_get c s ≡ Some empty_state → AreLawful c ss rs → IsStateOf s ss rs (state_all s empty_state ss rs)
 state_of_all s c ss rs at law =
-    let state : State = state_all s empty_state ss rs in
-    let h : IsState state = kept_all c s empty_state ss rs at empty_is_state law in
+    let state : SenderView = state_all s empty_state ss rs in
+    let h : IsSender state = kept_all c s empty_state ss rs at empty_is_state law in
     let tasks : state.tasks ≡ accepted_tasks s ss rs = tasks_all s empty_state ss rs in
     record {
       tasks = tasks;
@@ -179,23 +179,23 @@ state_of_all s c ss rs at law =
     }
 
 -- the content after a history says what the history says
-pub content_of : (n s : ℕ) (ss : List Step) (rs : List Reply) (state : State) → AreLawful (empty_content n) ss rs → slice_get (after_all (empty_content n) ss rs) s ≡ Some state → IsStateOf s ss rs state
+pub content_of : (n s : ℕ) (ss : List Step) (rs : List Reply) (state : SenderView) → AreLawful (empty_content n) ss rs → slice_get (after_all (empty_content n) ss rs) s ≡ Some state → IsStateOf s ss rs state
 content_of n s ss rs state law at =
     let lt : s < n = omega (arith, slice_get_within (after_all (empty_content n) ss rs) s state at, senders_all n ss rs) in
     let first : slice_get (empty_content n) s ≡ Some empty_state = slice_get-replicate n s empty_state lt in
-    let P : State → Type 0 = IsStateOf s ss rs in
+    let P : SenderView → Type 0 = IsStateOf s ss rs in
     subst P (same_Some (state_all s empty_state ss rs) state (sym (state_after_all (empty_content n) s empty_state ss rs first) ∙ at)) (state_of_all s (empty_content n) ss rs first law)
 
 -- a history leaves a content that a board may have
-pub content_kept : (n : ℕ) (ss : List Step) (rs : List Reply) → AreLawful (empty_content n) ss rs → IsContent (after_all (empty_content n) ss rs)
+pub content_kept : (n : ℕ) (ss : List Step) (rs : List Reply) → AreLawful (empty_content n) ss rs → IsBoardView (after_all (empty_content n) ss rs)
 content_kept n ss rs law s state at =
     let lt : s < n = omega (arith, slice_get_within (after_all (empty_content n) ss rs) s state at, senders_all n ss rs) in
     let first : slice_get (empty_content n) s ≡ Some empty_state = slice_get-replicate n s empty_state lt in
-    let P : State → Type 0 = IsState in
+    let P : SenderView → Type 0 = IsSender in
     subst P (same_Some (state_all s empty_state ss rs) state (sym (state_after_all (empty_content n) s empty_state ss rs first) ∙ at))
     (kept_all (empty_content n) s empty_state ss rs first empty_is_state law)
 
-no_more : (tasks more : List Problem) (ds : List Delivery) → more ≡ [] → InOrder (tasks ++ more) (length tasks) ds → ds ≡ []
+no_more : (tasks more : List TaskView) (ds : List Delivery) → more ≡ [] → InOrder (tasks ++ more) (length tasks) ds → ds ≡ []
 no_more tasks more [] e h = refl
 no_more tasks more (d ∷ ds) e h =
     let past : slice_get (tasks ++ more) (length tasks) ≡ None = slice_get_past (tasks ++ more) (length tasks) (omega (arith, length-append tasks more, ap length e)) in
@@ -210,10 +210,10 @@ state_there n s ss rs lt = state_after_all (empty_content n) s empty_state ss rs
 pub drained_stays : (n s : ℕ) (ss ss' : List Step) (rs rs' : List Reply) → s < n → AreLawful (empty_content n) ss rs → handed.Drained ≡ deliver_reply (after_all (empty_content n) ss rs) s
     → AreLawful (after_all (empty_content n) ss rs) ss' rs' → (accepted_tasks s ss' rs' ≡ []) × (deliveries_to s ss' rs' ≡ [])
 drained_stays n s ss ss' rs rs' lt law e more =
-    let c : Content = after_all (empty_content n) ss rs in
-    let state : State = state_all s empty_state ss rs in
+    let c : BoardView = after_all (empty_content n) ss rs in
+    let state : SenderView = state_all s empty_state ss rs in
     let at : slice_get c s ≡ Some state = state_there n s ss rs lt in
-    let h : IsState state = kept_all (empty_content n) s empty_state ss rs (slice_get-replicate n s empty_state lt) empty_is_state law in
+    let h : IsSender state = kept_all (empty_content n) s empty_state ss rs (slice_get-replicate n s empty_state lt) empty_is_state law in
     let facts = drained_stage state (slice_get state.stages state.handed) (e ∙ ap deliver_reply_in at) in
     let none : accepted_tasks s ss' rs' ≡ [] = accepted_closed c s state ss' rs' at facts.0 more in
     let P : ℕ → Type 0 = λ first. InOrder (state.tasks ++ accepted_tasks s ss' rs') first (deliveries_to s ss' rs') in

@@ -3,7 +3,7 @@
 pub mod BoardFacts
 pub mod Deliveries
 pub mod HistoryFacts
-pub mod Joins
+pub mod HistoryAppends
 pub mod ServiceFacts
 pub mod StateSteps
 pub mod TraceFacts

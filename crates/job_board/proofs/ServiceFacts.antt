@@ -2,48 +2,48 @@
 use Rattle.std.proofs.Common.{◌≡◌, ℕ, ◌+◌, List, [], ◌∷◌, ◌++◌, length, map, refl, sym, ap, ◌∙◌, subst, arith, append-nil, append_assoc}
 use Rattle.std.proofs.lemmas.List.{length_push}
 use Rattle.std.proofs.lemmas.Option.{same_Some}
-use Rattle.endgame_search.specs.Problems.{Problem}
+use Rattle.endgame_search.specs.Task.{TaskView}
 use Rattle.job_board.specs.declared.jobs.Delivery.{Delivery}
 use Rattle.job_board.specs.declared.clients.Turn.{Turn}
 use Rattle.job_board.specs.declared.clients.Turn.TheVariants.{Next, Work, Drained}
 use Rattle.job_board.specs.Histories.{InOrder}
-use Rattle.job_board.specs.Clients.{ClientState, new_client, with_sent}
+use Rattle.job_board.specs.Client.{ClientView, new_client, with_sent}
 use Rattle.job_board.specs.Turns.{IsServed}
 use Rattle.job_board.specs.Services.{Event, Sent, Told, Leads, sent_tasks, received_answers}
 use Rattle.job_board.proofs.Deliveries.{slice_get-append}
 use Rattle.job_board.proofs.TraceFacts.{slice_get-mid}
 
-in_order_from : (old : ClientState) (es : List Event) (new : ClientState) → Leads old es new
+in_order_from : (old : ClientView) (es : List Event) (new : ClientView) → Leads old es new
     → InOrder (old.sent ++ sent_tasks es) old.received (received_answers es)
 in_order_from old [] new leads = tt
 in_order_from old (Sent t ∷ es) new leads =
-    let P : List Problem → Type 0 = λ tasks. InOrder tasks old.received (received_answers es) in
+    let P : List TaskView → Type 0 = λ tasks. InOrder tasks old.received (received_answers es) in
     subst P (append_assoc old.sent (t ∷ []) (sent_tasks es)) (in_order_from (with_sent t old) es new leads)
 in_order_from old (Told (Next d) ∷ es) new leads =
     let gives = leads.1 in
-    let P : ClientState → Type 0 = λ me. InOrder (me.sent ++ sent_tasks es) me.received (received_answers es) in (
+    let P : ClientView → Type 0 = λ me. InOrder (me.sent ++ sent_tasks es) me.received (received_answers es) in (
       gives.0.0,
       slice_get-append old.sent (sent_tasks es) old.received d.solved gives.0.1,
       subst P gives.1 (in_order_from leads.0 es new leads.2),
     )
 in_order_from old (Told (Work job) ∷ es) new leads =
-    let P : ClientState → Type 0 = λ me. InOrder (me.sent ++ sent_tasks es) me.received (received_answers es) in
+    let P : ClientView → Type 0 = λ me. InOrder (me.sent ++ sent_tasks es) me.received (received_answers es) in
     subst P leads.1 (in_order_from leads.0 es new leads.2)
 in_order_from old (Told Drained ∷ es) new leads =
-    let P : ClientState → Type 0 = λ me. InOrder (me.sent ++ sent_tasks es) me.received (received_answers es) in
+    let P : ClientView → Type 0 = λ me. InOrder (me.sent ++ sent_tasks es) me.received (received_answers es) in
     subst P leads.1.0 (in_order_from leads.0 es new leads.2)
 
-abbrev state_of : ℕ → List Problem → ℕ → ClientState
+abbrev state_of : ℕ → List TaskView → ℕ → ClientView
 state_of s tasks n = record { sender = s; sent = tasks; received = n }
 
 -- what a client knows after the events
-abbrev known_after : ClientState → List Event → ClientState
+abbrev known_after : ClientView → List Event → ClientView
 known_after old es = state_of old.sender (old.sent ++ sent_tasks es) (old.received + length (received_answers es))
 
-same_state : (s : ℕ) (tasks tasks' : List Problem) (n n' : ℕ) → tasks ≡ tasks' → n ≡ n' → state_of s tasks n ≡ state_of s tasks' n'
+same_state : (s : ℕ) (tasks tasks' : List TaskView) (n n' : ℕ) → tasks ≡ tasks' → n ≡ n' → state_of s tasks n ≡ state_of s tasks' n'
 same_state s tasks tasks' n n' e f = ap (λ l. state_of s l n) e ∙ ap (state_of s tasks') f
 
-known_from : (old : ClientState) (es : List Event) (new : ClientState) → Leads old es new → new ≡ known_after old es
+known_from : (old : ClientView) (es : List Event) (new : ClientView) → Leads old es new → new ≡ known_after old es
 known_from old [] new leads = leads ∙ same_state old.sender old.sent (old.sent ++ []) old.received (old.received + 0) (sym (append-nil old.sent)) (omega arith)
 known_from old (Sent t ∷ es) new leads =
     known_from (with_sent t old) es new leads
@@ -54,35 +54,35 @@ known_from old (Told (Work job) ∷ es) new leads = known_from leads.0 es new le
 known_from old (Told Drained ∷ es) new leads = known_from leads.0 es new leads.2 ∙ ap (λ me. known_after me es) leads.1.0
 
 -- the client before the last of the events
-last_from : (old : ClientState) (es : List Event) (turn : Turn) (new : ClientState) → Leads old (es ++ Told turn ∷ []) new
-    → (me : ClientState) × Leads old es me × Leads me (Told turn ∷ []) new
+last_from : (old : ClientView) (es : List Event) (turn : Turn) (new : ClientView) → Leads old (es ++ Told turn ∷ []) new
+    → (me : ClientView) × Leads old es me × Leads me (Told turn ∷ []) new
 last_from old [] turn new leads = (old, refl, leads)
 last_from old (Sent t ∷ es) turn new leads = last_from (with_sent t old) es turn new leads
 last_from old (Told told ∷ es) turn new leads =
     let rest = last_from leads.0 es turn new leads.2 in
     (rest.0, (leads.0, leads.1, rest.1), rest.2)
 
-answers_from : (before tasks : List Problem) (first : ℕ) (ds : List Delivery) → length before ≡ first → InOrder (before ++ tasks) first ds
+answers_from : (before tasks : List TaskView) (first : ℕ) (ds : List Delivery) → length before ≡ first → InOrder (before ++ tasks) first ds
     → length ds ≡ length tasks → map (λ (d : Delivery). d.solved) ds ≡ tasks
 answers_from before [] first [] is order same = refl
 answers_from before [] first (d ∷ ds) is order same = absurd (omega arith)
 answers_from before (t ∷ tasks) first [] is order same = absurd (omega arith)
 answers_from before (t ∷ tasks) first (d ∷ ds) is order same =
     let here : d.solved ≡ t = same_Some d.solved t (sym order.1 ∙ slice_get-mid before t tasks first is) in
-    let P : List Problem → Type 0 = λ all. InOrder all (first + 1) ds in
+    let P : List TaskView → Type 0 = λ all. InOrder all (first + 1) ds in
     let rest = answers_from (before ++ t ∷ []) tasks (first + 1) ds (omega (arith, length_push before t)) (subst P (sym (append_assoc before (t ∷ []) tasks)) order.2) (omega arith) in
     ap (λ a. a ∷ map (λ (d : Delivery). d.solved) ds) here ∙ ap (λ as'. t ∷ as') rest
 
-pub received_in_order : (s : ℕ) (es : List Event) (me : ClientState) → Leads (new_client s) es me → InOrder (sent_tasks es) 0 (received_answers es)
+pub received_in_order : (s : ℕ) (es : List Event) (me : ClientView) → Leads (new_client s) es me → InOrder (sent_tasks es) 0 (received_answers es)
 received_in_order s es me leads = in_order_from (new_client s) es me leads
 
-pub known : (s : ℕ) (es : List Event) (me : ClientState) → Leads (new_client s) es me
+pub known : (s : ℕ) (es : List Event) (me : ClientView) → Leads (new_client s) es me
     → (me.sent ≡ sent_tasks es) × (me.received ≡ length (received_answers es))
 known s es me leads =
     let e = known_from (new_client s) es me leads in
-    (ap (λ (x : ClientState). x.sent) e, ap (λ (x : ClientState). x.received) e ∙ omega arith)
+    (ap (λ (x : ClientView). x.sent) e, ap (λ (x : ClientView). x.received) e ∙ omega arith)
 
-pub drained_received : (s : ℕ) (es : List Event) (me : ClientState) → Leads (new_client s) (es ++ Told Drained ∷ []) me
+pub drained_received : (s : ℕ) (es : List Event) (me : ClientView) → Leads (new_client s) (es ++ Told Drained ∷ []) me
     → map (λ (d : Delivery). d.solved) (received_answers es) ≡ sent_tasks es
 drained_received s es me leads =
     let last = last_from (new_client s) es Drained me leads in

@@ -2,7 +2,7 @@
 use Rattle.std.proofs.Common.{◌≡◌, ◌≢◌, ℕ, suc, zero, ◌+◌, ◌<◌, ◌==◌, Bool, true, false, [], ◌∷◌, ◌++◌, length, set, Option, Some, None, Ok, slice_get, cond, ltb, refl, sym, ap, ◌∙◌, subst, arith, inl, inr, append-nil, replicate}
 use Rattle.std.proofs.lemmas.Option.{slice_get_within}
 use Rattle.std.proofs.lemmas.Bool.{cases_eq, eq-eqb, ne_eqb, ltb-false}
-use Rattle.endgame_search.specs.Problems.{Problem}
+use Rattle.endgame_search.specs.Task.{TaskView}
 use Rattle.job_board.specs.declared.jobs.Delivery.{Delivery}
 use Rattle.job_board.specs.declared.jobs.Stage.TheVariants.{Waiting, Taken, Finished}
 use Rattle.job_board.specs.declared.jobs.Handed.TheVariants as handed
@@ -11,15 +11,15 @@ use Rattle.job_board.specs.declared.steps.Step.TheVariants as step
 use Rattle.job_board.specs.declared.steps.Reply.{Reply}
 use Rattle.job_board.specs.declared.steps.Reply.TheVariants as reply
 use Rattle.job_board.specs.declared.faults.SubmitFault.TheVariants as fault
-use Rattle.job_board.specs.Contents.{State, Content, content_with, content_by, with_task, with_stage, with_one_handed, closed_state, stage_in, empty_state}
-use Rattle.job_board.specs.Boards.{IsState}
+use Rattle.job_board.specs.Senders.{SenderView, BoardView, content_with, content_by, with_task, with_stage, with_one_handed, closed_state, stage_in, empty_state}
+use Rattle.job_board.specs.Boards.{IsSender}
 use Rattle.job_board.specs.Replies.{SubmitAs, submit_refusal, task_count, deliver_reply_in, give_back_reply_at}
 use Rattle.job_board.specs.Steps.{IsLawful, after}
 use Rattle.job_board.specs.Histories.{tasks_by, deliveries_by}
 use Rattle.job_board.proofs.BoardFacts.{slice_get-set_same, slice_get-set_other, change_at, state_restaged, state_with_task, state_handed, finish_ok, finish_from, give_back_ok, same_finished}
 
 -- what a step does to the state of s
-abbrev pub state_step : ℕ → State → Step → Reply → State
+abbrev pub state_step : ℕ → SenderView → Step → Reply → SenderView
 state_step s state (step.Submit s' t) (reply.Submitted (Ok n)) = cond (s' == s) (with_task t state) state
 state_step s state step.Take (reply.Took (Some job)) = cond (job.id.sender == s) (with_stage job.id.number Taken state) state
 state_step s state (step.Finish id a) (reply.Finished (Ok u)) = cond (id.sender == s) (with_stage id.number (Finished a) state) state
@@ -28,11 +28,11 @@ state_step s state (step.Deliver s') (reply.Handed (handed.Next d)) = cond (s' =
 state_step s state (step.Close s') (reply.Closed r) = cond (s' == s) (closed_state state) state
 state_step s state _ _ = state
 
-change_other : (c : Content) (s' s : ℕ) (f : State → State) (o : Option State) → slice_get c s' ≡ o → s ≢ s' → slice_get (content_by c s' f o) s ≡ slice_get c s
+change_other : (c : BoardView) (s' s : ℕ) (f : SenderView → SenderView) (o : Option SenderView) → slice_get c s' ≡ o → s ≢ s' → slice_get (content_by c s' f o) s ≡ slice_get c s
 change_other c s' s f None e ne = refl
 change_other c s' s f (Some state) e ne = slice_get-set_other c s' s (f state) ne
 
-pub change_state : (c : Content) (s' s : ℕ) (f : State → State) (state : State) → slice_get c s ≡ Some state → slice_get (content_with c s' f) s ≡ Some (cond (s' == s) (f state) state)
+pub change_state : (c : BoardView) (s' s : ℕ) (f : SenderView → SenderView) (state : SenderView) → slice_get c s ≡ Some state → slice_get (content_with c s' f) s ≡ Some (cond (s' == s) (f state) state)
 change_state c s' s f state at =
     elim (cases_eq s' s) [
       | inl e ↦
@@ -41,7 +41,7 @@ change_state c s' s f state at =
       | inr ne ↦ change_other c s' s f (slice_get c s') refl (λ e. ne (sym e)) ∙ (at ∙ ap (λ b. Some (cond b (f state) state)) (sym (ne_eqb s' s ne)))
     ]
 
-pub state_after : (c : Content) (s : ℕ) (state : State) (st : Step) (r : Reply) → slice_get c s ≡ Some state → slice_get (after c st r) s ≡ Some (state_step s state st r)
+pub state_after : (c : BoardView) (s : ℕ) (state : SenderView) (st : Step) (r : Reply) → slice_get c s ≡ Some state → slice_get (after c st r) s ≡ Some (state_step s state st r)
 state_after c s state (step.Submit s' t) (reply.Submitted (Ok n)) at = change_state c s' s (with_task t) state at
 state_after c s state step.Take (reply.Took (Some job)) at = change_state c job.id.sender s (with_stage job.id.number Taken) state at
 state_after c s state (step.Finish id a) (reply.Finished (Ok u)) at = change_state c id.sender s (with_stage id.number (Finished a)) state at
@@ -51,27 +51,27 @@ state_after c s state (step.Close s') (reply.Closed r) at = change_state c s' s 
 state_after c s state _ _ at = at
 
 -- either another state, or this one
-both : (s' s : ℕ) (state new : State) → IsState state → (s' ≡ s → IsState new) → IsState (cond (s' == s) new state)
+both : (s' s : ℕ) (state new : SenderView) → IsSender state → (s' ≡ s → IsSender new) → IsSender (cond (s' == s) new state)
 both s' s state new h here =
-    let P : State → Type 0 = IsState in
+    let P : SenderView → Type 0 = IsSender in
     elim (cases_eq s' s) [
       | inl e ↦ subst P (ap (λ b. cond b new state) (sym (eq-eqb s' s e))) (here e)
       | inr ne ↦ subst P (ap (λ b. cond b new state) (sym (ne_eqb s' s ne))) h
     ]
 
-submit_room : (state : State) (n : ℕ) (b full : Bool) → full ≡ ltb 65534 (length state.tasks)
+submit_room : (state : SenderView) (n : ℕ) (b full : Bool) → full ≡ ltb 65534 (length state.tasks)
     → SubmitAs (cond b (Some fault.Closed) (cond full (Some fault.Full) None)) (length state.tasks) (Ok n) → length state.tasks < 65535
 submit_room state n true full e h = cc
 submit_room state n false true e h = cc
 submit_room state n false false e h = omega (arith, ltb-false 65534 (length state.tasks) (sym e))
 
-submit_few : (state : State) (n : ℕ) → (c : Content) (s : ℕ) (t : Problem) → slice_get c s ≡ Some state → IsLawful c (step.Submit s t) (reply.Submitted (Ok n)) → length state.tasks < 65535
+submit_few : (state : SenderView) (n : ℕ) → (c : BoardView) (s : ℕ) (t : TaskView) → slice_get c s ≡ Some state → IsLawful c (step.Submit s t) (reply.Submitted (Ok n)) → length state.tasks < 65535
 submit_few state n c s t at h =
-    let P : Option State → Type 0 = λ o. SubmitAs (submit_refusal o) (task_count o) (Ok n) in
+    let P : Option SenderView → Type 0 = λ o. SubmitAs (submit_refusal o) (task_count o) (Ok n) in
     submit_room state n state.closed (ltb 65534 (length state.tasks)) refl (subst P at h)
 
 -- a lawful step keeps a state's facts
-pub state_kept : (c : Content) (s : ℕ) (state : State) (st : Step) (r : Reply) → slice_get c s ≡ Some state → IsState state → IsLawful c st r → IsState (state_step s state st r)
+pub state_kept : (c : BoardView) (s : ℕ) (state : SenderView) (st : Step) (r : Reply) → slice_get c s ≡ Some state → IsSender state → IsLawful c st r → IsSender (state_step s state st r)
 state_kept c s state (step.Submit s' t) (reply.Submitted (Ok n)) at h law = both s' s state (with_task t state) h (λ e. state_with_task state t h (submit_few state n c s' t (ap (slice_get c) e ∙ at) law))
 state_kept c s state step.Take (reply.Took (Some job)) at h law =
     both job.id.sender s state (with_stage job.id.number Taken state) h
@@ -91,15 +91,15 @@ state_kept c s state (step.Close s') (reply.Closed r) at h law =
     both s' s state (closed_state state) h (λ e. record { stages = h.stages; most = h.most; handed = h.handed; finished = h.finished; solved = h.solved })
 state_kept c s state _ _ at h law = h
 
-pub cond_same : {A : Type 0} (f : State → A) (b : Bool) (x y : State) → f x ≡ f y → f (cond b x y) ≡ f y
+pub cond_same : {A : Type 0} (f : SenderView → A) (b : Bool) (x y : SenderView) → f x ≡ f y → f (cond b x y) ≡ f y
 cond_same f true x y e = e
 cond_same f false x y e = refl
 
-tasks_if : (b : Bool) (state : State) (t : Problem) → (cond b (with_task t state) state).tasks ≡ state.tasks ++ cond b (t ∷ []) []
+tasks_if : (b : Bool) (state : SenderView) (t : TaskView) → (cond b (with_task t state) state).tasks ≡ state.tasks ++ cond b (t ∷ []) []
 tasks_if true state t = refl
 tasks_if false state t = sym (append-nil state.tasks)
 
-handed_if : (b : Bool) (state : State) (d : Delivery) → (cond b (with_one_handed state) state).handed ≡ state.handed + length (cond b (d ∷ []) [])
+handed_if : (b : Bool) (state : SenderView) (d : Delivery) → (cond b (with_one_handed state) state).handed ≡ state.handed + length (cond b (d ∷ []) [])
 handed_if true state d = omega arith
 handed_if false state d = omega arith
 
@@ -108,11 +108,11 @@ slice_get-replicate zero s x lt = absurd (omega arith)
 slice_get-replicate (suc n) zero x lt = refl
 slice_get-replicate (suc n) (suc s) x lt = slice_get-replicate n s x (omega arith)
 
-pub empty_is_state : IsState empty_state
+pub empty_is_state : IsSender empty_state
 empty_is_state = record { stages = refl; most = omega arith; handed = omega arith; finished = λ k lt. absurd (omega arith); solved = λ k a e. cc }
 
 -- what a step adds to the tasks of a state
-pub tasks_step : (s : ℕ) (state : State) (st : Step) (r : Reply) → (state_step s state st r).tasks ≡ state.tasks ++ tasks_by s st r
+pub tasks_step : (s : ℕ) (state : SenderView) (st : Step) (r : Reply) → (state_step s state st r).tasks ≡ state.tasks ++ tasks_by s st r
 tasks_step s state (step.Submit s' t) (reply.Submitted (Ok n)) = tasks_if (s' == s) state t
 tasks_step s state step.Take (reply.Took (Some job)) = cond_same (λ l. l.tasks) (job.id.sender == s) (with_stage job.id.number Taken state) state refl ∙ sym (append-nil state.tasks)
 tasks_step s state (step.Finish id a) (reply.Finished (Ok u)) = cond_same (λ l. l.tasks) (id.sender == s) (with_stage id.number (Finished a) state) state refl ∙ sym (append-nil state.tasks)
@@ -122,7 +122,7 @@ tasks_step s state (step.Close s') (reply.Closed r) = cond_same (λ l. l.tasks) 
 tasks_step s state _ _ = sym (append-nil state.tasks)
 
 -- what a step adds to the count of a state's deliveries
-pub handed_step : (s : ℕ) (state : State) (st : Step) (r : Reply) → (state_step s state st r).handed ≡ state.handed + length (deliveries_by s st r)
+pub handed_step : (s : ℕ) (state : SenderView) (st : Step) (r : Reply) → (state_step s state st r).handed ≡ state.handed + length (deliveries_by s st r)
 handed_step s state (step.Submit s' t) (reply.Submitted (Ok n)) = cond_same (λ l. l.handed) (s' == s) (with_task t state) state refl ∙ omega arith
 handed_step s state step.Take (reply.Took (Some job)) = cond_same (λ l. l.handed) (job.id.sender == s) (with_stage job.id.number Taken state) state refl ∙ omega arith
 handed_step s state (step.Finish id a) (reply.Finished (Ok u)) = cond_same (λ l. l.handed) (id.sender == s) (with_stage id.number (Finished a) state) state refl ∙ omega arith

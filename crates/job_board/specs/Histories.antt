@@ -1,7 +1,7 @@
 -- What a history says of a sender and of a job: filters over its steps and their replies.
 use Rattle.std.specs.Prelude.{ℕ, ◌≡◌, ◌+◌, ◌<◌, ◌==◌, ◌||◌, Bool, false, List, [], ◌∷◌, ◌++◌}
 use Rattle.std.specs.Prelude.{length, true, Some, Ok, slice_get, if◌then◌else◌}
-use Rattle.endgame_search.specs.Problems.{Problem}
+use Rattle.endgame_search.specs.Task.{TaskView}
 use Rattle.job_board.specs.declared.jobs.Delivery.{Delivery}
 use Rattle.job_board.specs.declared.jobs.Handed.TheVariants as handed
 use Rattle.job_board.specs.declared.jobs.Stage.{Stage}
@@ -10,15 +10,15 @@ use Rattle.job_board.specs.declared.steps.Step.{Step}
 use Rattle.job_board.specs.declared.steps.Step.TheVariants as step
 use Rattle.job_board.specs.declared.steps.Reply.{Reply}
 use Rattle.job_board.specs.declared.steps.Reply.TheVariants as reply
-use Rattle.job_board.specs.Contents.{State}
+use Rattle.job_board.specs.Senders.{SenderView}
 use Rattle.job_board.specs.Queues.{is_id_of}
 
-abbrev pub tasks_by : ℕ → Step → Reply → List Problem
+abbrev pub tasks_by : ℕ → Step → Reply → List TaskView
 tasks_by s (step.Submit s' t) (reply.Submitted (Ok n)) = if s' == s then t ∷ [] else []
 tasks_by s _ _ = []
 
 -- the tasks of the submits of s that were answered with a number
-abbrev pub accepted_tasks : ℕ → List Step → List Reply → List Problem
+abbrev pub accepted_tasks : ℕ → List Step → List Reply → List TaskView
 accepted_tasks s (st ∷ ss) (r ∷ rs) = tasks_by s st r ++ accepted_tasks s ss rs
 accepted_tasks s _ _ = []
 
@@ -57,7 +57,7 @@ stage_after s k stage (st ∷ ss) (r ∷ rs) = stage_after s k (stage_by s k sta
 stage_after s k stage _ _ = stage
 
 -- the state of s says what the steps and replies say
-pub record IsStateOf (s : ℕ) (ss : List Step) (rs : List Reply) (state : State) : Type 0 where
+pub record IsStateOf (s : ℕ) (ss : List Step) (rs : List Reply) (state : SenderView) : Type 0 where
   pub tasks : state.tasks ≡ accepted_tasks s ss rs
   pub each_staged : length state.stages ≡ length (accepted_tasks s ss rs)
   pub stages : (k : ℕ) → k < length (accepted_tasks s ss rs)
@@ -67,7 +67,7 @@ pub record IsStateOf (s : ℕ) (ss : List Step) (rs : List Reply) (state : State
 
 -- the deliveries have the numbers from first on, one after the other, and solve the tasks of these
 -- numbers
-abbrev pub InOrder : List Problem → ℕ → List Delivery → Type 0
+abbrev pub InOrder : List TaskView → ℕ → List Delivery → Type 0
 InOrder tasks first [] = Unit {0}
 InOrder tasks first (d ∷ ds) =
     (d.number ≡ first) × (slice_get tasks first ≡ Some d.solved) × InOrder tasks (first + 1) ds

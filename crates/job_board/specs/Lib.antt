@@ -1,6 +1,6 @@
 pub mod Boards
-pub mod Clients
-pub mod Contents
+pub mod Client
+pub mod Senders
 pub mod Histories
 pub mod Queues
 pub mod Replies

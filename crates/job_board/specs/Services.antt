@@ -1,26 +1,26 @@
 -- What one client sends and is told, one after the other, whatever other threads do at its desk.
 use Rattle.std.specs.Prelude.{◌≡◌, List, [], ◌∷◌}
-use Rattle.endgame_search.specs.Problems.{Problem}
+use Rattle.endgame_search.specs.Task.{TaskView}
 use Rattle.job_board.specs.declared.jobs.Delivery.{Delivery}
 use Rattle.job_board.specs.declared.clients.Turn.{Turn}
 use Rattle.job_board.specs.declared.clients.Turn.TheVariants.{Next}
-use Rattle.job_board.specs.Clients.{ClientState, with_sent}
+use Rattle.job_board.specs.Client.{ClientView, with_sent}
 use Rattle.job_board.specs.Turns.{TurnGives}
 
 -- a task of the client is accepted, or a turn tells it something
 pub data Event : Type 0 where
-  Sent : Problem → Event
+  Sent : TaskView → Event
   Told : Turn → Event
 
 -- the events lead a client from what it knew to what it knows, each as a submit or a turn promises
-abbrev pub Leads : ClientState → List Event → ClientState → Type 0
+abbrev pub Leads : ClientView → List Event → ClientView → Type 0
 Leads old [] new = new ≡ old
 Leads old (Sent t ∷ es) new = Leads (with_sent t old) es new
 Leads old (Told turn ∷ es) new =
-    (next : ClientState) × TurnGives old next turn × Leads next es new
+    (next : ClientView) × TurnGives old next turn × Leads next es new
 
 -- the tasks that were sent
-abbrev pub sent_tasks : List Event → List Problem
+abbrev pub sent_tasks : List Event → List TaskView
 sent_tasks [] = []
 sent_tasks (Sent t ∷ es) = t ∷ sent_tasks es
 sent_tasks (Told turn ∷ es) = sent_tasks es

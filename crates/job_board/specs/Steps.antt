@@ -5,13 +5,13 @@ use Rattle.job_board.specs.declared.steps.Step.{Step}
 use Rattle.job_board.specs.declared.steps.Step.TheVariants as step
 use Rattle.job_board.specs.declared.steps.Reply.{Reply}
 use Rattle.job_board.specs.declared.steps.Reply.TheVariants as reply
-use Rattle.job_board.specs.Contents.{Content, empty_content}
+use Rattle.job_board.specs.Senders.{BoardView, empty_content}
 use Rattle.job_board.specs.Replies.{Submits, after_submit, Takes, after_take, Finishes}
 use Rattle.job_board.specs.Replies.{after_finish, give_back_reply, after_give_back, deliver_reply}
 use Rattle.job_board.specs.Replies.{after_deliver, close_reply, after_close}
 
 -- the reply is lawful of a board with content c
-abbrev pub IsLawful : Content → Step → Reply → Type 0
+abbrev pub IsLawful : BoardView → Step → Reply → Type 0
 IsLawful c (step.Submit s t) (reply.Submitted r) = Submits c s r
 IsLawful c step.Take (reply.Took r) = Takes c r
 IsLawful c (step.Finish id a) (reply.Finished r) = Finishes c id a r
@@ -21,7 +21,7 @@ IsLawful c (step.Close s) (reply.Closed r) = r ≡ close_reply c s
 IsLawful c _ _ = ⊥
 
 -- the content after a step with its reply
-abbrev pub after : Content → Step → Reply → Content
+abbrev pub after : BoardView → Step → Reply → BoardView
 after c (step.Submit s t) (reply.Submitted r) = after_submit c s t r
 after c step.Take (reply.Took r) = after_take c r
 after c (step.Finish id a) (reply.Finished r) = after_finish c id a r
@@ -31,12 +31,12 @@ after c (step.Close s) (reply.Closed r) = after_close c s r
 after c _ _ = c
 
 -- the content after all steps with their replies
-abbrev pub after_all : Content → List Step → List Reply → Content
+abbrev pub after_all : BoardView → List Step → List Reply → BoardView
 after_all c (s ∷ ss) (r ∷ rs) = after_all (after c s r) ss rs
 after_all c _ _ = c
 
 -- one reply for each step, and each is lawful after those before it
-abbrev pub AreLawful : Content → List Step → List Reply → Type 0
+abbrev pub AreLawful : BoardView → List Step → List Reply → Type 0
 AreLawful c [] [] = Unit {0}
 AreLawful c (s ∷ ss) (r ∷ rs) = IsLawful c s r × AreLawful (after c s r) ss rs
 AreLawful c _ _ = ⊥
@@ -47,7 +47,7 @@ abbrev pub IsLegal : ℕ → List Step → List Reply → Type 0
 IsLegal n ss rs = AreLawful (empty_content n) ss rs
 
 -- what a history of n senders leaves
-abbrev pub content : ℕ → List Step → List Reply → Content
+abbrev pub content : ℕ → List Step → List Reply → BoardView
 content n ss rs = after_all (empty_content n) ss rs
 
 -- after a history of n senders, a deliver of s is answered Drained

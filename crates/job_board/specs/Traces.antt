@@ -1,6 +1,6 @@
 -- For each content that a board may have, a history that leaves it.
 use Rattle.std.specs.Prelude.{ℕ, zero, suc, ◌+◌, Bool, true, false, List, [], ◌∷◌, ◌++◌, Some, Ok}
-use Rattle.endgame_search.specs.Problems.{Problem}
+use Rattle.endgame_search.specs.Task.{TaskView}
 use Rattle.job_board.specs.declared.jobs.JobId.{JobId}
 use Rattle.job_board.specs.declared.jobs.Stage.{Stage}
 use Rattle.job_board.specs.declared.jobs.Stage.TheVariants.{Waiting, Taken, Finished}
@@ -9,14 +9,14 @@ use Rattle.job_board.specs.declared.steps.Step.{Step}
 use Rattle.job_board.specs.declared.steps.Step.TheVariants as step
 use Rattle.job_board.specs.declared.steps.Reply.{Reply}
 use Rattle.job_board.specs.declared.steps.Reply.TheVariants as reply
-use Rattle.job_board.specs.Contents.{State, Content}
+use Rattle.job_board.specs.Senders.{SenderView, BoardView}
 
 -- the tasks are submitted, and get the numbers from k on
-abbrev pub submit_steps : ℕ → List Problem → List Step
+abbrev pub submit_steps : ℕ → List TaskView → List Step
 submit_steps s [] = []
 submit_steps s (t ∷ ts) = step.Submit s t ∷ submit_steps s ts
 
-abbrev pub submit_replies : ℕ → List Problem → List Reply
+abbrev pub submit_replies : ℕ → List TaskView → List Reply
 submit_replies k [] = []
 submit_replies k (t ∷ ts) = reply.Submitted (Ok k) ∷ submit_replies (k + 1) ts
 
@@ -35,12 +35,12 @@ stage_replies Taken = []
 stage_replies (Finished a) = reply.Finished (Ok tt) ∷ []
 
 -- each job is taken, and then brought to its stage
-abbrev pub job_steps : ℕ → ℕ → List Problem → List Stage → List Step
+abbrev pub job_steps : ℕ → ℕ → List TaskView → List Stage → List Step
 job_steps s k (t ∷ ts) (st ∷ sts) =
     step.Take ∷ (stage_steps (job_id s k) st ++ job_steps s (k + 1) ts sts)
 job_steps s k _ _ = []
 
-abbrev pub job_replies : ℕ → ℕ → List Problem → List Stage → List Reply
+abbrev pub job_replies : ℕ → ℕ → List TaskView → List Stage → List Reply
 job_replies s k (t ∷ ts) (st ∷ sts) =
     reply.Took (Some (record { id = job_id s k; task = t }))
     ∷ (stage_replies st ++ job_replies s (k + 1) ts sts)
@@ -66,23 +66,23 @@ close_replies true = reply.Closed (Ok true) ∷ []
 close_replies false = []
 
 -- what brings a sender from nothing to its state
-abbrev pub state_steps : ℕ → State → List Step
+abbrev pub state_steps : ℕ → SenderView → List Step
 state_steps s state =
     submit_steps s state.tasks
     ++ (job_steps s 0 state.tasks state.stages
     ++ (deliver_steps s state.handed ++ close_steps s state.closed))
 
-abbrev pub state_replies : ℕ → State → List Reply
+abbrev pub state_replies : ℕ → SenderView → List Reply
 state_replies s state =
     submit_replies 0 state.tasks
     ++ (job_replies s 0 state.tasks state.stages
     ++ (deliver_replies 0 state.handed state.stages ++ close_replies state.closed))
 
 -- a history that leaves the content: the steps of one sender after those of another
-abbrev pub trace_steps : ℕ → Content → List Step
+abbrev pub trace_steps : ℕ → BoardView → List Step
 trace_steps s [] = []
 trace_steps s (state ∷ c) = state_steps s state ++ trace_steps (s + 1) c
 
-abbrev pub trace_replies : ℕ → Content → List Reply
+abbrev pub trace_replies : ℕ → BoardView → List Reply
 trace_replies s [] = []
 trace_replies s (state ∷ c) = state_replies s state ++ trace_replies (s + 1) c

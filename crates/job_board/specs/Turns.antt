@@ -6,29 +6,29 @@ use Rattle.job_board.specs.declared.jobs.Handed.TheVariants as handed
 use Rattle.job_board.specs.declared.faults.Mixed.{Mixed}
 use Rattle.job_board.specs.declared.clients.Turn.{Turn}
 use Rattle.job_board.specs.declared.clients.Turn.TheVariants.{Next, Work, Drained}
-use Rattle.job_board.specs.Contents.{Content, content_with, with_one_handed}
+use Rattle.job_board.specs.Senders.{BoardView, content_with, with_one_handed}
 use Rattle.job_board.specs.Replies.{Takes, after_take}
-use Rattle.job_board.specs.Clients.{ClientState}
+use Rattle.job_board.specs.Client.{ClientView}
 
 -- the delivery is the next of the client: of the number that it has received, with the answer of
 -- that task
-abbrev pub IsNext : ClientState → Delivery → Type 0
+abbrev pub IsNext : ClientView → Delivery → Type 0
 IsNext me d = (d.number ≡ me.received) × (slice_get me.sent me.received ≡ Some d.solved)
 
 -- every answer that the client may ask for came back
-abbrev pub IsServed : ClientState → Type 0
+abbrev pub IsServed : ClientView → Type 0
 IsServed me = me.received ≡ length me.sent
 
 -- what a turn tells its client, and what the client knows then: the next answer, which it counts;
 -- or work; or that all of its tasks came back
-abbrev pub TurnGives : ClientState → ClientState → Turn → Type 0
+abbrev pub TurnGives : ClientView → ClientView → Turn → Type 0
 TurnGives old new (Next d) = IsNext old d × (new ≡ record old { received = old.received + 1 })
 TurnGives old new (Work job) = new ≡ old
 TurnGives old new Drained = (new ≡ old) × IsServed old
 
 -- One hold of the lock in a turn, by what the board's deliver answers, at a board with content c.
 -- It finds nothing where the client has to wait.
-abbrev pub LooksAt : Content → ClientState → Handed → Option (Result Turn Mixed) → Content → Type 0
+abbrev pub LooksAt : BoardView → ClientView → Handed → Option (Result Turn Mixed) → BoardView → Type 0
 LooksAt c me (handed.Next d) (Some (Ok turn)) new =
     (turn ≡ Next d) × IsNext me d × (new ≡ content_with c me.sender with_one_handed)
 LooksAt c me (handed.Next d) (Some (Err mixed)) new =

@@ -22,10 +22,10 @@ pub struct Board {
 }
 
 impl Model for Board {
-    ghost use Rattle.job_board.specs.Contents.{Content};
+    ghost use Rattle.job_board.specs.Senders.{BoardView};
     ghost use Rattle.job_board.specs.Boards.{IsBoard};
 
-    ghost Value = { Content };
+    ghost Value = { BoardView };
 
     ghost view = { λ b. b.senders.items };
 
@@ -40,7 +40,7 @@ fn are_closed(senders: &[Sender]) -> bool
 }
 
 impl Board {
-    ghost use Rattle.job_board.specs.Contents.{empty_content};
+    ghost use Rattle.job_board.specs.Senders.{empty_content};
     ghost use Rattle.job_board.specs.Boards.{AllDone};
     ghost use Rattle.job_board.specs.Replies.{Submits, after_submit, Takes, after_take};
     ghost use Rattle.job_board.specs.Replies.{Finishes, after_finish, give_back_reply};

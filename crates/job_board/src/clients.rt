@@ -35,9 +35,9 @@ pub struct Client {
 
 impl Model for Client {
     ghost use Rattle.std.specs.Prelude.{◌≤◌, length};
-    ghost use Rattle.job_board.specs.Clients.{ClientState};
+    ghost use Rattle.job_board.specs.Client.{ClientView};
 
-    ghost Value = { ClientState };
+    ghost Value = { ClientView };
 
     ghost view = { λ c. record { sender = c.sender; sent = c.sent.items; received = c.received } };
 
@@ -45,7 +45,7 @@ impl Model for Client {
 }
 
 impl Client {
-    ghost use Rattle.job_board.specs.Clients.{new_client, with_sent};
+    ghost use Rattle.job_board.specs.Client.{new_client, with_sent};
     ghost use Rattle.job_board.specs.Replies.{Submits, after_submit, deliver_reply};
     ghost use Rattle.job_board.specs.Turns.{IsNext, IsServed, TurnGives, LooksAt};
 

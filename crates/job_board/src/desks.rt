@@ -26,7 +26,7 @@ pub struct Desk {
 }
 
 impl Desk {
-    ghost use Rattle.job_board.specs.Clients.{with_sent};
+    ghost use Rattle.job_board.specs.Client.{with_sent};
     ghost use Rattle.job_board.specs.Turns.{TurnGives};
 
     /// A desk round a new board, which refuses as `Board::new` does.

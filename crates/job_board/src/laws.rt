@@ -6,9 +6,9 @@ ghost use Rattle.std.specs.Prelude.{slice_get, true};
 ghost use Rattle.job_board.specs.declared.clients.Turn.TheVariants.{Drained};
 ghost use Rattle.job_board.specs.declared.steps.Step.{Step};
 ghost use Rattle.job_board.specs.declared.steps.Reply.{Reply};
-ghost use Rattle.job_board.specs.Contents.{State, Content};
-ghost use Rattle.job_board.specs.Boards.{IsContent};
-ghost use Rattle.job_board.specs.Clients.{ClientState, new_client};
+ghost use Rattle.job_board.specs.Senders.{SenderView, BoardView};
+ghost use Rattle.job_board.specs.Boards.{IsBoardView};
+ghost use Rattle.job_board.specs.Client.{ClientView, new_client};
 ghost use Rattle.job_board.specs.Steps.{AreLawful, after_all, IsLegal, IsDrained, content};
 ghost use Rattle.job_board.specs.Histories.{InOrder, IsStateOf};
 ghost use Rattle.job_board.specs.Histories.{accepted_tasks, deliveries_to, is_closed};
@@ -42,13 +42,13 @@ pub fn deliveries_are_in_order()
 /// it sent; of all of it where a turn says that the client is drained. `Client::sent` and
 /// `Client::received` tell just that.
 pub fn clients_receive_in_order()
-    ensures in_order { (s : ℕ) (es : List Event) (me : ClientState)
+    ensures in_order { (s : ℕ) (es : List Event) (me : ClientView)
         → Leads (new_client s) es me
         → InOrder (sent_tasks es) 0 (received_answers es) }
-    ensures drained { (s : ℕ) (es : List Event) (me : ClientState)
+    ensures drained { (s : ℕ) (es : List Event) (me : ClientView)
         → Leads (new_client s) (es ++ Told Drained ∷ []) me
         → map (λ d. d.solved) (received_answers es) ≡ sent_tasks es }
-    ensures known { (s : ℕ) (es : List Event) (me : ClientState)
+    ensures known { (s : ℕ) (es : List Event) (me : ClientView)
         → Leads (new_client s) es me
         → (me.sent ≡ sent_tasks es) × (me.received ≡ length (received_answers es)) }
 {}
@@ -59,8 +59,8 @@ pub fn clients_receive_in_order()
 pub fn contents_are_of_histories()
     ensures senders { (n : ℕ) (ss : List Step) (rs : List Reply) → length (content n ss rs) ≡ n }
     ensures kept { (n : ℕ) (ss : List Step) (rs : List Reply)
-        → IsLegal n ss rs → IsContent (content n ss rs) }
-    ensures states { (n s : ℕ) (ss : List Step) (rs : List Reply) (state : State)
+        → IsLegal n ss rs → IsBoardView (content n ss rs) }
+    ensures states { (n s : ℕ) (ss : List Step) (rs : List Reply) (state : SenderView)
         → IsLegal n ss rs → slice_get (content n ss rs) s ≡ Some state
         → IsStateOf s ss rs state }
 {}
@@ -77,7 +77,7 @@ pub fn histories_continue()
 
 /// Of any board: what it holds is a content that a board may have, of no more senders than that.
 pub fn boards_have_contents(board: &Board)
-    ensures content { IsContent board.now }
+    ensures content { IsBoardView board.now }
     ensures few { length board.now ≤ Board.MOST_SENDERS }
 {
     // A look at a field, so that the invariant of the type is known here.
@@ -88,8 +88,8 @@ pub fn boards_have_contents(board: &Board)
 /// by a legal history, its trace. `boards_have_contents` says that a board's content meets the
 /// premise.
 pub fn contents_have_histories()
-    ensures legal { (c : Content)
-        → IsContent c → IsLegal (length c) (trace_steps 0 c) (trace_replies 0 c) }
-    ensures content { (c : Content)
-        → IsContent c → content (length c) (trace_steps 0 c) (trace_replies 0 c) ≡ c }
+    ensures legal { (c : BoardView)
+        → IsBoardView c → IsLegal (length c) (trace_steps 0 c) (trace_replies 0 c) }
+    ensures content { (c : BoardView)
+        → IsBoardView c → content (length c) (trace_steps 0 c) (trace_replies 0 c) ≡ c }
 {}

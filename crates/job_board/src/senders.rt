@@ -22,9 +22,9 @@ pub(crate) struct Sender {
 }
 
 impl Model for Sender {
-    ghost use Rattle.job_board.specs.Contents.{State};
+    ghost use Rattle.job_board.specs.Senders.{SenderView};
 
-    ghost Value = { State };
+    ghost Value = { SenderView };
 
     ghost view = { λ s. record {
       tasks = s.tasks.items;
@@ -35,7 +35,7 @@ impl Model for Sender {
 }
 
 impl Sender {
-    ghost use Rattle.job_board.specs.Contents.{empty_state, with_stage, with_task, closed_state};
+    ghost use Rattle.job_board.specs.Senders.{empty_state, with_stage, with_task, closed_state};
     ghost use Rattle.job_board.specs.Replies.{submit_refusal, FinishAs, give_back_reply_at};
     ghost use Rattle.job_board.specs.Replies.{deliver_reply_of, state_after_handed, answer_in};
 

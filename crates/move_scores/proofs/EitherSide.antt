@@ -3,19 +3,19 @@ use Rattle.std.proofs.Common.{◌≡◌, ℕ, length, true, false, refl, inl, in
 use Rattle.std.specs.Prelude.{[], ◌∷◌}
 use Rattle.std.proofs.lemmas.Bool.{cases_Bool}
 use Rattle.othello_rules.specs.declared.scorings.Scoring.{Scoring}
-use Rattle.othello_rules.specs.Rules.{Position, pass, play}
+use Rattle.othello_rules.specs.Rules.{GridView, pass, play}
 use Rattle.othello_rules.specs.Value.{can_move, value}
 use Rattle.othello_rules.specs.Colours.{colour_swap}
 use Rattle.othello_rules.proofs.ColourLaws.{can_move-swapped, moves-swapped, play-swapped}
 use Rattle.othello_rules.proofs.ColourLaws.{value-swapped}
-use Rattle.othello_bits.specs.Discs.{discs_of}
+use Rattle.othello_bits.specs.Pos.{discs_of}
 use Rattle.othello_bits.proofs.ColourMeaning.{as_black}
 use Rattle.othello_bits.proofs.PlayMeaning.{position_of-discs_of}
 use Rattle.obf_text.specs.declared.entries.ListedMove.TheVariants.{At, Pass, Over}
 use Rattle.move_scores.specs.Scores.{move_scores, score_fields, score_fields_of, scored}
 use Rattle.move_scores.proofs.PutIn.{put_all}
 
-move_scores-swapped : (g : Scoring) (P : Position) → move_scores g (colour_swap P) ≡ move_scores g P
+move_scores-swapped : (g : Scoring) (P : GridView) → move_scores g (colour_swap P) ≡ move_scores g P
 unfolding move_scores
 move_scores-swapped g P =
     let each : (q : ℕ) → scored g (colour_swap P) q ≡ scored g P q =
@@ -23,21 +23,21 @@ move_scores-swapped g P =
     (ap (value g) (play-swapped P q) ∙ value-swapped g (play P q)) in
     λ k. put_all (λ q. each q k) (moves-swapped P k)
 
-pub of_move : (g : Scoring) (P : Position) → can_move P ≡ true → score_fields g P ≡ move_scores g P
+pub of_move : (g : Scoring) (P : GridView) → can_move P ≡ true → score_fields g P ≡ move_scores g P
 unfolding score_fields
 of_move g P h = rw h refl
 
-pub of_pass : (g : Scoring) (P : Position) → can_move P ≡ false → can_move (pass P) ≡ true
+pub of_pass : (g : Scoring) (P : GridView) → can_move P ≡ false → can_move (pass P) ≡ true
     → score_fields g P ≡ (Pass, value g P) ∷ []
 unfolding score_fields
 of_pass g P h k = rw (h, k) refl
 
-pub of_over : (g : Scoring) (P : Position) → can_move P ≡ false → can_move (pass P) ≡ false
+pub of_over : (g : Scoring) (P : GridView) → can_move P ≡ false → can_move (pass P) ≡ false
     → score_fields g P ≡ (Over, value g P) ∷ []
 unfolding score_fields
 of_over g P h k = rw (h, k) refl
 
-score_fields-swapped : (g : Scoring) (P : Position)
+score_fields-swapped : (g : Scoring) (P : GridView)
     → score_fields g (colour_swap P) ≡ score_fields g P
 score_fields-swapped g P =
     elim (cases_Bool (can_move P)) [
@@ -56,7 +56,7 @@ score_fields-swapped g P =
     ]
 
 -- the masks of a position of 64 cells keep its scores
-pub score_fields-discs_of : (g : Scoring) (P : Position) → length P.cells ≡ 64
+pub score_fields-discs_of : (g : Scoring) (P : GridView) → length P.cells ≡ 64
     → score_fields_of g (discs_of P) ≡ score_fields g P
 unfolding score_fields_of
 score_fields-discs_of g P whole =

@@ -14,7 +14,7 @@ use Rattle.othello_rules.specs.Value.{greatest}
 use Rattle.othello_rules.proofs.BoundLaws.{Contains-from_map, Contains-map}
 use Rattle.othello_rules.proofs.ListLaws.{Contains-filter, Contains-nil, passes_in_filter}
 use Rattle.othello_rules.proofs.MoveLaws.{Contains-squares}
-use Rattle.othello_bits.specs.Discs.{Discs, moves_of, pass_of, play_of, value_of, IsMove}
+use Rattle.othello_bits.specs.Pos.{PosView, moves_of, pass_of, play_of, value_of, IsMove}
 use Rattle.othello_bits.proofs.GameLaws.{value_above, value_reached}
 use Rattle.othello_bits.proofs.MaskMeaning.{IsMove-on_board}
 use Rattle.obf_text.specs.Fields.{Field, greatest_listed}
@@ -36,7 +36,7 @@ square_listed : (m q : ℕ) → q < 64 → in_mask m q ≡ true → Contains (sq
 unfolding squares_of
 square_listed m q h b = Contains-filter (in_mask m) squares q (Contains-squares q h) b
 
-module _ (g : Scoring) (p : Discs) (some : moves_of p ≢ 0) where
+module _ (g : Scoring) (p : PosView) (some : moves_of p ≢ 0) where
   permuted : IsPermutation (map (scored_of g p) (squares_of (moves_of p))) (score_fields_of g p)
   permuted =
       subst (IsPermutation (map (scored_of g p) (squares_of (moves_of p))))
@@ -76,7 +76,7 @@ module _ (g : Scoring) (p : Discs) (some : moves_of p ≢ 0) where
       (value_above g p from.0 (listed_is_move (moves_of p) from.0 from.1)) in
       omega (arith, ints)
 
-pub greatest_value : (g : Scoring) (p : Discs)
+pub greatest_value : (g : Scoring) (p : PosView)
     → greatest_listed (score_fields_of g p) ≡ value_of g p
 greatest_value g p =
     elim (cases_eq (moves_of p) 0) [
@@ -91,7 +91,7 @@ greatest_value g p =
     ]
 
 -- a move has the value exactly where it is best
-pub best_listed : (g : Scoring) (p : Discs) (q : ℕ) → IsMove p q
+pub best_listed : (g : Scoring) (p : PosView) (q : ℕ) → IsMove p q
     → neg_ℤ (value_of g (play_of p q)) ≡ value_of g p
     → Contains (score_fields_of g p) (At q, value_of g p)
 best_listed g p q m e =
@@ -101,7 +101,7 @@ best_listed g p q m e =
           absurd (both_ways (in_mask (moves_of p) q) (none_from_zero (moves_of p) none q) m)
     ]
 
-pub best_only : (g : Scoring) (p : Discs) (q : ℕ) → moves_of p ≢ 0
+pub best_only : (g : Scoring) (p : PosView) (q : ℕ) → moves_of p ≢ 0
     → Contains (score_fields_of g p) (At q, value_of g p)
     → IsMove p q × (neg_ℤ (value_of g (play_of p q)) ≡ value_of g p)
 best_only g p q some h =

@@ -3,8 +3,8 @@
 ghost use Rattle.std.specs.Prelude.{◌≡◌, ◌≢◌, ℕ, map, neg_ℤ, Contains};
 ghost use Rattle.std.specs.List.Sorted.{IsPermutation};
 ghost use Rattle.othello_rules.specs.declared.scorings.Scoring.{Scoring};
-ghost use Rattle.othello_rules.specs.Rules.{Position, moves};
-ghost use Rattle.othello_bits.specs.Discs.{Discs, IsMove, moves_of, play_of, value_of};
+ghost use Rattle.othello_rules.specs.Rules.{GridView, moves};
+ghost use Rattle.othello_bits.specs.Pos.{PosView, IsMove, moves_of, play_of, value_of};
 ghost use Rattle.obf_text.specs.Fields.{greatest_listed};
 ghost use Rattle.obf_text.specs.declared.entries.ListedMove.TheVariants.{At};
 ghost use Rattle.move_scores.specs.Ranks.{AreRanked};
@@ -13,26 +13,26 @@ ghost use Rattle.move_scores.specs.Scores.{move_scores, score_fields_of, scored}
 /// Every move is among the scores of a position, once and with what it is worth, and nothing else
 /// is.
 pub fn scores_are_of_moves()
-    ensures { (g : Scoring) (P : Position)
+    ensures { (g : Scoring) (P : GridView)
         → IsPermutation (map (scored g P) (moves P)) (move_scores g P) }
 {}
 
 /// The greatest of the scores is the value.
 pub fn greatest_is_value()
-    ensures { (g : Scoring) (p : Discs) → greatest_listed (score_fields_of g p) ≡ value_of g p }
+    ensures { (g : Scoring) (p : PosView) → greatest_listed (score_fields_of g p) ≡ value_of g p }
 {}
 
 /// A move is listed with the value exactly where it is best.
 pub fn best_are_first()
-    ensures listed { (g : Scoring) (p : Discs) (q : ℕ) → IsMove p q
+    ensures listed { (g : Scoring) (p : PosView) (q : ℕ) → IsMove p q
         → neg_ℤ (value_of g (play_of p q)) ≡ value_of g p
         → Contains (score_fields_of g p) (At q, value_of g p) }
-    ensures only { (g : Scoring) (p : Discs) (q : ℕ) → moves_of p ≢ 0
+    ensures only { (g : Scoring) (p : PosView) (q : ℕ) → moves_of p ≢ 0
         → Contains (score_fields_of g p) (At q, value_of g p)
         → IsMove p q × (neg_ℤ (value_of g (play_of p q)) ≡ value_of g p) }
 {}
 
 /// The scores are ranked: each is more than those behind it, or as much on an earlier square.
 pub fn scores_are_ranked()
-    ensures { (g : Scoring) (P : Position) → AreRanked (move_scores g P) }
+    ensures { (g : Scoring) (P : GridView) → AreRanked (move_scores g P) }
 {}

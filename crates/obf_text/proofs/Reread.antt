@@ -9,7 +9,7 @@ use Rattle.othello_rules.specs.declared.discs.Cell.{Cell}
 use Rattle.othello_rules.specs.declared.discs.Cell.TheVariants as cell
 use Rattle.othello_rules.specs.declared.discs.Side.{Side}
 use Rattle.othello_rules.specs.declared.discs.Side.TheVariants as side
-use Rattle.othello_rules.specs.Rules.{Position}
+use Rattle.othello_rules.specs.Rules.{GridView}
 use Rattle.obf_text.specs.Bytes.{is_blank, is_cell, cell_of, side_of}
 use Rattle.obf_text.specs.Fields.{Field, Lists, pieces_of}
 use Rattle.obf_text.specs.Obf.{Holds, Says, item_of}
@@ -78,14 +78,14 @@ fields_back fields more h =
     subst (λ t. Lists (slice_split (λ b. b == 59) t) fields) (sym front)
     (lists_skip [] (slice_split (λ b. b == 59) (fields_text fields ++ 32 ∷ [])) fields empty_is_none (blank_back fields h))
 
-entry_parts : (P : Position) (fields : List Field) (tail : List ℕ) → entry_text P fields ++ tail ≡ map cell_byte P.cells ++ (32 ∷ side_byte P.mover ∷ 59 ∷ (fields_text fields ++ tail))
+entry_parts : (P : GridView) (fields : List Field) (tail : List ℕ) → entry_text P fields ++ tail ≡ map cell_byte P.cells ++ (32 ∷ side_byte P.mover ∷ 59 ∷ (fields_text fields ++ tail))
 unfolding entry_text board_text
 entry_parts P fields tail =
     append_assoc (map cell_byte P.cells ++ (32 ∷ side_byte P.mover ∷ 59 ∷ [])) (fields_text fields) tail
     ∙ append_assoc (map cell_byte P.cells) (32 ∷ side_byte P.mover ∷ 59 ∷ []) (fields_text fields ++ tail)
 
 -- with a comment behind it the line says the position and the fields
-pub commented_says : (P : Position) (fields : List Field) (more : List ℕ) → length P.cells ≡ 64 → AreWritable fields
+pub commented_says : (P : GridView) (fields : List Field) (more : List ℕ) → length P.cells ≡ 64 → AreWritable fields
     → Says (entry_text P fields ++ 32 ∷ 37 ∷ more) (Holds (record { position = P; listed = fields }))
 commented_says P fields more all h = record {
   blanks = [];
@@ -103,16 +103,16 @@ commented_says P fields more all h = record {
   fields = fields_back fields more h;
 }
 
-pub commented_item : (P : Position) (fields : List Field) (more : List ℕ) → length P.cells ≡ 64 → AreWritable fields
+pub commented_item : (P : GridView) (fields : List Field) (more : List ℕ) → length P.cells ≡ 64 → AreWritable fields
     → item_of (entry_text P fields ++ 32 ∷ 37 ∷ more) ≡ Holds (record { position = P; listed = fields })
 commented_item P fields more all h =
     sym (says_only (entry_text P fields ++ 32 ∷ 37 ∷ more) (Holds (record { position = P; listed = fields })) (commented_says P fields more all h))
 
-bare_parts : (P : Position) (fields : List Field) → entry_text P fields ≡ map cell_byte P.cells ++ (32 ∷ side_byte P.mover ∷ 59 ∷ fields_text fields)
+bare_parts : (P : GridView) (fields : List Field) → entry_text P fields ≡ map cell_byte P.cells ++ (32 ∷ side_byte P.mover ∷ 59 ∷ fields_text fields)
 unfolding entry_text board_text
 bare_parts P fields = append_assoc (map cell_byte P.cells) (32 ∷ side_byte P.mover ∷ 59 ∷ []) (fields_text fields)
 
-bare_says : (P : Position) (fields : List Field) → length P.cells ≡ 64 → AreWritable fields → Says (entry_text P fields) (Holds (record { position = P; listed = fields }))
+bare_says : (P : GridView) (fields : List Field) → length P.cells ≡ 64 → AreWritable fields → Says (entry_text P fields) (Holds (record { position = P; listed = fields }))
 bare_says P fields all h = record {
   blanks = [];
   cells = map cell_byte P.cells;
@@ -130,5 +130,5 @@ bare_says P fields all h = record {
 }
 
 -- and so it does without one
-pub bare_item : (P : Position) (fields : List Field) → length P.cells ≡ 64 → AreWritable fields → item_of (entry_text P fields) ≡ Holds (record { position = P; listed = fields })
+pub bare_item : (P : GridView) (fields : List Field) → length P.cells ≡ 64 → AreWritable fields → item_of (entry_text P fields) ≡ Holds (record { position = P; listed = fields })
 bare_item P fields all h = sym (says_only (entry_text P fields) (Holds (record { position = P; listed = fields })) (bare_says P fields all h))

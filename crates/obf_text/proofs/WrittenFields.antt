@@ -10,7 +10,7 @@ use Rattle.othello_rules.specs.declared.answers.Best.{Best}
 use Rattle.othello_rules.specs.declared.answers.Best.TheVariants as best
 use Rattle.othello_rules.specs.Board.{name_of, squares}
 use Rattle.othello_rules.specs.Masks.{in_mask, squares_of}
-use Rattle.othello_rules.specs.Solution.{IsScore}
+use Rattle.othello_rules.specs.Answer.{IsScore}
 use Rattle.obf_text.specs.Bytes.{is_blank}
 use Rattle.obf_text.specs.Fields.{Field, IsField, IsMoveText, IsNumber, IsScoreText, Lists, pieces_of}
 use Rattle.obf_text.specs.Written.{AreWritable, IsWritable, IsWritableMove, best_fields, field_text, fields_text, move_text, score_part, score_text}

@@ -9,8 +9,8 @@ use Rattle.othello_rules.specs.declared.discs.Cell.{Cell}
 use Rattle.othello_rules.specs.declared.discs.Cell.TheVariants as cell
 use Rattle.othello_rules.specs.declared.discs.Side.{Side}
 use Rattle.othello_rules.specs.declared.discs.Side.TheVariants as side
-use Rattle.othello_rules.specs.Rules.{Position}
-use Rattle.othello_rules.specs.Solution.{IsScore, Solution}
+use Rattle.othello_rules.specs.Rules.{GridView}
+use Rattle.othello_rules.specs.Answer.{IsScore, AnswerView}
 use Rattle.obf_text.specs.Bytes.{is_cell, cell_of, side_of}
 use Rattle.obf_text.specs.Fields.{Field}
 use Rattle.obf_text.specs.Written.{answer_text, board_text, cell_byte, fields_text, line_text, answer_fields, side_byte, line_with_end}
@@ -42,11 +42,11 @@ same_length : (cells : List Cell) → length (map cell_byte cells) ≡ length ce
 same_length [] = refl
 same_length (c ∷ cells) = ap suc (same_length cells)
 
-line_parts : (P : Position) (A : Solution) → line_text P A ≡ map cell_byte P.cells ++ (32 ∷ side_byte P.mover ∷ 59 ∷ fields_text (answer_fields A))
+line_parts : (P : GridView) (A : AnswerView) → line_text P A ≡ map cell_byte P.cells ++ (32 ∷ side_byte P.mover ∷ 59 ∷ fields_text (answer_fields A))
 unfolding line_text board_text answer_text
 line_parts P A = append_assoc (map cell_byte P.cells) (32 ∷ side_byte P.mover ∷ 59 ∷ []) (fields_text (answer_fields A))
 
-pub written_says : (P : Position) (A : Solution) → length P.cells ≡ 64 → IsScore A.score → Says (line_text P A) (Holds (record { position = P; listed = answer_fields A }))
+pub written_says : (P : GridView) (A : AnswerView) → length P.cells ≡ 64 → IsScore A.score → Says (line_text P A) (Holds (record { position = P; listed = answer_fields A }))
 written_says P A all h = record {
   blanks = [];
   cells = map cell_byte P.cells;
@@ -73,7 +73,7 @@ side_onto : (s : Side) (tail : List ℕ) → Lacks 10 tail → Lacks 10 (side_by
 side_onto side.Black tail rest = lacks_cons 10 88 tail (omega arith) rest
 side_onto side.White tail rest = lacks_cons 10 79 tail (omega arith) rest
 
-line_lacks : (P : Position) (A : Solution) → IsScore A.score → Lacks 10 (line_text P A)
+line_lacks : (P : GridView) (A : AnswerView) → IsScore A.score → Lacks 10 (line_text P A)
 line_lacks P A h =
     let fields = lacks_cons 10 59 (fields_text (answer_fields A)) (omega arith) (fields_lack 10 (answer_fields A) (best_writable A.score A.best (score_size A.score h)) (inl refl)) in
     rw (line_parts P A) (cells_onto P.cells _ (lacks_cons 10 32 _ (omega arith) (side_onto P.mover _ fields)))
@@ -90,7 +90,7 @@ fields_closed : (fields : List Field) → Closed (59 ∷ fields_text fields)
 fields_closed [] = record { front = []; whole = ap (λ t. 59 ∷ t) fields_none }
 fields_closed (f ∷ fields) = rw (fields_cons f fields) (closed_onto (59 ∷ piece_text f) (59 ∷ fields_text fields) (fields_closed fields))
 
-line_closed : (P : Position) (A : Solution) → Closed (line_text P A)
+line_closed : (P : GridView) (A : AnswerView) → Closed (line_text P A)
 line_closed P A = rw (line_parts P A) (closed_onto (map cell_byte P.cells) _ (closed_onto (32 ∷ side_byte P.mover ∷ []) _ (fields_closed (answer_fields A))))
 
 last_at : (front : List ℕ) → get_or (front ++ 59 ∷ []) (length (front ++ 59 ∷ []) - 1) 0 ≡ 59
@@ -99,7 +99,7 @@ last_at front = grind (arith, common_steps)
 closed_kept : (xs : List ℕ) → Closed xs → strip_carriage_return xs ≡ xs
 closed_kept xs c = rw c.whole (rw (last_at c.front) refl)
 
-pub written_line : (P : Position) (A : Solution) (rest : List ℕ) → IsScore A.score → lines_of (line_with_end P A ++ rest) ≡ line_text P A ∷ lines_of rest
+pub written_line : (P : GridView) (A : AnswerView) (rest : List ℕ) → IsScore A.score → lines_of (line_with_end P A ++ rest) ≡ line_text P A ∷ lines_of rest
 written_line P A rest h =
     let line = line_text P A in
     let part = has_first_part (λ b. b == 10) rest in

@@ -4,7 +4,7 @@ use Rattle.std.specs.Prelude.{Option, Some, None, Result, Ok, Err, if◌then◌e
 use Rattle.std.specs.List.{position_or_len, AllPass}
 use Rattle.othello_rules.specs.declared.discs.Cell.{Cell}
 use Rattle.othello_rules.specs.declared.discs.Side.{Side}
-use Rattle.othello_rules.specs.Rules.{Position}
+use Rattle.othello_rules.specs.Rules.{GridView}
 use Rattle.obf_text.specs.Bytes.{is_blank, is_cell, is_content, is_no_cell, cell_of, side_of}
 use Rattle.obf_text.specs.Fields.{Field, Lists, pieces_of, fields_of}
 use Rattle.obf_text.specs.declared.entries.Item.{Item}
@@ -15,7 +15,7 @@ use Rattle.obf_text.specs.declared.faults.LineFault.TheVariants.{Short, BadCell,
 
 -- a position with its listed fields
 pub record Entry : Type 0 where
-  pub position : Position
+  pub position : GridView
   pub listed : List Field
 
 -- what a line says

@@ -9,8 +9,8 @@ use Rattle.othello_rules.specs.declared.discs.Side.{Side}
 use Rattle.othello_rules.specs.declared.discs.Side.TheVariants as side
 use Rattle.othello_rules.specs.Board.{name_of}
 use Rattle.othello_rules.specs.Masks.{squares_of}
-use Rattle.othello_rules.specs.Rules.{Position}
-use Rattle.othello_rules.specs.Solution.{Solution}
+use Rattle.othello_rules.specs.Rules.{GridView}
+use Rattle.othello_rules.specs.Answer.{AnswerView}
 use Rattle.obf_text.specs.Fields.{Field}
 use Rattle.obf_text.specs.Obf.{Entry}
 use Rattle.obf_text.specs.declared.entries.ListedMove.{ListedMove}
@@ -28,7 +28,7 @@ side_byte side.Black = 88
 side_byte side.White = 79
 
 -- the squares, a space, the side to move and a semicolon
-unfoldable pub board_text : Position → List ℕ
+unfoldable pub board_text : GridView → List ℕ
 board_text P = map cell_byte P.cells ++ (32 ∷ side_byte P.mover ∷ 59 ∷ [])
 
 unfoldable pub move_text : ListedMove → List ℕ
@@ -61,26 +61,26 @@ best_fields score best.Pass = (Pass, score) ∷ []
 best_fields score best.Over = (Over, score) ∷ []
 
 -- the fields of an answer
-abbrev pub answer_fields : Solution → List Field
+abbrev pub answer_fields : AnswerView → List Field
 answer_fields A = best_fields A.score A.best
 
 unfoldable pub answer_text : ℤ → Best → List ℕ
 answer_text score best = fields_text (best_fields score best)
 
 -- the line of a position with its answer, without its LF
-unfoldable pub line_text : Position → Solution → List ℕ
+unfoldable pub line_text : GridView → AnswerView → List ℕ
 line_text P A = board_text P ++ answer_text A.score A.best
 
 -- the line and its LF
-abbrev pub line_with_end : Position → Solution → List ℕ
+abbrev pub line_with_end : GridView → AnswerView → List ℕ
 line_with_end P A = line_text P A ++ 10 ∷ []
 
 -- what is read back: the position, with each best move listed with the score
-abbrev pub answer_entry : Position → Solution → Entry
+abbrev pub answer_entry : GridView → AnswerView → Entry
 answer_entry P A = record { position = P; listed = answer_fields A }
 
 -- the line of a position with any fields, without an end
-unfoldable pub entry_text : Position → List Field → List ℕ
+unfoldable pub entry_text : GridView → List Field → List ℕ
 entry_text P fields = board_text P ++ fields_text fields
 
 abbrev pub IsWritableMove : ListedMove → Type 0

@@ -3,8 +3,8 @@
 ghost use Rattle.std.specs.Prelude.{◌≡◌, ◌≢◌, ◌≤ℤ◌, ◌↔◌, [], ◌∷◌, ◌++◌, ℕ, List, Some, None};
 ghost use Rattle.std.specs.Prelude.{length};
 ghost use Rattle.std.specs.List.{Contains, filter_map};
-ghost use Rattle.othello_rules.specs.Rules.{Position};
-ghost use Rattle.othello_rules.specs.Solution.{IsScore, Solution};
+ghost use Rattle.othello_rules.specs.Rules.{GridView};
+ghost use Rattle.othello_rules.specs.Answer.{IsScore, AnswerView};
 ghost use Rattle.obf_text.specs.Fields.{Field, IsField, IsNoField, field_of, greatest_listed};
 ghost use Rattle.obf_text.specs.LineText.{lines_of};
 ghost use Rattle.obf_text.specs.Obf.{Entry, Holds, Meaning, Says, item_of};
@@ -37,20 +37,20 @@ pub fn one_meaning()
 
 /// A position that is written with an answer is one line, and that line says just what was written.
 pub fn written_is_read()
-    ensures line { (P : Position) (A : Solution) (rest : List ℕ) → IsScore A.score
+    ensures line { (P : GridView) (A : AnswerView) (rest : List ℕ) → IsScore A.score
         → lines_of (line_with_end P A ++ rest) ≡ line_text P A ∷ lines_of rest }
-    ensures says { (P : Position) (A : Solution) → length P.cells ≡ 64 → IsScore A.score
+    ensures says { (P : GridView) (A : AnswerView) → length P.cells ≡ 64 → IsScore A.score
         → Says (line_text P A) (Holds (answer_entry P A)) }
-    ensures item { (P : Position) (A : Solution) → length P.cells ≡ 64 → IsScore A.score
+    ensures item { (P : GridView) (A : AnswerView) → length P.cells ≡ 64 → IsScore A.score
         → item_of (line_text P A) ≡ Holds (answer_entry P A) }
 {}
 
 /// A line that is written for a position with any fields, with a comment behind it or with none, is
 /// read back as the position with these fields.
 pub fn entry_is_read()
-    ensures bare { (P : Position) (fields : List Field) → length P.cells ≡ 64 → AreWritable fields
+    ensures bare { (P : GridView) (fields : List Field) → length P.cells ≡ 64 → AreWritable fields
         → item_of (entry_text P fields) ≡ Holds (record { position = P; listed = fields }) }
-    ensures commented { (P : Position) (fields : List Field) (more : List ℕ) → length P.cells ≡ 64
+    ensures commented { (P : GridView) (fields : List Field) (more : List ℕ) → length P.cells ≡ 64
         → AreWritable fields → item_of (entry_text P fields ++ 32 ∷ 37 ∷ more)
         ≡ Holds (record { position = P; listed = fields }) }
 {}

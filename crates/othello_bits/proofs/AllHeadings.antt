@@ -4,7 +4,7 @@ use Rattle.std.proofs.lemmas.Bool.{agree_below_at}
 use Rattle.othello_rules.specs.Rules.{turned_on, is_nonempty}
 use Rattle.othello_rules.specs.Masks.{in_mask}
 use Rattle.othello_rules.specs.Board.{directions, ray}
-use Rattle.othello_bits.proofs.Walks.{beside, line-is_walk}
+use Rattle.othello_bits.proofs.LineSteps.{beside, line-is_walk}
 use Rattle.othello_bits.specs.Shifts.{back, can, chain, inside, line, opposite}
 use Rattle.othello_bits.specs.declared.headings.Heading.{Heading}
 use Rattle.othello_bits.specs.declared.headings.Heading.TheVariants.{North, NorthEast, East, SouthEast, South, SouthWest, West, NorthWest}

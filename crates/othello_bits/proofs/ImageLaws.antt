@@ -8,16 +8,16 @@ use Rattle.othello_rules.specs.declared.answers.Best.TheVariants.{Moves}
 use Rattle.othello_rules.specs.Board.{squares}
 use Rattle.othello_rules.specs.Masks.{in_mask, mask_of, squares_of}
 use Rattle.othello_rules.specs.Rules as rules
-use Rattle.othello_rules.specs.Rules.{Position}
+use Rattle.othello_rules.specs.Rules.{GridView}
 use Rattle.othello_rules.specs.Value as worth
 use Rattle.othello_rules.proofs.MaskLaws.{best_is_moves, best_is_pass, best_is_over}
 use Rattle.othello_rules.proofs.ImageValue.{value-image_by, answer-image_by_moves, answer-image_by_none}
 use Rattle.othello_rules.specs.declared.discs.Cell.TheVariants.{Empty}
 use Rattle.othello_rules.proofs.Renaming.{get_or-moved_cells}
-use Rattle.othello_bits.specs.Discs.{Discs, position_of, discs_of, value_of, answer_of}
+use Rattle.othello_bits.specs.Pos.{PosView, position_of, discs_of, value_of, answer_of}
 use Rattle.othello_bits.specs.Symmetries.{target, inverse, image, mask_image, best_image, place, pair_of, image_pair, first_symmetry, canonical, image_of, canonical_of}
 use Rattle.othello_bits.specs.declared.symmetries.Sym.{Sym}
-use Rattle.othello_bits.proofs.Wheres.{filter_again}
+use Rattle.othello_bits.proofs.TestMasks.{filter_again}
 use Rattle.othello_bits.proofs.AnswerLaws.{filter-filter}
 use Rattle.othello_bits.proofs.CellLaws.{length-cells_of}
 use Rattle.othello_bits.proofs.PlayMeaning.{position_of-discs_of}
@@ -27,14 +27,14 @@ use Rattle.othello_bits.proofs.SymmetryKeeps.{kept, renaming}
 use Rattle.othello_bits.proofs.CanonicalLaws.{length-image, image-back, canonical-first, canonical-image}
 
 -- the squares of a mask of squares are these squares
-squares_of-best : (g : Scoring) (P : Position) → squares_of (mask_of (worth.best_moves g P)) ≡ worth.best_moves g P
+squares_of-best : (g : Scoring) (P : GridView) → squares_of (mask_of (worth.best_moves g P)) ≡ worth.best_moves g P
 unfolding squares_of worth.best_moves rules.moves
 squares_of-best g P =
     ap (λ qs. filter (in_mask (mask_of qs)) squares) (filter-filter (worth.is_best g P) (rules.is_move P) squares)
     ∙ filter_again (λ q. rules.is_move P q && worth.is_best g P q)
     ∙ sym (filter-filter (worth.is_best g P) (rules.is_move P) squares)
 
-pub answer-image : (g : Scoring) (s : Sym) (P : Position) → length P.cells ≡ 64 → worth.answer g (image s P) ≡ record { score = worth.value g P; best = best_image s (worth.answer g P).best }
+pub answer-image : (g : Scoring) (s : Sym) (P : GridView) → length P.cells ≡ 64 → worth.answer g (image s P) ≡ record { score = worth.value g P; best = best_image s (worth.answer g P).best }
 unfolding worth.answer
 answer-image g s P full =
     elim (cases_Bool (worth.can_move P)) [
@@ -51,43 +51,43 @@ answer-image g s P full =
           answer-image_by_none g (renaming s) P full h ∙ (λ k. record { score = worth.value g P; best = sym b k })
     ]
 
-pub value_of-image_of : (g : Scoring) (s : Sym) (p : Discs) → value_of g (image_of s p) ≡ value_of g p
+pub value_of-image_of : (g : Scoring) (s : Sym) (p : PosView) → value_of g (image_of s p) ≡ value_of g p
 unfolding image_of value_of
 value_of-image_of g s p =
     value-discs_of g (image s (position_of Black p)) (length-image s (position_of Black p)) ∙ value-image_by g (renaming s) (position_of Black p) (length-cells_of Black p)
 
-pub answer_of-image_of : (g : Scoring) (s : Sym) (p : Discs) → answer_of g (image_of s p) ≡ record { score = value_of g p; best = best_image s (answer_of g p).best }
+pub answer_of-image_of : (g : Scoring) (s : Sym) (p : PosView) → answer_of g (image_of s p) ≡ record { score = value_of g p; best = best_image s (answer_of g p).best }
 unfolding image_of value_of answer_of
 answer_of-image_of g s p =
     answer-discs_of g (image s (position_of Black p)) (length-image s (position_of Black p)) ∙ answer-image g s (position_of Black p) (length-cells_of Black p)
 
 -- the canonical position, of two masks
-pub canonical_of-image_of : (s : Sym) (p : Discs) → canonical_of (image_of s p) ≡ canonical_of p
+pub canonical_of-image_of : (s : Sym) (p : PosView) → canonical_of (image_of s p) ≡ canonical_of p
 unfolding image_of canonical_of
 canonical_of-image_of s p =
-    let P : Position = position_of Black p in
+    let P : GridView = position_of Black p in
     ap (λ Q. discs_of (canonical Q)) (position_of-discs_of (image s P) (length-image s P)) ∙ ap discs_of (canonical-image s P (length-cells_of Black p))
 
-pub canonical_of-is : (p : Discs) → canonical_of p ≡ image_of (first_symmetry (position_of Black p)) p
+pub canonical_of-is : (p : PosView) → canonical_of p ≡ image_of (first_symmetry (position_of Black p)) p
 unfolding image_of canonical_of
 canonical_of-is p = refl
 
-pub not_before : (P : Position) (s : Sym) → place s < place (first_symmetry P) → image s P ≡ canonical P → ⊥
+pub not_before : (P : GridView) (s : Sym) → place s < place (first_symmetry P) → image s P ≡ canonical P → ⊥
 not_before P s h e =
     let less : pair_of (discs_of (canonical P)) < image_pair P s = canonical-first P s h in
     let same : image_pair P s ≡ pair_of (discs_of (canonical P)) = ap (λ Q. pair_of (discs_of Q)) e in
     absurd (omega (arith, less, same))
 
-pub answer_of-back : (g : Scoring) (p : Discs) → answer_of g p ≡ record { score = value_of g (canonical_of p); best = best_image (inverse (first_symmetry (position_of Black p))) (answer_of g (canonical_of p)).best }
+pub answer_of-back : (g : Scoring) (p : PosView) → answer_of g p ≡ record { score = value_of g (canonical_of p); best = best_image (inverse (first_symmetry (position_of Black p))) (answer_of g (canonical_of p)).best }
 unfolding value_of answer_of canonical_of
 answer_of-back g p =
-    let P : Position = position_of Black p in
+    let P : GridView = position_of Black p in
     let s : Sym = first_symmetry P in
     let here : worth.answer g P ≡ record { score = worth.value g (image s P); best = best_image (inverse s) (worth.answer g (image s P)).best } =
     ap (worth.answer g) (sym (image-back s P (length-cells_of Black p))) ∙ answer-image g (inverse s) (image s P) (length-image s P) in
     here ∙ (λ k. record { score = sym (value-discs_of g (image s P) (length-image s P)) k; best = best_image (inverse s) (sym (answer-discs_of g (image s P) (length-image s P)) k).best })
 
-pub cell-placed : (s : Sym) (P : Position) (q : ℕ) → q < 64 → get_or (image s P).cells (target s q) Empty ≡ get_or P.cells q Empty
+pub cell-placed : (s : Sym) (P : GridView) (q : ℕ) → q < 64 → get_or (image s P).cells (target s q) Empty ≡ get_or P.cells q Empty
 cell-placed s P q h =
     get_or-moved_cells (target (inverse s)) P.cells (target s q) Empty ((kept s).on_board q h) ∙ ap (λ k. get_or P.cells k Empty) ((kept s).comes_back q h)
 

@@ -6,14 +6,14 @@ use Rattle.std.proofs.lemmas.Bool.{agree_below_at, ltb-true, eqb-true, false≢t
 use Rattle.othello_rules.specs.Board.{directions, ray, squares}
 use Rattle.othello_rules.specs.Rules.{run, closes, turned_on}
 use Rattle.othello_rules.specs.Masks.{in_mask}
-use Rattle.othello_bits.specs.Discs.{mem}
+use Rattle.othello_bits.specs.Pos.{mem}
 use Rattle.othello_bits.specs.Shifts.{lines, is_turned}
 use Rattle.othello_bits.specs.Lasts.{turned_along, turned_by}
 use Rattle.othello_bits.specs.declared.headings.Heading.TheVariants.{North, NorthEast, East, SouthEast, South, SouthWest, West, NorthWest}
 use Rattle.othello_bits.proofs.Bits.{empty_meet}
 use Rattle.othello_bits.proofs.LineCounts.{distinct, distinct_parts}
 use Rattle.othello_bits.proofs.Numbers.{count_below, both_below}
-use Rattle.othello_bits.proofs.Stops.{each}
+use Rattle.othello_bits.proofs.RunEnds.{each}
 use Rattle.othello_bits.proofs.TurnedMasks.{count-squares}
 
 pub or_none : (a b : Bool) → (a || b) ≡ false → (a ≡ false) × (b ≡ false)

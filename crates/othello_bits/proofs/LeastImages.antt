@@ -2,7 +2,7 @@
 use Rattle.std.proofs.Common.{◌≡◌, ℕ, suc, ◌+◌, ◌*◌, ◌^◌, ◌<◌, ◌≤◌, Bool, true, false, cond, get_or, bit_and, refl, sym, ◌∙◌, ap, subst, arith, inl, inr}
 use Rattle.std.proofs.lemmas.Bool.{cases_lt, ltb-true, ltb-false}
 use Rattle.othello_rules.specs.declared.discs.Side.{Side}
-use Rattle.othello_bits.specs.Discs.{Discs, discs, discs_of, position_of}
+use Rattle.othello_bits.specs.Pos.{PosView, discs, discs_of, position_of}
 use Rattle.othello_bits.specs.Images.{image_with, key, is_less}
 use Rattle.othello_bits.specs.Symmetries.{image, mask_image, symmetries, place, image_pair, first_symmetry, canonical}
 use Rattle.othello_bits.specs.declared.images.Image.{Image}
@@ -60,16 +60,16 @@ merge own opp from middle to x y z hx hy e = subst (IsLeast own opp from to) (sy
         }
 
 -- the keys are those of the images of the position
-pub apart-both : (s : Sym) (p : Discs) → AreApart p → AreApart (both_images s p)
+pub apart-both : (s : Sym) (p : PosView) → AreApart p → AreApart (both_images s p)
 apart-both s p fine = apart-from (mask_image s p.own) (mask_image s p.opp) (mask_image_lt s p.own) (mask_image_lt s p.opp) (meet_image s p fine)
 
-discs_of-image : (s : Sym) (m : Side) (p : Discs) → AreApart p → discs_of (image s (position_of m p)) ≡ both_images s p
+discs_of-image : (s : Sym) (m : Side) (p : PosView) → AreApart p → discs_of (image s (position_of m p)) ≡ both_images s p
 discs_of-image s m p fine = ap discs_of (image-position_of s m p) ∙ discs_of-position_of m (both_images s p) (apart-both s p fine)
 
-key-pair : (s : Sym) (m : Side) (p : Discs) → AreApart p → image_pair (position_of m p) s ≡ key (image_with p.own p.opp s)
+key-pair : (s : Sym) (m : Side) (p : PosView) → AreApart p → image_pair (position_of m p) s ≡ key (image_with p.own p.opp s)
 key-pair s m p fine = (λ k. (discs_of-image s m p fine k).own * 2 ^ 64 + (discs_of-image s m p fine k).opp)
 
-module _ (m : Side) (p : Discs) (fine : AreApart p) (x : Image)
+module _ (m : Side) (p : PosView) (fine : AreApart p) (x : Image)
     (leads : x ≡ image_with p.own p.opp x.sym)
     (least : (s : Sym) → key x ≤ key (image_with p.own p.opp s))
     (first : (s : Sym) → place s < place x.sym → key x < key (image_with p.own p.opp s))

@@ -7,7 +7,7 @@ use Rattle.std.proofs.lemmas.Nat.{and_le_l}
 use Rattle.othello_rules.specs.Board.{directions, ray}
 use Rattle.othello_rules.specs.Rules.{run, closes}
 use Rattle.othello_rules.specs.Masks.{in_mask}
-use Rattle.othello_bits.specs.Discs.{mem}
+use Rattle.othello_bits.specs.Pos.{mem}
 use Rattle.othello_bits.specs.Shifts.{line}
 use Rattle.othello_bits.specs.Lasts.{turned_along, turned_by}
 use Rattle.othello_bits.specs.declared.headings.Heading.{Heading}

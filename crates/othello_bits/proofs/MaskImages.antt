@@ -14,11 +14,11 @@ use Rattle.othello_rules.proofs.MoveLaws.{square_below}
 use Rattle.othello_rules.proofs.Reorder.{sum_by-map}
 use Rattle.othello_rules.proofs.Renaming.{same_position, length-moved_cells, get_or-moved_cells}
 use Rattle.othello_rules.proofs.ImageValue.{sum_by-filter, sum_by-agree}
-use Rattle.othello_bits.specs.Discs.{Discs, discs, discs_of, cells_of, position_of, mask_where}
+use Rattle.othello_bits.specs.Pos.{PosView, discs, discs_of, cells_of, position_of, mask_where}
 use Rattle.othello_bits.specs.Symmetries.{target, inverse, image, mask_image, image_of}
 use Rattle.othello_bits.specs.declared.symmetries.Sym.{Sym}
 use Rattle.othello_bits.proofs.Bits.{in_mask-and}
-use Rattle.othello_bits.proofs.Wheres.{in_mask-where, where_lt, is_where}
+use Rattle.othello_bits.proofs.TestMasks.{in_mask-where, where_lt, is_where}
 use Rattle.othello_bits.proofs.TurnedMasks.{zero_from_none}
 use Rattle.othello_bits.proofs.CellLaws.{AreApart, length-cells_of, get_or-cells_of}
 use Rattle.othello_bits.proofs.PlayMeaning.{discs_of-position_of}
@@ -52,10 +52,10 @@ pub is_mask_image : (s : Sym) (m r : ℕ) → r < 2 ^ 64 → ((i : ℕ) → i < 
 is_mask_image s m r h e = is_where r (λ i. in_mask m (target (inverse s) i)) h e ∙ sym (mask_image-where s m)
 
 -- both masks
-abbrev pub both_images : Sym → Discs → Discs
+abbrev pub both_images : Sym → PosView → PosView
 both_images s p = discs (mask_image s p.own) (mask_image s p.opp)
 
-pub image-position_of : (s : Sym) (m : Side) (p : Discs) → image s (position_of m p) ≡ position_of m (both_images s p)
+pub image-position_of : (s : Sym) (m : Side) (p : PosView) → image s (position_of m p) ≡ position_of m (both_images s p)
 image-position_of s m p =
     same_position (image s (position_of m p)) (position_of m (both_images s p)) refl
     (same_lists (moved_cells (target (inverse s)) (cells_of m p)) (cells_of m (both_images s p)) (length-moved_cells (target (inverse s)) (cells_of m p) ∙ sym (length-cells_of m (both_images s p)))
@@ -66,7 +66,7 @@ image-position_of s m p =
     ∙ (λ i. cond (sym (in_mask-image s p.own k l) i) (disc m) (cond (sym (in_mask-image s p.opp k l) i) (disc (other m)) Empty))
     ∙ sym (get_or-cells_of m (both_images s p) k d l)))
 
-pub meet_image : (s : Sym) (p : Discs) → AreApart p → bit_and (mask_image s p.own) (mask_image s p.opp) ≡ 0
+pub meet_image : (s : Sym) (p : PosView) → AreApart p → bit_and (mask_image s p.own) (mask_image s p.opp) ≡ 0
 meet_image s p fine =
     zero_from_none (bit_and (mask_image s p.own) (mask_image s p.opp))
     (omega (arith, and_le_l (mask_image s p.own) (mask_image s p.opp), mask_image_lt s p.own))
@@ -75,6 +75,6 @@ meet_image s p fine =
     ∙ (λ k. in_mask-image s p.own i h k && in_mask-image s p.opp i h k)
     ∙ fine.apart (target (inverse s) i))
 
-pub image_of-is : (s : Sym) (p : Discs) → AreApart (both_images s p) → image_of s p ≡ both_images s p
+pub image_of-is : (s : Sym) (p : PosView) → AreApart (both_images s p) → image_of s p ≡ both_images s p
 unfolding image_of
 image_of-is s p fine = ap discs_of (image-position_of s Black p) ∙ discs_of-position_of Black (both_images s p) fine

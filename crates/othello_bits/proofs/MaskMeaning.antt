@@ -8,7 +8,7 @@ use Rattle.othello_rules.specs.declared.discs.Side.{Side}
 use Rattle.othello_rules.specs.declared.discs.Side.TheVariants.{Black}
 use Rattle.othello_rules.specs.declared.discs.Cell.TheVariants.{Empty}
 use Rattle.othello_rules.specs.Rules as rules
-use Rattle.othello_rules.specs.Rules.{Position, other}
+use Rattle.othello_rules.specs.Rules.{GridView, other}
 use Rattle.othello_rules.specs.Value as worth
 use Rattle.othello_rules.proofs.ListLaws.{Contains-nil}
 use Rattle.othello_rules.proofs.MoveLaws.{Contains-moves, flips_occupied}
@@ -16,15 +16,15 @@ use Rattle.othello_rules.proofs.BoundLaws.{can_move_none, can_move_with, moves_n
 use Rattle.othello_rules.specs.Masks.{in_mask}
 use Rattle.othello_bits.specs.Shifts.{turns_any, is_turned}
 use Rattle.othello_bits.proofs.TurnedMasks.{own_after, opp_after, zero_from_none, some_of, not_empty, after_own, after_opp, after_apart}
-use Rattle.othello_bits.specs.Discs.{mem, mask_where, Discs, discs, position_of, moves_of, flips_of, pass_of, play_of, discs_of, IsMove, IsOver}
-use Rattle.othello_bits.proofs.Wheres.{in_mask-where, where_lt, is_where}
+use Rattle.othello_bits.specs.Pos.{mem, mask_where, PosView, discs, position_of, moves_of, flips_of, pass_of, play_of, discs_of, IsMove, IsOver}
+use Rattle.othello_bits.proofs.TestMasks.{in_mask-where, where_lt, is_where}
 use Rattle.othello_bits.proofs.Bits.{in_mask-above, none_from_zero, some_square}
 use Rattle.othello_bits.proofs.CellLaws.{AreApart, slice_get_off_board}
 use Rattle.othello_bits.proofs.MoveMeaning.{is_move-meaning, is_turned-meaning, free-from_is_move}
 use Rattle.othello_bits.proofs.PlayMeaning.{AreMasks, apart-masks, pass-meaning, play-meaning, discs_of-position_of}
 
 -- a mask of moves is 0 where there are none
-pub no_moves : (P : Position) → (mask_where (rules.is_move P) ≡ 0) ↔ (worth.can_move P ≡ false)
+pub no_moves : (P : GridView) → (mask_where (rules.is_move P) ≡ 0) ↔ (worth.can_move P ≡ false)
 no_moves P = (
   λ e. can_move_none P (λ q h. sym (in_mask-where (rules.is_move P) q h) ∙ none_from_zero (mask_where (rules.is_move P)) e q),
   λ e.
@@ -33,7 +33,7 @@ no_moves P = (
       ∙ false_from_ne_true (rules.is_move P q) (λ m. both_ways (worth.can_move P) e (can_move_with P q (Contains-moves P q h m)))),
 )
 
-on_board : (s : Side) (p : Discs) (q : ℕ) → rules.is_move (position_of s p) q ≡ true → q < 64
+on_board : (s : Side) (p : PosView) (q : ℕ) → rules.is_move (position_of s p) q ≡ true → q < 64
 on_board s p q m =
     elim (cases_lt q 64) [
       | inl l ↦ l
@@ -42,11 +42,11 @@ on_board s p q m =
           absurd (both_ways (rules.is_move (position_of s p) q) (ap rules.is_nonempty (flips_occupied (position_of s p) q e)) m)
     ]
 
-pub IsMove-from : (p : Discs) (q : ℕ) → q < 64 → rules.is_move (position_of Black p) q ≡ true → IsMove p q
+pub IsMove-from : (p : PosView) (q : ℕ) → q < 64 → rules.is_move (position_of Black p) q ≡ true → IsMove p q
 unfolding moves_of rules.moves
 IsMove-from p q h m = in_mask-where (rules.is_move (position_of Black p)) q h ∙ m
 
-pub IsMove-on_board : (p : Discs) (q : ℕ) → IsMove p q → q < 64
+pub IsMove-on_board : (p : PosView) (q : ℕ) → IsMove p q → q < 64
 unfolding moves_of rules.moves
 IsMove-on_board p q m =
     elim (cases_lt q 64) [
@@ -54,24 +54,24 @@ IsMove-on_board p q m =
       | inr g ↦ absurd (both_ways (in_mask (moves_of p) q) (in_mask-above (moves_of p) q (where_lt (rules.is_move (position_of Black p))) g) m)
     ]
 
-pub is_move-from_IsMove : (p : Discs) (q : ℕ) → IsMove p q → rules.is_move (position_of Black p) q ≡ true
+pub is_move-from_IsMove : (p : PosView) (q : ℕ) → IsMove p q → rules.is_move (position_of Black p) q ≡ true
 unfolding moves_of rules.moves
 is_move-from_IsMove p q m = sym (in_mask-where (rules.is_move (position_of Black p)) q (IsMove-on_board p q m)) ∙ m
 
-pub moves_of-is : (p : Discs) (m : ℕ) → m < 2 ^ 64 → AreApart p → ((q : ℕ) → q < 64 → in_mask m q ≡ turns_any (in_mask p.own) (in_mask p.opp) q) → m ≡ moves_of p
+pub moves_of-is : (p : PosView) (m : ℕ) → m < 2 ^ 64 → AreApart p → ((q : ℕ) → q < 64 → in_mask m q ≡ turns_any (in_mask p.own) (in_mask p.opp) q) → m ≡ moves_of p
 unfolding moves_of rules.moves
 moves_of-is p m h fine e = is_where m (rules.is_move (position_of Black p)) h (λ q l. e q l ∙ is_move-meaning Black p fine q l)
 
-pub pass_of-is : (p : Discs) → AreApart p → AreApart (discs p.opp p.own) → discs p.opp p.own ≡ pass_of p
+pub pass_of-is : (p : PosView) → AreApart p → AreApart (discs p.opp p.own) → discs p.opp p.own ≡ pass_of p
 unfolding pass_of
 pass_of-is p fine fine_too = sym (discs_of-position_of (other Black) (discs p.opp p.own) fine_too) ∙ ap discs_of (pass-meaning Black p fine)
 
-moves_of_lt : (p : Discs) → moves_of p < 2 ^ 64
+moves_of_lt : (p : PosView) → moves_of p < 2 ^ 64
 unfolding moves_of rules.moves
 moves_of_lt p = where_lt (rules.is_move (position_of Black p))
 
 -- what a mask of turned squares tells of moves
-module _ (p : Discs) (q f : ℕ) (fits : f < 2 ^ 64) (turns : (s : Side) (i : ℕ) → in_mask f i ≡ mem i (rules.flips (position_of s p) q)) where
+module _ (p : PosView) (q f : ℕ) (fits : f < 2 ^ 64) (turns : (s : Side) (i : ℕ) → in_mask f i ≡ mem i (rules.flips (position_of s p) q)) where
   pub moving : (s : Side) → (f ≡ 0 → ⊥) → rules.is_move (position_of s p) q ≡ true
   moving s n =
       let t = some_square f fits n in
@@ -90,7 +90,7 @@ module _ (p : Discs) (q f : ℕ) (fits : f < 2 ^ 64) (turns : (s : Side) (i : �
   a_move n = IsMove-from p q (on_board Black p q (moving Black n)) (moving Black n)
 
 -- the end of the game
-pub none-is : (s : Side) (p : Discs) → (m : ℕ) → m ≡ moves_of p → ((q : ℕ) → q < 64 → in_mask m q ≡ rules.is_move (position_of s p) q) → (m ≡ 0) ↔ (rules.moves (position_of s p) ≡ [])
+pub none-is : (s : Side) (p : PosView) → (m : ℕ) → m ≡ moves_of p → ((q : ℕ) → q < 64 → in_mask m q ≡ rules.is_move (position_of s p) q) → (m ≡ 0) ↔ (rules.moves (position_of s p) ≡ [])
 none-is s p m is each = (
   λ e. moves_none (position_of s p) (can_move_none (position_of s p) (λ q h. sym (each q h) ∙ none_from_zero m e q)),
   λ e.
@@ -98,7 +98,7 @@ none-is s p m is each = (
       (λ q h. each q h ∙ false_from_ne_true (rules.is_move (position_of s p) q) (λ b. Contains-nil q (subst (λ qs. Contains qs q) e (Contains-moves (position_of s p) q h b)))),
 )
 
-module _ (p passed : Discs) (a b : ℕ) (here : a ≡ moves_of p) (there : b ≡ moves_of passed)
+module _ (p passed : PosView) (a b : ℕ) (here : a ≡ moves_of p) (there : b ≡ moves_of passed)
     (here_each : (t : Side) (q : ℕ) → q < 64 → in_mask a q ≡ rules.is_move (position_of t p) q)
     (there_each : (t : Side) (q : ℕ) → q < 64 → in_mask b q ≡ rules.is_move (position_of t passed) q)
     (meaning : (t : Side) → position_of (other t) passed ≡ rules.pass (position_of t p))

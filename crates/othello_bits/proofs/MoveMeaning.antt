@@ -5,17 +5,17 @@ use Rattle.std.proofs.lemmas.Bool.{cases_Bool}
 use Rattle.othello_rules.specs.declared.discs.Side.{Side}
 use Rattle.othello_rules.specs.declared.discs.Cell.TheVariants.{Empty}
 use Rattle.othello_rules.specs.Rules as rules
-use Rattle.othello_rules.specs.Rules.{Position, disc, other, is_nonempty, turned_on}
+use Rattle.othello_rules.specs.Rules.{GridView, disc, other, is_nonempty, turned_on}
 use Rattle.othello_rules.proofs.MoveLaws.{flips_empty, flips_occupied}
 use Rattle.othello_rules.specs.Masks.{in_mask}
 use Rattle.othello_rules.specs.Board.{directions}
 use Rattle.othello_bits.specs.Shifts.{turns_any, is_turned, lines}
-use Rattle.othello_bits.specs.Discs.{mem, Discs, position_of}
+use Rattle.othello_bits.specs.Pos.{mem, PosView, position_of}
 use Rattle.othello_bits.proofs.CellLaws.{AreApart, has_own, has_opposing, has_empty}
 use Rattle.othello_bits.proofs.TurnedMasks.{move_free}
 use Rattle.othello_bits.proofs.RuleLines.{mem-flips, nonempty-flips}
 
-module _ (s : Side) (p : Discs) (fine : AreApart p) where
+module _ (s : Side) (p : PosView) (fine : AreApart p) where
   own_is : rules.has (position_of s p) (disc s) ≡ in_mask p.own
   own_is = λ k i. has_own s p i fine k
 

@@ -12,14 +12,14 @@ use Rattle.othello_rules.specs.declared.discs.Cell.TheVariants as cell
 use Rattle.othello_rules.specs.Board.{squares}
 use Rattle.std.proofs.lemmas.Nat.{and_comm}
 use Rattle.othello_rules.specs.Rules as rules
-use Rattle.othello_rules.specs.Rules.{Position, disc, other, same_cell, is_some_cell}
+use Rattle.othello_rules.specs.Rules.{GridView, disc, other, same_cell, is_some_cell}
 use Rattle.othello_rules.proofs.PaintLaws.{length-painted, get_or-painted}
 use Rattle.othello_rules.specs.Masks.{in_mask}
 use Rattle.othello_bits.specs.Shifts.{is_turned}
-use Rattle.othello_bits.specs.Discs.{mem, mask_where, Discs, discs, cell_at, cells_of, position_of, discs_of}
+use Rattle.othello_bits.specs.Pos.{mem, mask_where, PosView, discs, cell_at, cells_of, position_of, discs_of}
 use Rattle.othello_bits.proofs.TurnedMasks.{own_after, opp_after}
 use Rattle.othello_bits.proofs.Bits.{empty_meet, eqb_sym}
-use Rattle.othello_bits.proofs.Wheres.{is_where, in_mask-where}
+use Rattle.othello_bits.proofs.TestMasks.{is_where, in_mask-where}
 use Rattle.othello_bits.proofs.CellLaws.{AreApart, length-cells_of, get_or-cells_of, has_own, has_opposing}
 use Rattle.othello_bits.proofs.MoveMeaning.{is_turned-meaning}
 
@@ -47,7 +47,7 @@ pass_cell s true false h = ap disc (other-other s)
 pass_cell s false true h = refl
 pass_cell s false false h = refl
 
-pub pass-meaning : (s : Side) (p : Discs) → AreApart p → position_of (other s) (discs p.opp p.own) ≡ rules.pass (position_of s p)
+pub pass-meaning : (s : Side) (p : PosView) → AreApart p → position_of (other s) (discs p.opp p.own) ≡ rules.pass (position_of s p)
 unfolding cells_of
 pass-meaning s p fine =
     let same : cell_at (other s) (discs p.opp p.own) ≡ cell_at s p = λ k i. pass_cell s (in_mask p.own i) (in_mask p.opp i) (fine.apart i) k in
@@ -82,7 +82,7 @@ cell_after side.White false false false true h f = refl
 cell_after side.Black false false false false h f = refl
 cell_after side.White false false false false h f = refl
 
-module _ (s : Side) (p r : Discs) (q : ℕ) (fine : AreApart p) (on_board : q < 64) (free : in_mask p.opp q ≡ false)
+module _ (s : Side) (p r : PosView) (q : ℕ) (fine : AreApart p) (on_board : q < 64) (free : in_mask p.opp q ≡ false)
     (own_is : (i : ℕ) → i < 64 → in_mask r.own i ≡ own_after (in_mask p.own) (in_mask p.opp) q i)
     (opp_is : (i : ℕ) → i < 64 → in_mask r.opp i ≡ opp_after (in_mask p.own) (in_mask p.opp) q i)
   where
@@ -115,7 +115,7 @@ module _ (s : Side) (p r : Discs) (q : ℕ) (fine : AreApart p) (on_board : q < 
     play-meaning = λ k. record { cells = cells_are k; mover = other s }
 
 -- the masks of the position that two masks mean
-pub discs_of-position_of : (s : Side) (p : Discs) → AreApart p → discs_of (position_of s p) ≡ p
+pub discs_of-position_of : (s : Side) (p : PosView) → AreApart p → discs_of (position_of s p) ≡ p
 unfolding discs_of
 discs_of-position_of s p fine =
     let a : p.own ≡ mask_where (rules.has (position_of s p) (disc s)) = is_where p.own (rules.has (position_of s p) (disc s)) fine.own_fits (λ i h. sym (has_own s p i fine)) in
@@ -131,7 +131,7 @@ cell_again side.White cell.Empty = refl
 cell_again side.White cell.Black = refl
 cell_again side.White cell.White = refl
 
-cells_again : (P : Position) (i : ℕ) (d : Cell) → length P.cells ≡ 64 → i < 64 → cell_at P.mover (discs_of P) i ≡ get_or P.cells i d
+cells_again : (P : GridView) (i : ℕ) (d : Cell) → length P.cells ≡ 64 → i < 64 → cell_at P.mover (discs_of P) i ≡ get_or P.cells i d
 unfolding discs_of
 cells_again P i d whole h =
     let within : i < length P.cells = rw whole h in
@@ -140,7 +140,7 @@ cells_again P i d whole h =
     let b : in_mask (mask_where (rules.has P (disc (other P.mover)))) i ≡ same_cell (disc (other P.mover)) (get_or P.cells i d) = in_mask-where (rules.has P (disc (other P.mover))) i h ∙ ap (is_some_cell (disc (other P.mover))) there in
     (λ k. cond (a k) (disc P.mover) (cond (b k) (disc (other P.mover)) cell.Empty)) ∙ cell_again P.mover (get_or P.cells i d)
 
-pub position_of-discs_of : (P : Position) → length P.cells ≡ 64 → position_of P.mover (discs_of P) ≡ P
+pub position_of-discs_of : (P : GridView) → length P.cells ≡ 64 → position_of P.mover (discs_of P) ≡ P
 position_of-discs_of P whole =
     let same : cells_of P.mover (discs_of P) ≡ P.cells =
     same_lists (cells_of P.mover (discs_of P)) P.cells (length-cells_of P.mover (discs_of P) ∙ sym whole)

@@ -6,7 +6,7 @@ use Rattle.std.proofs.lemmas.Bool.{false≢true, and_parts, not-true}
 use Rattle.std.proofs.lemmas.Bool.Decides.{nat_tests}
 use Rattle.othello_bits.specs.Shifts.{chain}
 use Rattle.othello_rules.specs.Rules.{is_nonempty, run, closes, turned_on}
-use Rattle.othello_bits.proofs.Walks.{walk, walk-none, walk-some}
+use Rattle.othello_bits.proofs.LineSteps.{walk, walk-none, walk-some}
 
 -- a step on masks, `back` where `can` holds, is the step `next` at each square, but for those that `inner` keeps out
 abbrev fits_to : (can inner : ℕ → Bool) (back : ℕ → ℕ) (next : ℕ → Option ℕ) → ℕ → Option ℕ → Bool

@@ -4,9 +4,9 @@ use Rattle.std.specs.List.{flat_map, list_any}
 use Rattle.std.proofs.lemmas.List.Folds.{list_any-append}
 use Rattle.othello_rules.specs.Board.{directions, ray}
 use Rattle.othello_rules.specs.Rules as rules
-use Rattle.othello_rules.specs.Rules.{Position, is_nonempty, turned_on}
+use Rattle.othello_rules.specs.Rules.{GridView, is_nonempty, turned_on}
 use Rattle.othello_bits.specs.Shifts.{lines}
-use Rattle.othello_bits.specs.Discs.{mem}
+use Rattle.othello_bits.specs.Pos.{mem}
 
 mem-append : (i : ℕ) (xs ys : List ℕ) → mem i (xs ++ ys) ≡ (mem i xs || mem i ys)
 mem-append i xs ys = list_any-append (λ x. eqb x i) xs ys
@@ -27,13 +27,13 @@ any-map : {X Y : Type 0} (p : Y → Bool) (f : X → Y) (xs : List X) → list_a
 any-map p f [] = refl
 any-map p f (x ∷ xs) = ap (λ b. p (f x) || b) (any-map p f xs)
 
-pub mem-flips : (P : Position) (q i : ℕ) → mem i (flat_map (rules.turned P q) directions) ≡ list_any (λ met. mem i (turned_on (rules.has P (rules.own P)) (rules.has P (rules.opposing P)) met)) (lines q)
+pub mem-flips : (P : GridView) (q i : ℕ) → mem i (flat_map (rules.turned P q) directions) ≡ list_any (λ met. mem i (turned_on (rules.has P (rules.own P)) (rules.has P (rules.opposing P)) met)) (lines q)
 unfolding rules.turned
 mem-flips P q i =
     mem-flat_map (rules.turned P q) directions i
     ∙ sym (any-map (λ met. mem i (turned_on (rules.has P (rules.own P)) (rules.has P (rules.opposing P)) met)) (λ d. ray d q) directions)
 
-pub nonempty-flips : (P : Position) (q : ℕ) → is_nonempty (flat_map (rules.turned P q) directions) ≡ list_any (λ met. is_nonempty (turned_on (rules.has P (rules.own P)) (rules.has P (rules.opposing P)) met)) (lines q)
+pub nonempty-flips : (P : GridView) (q : ℕ) → is_nonempty (flat_map (rules.turned P q) directions) ≡ list_any (λ met. is_nonempty (turned_on (rules.has P (rules.own P)) (rules.has P (rules.opposing P)) met)) (lines q)
 unfolding rules.turned
 nonempty-flips P q =
     nonempty-flat_map (rules.turned P q) directions

@@ -3,7 +3,7 @@ use Rattle.std.proofs.Common.{◌≡◌, Bool, true, eqb, refl, arith}
 use Rattle.std.specs.List.{Contains, list_any, list_all}
 use Rattle.std.proofs.lemmas.Bool.{agree_below, agree_below_at, eqb-true}
 use Rattle.othello_rules.specs.Board.{squares, directions, ray}
-use Rattle.othello_rules.specs.Rules.{Position}
+use Rattle.othello_rules.specs.Rules.{GridView}
 use Rattle.othello_rules.proofs.Reorder.{same_list, without, reordered, member-list_any, list_all-member}
 use Rattle.othello_rules.proofs.Renaming.{Keeps, Keeps-from_tests, Renaming, image_by-image_by}
 use Rattle.othello_bits.specs.Symmetries.{target, inverse, image, others, symmetries}
@@ -67,7 +67,7 @@ composed s t =
     (list_all-member (λ s. list_all (λ t. list_any (composes s t) symmetries) symmetries) symmetries s refl (Contains-symmetries s))
     (Contains-symmetries t))
 
-pub image-image : (s t : Sym) → (u : Sym) × ((P : Position) → image s (image t P) ≡ image u P)
+pub image-image : (s t : Sym) → (u : Sym) × ((P : GridView) → image s (image t P) ≡ image u P)
 image-image s t =
     let c : (u : Sym) × Contains symmetries u × (composes s t u ≡ true) = composed s t in (
       c.0,

@@ -11,7 +11,7 @@ use Rattle.othello_bits.proofs.Numbers.{count_below, same_mask, is_number, ones_
 use Rattle.othello_rules.specs.Board.{squares}
 use Rattle.othello_rules.specs.Rules.{turned_on, is_nonempty}
 use Rattle.othello_bits.specs.Shifts.{turns_any, is_turned, lines}
-use Rattle.othello_bits.specs.Discs.{mem}
+use Rattle.othello_bits.specs.Pos.{mem}
 use Rattle.othello_bits.proofs.Bits.{in_mask-and, in_mask-or, in_mask-not, in_mask-zero, in_mask-pow, eqb_sym}
 
 -- the mover's and the other's squares after a move on q, which is the other side's turn

@@ -1,4 +1,4 @@
-pub mod Discs
+pub mod Pos
 pub mod Exchanges
 pub mod Images
 pub mod Lasts

@@ -5,10 +5,10 @@ use Rattle.othello_rules.specs.declared.discs.Side.TheVariants.{Black}
 use Rattle.othello_rules.specs.declared.answers.Best.{Best}
 use Rattle.othello_rules.specs.declared.answers.Best.TheVariants.{Moves, Pass, Over}
 use Rattle.othello_rules.specs.Board.{square_at, column, row}
-use Rattle.othello_rules.specs.Rules.{Position}
+use Rattle.othello_rules.specs.Rules.{GridView}
 use Rattle.othello_rules.specs.Renamed.{image_by}
 use Rattle.othello_rules.specs.Masks.{mask_of, squares_of}
-use Rattle.othello_bits.specs.Discs.{Discs, position_of, discs_of}
+use Rattle.othello_bits.specs.Pos.{PosView, position_of, discs_of}
 use Rattle.othello_bits.specs.declared.symmetries.Sym.{Sym}
 use Rattle.othello_bits.specs.declared.symmetries.Sym.TheVariants.{Identity, FlipColumns, FlipRows, HalfTurn, Transpose, TurnRight, TurnLeft, AntiTranspose}
 
@@ -54,7 +54,7 @@ place TurnLeft = 6
 place AntiTranspose = 7
 
 -- the cell of P on a square stands where the symmetry sends that square; the same side is to move
-abbrev pub image : Sym → Position → Position
+abbrev pub image : Sym → GridView → GridView
 image s P = image_by (target (inverse s)) P
 
 -- the mask of the images of the squares of a mask
@@ -68,23 +68,23 @@ best_image s Pass = Pass
 best_image s Over = Over
 
 -- two masks as a pair of numbers, own first, written as one number: each mask is below 2 ^ 64
-abbrev pub pair_of : Discs → ℕ
+abbrev pub pair_of : PosView → ℕ
 pair_of p = p.own * 2 ^ 64 + p.opp
 
 -- the pair of the mover's mask and the opponent's on an image
-abbrev pub image_pair : Position → Sym → ℕ
+abbrev pub image_pair : GridView → Sym → ℕ
 image_pair P s = pair_of (discs_of (image s P))
 
 -- the first symmetry whose image has the least pair, and that image
-unfoldable pub first_symmetry : Position → Sym
+unfoldable pub first_symmetry : GridView → Sym
 first_symmetry P = best_of (λ s t. nat_lt (image_pair P s) (image_pair P t)) Identity others
 
-abbrev pub canonical : Position → Position
+abbrev pub canonical : GridView → GridView
 canonical P = image (first_symmetry P) P
 
 -- the same of two masks
-unfoldable pub image_of : Sym → Discs → Discs
+unfoldable pub image_of : Sym → PosView → PosView
 image_of s p = discs_of (image s (position_of Black p))
 
-unfoldable pub canonical_of : Discs → Discs
+unfoldable pub canonical_of : PosView → PosView
 canonical_of p = discs_of (canonical (position_of Black p))

@@ -5,7 +5,7 @@ use Rattle.othello_rules.specs.declared.discs.Side.TheVariants.{Black}
 use Rattle.othello_rules.specs.Board.{squares}
 use Rattle.othello_rules.specs.Masks.{in_mask, mask_of}
 use Rattle.othello_rules.specs.Renamed.{moved_cells}
-use Rattle.othello_bits.specs.Discs.{Discs, discs, cells_of, position_of, discs_of}
+use Rattle.othello_bits.specs.Pos.{PosView, discs, cells_of, position_of, discs_of}
 use Rattle.othello_bits.specs.Symmetries.{target, others, symmetries, first_symmetry, canonical_of}
 use Rattle.othello_bits.specs.declared.symmetries.Sym.TheVariants.{HalfTurn, FlipRows}
 
@@ -14,7 +14,7 @@ unfolding others
 images_of_h1 = refl
 
 -- row 1 is -OOOOOOX, and all else X with X to move
-last_corner : Discs
+last_corner : PosView
 last_corner = discs 0xffffffffffffff80 0x7e
 
 first-last_corner : first_symmetry (position_of Black last_corner) ≡ HalfTurn
@@ -26,7 +26,7 @@ unfolding last_corner canonical_of first_symmetry others discs_of cells_of moved
 canonical-last_corner = refl
 
 -- row 1 is --OOOOOX
-corner_left_over : Discs
+corner_left_over : PosView
 corner_left_over = discs 0xffffffffffffff80 0x7c
 
 canonical-corner_left_over :
@@ -35,7 +35,7 @@ unfolding corner_left_over canonical_of first_symmetry others discs_of cells_of 
 canonical-corner_left_over = refl
 
 -- row 1 is -OOXXOO-: two symmetries lead to the canonical position
-equal_corners : Discs
+equal_corners : PosView
 equal_corners = discs 0xffffffffffffff18 0x66
 
 first-equal_corners : first_symmetry (position_of Black equal_corners) ≡ FlipRows
@@ -47,7 +47,7 @@ unfolding equal_corners canonical_of first_symmetry others discs_of cells_of mov
 canonical-equal_corners = refl
 
 -- row 1 is -OXXXXX-, row 2 XXXXXXXO, row 5 XXXOXXXX
-unequal_corners : Discs
+unequal_corners : PosView
 unequal_corners = discs 0xfffffff7ffff7f7c 0x800008002
 
 canonical-unequal_corners :

@@ -2,7 +2,7 @@
 
 ghost use Rattle.std.specs.Prelude.{◌≡◌, ◌<◌};
 ghost use Rattle.othello_rules.specs.Rules as rules;
-ghost use Rattle.othello_bits.specs.Discs.{discs, cell_at, cells_of, mask_where};
+ghost use Rattle.othello_bits.specs.Pos.{discs, cell_at, cells_of, mask_where};
 
 use othello_rules::{Cell, Grid, Side, Square};
 

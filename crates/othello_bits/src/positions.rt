@@ -7,11 +7,11 @@ ghost use Rattle.othello_rules.specs.declared.discs.Side.TheVariants.{Black};
 ghost use Rattle.othello_rules.specs.declared.discs.Cell.TheVariants as cell;
 ghost use Rattle.othello_rules.specs.Rules as rules;
 ghost use Rattle.othello_rules.specs.Scores.{final};
-ghost use Rattle.othello_rules.specs.Solution.{IsScore};
+ghost use Rattle.othello_rules.specs.Answer.{IsScore};
 ghost use Rattle.othello_rules.specs.Masks.{in_mask};
-ghost use Rattle.othello_bits.specs.Discs.{IsMove, IsOver, mem, discs, position_of, discs_of};
-ghost use Rattle.othello_bits.specs.Discs.{moves_of, flips_of, play_of, pass_of};
-ghost use Rattle.othello_bits.specs.Discs.{empties_of, final_of};
+ghost use Rattle.othello_bits.specs.Pos.{IsMove, IsOver, mem, discs, position_of, discs_of};
+ghost use Rattle.othello_bits.specs.Pos.{moves_of, flips_of, play_of, pass_of};
+ghost use Rattle.othello_bits.specs.Pos.{empties_of, final_of};
 ghost use Rattle.othello_bits.specs.Symmetries.{image, image_of};
 ghost use Rattle.othello_bits.specs.Symmetries.{first_symmetry, canonical, canonical_of};
 
@@ -33,9 +33,9 @@ pub struct Pos {
 
 impl Model for Pos {
     ghost use Rattle.std.specs.Prelude.{◌≡◌, ◌<◌, ◌^◌, bit_and};
-    ghost use Rattle.othello_bits.specs.Discs.{Discs};
+    ghost use Rattle.othello_bits.specs.Pos.{PosView};
 
-    ghost Value = { Discs };
+    ghost Value = { PosView };
 
     ghost view = { λ p. record { own = p.own; opp = p.opp } };
 

@@ -7,7 +7,7 @@ use Rattle.othello_rules.proofs.MoveLaws.{is_move-from_Contains, move_on_board, 
 use Rattle.std.proofs.lemmas.Int.{fold-int_max_bounds, fold-int_max_reached}
 use Rattle.std.proofs.lemmas.List.Elements.{All-contains}
 use Rattle.othello_rules.specs.declared.scorings.Scoring.{Scoring}
-use Rattle.othello_rules.specs.Rules.{Position, moves, is_nonempty, is_move}
+use Rattle.othello_rules.specs.Rules.{GridView, moves, is_nonempty, is_move}
 use Rattle.othello_rules.specs.Value.{greatest, can_move, worth, best_worth, value}
 use Rattle.othello_rules.proofs.ListLaws.{Contains-head, Contains-cons, Contains-cons_cases, Contains-nil}
 use Rattle.othello_rules.proofs.ValueLaws.{value-move, some_move}
@@ -53,19 +53,19 @@ nonempty_with : (xs : List ℕ) (q : ℕ) → Contains xs q → is_nonempty xs �
 nonempty_with [] q h = absurd (Contains-nil q h)
 nonempty_with (x ∷ xs) q h = refl
 
-pub can_move_with : (P : Position) (q : ℕ) → Contains (moves P) q → can_move P ≡ true
+pub can_move_with : (P : GridView) (q : ℕ) → Contains (moves P) q → can_move P ≡ true
 unfolding can_move
 can_move_with P q h = nonempty_with (moves P) q h
 
 -- no move is worth more than the value
-pub worth-le-value : (g : Scoring) (P : Position) (q : ℕ) → Contains (moves P) q → worth (value g) P q ≤ℤ value g P
+pub worth-le-value : (g : Scoring) (P : GridView) (q : ℕ) → Contains (moves P) q → worth (value g) P q ≤ℤ value g P
 unfolding best_worth
 worth-le-value g P q h =
     subst (λ z. worth (value g) P q ≤ℤ z) (sym (value-move g P (can_move_with P q h)))
     (le-greatest (map (worth (value g) P) (moves P)) (worth (value g) P q) (Contains-map (worth (value g) P) (moves P) q h))
 
 -- some move is worth the value
-pub value_reached : (g : Scoring) (P : Position) → can_move P ≡ true → (q : ℕ) × Contains (moves P) q × (worth (value g) P q ≡ value g P)
+pub value_reached : (g : Scoring) (P : GridView) → can_move P ≡ true → (q : ℕ) × Contains (moves P) q × (worth (value g) P q ≡ value g P)
 unfolding best_worth
 value_reached g P h =
     let s : (q : ℕ) × Contains (moves P) q = some_move P h in
@@ -74,20 +74,20 @@ value_reached g P h =
     (greatest_reached (map (worth (value g) P) (moves P)) (worth (value g) P s.0) (Contains-map (worth (value g) P) (moves P) s.0 s.1)) in
     (r.0, r.1, r.2 ∙ sym (value-move g P h))
 
-pub can_move_none : (P : Position) → ((k : ℕ) → k < 64 → is_move P k ≡ false) → can_move P ≡ false
+pub can_move_none : (P : GridView) → ((k : ℕ) → k < 64 → is_move P k ≡ false) → can_move P ≡ false
 can_move_none P none =
     false_from_ne_true (can_move P) (λ t.
     let s : (q : ℕ) × Contains (moves P) q = some_move P t in
     true≢false (sym (is_move-from_Contains P s.0 s.1) ∙ none s.0 (square_below s.0 (move_on_board P s.0 s.1))))
 
-pub moves_none : (P : Position) → can_move P ≡ false → moves P ≡ []
+pub moves_none : (P : GridView) → can_move P ≡ false → moves P ≡ []
 unfolding can_move
 moves_none P h = is_nonempty_not (moves P) h
 
-pub can_move-moves_none : (P : Position) → moves P ≡ [] → can_move P ≡ false
+pub can_move-moves_none : (P : GridView) → moves P ≡ [] → can_move P ≡ false
 unfolding can_move
 can_move-moves_none P h = ap is_nonempty h
 
-pub can_move-moves_some : (P : Position) → (moves P ≡ [] → ⊥) → can_move P ≡ true
+pub can_move-moves_some : (P : GridView) → (moves P ≡ [] → ⊥) → can_move P ≡ true
 unfolding can_move
 can_move-moves_some P h = true_from_ne_false (can_move P) (λ n. h (moves_none P n))

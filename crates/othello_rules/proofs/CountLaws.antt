@@ -11,7 +11,7 @@ use Rattle.othello_rules.specs.declared.discs.Side.{Side}
 use Rattle.othello_rules.specs.declared.discs.Side.TheVariants as side
 use Rattle.othello_rules.specs.declared.discs.Cell.{Cell}
 use Rattle.othello_rules.specs.declared.discs.Cell.TheVariants as cell
-use Rattle.othello_rules.specs.Rules.{Position, has, own, opposing, other, disc, same_cell, is_some_cell, flips, moves, pass, play, painted_cells}
+use Rattle.othello_rules.specs.Rules.{GridView, has, own, opposing, other, disc, same_cell, is_some_cell, flips, moves, pass, play, painted_cells}
 use Rattle.othello_rules.specs.Value.{empties}
 use Rattle.othello_rules.proofs.MoveLaws.{is_move-from_Contains, move_empty, opposing_in_flips}
 use Rattle.othello_rules.proofs.PaintLaws.{length-painted, get_or-painted}
@@ -30,12 +30,12 @@ some_cell c None h = absurd (false≢true h)
 some_cell c (Some d) h = (d, refl, h)
 
 -- what `has` says of the list of cells
-pub has_within : (P : Position) (c : Cell) (q : ℕ) → has P c q ≡ true → q < length P.cells
+pub has_within : (P : GridView) (c : Cell) (q : ℕ) → has P c q ≡ true → q < length P.cells
 has_within P c q h =
     let s : (d : Cell) × (slice_get P.cells q ≡ Some d) × (same_cell c d ≡ true) = some_cell c (slice_get P.cells q) h in
     slice_get_within P.cells q s.0 s.1
 
-pub has_get_or : (P : Position) (c : Cell) (q : ℕ) (e : Cell) → has P c q ≡ true → same_cell c (get_or P.cells q e) ≡ true
+pub has_get_or : (P : GridView) (c : Cell) (q : ℕ) (e : Cell) → has P c q ≡ true → same_cell c (get_or P.cells q e) ≡ true
 has_get_or P c q e h =
     let s : (d : Cell) × (slice_get P.cells q ≡ Some d) × (same_cell c d ≡ true) = some_cell c (slice_get P.cells q) h in
     rw (get_or_from_slice_get P.cells q s.0 e s.1) s.2
@@ -50,15 +50,15 @@ disc-not_empty : (s : Side) → same_cell cell.Empty (disc s) ≡ false
 disc-not_empty side.Black = refl
 disc-not_empty side.White = refl
 
-pub length-play : (P : Position) (q : ℕ) → length (play P q).cells ≡ length P.cells
+pub length-play : (P : GridView) (q : ℕ) → length (play P q).cells ≡ length P.cells
 unfolding play
 length-play P q = length-painted (own P) (q ∷ flips P q) P.cells
 
-pub empties-pass : (P : Position) → empties (pass P) ≡ empties P
+pub empties-pass : (P : GridView) → empties (pass P) ≡ empties P
 empties-pass P = refl
 
 -- the cells after a move are empty where those with a disc put on q alone are
-played_like_set : (P : Position) (q : ℕ) → has P cell.Empty q ≡ true → (k : ℕ) → k < length P.cells → same_cell cell.Empty (get_or (painted_cells (own P) (q ∷ flips P q) P.cells) k cell.Empty) ≡ same_cell cell.Empty (get_or (set P.cells q (own P)) k cell.Empty)
+played_like_set : (P : GridView) (q : ℕ) → has P cell.Empty q ≡ true → (k : ℕ) → k < length P.cells → same_cell cell.Empty (get_or (painted_cells (own P) (q ∷ flips P q) P.cells) k cell.Empty) ≡ same_cell cell.Empty (get_or (set P.cells q (own P)) k cell.Empty)
 played_like_set P q vacant k h =
     let after : get_or (painted_cells (own P) (q ∷ flips P q) P.cells) k cell.Empty ≡ cond (nat_eq k q || list_any (nat_eq k) (flips P q)) (own P) (get_or P.cells k cell.Empty) =
     get_or-painted (own P) (q ∷ flips P q) P.cells k cell.Empty h in
@@ -80,7 +80,7 @@ played_like_set P q vacant k h =
           ]
     ]
 
-pub empties-play : (P : Position) (q : ℕ) → Contains (moves P) q → empties (play P q) + 1 ≡ empties P
+pub empties-play : (P : GridView) (q : ℕ) → Contains (moves P) q → empties (play P q) + 1 ≡ empties P
 unfolding play
 empties-play P q h =
     let vacant : has P cell.Empty q ≡ true = move_empty P q (is_move-from_Contains P q h) in

@@ -10,7 +10,7 @@ use Rattle.std.proofs.lemmas.List.{same_lists}
 use Rattle.othello_rules.specs.declared.directions.Direction.{Direction}
 use Rattle.othello_rules.specs.declared.discs.Cell.TheVariants.{Empty}
 use Rattle.othello_rules.specs.Board.{directions, ray}
-use Rattle.othello_rules.specs.Rules.{Position, has, own, opposing, run, closes, turned_on, turned, flips, is_move, moves, painted_cells, play}
+use Rattle.othello_rules.specs.Rules.{GridView, has, own, opposing, run, closes, turned_on, turned, flips, is_move, moves, painted_cells, play}
 use Rattle.othello_rules.specs.Value.{can_move}
 use Rattle.othello_rules.specs.Renamed.{moved_cells, image_by}
 use Rattle.othello_rules.proofs.ListLaws.{Contains-head, Contains-cons, Contains-cons_cases, Contains-nil}
@@ -44,10 +44,10 @@ closes-map own opp mine there f (x ∷ xs) g h =
     λ i. cond (first i) (rest i) (last i)
 
 -- in the direction that d becomes, the images are turned
-pub turned-sent : (r : Renaming) (P : Position) (q : ℕ) (d e : Direction) → length P.cells ≡ 64 → q < 64 → Contains directions d → ray e (r.to q) ≡ map r.to (ray d q) → turned (image_by r.back P) (r.to q) e ≡ map r.to (turned P q d)
+pub turned-sent : (r : Renaming) (P : GridView) (q : ℕ) (d e : Direction) → length P.cells ≡ 64 → q < 64 → Contains directions d → ray e (r.to q) ≡ map r.to (ray d q) → turned (image_by r.back P) (r.to q) e ≡ map r.to (turned P q d)
 unfolding turned
 turned-sent r P q d e full b c same =
-    let P' : Position = image_by r.back P in
+    let P' : GridView = image_by r.back P in
     let mine : (s : ℕ) → Contains (ray d q) s → has P' (own P) (r.to s) ≡ has P (own P) s = λ s m. has-sent r P (own P) s full (ray_on_board q d s b c m) in
     let there : (s : ℕ) → Contains (ray d q) s → has P' (opposing P) (r.to s) ≡ has P (opposing P) s = λ s m. has-sent r P (opposing P) s full (ray_on_board q d s b c m) in
     let ran : run (has P' (opposing P)) (map r.to (ray d q)) ≡ map r.to (run (has P (opposing P)) (ray d q)) = run-map (has P (opposing P)) (has P' (opposing P)) r.to (ray d q) there in
@@ -57,7 +57,7 @@ turned-sent r P q d e full b c same =
     ∙ cond-map r.to (closes (has P (own P)) (has P (opposing P)) (ray d q)) (run (has P (opposing P)) (ray d q))
 
 -- what is turned from q is turned, as an image, from the image of q
-pub flips-sent : (r : Renaming) (P : Position) (q s : ℕ) → length P.cells ≡ 64 → q < 64 → Contains (flips P q) s → Contains (flips (image_by r.back P) (r.to q)) (r.to s)
+pub flips-sent : (r : Renaming) (P : GridView) (q s : ℕ) → length P.cells ≡ 64 → q < 64 → Contains (flips P q) s → Contains (flips (image_by r.back P) (r.to q)) (r.to s)
 flips-sent r P q s full b h =
     elim (cases_Bool (has P Empty q)) [
       | inl v ↦
@@ -69,51 +69,51 @@ flips-sent r P q s full b h =
       | inr v ↦ absurd (Contains-nil s (rw (flips_occupied P q v) at h))
     ]
 
-pub is_move-sent_yes : (r : Renaming) (P : Position) (q : ℕ) → length P.cells ≡ 64 → q < 64 → is_move P q ≡ true → is_move (image_by r.back P) (r.to q) ≡ true
+pub is_move-sent_yes : (r : Renaming) (P : GridView) (q : ℕ) → length P.cells ≡ 64 → q < 64 → is_move P q ≡ true → is_move (image_by r.back P) (r.to q) ≡ true
 is_move-sent_yes r P q full b h =
     let s : (s : ℕ) × Contains (flips P q) s = some_member (flips P q) h in
     let t : Contains (flips (image_by r.back P) (r.to q)) (r.to s.0) = flips-sent r P q s.0 full b s.1 in
     is_nonempty_yes (flips (image_by r.back P) (r.to q)) (λ e. Contains-nil (r.to s.0) (rw e at t))
 
 -- the other way, by the renaming that undoes this one
-pub flips-sent_back : (r : Renaming) (P : Position) (q s : ℕ) → length P.cells ≡ 64 → q < 64 → s < 64 → Contains (flips (image_by r.back P) (r.to q)) (r.to s) → Contains (flips P q) s
+pub flips-sent_back : (r : Renaming) (P : GridView) (q s : ℕ) → length P.cells ≡ 64 → q < 64 → s < 64 → Contains (flips (image_by r.back P) (r.to q)) (r.to s) → Contains (flips P q) s
 flips-sent_back r P q s full b l h =
     let t : Contains (flips (image_by r.to (image_by r.back P)) (r.back (r.to q))) (r.back (r.to s)) = flips-sent (flipped r) (image_by r.back P) (r.to q) (r.to s) (length-moved_cells r.back P.cells) (r.there.on_board q b) h in
     let e : flips (image_by r.to (image_by r.back P)) (r.back (r.to q)) ≡ flips P q = λ i. flips (image_by-back r P full i) (r.there.comes_back q b i) in
     rw (e, r.there.comes_back s l) at t
 
-pub is_move-sent : (r : Renaming) (P : Position) (q : ℕ) → length P.cells ≡ 64 → q < 64 → is_move (image_by r.back P) (r.to q) ≡ is_move P q
+pub is_move-sent : (r : Renaming) (P : GridView) (q : ℕ) → length P.cells ≡ 64 → q < 64 → is_move (image_by r.back P) (r.to q) ≡ is_move P q
 is_move-sent r P q full b =
     let e : is_move (image_by r.to (image_by r.back P)) (r.back (r.to q)) ≡ is_move P q = λ i. is_move (image_by-back r P full i) (r.there.comes_back q b i) in
     both_ways (is_move (image_by r.back P) (r.to q)) (is_move P q)
     (λ h. sym e ∙ is_move-sent_yes (flipped r) (image_by r.back P) (r.to q) (length-moved_cells r.back P.cells) (r.there.on_board q b) h)
     (λ h. is_move-sent_yes r P q full b h)
 
-pub moves-sent : (r : Renaming) (P : Position) (q : ℕ) → length P.cells ≡ 64 → Contains (moves P) q → Contains (moves (image_by r.back P)) (r.to q)
+pub moves-sent : (r : Renaming) (P : GridView) (q : ℕ) → length P.cells ≡ 64 → Contains (moves P) q → Contains (moves (image_by r.back P)) (r.to q)
 moves-sent r P q full h =
     let b : q < 64 = square_below q (move_on_board P q h) in
     Contains-moves (image_by r.back P) (r.to q) (r.there.on_board q b) (is_move-sent_yes r P q full b (is_move-from_Contains P q h))
 
-can_move-sent_yes : (r : Renaming) (P : Position) → length P.cells ≡ 64 → can_move P ≡ true → can_move (image_by r.back P) ≡ true
+can_move-sent_yes : (r : Renaming) (P : GridView) → length P.cells ≡ 64 → can_move P ≡ true → can_move (image_by r.back P) ≡ true
 can_move-sent_yes r P full h =
     let s : (q : ℕ) × Contains (moves P) q = some_move P h in
     can_move_with (image_by r.back P) (r.to s.0) (moves-sent r P s.0 full s.1)
 
-pub can_move-image_by : (r : Renaming) (P : Position) → length P.cells ≡ 64 → can_move (image_by r.back P) ≡ can_move P
+pub can_move-image_by : (r : Renaming) (P : GridView) → length P.cells ≡ 64 → can_move (image_by r.back P) ≡ can_move P
 can_move-image_by r P full =
     both_ways (can_move (image_by r.back P)) (can_move P)
     (λ h. ap can_move (sym (image_by-back r P full)) ∙ can_move-sent_yes (flipped r) (image_by r.back P) (length-moved_cells r.back P.cells) h)
     (λ h. can_move-sent_yes r P full h)
 
 -- the squares that a move makes the mover's
-touched-sent : (r : Renaming) (P : Position) (q s : ℕ) → length P.cells ≡ 64 → q < 64 → Contains (q ∷ flips P q) s → Contains (r.to q ∷ flips (image_by r.back P) (r.to q)) (r.to s)
+touched-sent : (r : Renaming) (P : GridView) (q s : ℕ) → length P.cells ≡ 64 → q < 64 → Contains (q ∷ flips P q) s → Contains (r.to q ∷ flips (image_by r.back P) (r.to q)) (r.to s)
 touched-sent r P q s full b h =
     elim (Contains-cons_cases q (flips P q) s h) [
       | inl e ↦ subst (λ t. Contains (r.to q ∷ flips (image_by r.back P) (r.to q)) (r.to t)) e (Contains-head (r.to q) (flips (image_by r.back P) (r.to q)))
       | inr t ↦ Contains-cons (r.to q) (flips (image_by r.back P) (r.to q)) (r.to s) (flips-sent r P q s full b t)
     ]
 
-is_touched : (r : Renaming) (P : Position) (q k : ℕ) → length P.cells ≡ 64 → q < 64 → k < 64 → list_any (nat_eq k) (r.to q ∷ flips (image_by r.back P) (r.to q)) ≡ list_any (nat_eq (r.back k)) (q ∷ flips P q)
+is_touched : (r : Renaming) (P : GridView) (q k : ℕ) → length P.cells ≡ 64 → q < 64 → k < 64 → list_any (nat_eq k) (r.to q ∷ flips (image_by r.back P) (r.to q)) ≡ list_any (nat_eq (r.back k)) (q ∷ flips P q)
 is_touched r P q k full b l =
     both_ways (list_any (nat_eq k) (r.to q ∷ flips (image_by r.back P) (r.to q))) (list_any (nat_eq (r.back k)) (q ∷ flips P q))
     (λ h.
@@ -126,7 +126,7 @@ is_touched r P q k full b l =
     list_any-from_Contains nat_eq_equiv k (r.to q ∷ flips (image_by r.back P) (r.to q)) (subst (Contains (r.to q ∷ flips (image_by r.back P) (r.to q))) (r.here.comes_back k l) t))
 
 -- the move on the image leads to the image
-pub play-sent : (r : Renaming) (P : Position) (q : ℕ) → length P.cells ≡ 64 → q < 64 → play (image_by r.back P) (r.to q) ≡ image_by r.back (play P q)
+pub play-sent : (r : Renaming) (P : GridView) (q : ℕ) → length P.cells ≡ 64 → q < 64 → play (image_by r.back P) (r.to q) ≡ image_by r.back (play P q)
 unfolding play
 play-sent r P q full b =
     let ours : List ℕ = q ∷ flips P q in

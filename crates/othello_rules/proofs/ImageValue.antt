@@ -8,7 +8,7 @@ use Rattle.std.proofs.lemmas.List.Sums.{sum_by-cons}
 use Rattle.othello_rules.specs.declared.scorings.Scoring.{Scoring}
 use Rattle.othello_rules.specs.declared.discs.Cell.TheVariants.{Empty}
 use Rattle.othello_rules.specs.Board.{squares}
-use Rattle.othello_rules.specs.Rules.{Position, own, opposing, is_move, moves, pass, play, count_of, IsOver}
+use Rattle.othello_rules.specs.Rules.{GridView, own, opposing, is_move, moves, pass, play, count_of, IsOver}
 use Rattle.othello_rules.specs.Scores.{score_of, final}
 use Rattle.othello_rules.specs.Masks.{mask_of}
 use Rattle.othello_rules.specs.Value.{greatest, can_move, worth, best_worth, empties, value_at, value, is_best, best_moves, best, answer}
@@ -24,7 +24,7 @@ use Rattle.othello_rules.proofs.Reorder.{sum_by-map}
 use Rattle.othello_rules.proofs.Renaming.{Renaming, flipped, length-moved_cells, image_by-back, count_of-image_by}
 use Rattle.othello_rules.proofs.ImageMoves.{is_move-sent, moves-sent, can_move-image_by, play-sent}
 
-pub final-image_by : (g : Scoring) (r : Renaming) (P : Position) → length P.cells ≡ 64 → final g (image_by r.back P) ≡ final g P
+pub final-image_by : (g : Scoring) (r : Renaming) (P : GridView) → length P.cells ≡ 64 → final g (image_by r.back P) ≡ final g P
 unfolding final
 final-image_by g r P full =
     let m : count_of (image_by r.back P) (own P) ≡ count_of P (own P) = count_of-image_by r P (own P) full in
@@ -32,14 +32,14 @@ final-image_by g r P full =
     let e : count_of (image_by r.back P) Empty ≡ count_of P Empty = count_of-image_by r P Empty full in
     λ i. score_of g (m i) (o i) (e i)
 
-full-play : (P : Position) (q : ℕ) → length P.cells ≡ 64 → length (play P q).cells ≡ 64
+full-play : (P : GridView) (q : ℕ) → length P.cells ≡ 64 → length (play P q).cells ≡ 64
 full-play P q full = length-play P q ∙ full
 
 -- what a move of the image is worth
-worth-sent : (r : Renaming) (v : Position → ℤ) (P : Position) (q : ℕ) → length P.cells ≡ 64 → q < 64 → ((Q : Position) → length Q.cells ≡ 64 → v (image_by r.back Q) ≡ v Q) → worth v (image_by r.back P) (r.to q) ≡ worth v P q
+worth-sent : (r : Renaming) (v : GridView → ℤ) (P : GridView) (q : ℕ) → length P.cells ≡ 64 → q < 64 → ((Q : GridView) → length Q.cells ≡ 64 → v (image_by r.back Q) ≡ v Q) → worth v (image_by r.back P) (r.to q) ≡ worth v P q
 worth-sent r v P q full b same = ap (λ Q. neg_ℤ (v Q)) (play-sent r P q full b) ∙ ap neg_ℤ (same (play P q) (full-play P q full))
 
-best_of-le : (r : Renaming) (v : Position → ℤ) (P : Position) → length P.cells ≡ 64 → can_move P ≡ true → ((Q : Position) → length Q.cells ≡ 64 → v (image_by r.back Q) ≡ v Q) → best_worth v P ≤ℤ best_worth v (image_by r.back P)
+best_of-le : (r : Renaming) (v : GridView → ℤ) (P : GridView) → length P.cells ≡ 64 → can_move P ≡ true → ((Q : GridView) → length Q.cells ≡ 64 → v (image_by r.back Q) ≡ v Q) → best_worth v P ≤ℤ best_worth v (image_by r.back P)
 unfolding best_worth
 best_of-le r v P full h same =
     let s : (q : ℕ) × Contains (moves P) q = some_move P h in
@@ -54,9 +54,9 @@ best_of-le r v P full h same =
 both_le : (x y : ℤ) → x ≤ℤ y → y ≤ℤ x → x ≡ y
 both_le x y a b = omega (arith, ints)
 
-best_of-image_by : (r : Renaming) (v : Position → ℤ) (P : Position) → length P.cells ≡ 64 → can_move P ≡ true → ((Q : Position) → length Q.cells ≡ 64 → v (image_by r.back Q) ≡ v Q) → best_worth v (image_by r.back P) ≡ best_worth v P
+best_of-image_by : (r : Renaming) (v : GridView → ℤ) (P : GridView) → length P.cells ≡ 64 → can_move P ≡ true → ((Q : GridView) → length Q.cells ≡ 64 → v (image_by r.back Q) ≡ v Q) → best_worth v (image_by r.back P) ≡ best_worth v P
 best_of-image_by r v P full h same =
-    let back : (Q : Position) → length Q.cells ≡ 64 → v (image_by r.to Q) ≡ v Q =
+    let back : (Q : GridView) → length Q.cells ≡ 64 → v (image_by r.to Q) ≡ v Q =
     λ Q l. sym (same (image_by r.to Q) (length-moved_cells r.to Q.cells)) ∙ ap v (image_by-back (flipped r) Q l) in
     let less : best_worth v (image_by r.back P) ≤ℤ best_worth v (image_by r.to (image_by r.back P)) =
     best_of-le (flipped r) v (image_by r.back P) (length-moved_cells r.back P.cells) (can_move-image_by r P full ∙ h) back in
@@ -64,7 +64,7 @@ best_of-image_by r v P full h same =
     (subst (λ Q. best_worth v (image_by r.back P) ≤ℤ best_worth v Q) (image_by-back r P full) less)
     (best_of-le r v P full h same)
 
-value_at-image_by : (g : Scoring) (r : Renaming) (n : ℕ) (P : Position) → length P.cells ≡ 64 → value_at g n (image_by r.back P) ≡ value_at g n P
+value_at-image_by : (g : Scoring) (r : Renaming) (n : ℕ) (P : GridView) → length P.cells ≡ 64 → value_at g n (image_by r.back P) ≡ value_at g n P
 value_at-image_by g r zero P full = value_at-zero g (image_by r.back P) ∙ final-image_by g r P full ∙ sym (value_at-zero g P)
 value_at-image_by g r (suc n) P full =
     elim (cases_Bool (can_move P)) [
@@ -85,25 +85,25 @@ value_at-image_by g r (suc n) P full =
           ]
     ]
 
-pub value-image_by : (g : Scoring) (r : Renaming) (P : Position) → length P.cells ≡ 64 → value g (image_by r.back P) ≡ value g P
+pub value-image_by : (g : Scoring) (r : Renaming) (P : GridView) → length P.cells ≡ 64 → value g (image_by r.back P) ≡ value g P
 unfolding value
 value-image_by g r P full = ap (λ n. value_at g n (image_by r.back P)) (count_of-image_by r P Empty full) ∙ value_at-image_by g r (empties P) P full
 
 -- the game is over at both, or at neither
-pub IsOver-image_by : (r : Renaming) (P : Position) → length P.cells ≡ 64 → IsOver P → IsOver (image_by r.back P)
+pub IsOver-image_by : (r : Renaming) (P : GridView) → length P.cells ≡ 64 → IsOver P → IsOver (image_by r.back P)
 IsOver-image_by r P full h = (
   moves_none (image_by r.back P) (can_move-image_by r P full ∙ can_move-moves_none P h.0),
   moves_none (pass (image_by r.back P)) (can_move-image_by r (pass P) full ∙ can_move-moves_none (pass P) h.1),
 )
 
 -- the best moves of the image are the images of the best moves
-pub is_best-sent : (g : Scoring) (r : Renaming) (P : Position) (q : ℕ) → length P.cells ≡ 64 → q < 64 → is_best g (image_by r.back P) (r.to q) ≡ is_best g P q
+pub is_best-sent : (g : Scoring) (r : Renaming) (P : GridView) (q : ℕ) → length P.cells ≡ 64 → q < 64 → is_best g (image_by r.back P) (r.to q) ≡ is_best g P q
 is_best-sent g r P q full b =
     let w : worth (value g) (image_by r.back P) (r.to q) ≡ worth (value g) P q = worth-sent r (value g) P q full b (value-image_by g r) in
     let v : value g (image_by r.back P) ≡ value g P = value-image_by g r P full in
     λ i. int_eq (w i) (v i)
 
-pub best_moves-sent : (g : Scoring) (r : Renaming) (P : Position) (q : ℕ) → length P.cells ≡ 64 → Contains (best_moves g P) q → Contains (best_moves g (image_by r.back P)) (r.to q)
+pub best_moves-sent : (g : Scoring) (r : Renaming) (P : GridView) (q : ℕ) → length P.cells ≡ 64 → Contains (best_moves g P) q → Contains (best_moves g (image_by r.back P)) (r.to q)
 unfolding best_moves
 best_moves-sent g r P q full h =
     let m : Contains (moves P) q = Contains-from_filter (is_best g P) (moves P) q h in
@@ -111,7 +111,7 @@ best_moves-sent g r P q full h =
     Contains-filter (is_best g (image_by r.back P)) (moves (image_by r.back P)) (r.to q) (moves-sent r P q full m)
     (is_best-sent g r P q full b ∙ passes_in_filter (is_best g P) (moves P) q h)
 
-pub best_moves-sent_back : (g : Scoring) (r : Renaming) (P : Position) (q : ℕ) → length P.cells ≡ 64 → Contains (best_moves g (image_by r.back P)) q → Contains (best_moves g P) (r.back q)
+pub best_moves-sent_back : (g : Scoring) (r : Renaming) (P : GridView) (q : ℕ) → length P.cells ≡ 64 → Contains (best_moves g (image_by r.back P)) q → Contains (best_moves g P) (r.back q)
 best_moves-sent_back g r P q full h =
     subst (λ Q. Contains (best_moves g Q) (r.back q)) (image_by-back r P full)
     (best_moves-sent g (flipped r) (image_by r.back P) q (length-moved_cells r.back P.cells) h)
@@ -132,10 +132,10 @@ sum_by-agree f g (x ∷ xs) h =
     let first : f x ≡ g x = h x (Contains-head x xs) in
     sum_by-cons f x xs ∙ rw (first, rest) (sym (sum_by-cons g x xs))
 
-pub sum_by-best_moves : (g : Scoring) (r : Renaming) (P : Position) (f : ℕ → ℕ) → length P.cells ≡ 64 → sum_by f (best_moves g (image_by r.back P)) ≡ sum_by (λ q. f (r.to q)) (best_moves g P)
+pub sum_by-best_moves : (g : Scoring) (r : Renaming) (P : GridView) (f : ℕ → ℕ) → length P.cells ≡ 64 → sum_by f (best_moves g (image_by r.back P)) ≡ sum_by (λ q. f (r.to q)) (best_moves g P)
 unfolding best_moves moves
 sum_by-best_moves g r P f full =
-    let P' : Position = image_by r.back P in
+    let P' : GridView = image_by r.back P in
     let theirs : ℕ → ℕ = λ q. cond (is_move P' q) (cond (is_best g P' q) (f q) 0) 0 in
     let ours : ℕ → ℕ = λ q. cond (is_move P q) (cond (is_best g P q) (f (r.to q)) 0) 0 in
     sum_by-filter f (is_best g P') (filter (is_move P') squares)
@@ -148,14 +148,14 @@ sum_by-best_moves g r P f full =
     ∙ sym (sum_by-filter (λ q. f (r.to q)) (is_best g P) (filter (is_move P) squares))
 
 -- the answer of an image
-pub answer-image_by_moves : (g : Scoring) (r : Renaming) (P : Position) → length P.cells ≡ 64 → can_move P ≡ true → answer g (image_by r.back P) ≡ record { score = value g P; best = Moves (mask_of (map r.to (best_moves g P))) }
+pub answer-image_by_moves : (g : Scoring) (r : Renaming) (P : GridView) → length P.cells ≡ 64 → can_move P ≡ true → answer g (image_by r.back P) ≡ record { score = value g P; best = Moves (mask_of (map r.to (best_moves g P))) }
 unfolding answer mask_of
 answer-image_by_moves g r P full h =
     let m : mask_of (best_moves g (image_by r.back P)) ≡ mask_of (map r.to (best_moves g P)) = sum_by-best_moves g r P (λ q. 2 ^ q) full ∙ sym (sum_by-map (λ q. 2 ^ q) r.to (best_moves g P)) in
     let b : best g (image_by r.back P) ≡ Moves (mask_of (map r.to (best_moves g P))) = best_is_moves g (image_by r.back P) (can_move-image_by r P full ∙ h) ∙ ap Moves m in
     λ i. record { score = value-image_by g r P full i; best = b i }
 
-pub answer-image_by_none : (g : Scoring) (r : Renaming) (P : Position) → length P.cells ≡ 64 → can_move P ≡ false → answer g (image_by r.back P) ≡ answer g P
+pub answer-image_by_none : (g : Scoring) (r : Renaming) (P : GridView) → length P.cells ≡ 64 → can_move P ≡ false → answer g (image_by r.back P) ≡ answer g P
 unfolding answer
 answer-image_by_none g r P full h =
     let e : best g (image_by r.back P) ≡ best g P =
@@ -165,9 +165,9 @@ answer-image_by_none g r P full h =
     ] in
     λ i. record { score = value-image_by g r P full i; best = e i }
 
-pub moves-sent_back : (r : Renaming) (P : Position) (q : ℕ) → length P.cells ≡ 64 → Contains (moves (image_by r.back P)) q → Contains (moves P) (r.back q)
+pub moves-sent_back : (r : Renaming) (P : GridView) (q : ℕ) → length P.cells ≡ 64 → Contains (moves (image_by r.back P)) q → Contains (moves P) (r.back q)
 moves-sent_back r P q full h =
     subst (λ Q. Contains (moves Q) (r.back q)) (image_by-back r P full) (moves-sent (flipped r) (image_by r.back P) q (length-moved_cells r.back P.cells) h)
 
-pub IsOver-image_by_back : (r : Renaming) (P : Position) → length P.cells ≡ 64 → IsOver (image_by r.back P) → IsOver P
+pub IsOver-image_by_back : (r : Renaming) (P : GridView) → length P.cells ≡ 64 → IsOver (image_by r.back P) → IsOver P
 IsOver-image_by_back r P full h = subst IsOver (image_by-back r P full) (IsOver-image_by (flipped r) (image_by r.back P) (length-moved_cells r.back P.cells) h)

@@ -9,14 +9,14 @@ use Rattle.std.proofs.lemmas.List.FromFn.{length-range_with_len, get_or-range_wi
 use Rattle.othello_rules.specs.declared.directions.Direction.{Direction}
 use Rattle.othello_rules.specs.declared.discs.Cell.TheVariants.{Empty}
 use Rattle.othello_rules.specs.Board.{squares, directions, ray}
-use Rattle.othello_rules.specs.Rules.{Position, has, own, opposing, run, closes, turned, flips, is_nonempty, is_move, moves}
+use Rattle.othello_rules.specs.Rules.{GridView, has, own, opposing, run, closes, turned, flips, is_nonempty, is_move, moves}
 use Rattle.othello_rules.proofs.ListLaws.{Contains-filter, Contains-from_filter, passes_in_filter, Contains-flat_map, Contains-nil, Contains-cons_cases}
 
-pub flips_empty : (P : Position) (q : ℕ) → has P Empty q ≡ true → flips P q ≡ flat_map (turned P q) directions
+pub flips_empty : (P : GridView) (q : ℕ) → has P Empty q ≡ true → flips P q ≡ flat_map (turned P q) directions
 unfolding flips
 flips_empty P q h = cond-true (has P Empty q) (flat_map (turned P q) directions) [] h
 
-pub flips_occupied : (P : Position) (q : ℕ) → has P Empty q ≡ false → flips P q ≡ []
+pub flips_occupied : (P : GridView) (q : ℕ) → has P Empty q ≡ false → flips P q ≡ []
 unfolding flips
 flips_occupied P q h = cond-false (has P Empty q) (flat_map (turned P q) directions) [] h
 
@@ -29,7 +29,7 @@ is_nonempty_yes [] h = absurd (h refl)
 is_nonempty_yes (x ∷ xs) h = refl
 
 -- a move is on an empty square
-pub move_empty : (P : Position) (q : ℕ) → is_move P q ≡ true → has P Empty q ≡ true
+pub move_empty : (P : GridView) (q : ℕ) → is_move P q ≡ true → has P Empty q ≡ true
 move_empty P q h =
     elim (cases_Bool (has P Empty q)) [
       | inl e ↦ e
@@ -44,15 +44,15 @@ Contains-squares q h =
     let e : get_or (range_with_len 0 64) q 0 ≡ q = get_or-range_with_len 0 64 q 0 h ∙ omega arith in
     rw e at c
 
-pub Contains-moves : (P : Position) (q : ℕ) → q < 64 → is_move P q ≡ true → Contains (moves P) q
+pub Contains-moves : (P : GridView) (q : ℕ) → q < 64 → is_move P q ≡ true → Contains (moves P) q
 unfolding moves
 Contains-moves P q on_board h = Contains-filter (is_move P) squares q (Contains-squares q on_board) h
 
-pub is_move-from_Contains : (P : Position) (q : ℕ) → Contains (moves P) q → is_move P q ≡ true
+pub is_move-from_Contains : (P : GridView) (q : ℕ) → Contains (moves P) q → is_move P q ≡ true
 unfolding moves
 is_move-from_Contains P q h = passes_in_filter (is_move P) squares q h
 
-pub move_on_board : (P : Position) (q : ℕ) → Contains (moves P) q → Contains squares q
+pub move_on_board : (P : GridView) (q : ℕ) → Contains (moves P) q → Contains squares q
 unfolding moves
 move_on_board P q h = Contains-from_filter (is_move P) squares q h
 
@@ -70,7 +70,7 @@ opposing_in_run opp (x ∷ xs) s h =
       | inr b ↦ absurd (Contains-nil s (rw b at h))
     ]
 
-opposing_in_turned : (P : Position) (q : ℕ) (d : Direction) (s : ℕ) → Contains (turned P q d) s → has P (opposing P) s ≡ true
+opposing_in_turned : (P : GridView) (q : ℕ) (d : Direction) (s : ℕ) → Contains (turned P q d) s → has P (opposing P) s ≡ true
 unfolding turned
 opposing_in_turned P q d s h =
     elim (cases_Bool (closes (has P (own P)) (has P (opposing P)) (ray d q))) [
@@ -78,7 +78,7 @@ opposing_in_turned P q d s h =
       | inr b ↦ absurd (Contains-nil s (rw b at h))
     ]
 
-pub opposing_in_flips : (P : Position) (q s : ℕ) → Contains (flips P q) s → has P (opposing P) s ≡ true
+pub opposing_in_flips : (P : GridView) (q s : ℕ) → Contains (flips P q) s → has P (opposing P) s ≡ true
 opposing_in_flips P q s h =
     elim (cases_Bool (has P Empty q)) [
       | inl e ↦
@@ -92,7 +92,7 @@ is_nonempty-length : (xs : List ℕ) → is_nonempty xs ≡ not (nat_eq (length 
 is_nonempty-length [] = refl
 is_nonempty-length (x ∷ xs) = grind (arith, nat_tests)
 
-pub is_move-is_empty : (P : Position) (q : ℕ) (xs : List ℕ) (b : Bool) → xs ≡ flips P q → b ≡ nat_eq (length xs) 0 → is_move P q ≡ not b
+pub is_move-is_empty : (P : GridView) (q : ℕ) (xs : List ℕ) (b : Bool) → xs ≡ flips P q → b ≡ nat_eq (length xs) 0 → is_move P q ≡ not b
 is_move-is_empty P q xs b e t = ap is_nonempty (sym e) ∙ is_nonempty-length xs ∙ ap not (sym t)
 
 pub square_below : (q : ℕ) → Contains squares q → q < 64

@@ -11,10 +11,10 @@ use Rattle.othello_rules.specs.declared.discs.Side.TheVariants as side
 use Rattle.othello_rules.specs.declared.discs.Cell.{Cell}
 use Rattle.othello_rules.specs.declared.discs.Cell.TheVariants as cell
 use Rattle.othello_rules.specs.declared.scorings.Scoring.{Scoring}
-use Rattle.othello_rules.specs.Rules.{Position, own, opposing, other, disc, same_cell, count_of, moves, play, pass}
+use Rattle.othello_rules.specs.Rules.{GridView, own, opposing, other, disc, same_cell, count_of, moves, play, pass}
 use Rattle.othello_rules.specs.Scores.{score_of, final}
 use Rattle.othello_rules.specs.declared.scorings.Scoring.TheVariants.{Winner, Discs, Sign}
-use Rattle.othello_rules.specs.Solution.{IsScore}
+use Rattle.othello_rules.specs.Answer.{IsScore}
 use Rattle.othello_rules.specs.Value.{greatest, can_move, worth, best_worth, empties, value_at, value}
 use Rattle.othello_rules.proofs.CountLaws.{length-play}
 use Rattle.othello_rules.proofs.ValueLaws.{some_move}
@@ -33,7 +33,7 @@ by_side : (s : Side) (xs : List Cell) → count_by (same_cell (disc s)) xs + cou
 by_side side.Black xs = omega (arith, all_counted xs)
 by_side side.White xs = omega (arith, all_counted xs)
 
-pub counts_add : (P : Position) → count_of P (own P) + count_of P (opposing P) + count_of P cell.Empty ≡ length P.cells
+pub counts_add : (P : GridView) → count_of P (own P) + count_of P (opposing P) + count_of P cell.Empty ≡ length P.cells
 counts_add P = by_side P.mover P.cells
 
 pub score_of-IsScore : (g : Scoring) (m o e : ℕ) → m + o + e ≤ 64 → IsScore (score_of g m o e)
@@ -53,14 +53,14 @@ score_of-IsScore Sign m o e h = signum-IsScore (pos m -ℤ pos o)
     signum-IsScore (pos n) = record { low = omega (arith, ints); high = omega (arith, ints) }
     signum-IsScore (negsuc n) = record { low = omega (arith, ints); high = omega (arith, ints) }
 
-pub final-IsScore : (g : Scoring) (P : Position) → length P.cells ≤ 64 → IsScore (final g P)
+pub final-IsScore : (g : Scoring) (P : GridView) → length P.cells ≤ 64 → IsScore (final g P)
 unfolding final
 final-IsScore g P h = score_of-IsScore g (count_of P (own P)) (count_of P (opposing P)) (count_of P cell.Empty) (omega (arith, counts_add P))
 
 pub neg-IsScore : (z : ℤ) → IsScore z → IsScore (neg_ℤ z)
 neg-IsScore z h = record { low = omega (arith, ints); high = omega (arith, ints) }
 
-best_of-IsScore : (v : Position → ℤ) (P : Position) → can_move P ≡ true → ((q : ℕ) → IsScore (v (play P q))) → IsScore (best_worth v P)
+best_of-IsScore : (v : GridView → ℤ) (P : GridView) → can_move P ≡ true → ((q : ℕ) → IsScore (v (play P q))) → IsScore (best_worth v P)
 unfolding best_worth
 best_of-IsScore v P h each =
     let s : (q : ℕ) × Contains (moves P) q = some_move P h in
@@ -69,7 +69,7 @@ best_of-IsScore v P h each =
     (greatest_reached (map (worth v P) (moves P)) (worth v P s.0) (Contains-map (worth v P) (moves P) s.0 s.1)) in
     rw (← r.2) (neg-IsScore (v (play P r.0)) (each r.0))
 
-value_at-IsScore : (g : Scoring) (n : ℕ) (P : Position) → length P.cells ≤ 64 → IsScore (value_at g n P)
+value_at-IsScore : (g : Scoring) (n : ℕ) (P : GridView) → length P.cells ≤ 64 → IsScore (value_at g n P)
 unfolding value_at
 value_at-IsScore g zero P h = final-IsScore g P h
 value_at-IsScore g (suc n) P h =
@@ -82,6 +82,6 @@ value_at-IsScore g (suc n) P h =
           ]
     ]
 
-pub value-IsScore : (g : Scoring) (P : Position) → length P.cells ≤ 64 → IsScore (value g P)
+pub value-IsScore : (g : Scoring) (P : GridView) → length P.cells ≤ 64 → IsScore (value g P)
 unfolding value
 value-IsScore g P h = value_at-IsScore g (empties P) P h

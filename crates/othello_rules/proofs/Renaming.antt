@@ -9,7 +9,7 @@ use Rattle.othello_rules.specs.declared.directions.Direction.{Direction}
 use Rattle.othello_rules.specs.declared.discs.Cell.{Cell}
 use Rattle.othello_rules.specs.declared.discs.Cell.TheVariants.{Empty}
 use Rattle.othello_rules.specs.Board.{squares, directions, ray}
-use Rattle.othello_rules.specs.Rules.{Position, has, is_some_cell, same_cell, count_of}
+use Rattle.othello_rules.specs.Rules.{GridView, has, is_some_cell, same_cell, count_of}
 use Rattle.othello_rules.specs.Renamed.{moved_cells, image_by}
 use Rattle.othello_rules.proofs.Reorder.{same_list, same_list-true, reordered, sum_by-reordered, sum_by-map, member-list_any, list_all-member}
 
@@ -71,11 +71,11 @@ pub get_or-moved_cells : (back : ℕ → ℕ) (cells : List Cell) (k : ℕ) (d :
 unfolding moved_cells squares
 get_or-moved_cells back cells k d h = get_or-map-range_with_len (λ q. get_or cells (back q) Empty) 0 64 k k d h (omega arith)
 
-pub same_position : (P Q : Position) → P.mover ≡ Q.mover → P.cells ≡ Q.cells → P ≡ Q
+pub same_position : (P Q : GridView) → P.mover ≡ Q.mover → P.cells ≡ Q.cells → P ≡ Q
 same_position P Q m c = λ i. record { cells = c i; mover = m i }
 
 -- images of images, and the image that is the position itself
-pub image_by-image_by : (f g h : ℕ → ℕ) (P : Position) → ((q : ℕ) → q < 64 → f q < 64) → ((q : ℕ) → q < 64 → g (f q) ≡ h q) → image_by f (image_by g P) ≡ image_by h P
+pub image_by-image_by : (f g h : ℕ → ℕ) (P : GridView) → ((q : ℕ) → q < 64 → f q < 64) → ((q : ℕ) → q < 64 → g (f q) ≡ h q) → image_by f (image_by g P) ≡ image_by h P
 image_by-image_by f g h P within same =
     same_position (image_by f (image_by g P)) (image_by h P) refl
     (same_lists (moved_cells f (moved_cells g P.cells)) (moved_cells h P.cells) (length-moved_cells f (moved_cells g P.cells) ∙ sym (length-moved_cells h P.cells))
@@ -86,7 +86,7 @@ image_by-image_by f g h P within same =
     ∙ ap (λ n. get_or P.cells n Empty) (same k l)
     ∙ sym (get_or-moved_cells h P.cells k d l)))
 
-pub image_by-still : (h : ℕ → ℕ) (P : Position) → length P.cells ≡ 64 → ((q : ℕ) → q < 64 → h q ≡ q) → image_by h P ≡ P
+pub image_by-still : (h : ℕ → ℕ) (P : GridView) → length P.cells ≡ 64 → ((q : ℕ) → q < 64 → h q ≡ q) → image_by h P ≡ P
 image_by-still h P full same =
     same_position (image_by h P) P refl
     (same_lists (moved_cells h P.cells) P.cells (length-moved_cells h P.cells ∙ sym full)
@@ -95,12 +95,12 @@ image_by-still h P full same =
     let inside : k < length P.cells = rw full l in
     get_or-moved_cells h P.cells k d l ∙ ap (λ n. get_or P.cells n Empty) (same k l) ∙ get_or_default P.cells k Empty d inside))
 
-pub image_by-back : (r : Renaming) (P : Position) → length P.cells ≡ 64 → image_by r.to (image_by r.back P) ≡ P
+pub image_by-back : (r : Renaming) (P : GridView) → length P.cells ≡ 64 → image_by r.to (image_by r.back P) ≡ P
 image_by-back r P full =
     image_by-image_by r.to r.back (λ q. r.back (r.to q)) P r.there.on_board (λ q b. refl) ∙ image_by-still (λ q. r.back (r.to q)) P full r.there.comes_back
 
 -- a cell of the image
-pub has-image_by : (back : ℕ → ℕ) (P : Position) (c : Cell) (k : ℕ) → length P.cells ≡ 64 → k < 64 → back k < 64 → has (image_by back P) c k ≡ has P c (back k)
+pub has-image_by : (back : ℕ → ℕ) (P : GridView) (c : Cell) (k : ℕ) → length P.cells ≡ 64 → k < 64 → back k < 64 → has (image_by back P) c k ≡ has P c (back k)
 has-image_by back P c k full h l =
     let a : k < length (moved_cells back P.cells) = rw length-moved_cells h in
     let b : back k < length P.cells = rw full l in
@@ -109,7 +109,7 @@ has-image_by back P c k full h l =
     ∙ ap Some (get_or-moved_cells back P.cells k Empty h)
     ∙ sym (slice_get-get_or P.cells (back k) Empty b))
 
-pub has-sent : (r : Renaming) (P : Position) (c : Cell) (q : ℕ) → length P.cells ≡ 64 → q < 64 → has (image_by r.back P) c (r.to q) ≡ has P c q
+pub has-sent : (r : Renaming) (P : GridView) (c : Cell) (q : ℕ) → length P.cells ≡ 64 → q < 64 → has (image_by r.back P) c (r.to q) ≡ has P c q
 has-sent r P c q full h =
     let home : r.back (r.to q) ≡ q = r.there.comes_back q h in
     has-image_by r.back P c (r.to q) full (r.there.on_board q h) (rw home h) ∙ ap (has P c) home
@@ -119,7 +119,7 @@ unfolding squares
 all_cells cells full = fill_by_all (λ k. get_or cells k Empty) cells 64 Empty full (λ k h. refl)
 
 -- discs of each kind are as many
-pub count_of-image_by : (r : Renaming) (P : Position) (c : Cell) → length P.cells ≡ 64 → count_of (image_by r.back P) c ≡ count_of P c
+pub count_of-image_by : (r : Renaming) (P : GridView) (c : Cell) → length P.cells ≡ 64 → count_of (image_by r.back P) c ≡ count_of P c
 unfolding moved_cells
 count_of-image_by r P c full =
     let f : Cell → ℕ = λ x. cond (same_cell c x) 1 0 in

@@ -10,7 +10,7 @@ use Rattle.std.proofs.lemmas.Bool.Decides.{Decides-int_eq}
 use Rattle.othello_rules.specs.declared.scorings.Scoring.{Scoring}
 use Rattle.othello_rules.specs.declared.scorings.Scoring.TheVariants.{Winner, Discs, Sign}
 use Rattle.othello_rules.specs.declared.discs.Cell.TheVariants.{Empty}
-use Rattle.othello_rules.specs.Rules.{Position, own, opposing, count_of, moves, pass, play}
+use Rattle.othello_rules.specs.Rules.{GridView, own, opposing, count_of, moves, pass, play}
 use Rattle.othello_rules.specs.Scores.{score_of, final}
 use Rattle.othello_rules.specs.Value.{greatest, can_move, worth, best_worth, empties, value_at, value, is_best, best_moves}
 use Rattle.othello_rules.proofs.ListLaws.{Contains-filter, Contains-from_filter, passes_in_filter}
@@ -61,10 +61,10 @@ map_twice : (f : ℤ → ℤ) (h : ℕ → ℤ) (qs : List ℕ) → map f (map h
 map_twice f h [] = refl
 map_twice f h (q ∷ qs) = ap (λ t. f (h q) ∷ t) (map_twice f h qs)
 
-signum-worth : (v w : Position → ℤ) (P : Position) (q : ℕ) → int_signum (v (play P q)) ≡ w (play P q) → int_signum (worth v P q) ≡ worth w P q
+signum-worth : (v w : GridView → ℤ) (P : GridView) (q : ℕ) → int_signum (v (play P q)) ≡ w (play P q) → int_signum (worth v P q) ≡ worth w P q
 signum-worth v w P q same = signum-neg (v (play P q)) ∙ ap neg_ℤ same
 
-signum-best_of : (v w : Position → ℤ) (P : Position) → ((Q : Position) → int_signum (v Q) ≡ w Q) → int_signum (best_worth v P) ≡ best_worth w P
+signum-best_of : (v w : GridView → ℤ) (P : GridView) → ((Q : GridView) → int_signum (v Q) ≡ w Q) → int_signum (best_worth v P) ≡ best_worth w P
 unfolding best_worth
 signum-best_of v w P same =
     let each : (λ q. int_signum (worth v P q)) ≡ worth w P = λ k q. signum-worth v w P q (same (play P q)) k in
@@ -102,11 +102,11 @@ signum-score_of Winner m o e =
 signum-score_of Discs m o e = refl
 signum-score_of Sign m o e = signum-signum (pos m -ℤ pos o)
 
-signum-final : (g : Scoring) (P : Position) → int_signum (final g P) ≡ final Sign P
+signum-final : (g : Scoring) (P : GridView) → int_signum (final g P) ≡ final Sign P
 unfolding final
 signum-final g P = signum-score_of g (count_of P (own P)) (count_of P (opposing P)) (count_of P Empty)
 
-signum-value_at : (g : Scoring) (n : ℕ) (P : Position) → int_signum (value_at g n P) ≡ value_at Sign n P
+signum-value_at : (g : Scoring) (n : ℕ) (P : GridView) → int_signum (value_at g n P) ≡ value_at Sign n P
 signum-value_at g zero P = ap int_signum (value_at-zero g P) ∙ signum-final g P ∙ sym (value_at-zero Sign P)
 signum-value_at g (suc n) P =
     elim (cases_Bool (can_move P)) [
@@ -126,12 +126,12 @@ signum-value_at g (suc n) P =
           ]
     ]
 
-pub signum-value : (g : Scoring) (P : Position) → int_signum (value g P) ≡ value Sign P
+pub signum-value : (g : Scoring) (P : GridView) → int_signum (value g P) ≡ value Sign P
 unfolding value
 signum-value g P = signum-value_at g (empties P) P
 
 -- what is worth the value is worth its sign under `Sign`
-pub best_under_sign : (g : Scoring) (P : Position) (q : ℕ) → Contains (best_moves g P) q → Contains (best_moves Sign P) q
+pub best_under_sign : (g : Scoring) (P : GridView) (q : ℕ) → Contains (best_moves g P) q → Contains (best_moves Sign P) q
 unfolding best_moves
 best_under_sign g P q h =
     let move : Contains (moves P) q = Contains-from_filter (is_best g P) (moves P) q h in

@@ -3,7 +3,7 @@ use Rattle.std.proofs.Common.{◌≡◌, ℕ, zero, suc, true, false, List, [], 
 use Rattle.std.specs.List.{Contains}
 use Rattle.std.proofs.lemmas.Bool.{true≢false}
 use Rattle.othello_rules.specs.declared.scorings.Scoring.{Scoring}
-use Rattle.othello_rules.specs.Rules.{Position, moves, pass, play, is_nonempty}
+use Rattle.othello_rules.specs.Rules.{GridView, moves, pass, play, is_nonempty}
 use Rattle.othello_rules.specs.Scores.{final}
 use Rattle.othello_rules.specs.Value.{greatest, can_move, worth, best_worth, empties, value_at, value}
 use Rattle.othello_rules.proofs.ListLaws.{Contains-head, Contains-cons}
@@ -13,12 +13,12 @@ pub some_member : (xs : List ℕ) → is_nonempty xs ≡ true → (q : ℕ) × C
 some_member [] h = absurd (true≢false (sym h))
 some_member (x ∷ xs) h = (x, Contains-head x xs)
 
-pub some_move : (P : Position) → can_move P ≡ true → (q : ℕ) × Contains (moves P) q
+pub some_move : (P : GridView) → can_move P ≡ true → (q : ℕ) × Contains (moves P) q
 unfolding can_move
 some_move P h = some_member (moves P) h
 
 -- a side that can move has an empty square
-pub empties_if_move : (P : Position) → can_move P ≡ true → (m : ℕ) × (empties P ≡ suc m)
+pub empties_if_move : (P : GridView) → can_move P ≡ true → (m : ℕ) × (empties P ≡ suc m)
 empties_if_move P h =
     let s : (q : ℕ) × Contains (moves P) q = some_move P h in
     (empties (play P s.0), omega (arith, empties-play P s.0 s.1))
@@ -31,41 +31,41 @@ map-agree f g (x ∷ xs) h =
     rw (first, rest) refl
 
 -- with the right number of empty squares the moves are worth what they are by `value`
-best_of-value_at : (g : Scoring) (P : Position) (m : ℕ) → empties P ≡ suc m → best_worth (value_at g m) P ≡ best_worth (value g) P
+best_of-value_at : (g : Scoring) (P : GridView) (m : ℕ) → empties P ≡ suc m → best_worth (value_at g m) P ≡ best_worth (value g) P
 unfolding best_worth value
 best_of-value_at g P m e =
     ap greatest (map-agree (worth (value_at g m) P) (worth (value g) P) (moves P)
     (λ q c. let less : m ≡ empties (play P q) = omega (arith, empties-play P q c) in ap (λ n. neg_ℤ (value_at g n (play P q))) less))
 
-pub value_at-zero : (g : Scoring) (P : Position) → value_at g 0 P ≡ final g P
+pub value_at-zero : (g : Scoring) (P : GridView) → value_at g 0 P ≡ final g P
 unfolding value_at
 value_at-zero g P = refl
 
-pub value_at-over : (g : Scoring) (n : ℕ) (P : Position) → can_move P ≡ false → can_move (pass P) ≡ false → value_at g n P ≡ final g P
+pub value_at-over : (g : Scoring) (n : ℕ) (P : GridView) → can_move P ≡ false → can_move (pass P) ≡ false → value_at g n P ≡ final g P
 unfolding value_at
 value_at-over g zero P h k = refl
 value_at-over g (suc n) P h k = rw (h, k, value_at) refl
 
-pub value_at-move : (g : Scoring) (m : ℕ) (P : Position) → can_move P ≡ true → value_at g (suc m) P ≡ best_worth (value_at g m) P
+pub value_at-move : (g : Scoring) (m : ℕ) (P : GridView) → can_move P ≡ true → value_at g (suc m) P ≡ best_worth (value_at g m) P
 unfolding value_at
 value_at-move g m P h = rw (h, value_at) refl
 
-pub value_at-pass : (g : Scoring) (m : ℕ) (P : Position) → can_move P ≡ false → can_move (pass P) ≡ true → value_at g (suc m) P ≡ neg_ℤ (best_worth (value_at g m) (pass P))
+pub value_at-pass : (g : Scoring) (m : ℕ) (P : GridView) → can_move P ≡ false → can_move (pass P) ≡ true → value_at g (suc m) P ≡ neg_ℤ (best_worth (value_at g m) (pass P))
 unfolding value_at
 value_at-pass g m P h k = rw (h, k, value_at) refl
 
 -- the three cases of minimax
-pub value-over : (g : Scoring) (P : Position) → can_move P ≡ false → can_move (pass P) ≡ false → value g P ≡ final g P
+pub value-over : (g : Scoring) (P : GridView) → can_move P ≡ false → can_move (pass P) ≡ false → value g P ≡ final g P
 unfolding value
 value-over g P h k = value_at-over g (empties P) P h k
 
-pub value-move : (g : Scoring) (P : Position) → can_move P ≡ true → value g P ≡ best_worth (value g) P
+pub value-move : (g : Scoring) (P : GridView) → can_move P ≡ true → value g P ≡ best_worth (value g) P
 unfolding value
 value-move g P h =
     let e : (m : ℕ) × (empties P ≡ suc m) = empties_if_move P h in
     ap (λ n. value_at g n P) e.1 ∙ value_at-move g e.0 P h ∙ best_of-value_at g P e.0 e.1
 
-pub value-pass : (g : Scoring) (P : Position) → can_move P ≡ false → can_move (pass P) ≡ true → value g P ≡ neg_ℤ (value g (pass P))
+pub value-pass : (g : Scoring) (P : GridView) → can_move P ≡ false → can_move (pass P) ≡ true → value g P ≡ neg_ℤ (value g (pass P))
 unfolding value
 value-pass g P h k =
     let e : (m : ℕ) × (empties (pass P) ≡ suc m) = empties_if_move (pass P) k in

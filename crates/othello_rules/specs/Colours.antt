@@ -2,12 +2,12 @@
 use Rattle.std.specs.Prelude.{map}
 use Rattle.othello_rules.specs.declared.discs.Cell.{Cell}
 use Rattle.othello_rules.specs.declared.discs.Cell.TheVariants.{Empty, Black, White}
-use Rattle.othello_rules.specs.Rules.{Position, other}
+use Rattle.othello_rules.specs.Rules.{GridView, other}
 
 abbrev pub swap_cell : Cell → Cell
 swap_cell Empty = Empty
 swap_cell Black = White
 swap_cell White = Black
 
-abbrev pub colour_swap : Position → Position
+abbrev pub colour_swap : GridView → GridView
 colour_swap P = record { cells = map swap_cell P.cells; mover = other P.mover }

@@ -3,7 +3,7 @@ pub mod Neighbours
 pub mod Rules
 pub mod Scores
 pub mod Masks
-pub mod Solution
+pub mod Answer
 pub mod Value
 pub mod Colours
 pub mod Renamed

@@ -3,12 +3,12 @@ use Rattle.std.specs.Prelude.{ℕ, List, map, slice_index_or}
 use Rattle.othello_rules.specs.declared.discs.Cell.{Cell}
 use Rattle.othello_rules.specs.declared.discs.Cell.TheVariants.{Empty}
 use Rattle.othello_rules.specs.Board.{squares}
-use Rattle.othello_rules.specs.Rules.{Position}
+use Rattle.othello_rules.specs.Rules.{GridView}
 
 -- the cells with each square holding what was on the square that `back` names
 unfoldable pub moved_cells : (ℕ → ℕ) → List Cell → List Cell
 moved_cells back cells = map (λ q. slice_index_or cells (back q) Empty) squares
 
 -- the same side is to move
-abbrev pub image_by : (ℕ → ℕ) → Position → Position
+abbrev pub image_by : (ℕ → ℕ) → GridView → GridView
 image_by back P = record { cells = moved_cells back P.cells; mover = P.mover }

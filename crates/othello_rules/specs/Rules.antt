@@ -11,7 +11,7 @@ use Rattle.othello_rules.specs.declared.discs.Cell.TheVariants as cell
 use Rattle.othello_rules.specs.Board.{squares, directions, ray}
 
 -- 64 cells in the order of the squares' numbers, and the side to move, the mover
-pub record Position : Type 0 where
+pub record GridView : Type 0 where
   pub cells : List Cell
   pub mover : Side
 
@@ -24,10 +24,10 @@ abbrev pub disc : Side → Cell
 disc side.Black = cell.Black
 disc side.White = cell.White
 
-abbrev pub own : Position → Cell
+abbrev pub own : GridView → Cell
 own P = disc P.mover
 
-abbrev pub opposing : Position → Cell
+abbrev pub opposing : GridView → Cell
 opposing P = disc (other P.mover)
 
 abbrev pub same_cell : Cell → Cell → Bool
@@ -46,7 +46,7 @@ is_some_cell c None = false
 is_some_cell c (Some d) = same_cell c d
 
 -- square q is on the board and has this in its cell
-abbrev pub has : Position → Cell → ℕ → Bool
+abbrev pub has : GridView → Cell → ℕ → Bool
 has P c q = is_some_cell c (slice_get P.cells q)
 
 -- of the squares met, the longest run of opposing discs at the front
@@ -64,26 +64,26 @@ abbrev pub turned_on : (ℕ → Bool) → (ℕ → Bool) → List ℕ → List �
 turned_on own opp met = if closes own opp met then run opp met else []
 
 -- what a disc put on q would turn in one direction
-unfoldable pub turned : Position → ℕ → Direction → List ℕ
+unfoldable pub turned : GridView → ℕ → Direction → List ℕ
 turned P q d = turned_on (has P (own P)) (has P (opposing P)) (ray d q)
 
 -- what it would turn in all directions, one after the other: nothing if q is occupied
-unfoldable pub flips : Position → ℕ → List ℕ
+unfoldable pub flips : GridView → ℕ → List ℕ
 flips P q = if has P cell.Empty q then flat_map (turned P q) directions else []
 
 abbrev pub is_nonempty : List ℕ → Bool
 is_nonempty [] = false
 is_nonempty (_ ∷ _) = true
 
-abbrev pub is_move : Position → ℕ → Bool
+abbrev pub is_move : GridView → ℕ → Bool
 is_move P q = is_nonempty (flips P q)
 
 -- the empty squares on which a disc would turn something
-unfoldable pub moves : Position → List ℕ
+unfoldable pub moves : GridView → List ℕ
 moves P = filter (is_move P) squares
 
 -- the other side to move
-abbrev pub pass : Position → Position
+abbrev pub pass : GridView → GridView
 pass P = record P { mover = other P.mover }
 
 -- a cell with its square's number, made c if the square is among qs
@@ -95,12 +95,12 @@ unfoldable pub painted_cells : Cell → List ℕ → List Cell → List Cell
 painted_cells c qs cells = map (painted_cell c qs) (enumerate_from 0 cells)
 
 -- q and all that the move turns become the mover's, and the other side is to move
-unfoldable pub play : Position → ℕ → Position
+unfoldable pub play : GridView → ℕ → GridView
 play P q = record { cells = painted_cells (own P) (q ∷ flips P q) P.cells; mover = other P.mover }
 
 -- neither side has a move
-abbrev pub IsOver : Position → Type 0
+abbrev pub IsOver : GridView → Type 0
 IsOver P = (moves P ≡ []) × (moves (pass P) ≡ [])
 
-abbrev pub count_of : Position → Cell → ℕ
+abbrev pub count_of : GridView → Cell → ℕ
 count_of P c = count_by (same_cell c) P.cells

@@ -4,7 +4,7 @@ use Rattle.std.specs.Int.{int_signum}
 use Rattle.othello_rules.specs.declared.scorings.Scoring.{Scoring}
 use Rattle.othello_rules.specs.declared.scorings.Scoring.TheVariants.{Winner, Discs, Sign}
 use Rattle.othello_rules.specs.declared.discs.Cell.TheVariants.{Empty}
-use Rattle.othello_rules.specs.Rules.{Position, own, opposing, count_of}
+use Rattle.othello_rules.specs.Rules.{GridView, own, opposing, count_of}
 
 -- with m discs of the mover, o of the opponent and e empty squares:
 -- Winner, the disc difference with all empty squares for the side that has more (the practice of endgame solvers
@@ -16,7 +16,7 @@ score_of Winner m o e =
 score_of Discs m o e = pos m -ℤ pos o
 score_of Sign m o e = int_signum (pos m -ℤ pos o)
 
-unfoldable pub final : Scoring → Position → ℤ
+unfoldable pub final : Scoring → GridView → ℤ
 final g P = score_of g (count_of P (own P)) (count_of P (opposing P)) (count_of P Empty)
 
 -- the name of a scoring in options and texts

@@ -7,54 +7,54 @@ use Rattle.othello_rules.specs.declared.discs.Cell.TheVariants.{Empty}
 use Rattle.othello_rules.specs.declared.scorings.Scoring.{Scoring}
 use Rattle.othello_rules.specs.declared.answers.Best.{Best}
 use Rattle.othello_rules.specs.declared.answers.Best.TheVariants.{Moves, Pass, Over}
-use Rattle.othello_rules.specs.Rules.{Position, moves, pass, play, count_of, is_nonempty}
+use Rattle.othello_rules.specs.Rules.{GridView, moves, pass, play, count_of, is_nonempty}
 use Rattle.othello_rules.specs.Masks.{mask_of}
 use Rattle.othello_rules.specs.Scores.{final}
-use Rattle.othello_rules.specs.Solution.{Solution}
+use Rattle.othello_rules.specs.Answer.{AnswerView}
 
 -- the greatest of some numbers (of none: 0, which is never asked for)
 unfoldable pub greatest : List ℤ → ℤ
 greatest [] = pos 0
 greatest (x ∷ xs) = fold int_max x xs
 
-unfoldable pub can_move : Position → Bool
+unfoldable pub can_move : GridView → Bool
 can_move P = is_nonempty (moves P)
 
 -- what a move is worth to the mover, where v values the position after it
-abbrev pub worth : (Position → ℤ) → Position → ℕ → ℤ
+abbrev pub worth : (GridView → ℤ) → GridView → ℕ → ℤ
 worth v P q = neg_ℤ (v (play P q))
 
 -- what the best move is worth
-unfoldable pub best_worth : (Position → ℤ) → Position → ℤ
+unfoldable pub best_worth : (GridView → ℤ) → GridView → ℤ
 best_worth v P = greatest (map (worth v P) (moves P))
 
-abbrev pub empties : Position → ℕ
+abbrev pub empties : GridView → ℕ
 empties P = count_of P Empty
 
 -- the value of a position with n empty squares. A move fills one; after a pass a move must come.
-unfoldable pub value_at : Scoring → ℕ → Position → ℤ
+unfoldable pub value_at : Scoring → ℕ → GridView → ℤ
 value_at g zero P = final g P
 value_at g (suc n) P =
     if can_move P
     then best_worth (value_at g n) P
     else (if can_move (pass P) then neg_ℤ (best_worth (value_at g n) (pass P)) else final g P)
 
-unfoldable pub value : Scoring → Position → ℤ
+unfoldable pub value : Scoring → GridView → ℤ
 value g P = value_at g (empties P) P
 
 -- a move that is worth the value
-abbrev pub is_best : Scoring → Position → ℕ → Bool
+abbrev pub is_best : Scoring → GridView → ℕ → Bool
 is_best g P q = int_eq (worth (value g) P q) (value g P)
 
-unfoldable pub best_moves : Scoring → Position → List ℕ
+unfoldable pub best_moves : Scoring → GridView → List ℕ
 best_moves g P = filter (is_best g P) (moves P)
 
-unfoldable pub best : Scoring → Position → Best
+unfoldable pub best : Scoring → GridView → Best
 best g P =
     if can_move P
     then Moves (mask_of (best_moves g P))
     else (if can_move (pass P) then Pass else Over)
 
 -- the value, and all moves that attain it; or a pass; or that the game is over
-unfoldable pub answer : Scoring → Position → Solution
+unfoldable pub answer : Scoring → GridView → AnswerView
 answer g P = record { score = value g P; best = best g P }

@@ -9,10 +9,10 @@ use Rattle.othello_rules.specs.declared.scorings.Scoring.TheVariants.{Winner, Di
 use Rattle.othello_rules.specs.declared.answers.Best.{Best}
 use Rattle.othello_rules.specs.declared.answers.Best.TheVariants.{Moves, Pass, Over}
 use Rattle.othello_rules.specs.Board.{squares, directions, ray}
-use Rattle.othello_rules.specs.Rules.{Position, run, closes, turned, flips, moves, painted_cells, play}
+use Rattle.othello_rules.specs.Rules.{GridView, run, closes, turned, flips, moves, painted_cells, play}
 use Rattle.othello_rules.specs.Scores.{final}
 use Rattle.othello_rules.specs.Masks.{mask_of}
-use Rattle.othello_rules.specs.Solution.{Solution}
+use Rattle.othello_rules.specs.Answer.{AnswerView}
 use Rattle.othello_rules.specs.Value.{greatest, can_move, best_worth, value_at, value, best_moves, best, answer}
 
 -- 64 black discs
@@ -47,7 +47,7 @@ unequal_corners =
     Empty ∷ White ∷ replicate 5 Black ++ Empty ∷ replicate 7 Black ++ White ∷ replicate 19 Black
     ++ White ∷ replicate 28 Black
 
-abbrev to_move : Side → List Cell → Position
+abbrev to_move : Side → List Cell → GridView
 to_move s cells = record { cells = cells; mover = s }
 
 -- H1 for White: south-west G2, F3, E4, then west G1 to C1
@@ -61,10 +61,10 @@ unfolding equal_corners moves flips turned run closes ray directions squares
 moves-equal_corners = refl
 
 -- the answers as Winner, Discs and Sign score them
-abbrev answers : Position → List Solution
+abbrev answers : GridView → List AnswerView
 answers P = answer Winner P ∷ answer Discs P ∷ answer Sign P ∷ []
 
-abbrev scored : ℤ → Best → Solution
+abbrev scored : ℤ → Best → AnswerView
 scored z b = record { score = z; best = b }
 
 -- The squares of a mask: 1 is A1, 2 is B1, 128 is H1, 129 both corners.

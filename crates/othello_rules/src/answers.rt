@@ -22,9 +22,9 @@ pub struct Answer {
 }
 
 impl Model for Answer {
-    ghost use Rattle.othello_rules.specs.Solution.{Solution, IsScore, IsBest};
+    ghost use Rattle.othello_rules.specs.Answer.{AnswerView, IsScore, IsBest};
 
-    ghost Value = { Solution };
+    ghost Value = { AnswerView };
 
     ghost view = { λ a. record { score = a.score; best = a.best } };
 

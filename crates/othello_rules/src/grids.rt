@@ -10,7 +10,7 @@ ghost use Rattle.othello_rules.specs.Rules.{IsOver, count_of, flips, has, moves,
 ghost use Rattle.othello_rules.specs.Rules.{turned};
 ghost use Rattle.othello_rules.specs.Scores.{final};
 ghost use Rattle.othello_rules.specs.Masks.{mask_of};
-ghost use Rattle.othello_rules.specs.Solution.{IsScore};
+ghost use Rattle.othello_rules.specs.Answer.{IsScore};
 ghost use Rattle.othello_rules.specs.Value.{can_move, value, answer, empties, best_moves};
 ghost use Rattle.std.specs.List.{Contains};
 
@@ -33,9 +33,9 @@ pub struct Grid {
 
 impl Model for Grid {
     ghost use Rattle.std.specs.Prelude.{◌≡◌, length};
-    ghost use Rattle.othello_rules.specs.Rules.{Position};
+    ghost use Rattle.othello_rules.specs.Rules.{GridView};
 
-    ghost Value = { Position };
+    ghost Value = { GridView };
 
     ghost view = { λ g. record { cells = g.cells; mover = g.side } };
 

@@ -10,11 +10,11 @@ ghost use Rattle.othello_rules.specs.declared.scorings.Scoring.{Scoring};
 ghost use Rattle.othello_rules.specs.declared.scorings.Scoring.TheVariants.{Sign};
 ghost use Rattle.othello_rules.specs.Board.{directions, ray};
 ghost use Rattle.othello_rules.specs.Neighbours.{neighbour};
-ghost use Rattle.othello_rules.specs.Rules.{Position, IsOver, moves, pass, play};
+ghost use Rattle.othello_rules.specs.Rules.{GridView, IsOver, moves, pass, play};
 ghost use Rattle.othello_rules.specs.Scores.{final};
 ghost use Rattle.othello_rules.specs.Value.{greatest, value, best_moves, answer};
 ghost use Rattle.othello_rules.specs.Colours.{colour_swap};
-ghost use Rattle.othello_rules.specs.Solution.{IsScore};
+ghost use Rattle.othello_rules.specs.Answer.{IsScore};
 
 /// A ray goes step by step: it is empty where the square has no neighbour in the direction, and
 /// else it is the neighbour, and then the neighbour's ray.
@@ -31,29 +31,29 @@ pub fn rays_go_step_by_step()
 /// after a pass where only the mover has no move, and else the greatest of minus the value after
 /// each move.
 pub fn value_is_minimax()
-    ensures over { (g : Scoring) (P : Position) → IsOver P → value g P ≡ final g P }
-    ensures passed { (g : Scoring) (P : Position) → moves P ≡ [] → moves (pass P) ≢ []
+    ensures over { (g : Scoring) (P : GridView) → IsOver P → value g P ≡ final g P }
+    ensures passed { (g : Scoring) (P : GridView) → moves P ≡ [] → moves (pass P) ≢ []
         → value g P ≡ neg_ℤ (value g (pass P)) }
-    ensures moved { (g : Scoring) (P : Position) → moves P ≢ []
+    ensures moved { (g : Scoring) (P : GridView) → moves P ≢ []
         → value g P ≡ greatest (map (λ q. neg_ℤ (value g (play P q))) (moves P)) }
-    ensures at_least { (g : Scoring) (P : Position) (q : ℕ) → Contains (moves P) q
+    ensures at_least { (g : Scoring) (P : GridView) (q : ℕ) → Contains (moves P) q
         → neg_ℤ (value g (play P q)) ≤ℤ value g P }
-    ensures attained { (g : Scoring) (P : Position) → moves P ≢ []
+    ensures attained { (g : Scoring) (P : GridView) → moves P ≢ []
         → (q : ℕ) × Contains (moves P) q × (neg_ℤ (value g (play P q)) ≡ value g P) }
-    ensures in_range { (g : Scoring) (P : Position) → length P.cells ≤ 64 → IsScore (value g P) }
+    ensures in_range { (g : Scoring) (P : GridView) → length P.cells ≤ 64 → IsScore (value g P) }
 {}
 
 /// Swapping all discs and the side to move keeps the moves, the value and the answer.
 pub fn colours_are_alike()
-    ensures moves { (P : Position) → moves (colour_swap P) ≡ moves P }
-    ensures value { (g : Scoring) (P : Position) → value g (colour_swap P) ≡ value g P }
-    ensures answer { (g : Scoring) (P : Position) → answer g (colour_swap P) ≡ answer g P }
+    ensures moves { (P : GridView) → moves (colour_swap P) ≡ moves P }
+    ensures value { (g : Scoring) (P : GridView) → value g (colour_swap P) ≡ value g P }
+    ensures answer { (g : Scoring) (P : GridView) → answer g (colour_swap P) ≡ answer g P }
 {}
 
 /// The sign of a value is the value under `Scoring::Sign`, and a best move under any scoring is
 /// best under that one.
 pub fn scorings_agree()
-    ensures value { (g : Scoring) (P : Position) → int_signum (value g P) ≡ value Sign P }
-    ensures best { (g : Scoring) (P : Position) (q : ℕ) → Contains (best_moves g P) q
+    ensures value { (g : Scoring) (P : GridView) → int_signum (value g P) ≡ value Sign P }
+    ensures best { (g : Scoring) (P : GridView) (q : ℕ) → Contains (best_moves g P) q
         → Contains (best_moves Sign P) q }
 {}

@@ -2,7 +2,7 @@
 
 ghost use Rattle.std.specs.Prelude.{◌≡◌, ◌≤◌, ◌+◌, IfSome, Some};
 ghost use Rattle.othello_rules.specs.Scores.{scoring_name, score_of};
-ghost use Rattle.othello_rules.specs.Solution.{IsScore};
+ghost use Rattle.othello_rules.specs.Answer.{IsScore};
 ghost use Rattle.othello_rules.specs.declared.scorings.Scoring.{Scoring};
 ghost use Rattle.othello_rules.specs.declared.scorings.Scoring.TheVariants.{Winner};
 

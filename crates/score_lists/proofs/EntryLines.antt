@@ -4,9 +4,9 @@ use Rattle.std.proofs.Common.{refl, sym, ap, ◌∙◌, arith, inl, inr}
 use Rattle.std.specs.Prelude.{nat_lt, not}
 use Rattle.std.proofs.lemmas.Bool.{cases_lt, false_from_ne_true, lt-ltb, ltb-true}
 use Rattle.othello_rules.specs.declared.scorings.Scoring.{Scoring}
-use Rattle.othello_rules.specs.Rules.{Position}
+use Rattle.othello_rules.specs.Rules.{GridView}
 use Rattle.othello_rules.specs.Value.{empties}
-use Rattle.othello_bits.specs.Discs.{Discs, discs_of, empties_of, position_of}
+use Rattle.othello_bits.specs.Pos.{PosView, discs_of, empties_of, position_of}
 use Rattle.othello_bits.proofs.CellLaws.{length-cells_of}
 use Rattle.othello_bits.proofs.GameLaws.{empties-discs_of}
 use Rattle.obf_text.specs.Fields.{Field}
@@ -17,11 +17,11 @@ use Rattle.score_lists.specs.Lines.{is_right, many_text, out_text, refused_text,
 use Rattle.move_scores.specs.Scores.{score_fields, score_fields_of}
 use Rattle.move_scores.proofs.EitherSide.{score_fields-discs_of}
 
-pub whole_from : (P : Position) (p : Discs) → position_of P.mover p ≡ P → length P.cells ≡ 64
+pub whole_from : (P : GridView) (p : PosView) → position_of P.mover p ≡ P → length P.cells ≡ 64
 whole_from P p meaning =
-    ap (λ (Q : Position). length Q.cells) (sym meaning) ∙ length-cells_of P.mover p
+    ap (λ (Q : GridView). length Q.cells) (sym meaning) ∙ length-cells_of P.mover p
 
-module _ (g : Scoring) (limit : ℕ) (line : List ℕ) (entry : Entry) (p : Discs)
+module _ (g : Scoring) (limit : ℕ) (line : List ℕ) (entry : Entry) (p : PosView)
     (whole : length entry.position.cells ≡ 64) (e : p ≡ discs_of entry.position) where
   count : empties_of p ≡ empties entry.position
   count = ap empties_of e ∙ empties-discs_of entry.position whole

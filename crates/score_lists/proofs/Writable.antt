@@ -7,9 +7,9 @@ use Rattle.std.specs.List.{AllByRecursion, filter, fold, range_with_len}
 use Rattle.std.proofs.lemmas.Bool.{cases_Bool}
 use Rattle.othello_rules.specs.Board.{squares}
 use Rattle.othello_rules.specs.declared.scorings.Scoring.{Scoring}
-use Rattle.othello_rules.specs.Rules.{Position, is_move, moves, pass, play}
+use Rattle.othello_rules.specs.Rules.{GridView, is_move, moves, pass, play}
 use Rattle.othello_rules.specs.Value.{can_move, value}
-use Rattle.othello_rules.specs.Solution.{IsScore}
+use Rattle.othello_rules.specs.Answer.{IsScore}
 use Rattle.othello_rules.proofs.CountLaws.{length-play}
 use Rattle.othello_rules.proofs.RangeLaws.{value-IsScore}
 use Rattle.obf_text.specs.Fields.{Field}
@@ -25,7 +25,7 @@ all_writable : (fields : List Field) → AllByRecursion IsWritable fields → Ar
 all_writable [] h = tt
 all_writable (f ∷ fields) h = (h.0, all_writable fields h.1)
 
-module _ (g : Scoring) (P : Position) (whole : length P.cells ≡ 64) where
+module _ (g : Scoring) (P : GridView) (whole : length P.cells ≡ 64) where
   own_value : nat_abs (value g P) ≤ 64
   own_value = score_size (value g P) (value-IsScore g P (omega (arith, whole)))
 

@@ -6,7 +6,7 @@ use Rattle.std.specs.List.{flat_map, list_all}
 use Rattle.std.specs.Fmt.{decimal}
 use Rattle.std.specs.declared.alloc.Global.{Global}
 use Rattle.othello_rules.specs.declared.scorings.Scoring.{Scoring}
-use Rattle.othello_rules.specs.Rules.{Position}
+use Rattle.othello_rules.specs.Rules.{GridView}
 use Rattle.othello_rules.specs.Value.{empties}
 use Rattle.obf_text.specs.Fields.{Field}
 use Rattle.obf_text.specs.LineText.{lines_of}
@@ -45,7 +45,7 @@ comment_text [] = []
 comment_text (b ∷ more) = 32 ∷ b ∷ more
 
 -- a position with these scores, the remarks on the pieces of its line, and the line's comment
-unfoldable pub scored_text : Position → List Field → List ℕ → List ℕ
+unfoldable pub scored_text : GridView → List Field → List ℕ → List ℕ
 scored_text P scores line =
     entry_text P scores
     ++ (remarks_text false (remarks scores (line_pieces line))

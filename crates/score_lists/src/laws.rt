@@ -2,7 +2,7 @@
 
 ghost use Rattle.std.specs.Prelude.{◌≡◌, ℕ, List, ◌∷◌, ◌++◌, length};
 ghost use Rattle.othello_rules.specs.declared.scorings.Scoring.{Scoring};
-ghost use Rattle.othello_rules.specs.Rules.{Position};
+ghost use Rattle.othello_rules.specs.Rules.{GridView};
 ghost use Rattle.obf_text.specs.Obf.{Holds, item_of};
 ghost use Rattle.obf_text.specs.Written.{entry_text};
 ghost use Rattle.move_scores.specs.Scores.{score_fields};
@@ -10,10 +10,10 @@ ghost use Rattle.move_scores.specs.Scores.{score_fields};
 /// What is printed of a position, with a remark or a comment behind it or with none, says the
 /// position with every move's score, or its pass or end, and nothing else.
 pub fn scores_are_read_again()
-    ensures bare { (g : Scoring) (P : Position) → length P.cells ≡ 64
+    ensures bare { (g : Scoring) (P : GridView) → length P.cells ≡ 64
         → item_of (entry_text P (score_fields g P))
         ≡ Holds (record { position = P; listed = score_fields g P }) }
-    ensures commented { (g : Scoring) (P : Position) (more : List ℕ) → length P.cells ≡ 64
+    ensures commented { (g : Scoring) (P : GridView) (more : List ℕ) → length P.cells ≡ 64
         → item_of (entry_text P (score_fields g P) ++ 32 ∷ 37 ∷ more)
         ≡ Holds (record { position = P; listed = score_fields g P }) }
 {}

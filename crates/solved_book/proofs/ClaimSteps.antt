@@ -11,13 +11,13 @@ use Rattle.std.specs.List.{AllByRecursion}
 use Rattle.std.proofs.lemmas.Bool.{false≢true}
 use Rattle.othello_rules.specs.declared.discs.Side.TheVariants.{Black}
 use Rattle.othello_rules.specs.declared.scorings.Scoring.{Scoring}
-use Rattle.othello_bits.specs.Discs.{Discs, discs_of, position_of}
+use Rattle.othello_bits.specs.Pos.{PosView, discs_of, position_of}
 use Rattle.othello_bits.specs.Symmetries.{canonical_of, first_symmetry, inverse}
 use Rattle.othello_bits.specs.declared.symmetries.Sym.{Sym}
 use Rattle.obf_text.specs.LineText.{room_of}
 use Rattle.obf_text.specs.Obf.{Meaning, Skipped, Holds, Faulty, item_of}
 use Rattle.endgame_search.specs.declared.solutions.Claim.{Claim}
-use Rattle.solved_book.specs.Advice.{Advice, PositionClaim, GivesAdvice, advice, claim_or_fault, claim_at, claims_from, claim_for, image_claim, is_behind, is_canonical_entry, claim_in_line, lists_nothing, claims_after, claims_with}
+use Rattle.solved_book.specs.Claims.{ClaimsView, PositionClaim, GivesAdvice, advice, claim_or_fault, claim_at, claims_from, claim_for, image_claim, is_behind, is_canonical_entry, claim_in_line, lists_nothing, claims_after, claims_with}
 use Rattle.solved_book.specs.Books.{Masks, position_at, positions_in}
 use Rattle.solved_book.specs.Listing.{claim_of}
 use Rattle.solved_book.specs.Reading.{GivesLine, GivesMap, position_claim, claimed_positions}
@@ -33,11 +33,11 @@ claim_kept_at : (k : Masks) (es : List (Masks × Claim)) → claim_at (position_
 claim_kept_at k [] = refl
 claim_kept_at k (e ∷ es) = ap (λ o. cond (is_eq (masks_cmp k e.0)) (Some e.1) o) (claim_kept_at k es)
 
-pub claim_kept : (p : Discs) (k : Masks) (es : List (Masks × Claim)) → position_at k ≡ p → claim_at p (map position_claim es) ≡ lookup (λ q. is_eq (masks_cmp k q)) es
+pub claim_kept : (p : PosView) (k : Masks) (es : List (Masks × Claim)) → position_at k ≡ p → claim_at p (map position_claim es) ≡ lookup (λ q. is_eq (masks_cmp k q)) es
 claim_kept p k es e = ap (λ q. claim_at q (map position_claim es)) (sym e) ∙ claim_kept_at k es
 
 -- what a look-up of the canonical position gives, on the image that was asked
-pub found_claim : (a : Advice) (g : Scoring) (p : Discs) (k : Masks) (s : Sym) (es : List (Masks × Claim)) (found : Option Claim) → record { scoring = g; claims = map position_claim es } ≡ a
+pub found_claim : (a : ClaimsView) (g : Scoring) (p : PosView) (k : Masks) (s : Sym) (es : List (Masks × Claim)) (found : Option Claim) → record { scoring = g; claims = map position_claim es } ≡ a
     → position_at k ≡ canonical_of p → s ≡ first_symmetry (position_of Black p) → found ≡ lookup (λ q. is_eq (masks_cmp k q)) es → option_map (image_claim (inverse s)) found ≡ claim_for a p
 found_claim a g p k s es found ea ek same e =
     ap (option_map (image_claim (inverse s))) (e ∙ sym (claim_kept (canonical_of p) k es ek))
@@ -89,7 +89,7 @@ checked_behind n false false canonical claim c h = cc
 checked_behind n false true false claim c h = cc
 checked_behind n false true true claim c h = (refl, cc)
 
-line_behind : (n : ℕ) (before : Option Discs) (m : Meaning) (c : PositionClaim) → claim_in_line n before m ≡ Ok (Some c) → is_behind before c.0 ≡ true
+line_behind : (n : ℕ) (before : Option PosView) (m : Meaning) (c : PositionClaim) → claim_in_line n before m ≡ Ok (Some c) → is_behind before c.0 ≡ true
 line_behind n before Skipped c h = cc
 line_behind n before (Faulty f) c h = cc
 line_behind n before (Holds entry) c h =
@@ -97,20 +97,20 @@ line_behind n before (Holds entry) c h =
     ap (λ (x : PositionClaim). is_behind before x.0) (sym told.1) ∙ told.0
 
 -- one line
-pub from_none : (n : ℕ) (before : Option Discs) (line : List ℕ) (lines : List (List ℕ)) → claim_in_line n before (item_of line) ≡ Ok None → claims_from n before (line ∷ lines) ≡ claims_from (n + 1) before lines
+pub from_none : (n : ℕ) (before : Option PosView) (line : List ℕ) (lines : List (List ℕ)) → claim_in_line n before (item_of line) ≡ Ok None → claims_from n before (line ∷ lines) ≡ claims_from (n + 1) before lines
 unfolding claims_from
 from_none n before line lines e = ap (λ r. claims_with before r (λ last. claims_from (n + 1) last lines)) e
 
-pub from_some : (n : ℕ) (before : Option Discs) (line : List ℕ) (lines : List (List ℕ)) (c : PositionClaim) → claim_in_line n before (item_of line) ≡ Ok (Some c)
+pub from_some : (n : ℕ) (before : Option PosView) (line : List ℕ) (lines : List (List ℕ)) (c : PositionClaim) → claim_in_line n before (item_of line) ≡ Ok (Some c)
     → claims_from n before (line ∷ lines) ≡ claims_after (c ∷ []) (claims_from (n + 1) (Some c.0) lines)
 unfolding claims_from
 from_some n before line lines c e = ap (λ r. claims_with before r (λ last. claims_from (n + 1) last lines)) e
 
-pub from_err : (n : ℕ) (before : Option Discs) (line : List ℕ) (lines : List (List ℕ)) (f : BookFault) → claim_in_line n before (item_of line) ≡ Err f → claims_from n before (line ∷ lines) ≡ Err f
+pub from_err : (n : ℕ) (before : Option PosView) (line : List ℕ) (lines : List (List ℕ)) (f : BookFault) → claim_in_line n before (item_of line) ≡ Err f → claims_from n before (line ∷ lines) ≡ Err f
 unfolding claims_from
 from_err n before line lines f e = ap (λ r. claims_with before r (λ last. claims_from (n + 1) last lines)) e
 
-pub from_end : (n : ℕ) (before : Option Discs) → claims_from n before [] ≡ Ok []
+pub from_end : (n : ℕ) (before : Option PosView) → claims_from n before [] ≡ Ok []
 unfolding claims_from
 from_end n before = refl
 
@@ -191,7 +191,7 @@ checked_known n false false canonical claim h = cc
 checked_known n false true false claim h = cc
 checked_known n false true true claim h = cc
 
-line_known : (n : ℕ) (before : Option Discs) (m : Meaning) → claim_in_line n before m ≡ Err fault.Header → ⊥
+line_known : (n : ℕ) (before : Option PosView) (m : Meaning) → claim_in_line n before m ≡ Err fault.Header → ⊥
 line_known n before Skipped h = cc
 line_known n before (Faulty f) h = cc
 line_known n before (Holds entry) h =
@@ -211,11 +211,11 @@ advice_err : (g : Scoring) (r : Result (List PositionClaim) BookFault) (f : Book
 advice_err g (Ok cs) f h = cc
 advice_err g (Err e) f h = cc
 
-pub lines_known : (n : ℕ) (before : Option Discs) (lines : List (List ℕ)) → claims_from n before lines ≡ Err fault.Header → ⊥
+pub lines_known : (n : ℕ) (before : Option PosView) (lines : List (List ℕ)) → claims_from n before lines ≡ Err fault.Header → ⊥
 lines_known n before [] h = let e = sym (from_end n before) ∙ h in cc
 lines_known n before (line ∷ lines) h = by (claim_in_line n before (item_of line)) refl (λ b k. lines_known (n + 1) b lines k)
   where
-    by : (r : Result (Option PositionClaim) BookFault) → claim_in_line n before (item_of line) ≡ r → ((b : Option Discs) → claims_from (n + 1) b lines ≡ Err fault.Header → ⊥) → ⊥
+    by : (r : Result (Option PositionClaim) BookFault) → claim_in_line n before (item_of line) ≡ r → ((b : Option PosView) → claims_from (n + 1) b lines ≡ Err fault.Header → ⊥) → ⊥
     by (Err f) e more = line_known n before (item_of line) (e ∙ ap (λ x. Err x) (err_same f fault.Header (sym (from_err n before line lines f e) ∙ h)))
     by (Ok None) e more = more before (sym (from_none n before line lines e) ∙ h)
     by (Ok (Some c)) e more = more (Some c.0) (onto_err (c ∷ []) (claims_from (n + 1) (Some c.0) lines) fault.Header (sym (from_some n before line lines c e) ∙ h))

@@ -16,9 +16,9 @@ use Rattle.std.proofs.lemmas.List.Elements.{All-from_recursion, All-nil, All-map
 use Rattle.std.proofs.lemmas.Map.Lookups.{CmpEqualImpliesEq, exact_pairs, exact_unsigned}
 use Rattle.std.proofs.lemmas.Map.Views.{btree_map_contains_key_iff}
 use Rattle.othello_rules.specs.declared.scorings.Scoring.{Scoring}
-use Rattle.othello_rules.specs.Solution.{Solution}
+use Rattle.othello_rules.specs.Answer.{AnswerView}
 use Rattle.othello_rules.proofs.BoundLaws.{Contains-map, Contains-from_map}
-use Rattle.othello_bits.specs.Discs.{Discs}
+use Rattle.othello_bits.specs.Pos.{PosView}
 use Rattle.solved_book.specs.Books.{AreSolved, IsBook, IsSolvedEntry, Masks, position_at, positions_in}
 use Rattle.solved_book.specs.Order.{AreRising, IsCanonical, AreBookPositions, by_masks}
 
@@ -32,17 +32,17 @@ masks_total = then_total (on_total (λ (x : Masks). x.0) nat_cmp_total) (on_tota
 pub masks_exact : CmpEqualImpliesEq masks_cmp
 masks_exact = exact_pairs nat_cmp nat_cmp exact_unsigned exact_unsigned
 
-abbrev pub masks_at : Discs → Masks
+abbrev pub masks_at : PosView → Masks
 masks_at p = (p.own, p.opp)
 
-pub book_positions_from : (g : Scoring) (es : List (Masks × Solution)) → IsBook g es → AreBookPositions (positions_in es)
+pub book_positions_from : (g : Scoring) (es : List (Masks × AnswerView)) → IsBook g es → AreBookPositions (positions_in es)
 book_positions_from g es kept = record {
   rising = kept.rising;
-  canonical = All-map IsCanonical (λ (e : Masks × Solution). position_at e.0) es (All-weaker (IsSolvedEntry g) (λ e. IsCanonical (position_at e.0)) (λ e s. s.canonical) es kept.solved);
+  canonical = All-map IsCanonical (λ (e : Masks × AnswerView). position_at e.0) es (All-weaker (IsSolvedEntry g) (λ e. IsCanonical (position_at e.0)) (λ e s. s.canonical) es kept.solved);
 }
 
 -- an entry that is put in
-insert_all : (P : Masks × Solution → Type 0) (k : Masks) (v : Solution) → P (k, v) → (es : List (Masks × Solution)) → AllByRecursion P es → AllByRecursion P (insert_entry masks_cmp es k v)
+insert_all : (P : Masks × AnswerView → Type 0) (k : Masks) (v : AnswerView) → P (k, v) → (es : List (Masks × AnswerView)) → AllByRecursion P es → AllByRecursion P (insert_entry masks_cmp es k v)
 insert_all P k v h [] a = (h, tt)
 insert_all P k v h (e ∷ es) a = by (masks_cmp k e.0) refl (insert_all P k v h es a.1)
   where
@@ -51,16 +51,16 @@ insert_all P k v h (e ∷ es) a = by (masks_cmp k e.0) refl (insert_all P k v h 
     by Equal s rest = (subst (λ (x : Masks). P (x, v)) (masks_exact k e.0 s) h, a.1)
     by Greater s rest = (a.0, rest)
 
-solved_insert : (g : Scoring) (k : Masks) (v : Solution) (es new : List (Masks × Solution)) → IsSolvedEntry g (k, v) → AreSolved g es → new ≡ insert_entry masks_cmp es k v → AreSolved g new
+solved_insert : (g : Scoring) (k : Masks) (v : AnswerView) (es new : List (Masks × AnswerView)) → IsSolvedEntry g (k, v) → AreSolved g es → new ≡ insert_entry masks_cmp es k v → AreSolved g new
 solved_insert g k v es new h a e =
     rw e (All-from_recursion (IsSolvedEntry g) (insert_entry masks_cmp es k v) (insert_all (IsSolvedEntry g) k v h es (recursion_from_All (IsSolvedEntry g) es a)))
 
 -- an entry that is put in keeps the order
-all_weaker : (P Q : Discs → Type 0) → ((q : Discs) → P q → Q q) → (qs : List Discs) → AllByRecursion P qs → AllByRecursion Q qs
+all_weaker : (P Q : PosView → Type 0) → ((q : PosView) → P q → Q q) → (qs : List PosView) → AllByRecursion P qs → AllByRecursion Q qs
 all_weaker P Q f [] a = tt
 all_weaker P Q f (q ∷ qs) a = (f q a.0, all_weaker P Q f qs a.1)
 
-all_insert : {X : Type 0} (P : Discs → Type 0) (k : Masks) (v : X) → P (position_at k) → (es : List (Masks × X)) → AllByRecursion P (positions_in es) → AllByRecursion P (positions_in (insert_entry masks_cmp es k v))
+all_insert : {X : Type 0} (P : PosView → Type 0) (k : Masks) (v : X) → P (position_at k) → (es : List (Masks × X)) → AllByRecursion P (positions_in es) → AllByRecursion P (positions_in (insert_entry masks_cmp es k v))
 all_insert P k v h [] a = (h, tt)
 all_insert P k v h (e ∷ es) a = by (masks_cmp k e.0) (all_insert P k v h es a.1)
   where
@@ -74,7 +74,7 @@ unfolding IsStrictlySortedBy
 rising_insert k v [] h = (tt, tt)
 rising_insert k v (e ∷ es) h = by (masks_cmp k e.0) refl (rising_insert k v es h.1)
   where
-    below : masks_cmp k e.0 ≡ Less → (q : Discs) → by_masks (position_at e.0) q ≡ Less → by_masks (position_at k) q ≡ Less
+    below : masks_cmp k e.0 ≡ Less → (q : PosView) → by_masks (position_at e.0) q ≡ Less → by_masks (position_at k) q ≡ Less
     below s q l = masks_total.trans k e.0 (masks_at q) s l
 
     by : (o : Ordering) → masks_cmp k e.0 ≡ o → IsStrictlySortedBy by_masks (positions_in (insert_entry masks_cmp es k v)) → IsStrictlySortedBy by_masks (positions_in (match_ordering o ((k, v) ∷ e ∷ es) ((e.0, v) ∷ es) (e ∷ insert_entry masks_cmp es k v)))
@@ -91,24 +91,24 @@ rising_empty = tt
 pub book_empty : (g : Scoring) → IsBook g []
 book_empty g = record { solved = All-nil (IsSolvedEntry g); rising = rising_empty }
 
-pub book_insert : (g : Scoring) (k : Masks) (v : Solution) (es new : List (Masks × Solution)) → IsSolvedEntry g (k, v) → IsBook g es → new ≡ insert_entry masks_cmp es k v → IsBook g new
+pub book_insert : (g : Scoring) (k : Masks) (v : AnswerView) (es new : List (Masks × AnswerView)) → IsSolvedEntry g (k, v) → IsBook g es → new ≡ insert_entry masks_cmp es k v → IsBook g new
 book_insert g k v es new h kept e = record {
   solved = solved_insert g k v es new h kept.solved e;
   rising = rw e (rising_insert k v es kept.rising);
 }
 
 -- positions and keys
-key_from_position : {X : Type 0} (es : List (Masks × X)) (p : Discs) → Contains (positions_in es) p → Contains (keys_of es) (masks_at p)
+key_from_position : {X : Type 0} (es : List (Masks × X)) (p : PosView) → Contains (positions_in es) p → Contains (keys_of es) (masks_at p)
 key_from_position {X} es p h =
     let found = Contains-from_map (λ (e : Masks × X). position_at e.0) es p h in
     subst (Contains (keys_of es)) (ap masks_at found.2) (Contains-map (λ (e : Masks × X). e.0) es found.0 found.1)
 
-position_from_key : {X : Type 0} (es : List (Masks × X)) (p : Discs) → Contains (keys_of es) (masks_at p) → Contains (positions_in es) p
+position_from_key : {X : Type 0} (es : List (Masks × X)) (p : PosView) → Contains (keys_of es) (masks_at p) → Contains (positions_in es) p
 position_from_key {X} es p h =
     let found = Contains-from_map (λ (e : Masks × X). e.0) es (masks_at p) h in
     subst (Contains (positions_in es)) (ap position_at found.2) (Contains-map (λ (e : Masks × X). position_at e.0) es found.0 found.1)
 
-pub holds_iff : {X : Type 0} (m : BTreeMap Masks X) (p : Discs) → IsSome (tree.get masks_cmp m (masks_at p)) ↔ Contains (positions_in m.entries) p
+pub holds_iff : {X : Type 0} (m : BTreeMap Masks X) (p : PosView) → IsSome (tree.get masks_cmp m (masks_at p)) ↔ Contains (positions_in m.entries) p
 holds_iff m p =
     let keys = btree_map_contains_key_iff masks_total masks_exact m (masks_at p) in
     (λ s. position_from_key m.entries p (keys.0 s), λ h. keys.1 (key_from_position m.entries p h))
@@ -118,20 +118,20 @@ none_when o true P e h = (λ t p. absurd (false≢true (sym e ∙ h.1 p)), λ n.
 none_when o false P e h = (λ t p. absurd (false≢true t), λ n. absurd (n (h.0 e)))
 
 -- a position is new where nothing is kept under its masks
-pub new_when : {X : Type 0} (m : BTreeMap Masks X) (p : Discs) (k : Masks) (old : Option X) (none : Bool) → is_some old ≡ not none → position_at k ≡ p → old ≡ tree.get masks_cmp m k
+pub new_when : {X : Type 0} (m : BTreeMap Masks X) (p : PosView) (k : Masks) (old : Option X) (none : Bool) → is_some old ≡ not none → position_at k ≡ p → old ≡ tree.get masks_cmp m k
     → (IsTrue none → Contains (positions_in m.entries) p → ⊥) × ((Contains (positions_in m.entries) p → ⊥) → IsTrue none)
 new_when {X} m p k old none e ek eo =
     let same : tree.get masks_cmp m (masks_at p) ≡ old = ap (λ q. tree.get masks_cmp m (masks_at q)) (sym ek) ∙ sym eo in
     none_when old none (Contains (positions_in m.entries) p) e (subst (λ (o : Option X). IsSome o ↔ Contains (positions_in m.entries) p) same (holds_iff m p))
 
-pub none_held : {X : Type 0} (m : BTreeMap Masks X) (p : Discs) (k : Masks) → position_at k ≡ p → tree.get masks_cmp m k ≡ None → Contains (positions_in m.entries) p → ⊥
+pub none_held : {X : Type 0} (m : BTreeMap Masks X) (p : PosView) (k : Masks) → position_at k ≡ p → tree.get masks_cmp m k ≡ None → Contains (positions_in m.entries) p → ⊥
 none_held {X} m p k ek none h =
     let same : tree.get masks_cmp m (masks_at p) ≡ None = ap (λ q. tree.get masks_cmp m (masks_at q)) (sym ek) ∙ none in
     false≢true (sym (ap is_some same) ∙ (holds_iff m p).1 h)
 
 -- what is held then
-pub held_then : {X : Type 0} (m n : BTreeMap Masks X) (c : Discs) (k : Masks) (v : X) → position_at k ≡ c → Updates masks_cmp m n k (Some v)
-    → (p : Discs) → Contains (positions_in n.entries) p ↔ ((p ≡ c) ⊎ Contains (positions_in m.entries) p)
+pub held_then : {X : Type 0} (m n : BTreeMap Masks X) (c : PosView) (k : Masks) (v : X) → position_at k ≡ c → Updates masks_cmp m n k (Some v)
+    → (p : PosView) → Contains (positions_in n.entries) p ↔ ((p ≡ c) ⊎ Contains (positions_in m.entries) p)
 held_then {X} m n c k v ek u p = by (masks_cmp k (masks_at p)) refl
   where
     other : (o : Ordering) → is_eq o ≡ false → masks_cmp k (masks_at p) ≡ o → tree.get masks_cmp n (masks_at p) ≡ tree.get masks_cmp m (masks_at p)

@@ -3,10 +3,10 @@ use Rattle.std.proofs.Common.{◌≡◌, ℕ, ◌+◌, List, [], ◌∷◌, ◌+
 use Rattle.std.specs.Prelude.{Result, Ok, Err}
 use Rattle.std.specs.List.{filter_map}
 use Rattle.othello_rules.specs.declared.scorings.Scoring.{Scoring}
-use Rattle.othello_bits.specs.Discs.{Discs, discs_of}
+use Rattle.othello_bits.specs.Pos.{PosView, discs_of}
 use Rattle.obf_text.specs.LineText.{lines_of}
 use Rattle.obf_text.specs.Obf.{Meaning, Skipped, Holds, Faulty, item_of}
-use Rattle.solved_book.specs.Advice.{Advice, PositionClaim, advice, advice_under, claim_or_fault, claims_from, claims_of, entry_claim, is_behind, is_canonical_entry, last_position, claim_in_line, lists_nothing, claims_after, scoring_of_lines}
+use Rattle.solved_book.specs.Claims.{ClaimsView, PositionClaim, advice, advice_under, claim_or_fault, claims_from, claims_of, entry_claim, is_behind, is_canonical_entry, last_position, claim_in_line, lists_nothing, claims_after, scoring_of_lines}
 use Rattle.solved_book.specs.Listing.{claim_of}
 use Rattle.solved_book.specs.declared.faults.BookFault.{BookFault}
 use Rattle.solved_book.proofs.ClaimSteps.{from_end, from_err, from_none, from_some}
@@ -21,7 +21,7 @@ onto_ok c (Ok more) cs h = (more, refl, cc)
 onto_ok c (Err f) cs h = cc
 
 -- what stands before a faulty line without a fault leaves its fault to be told
-pub fault_after : (front rest : List (List ℕ)) (line : List ℕ) (n : ℕ) (before : Option Discs) (cs : List PositionClaim) (f : BookFault)
+pub fault_after : (front rest : List (List ℕ)) (line : List ℕ) (n : ℕ) (before : Option PosView) (cs : List PositionClaim) (f : BookFault)
     → claims_from n before front ≡ Ok cs → claim_in_line (n + length front) (last_position before cs) (item_of line) ≡ Err f → claims_from n before (front ++ line ∷ rest) ≡ Err f
 fault_after [] rest line n before cs f h e =
     let none : [] ≡ cs = let same = sym (from_end n before) ∙ h in cc in
@@ -34,7 +34,7 @@ fault_after (l ∷ front) rest line n before cs f h e =
     further = omega arith
 
     by : (r : Result (Option PositionClaim) BookFault) → claim_in_line n before (item_of l) ≡ r
-        → ((b : Option Discs) (ds : List PositionClaim) → claims_from (n + 1) b front ≡ Ok ds → claim_in_line (n + 1 + length front) (last_position b ds) (item_of line) ≡ Err f
+        → ((b : Option PosView) (ds : List PositionClaim) → claims_from (n + 1) b front ≡ Ok ds → claim_in_line (n + 1 + length front) (last_position b ds) (item_of line) ≡ Err f
         → claims_from (n + 1) b (front ++ line ∷ rest) ≡ Err f)
         → claims_from n before (l ∷ (front ++ line ∷ rest)) ≡ Err f
     by (Err k) i more = let no = sym (from_err n before l front k i) ∙ h in cc
@@ -49,7 +49,7 @@ fault_after (l ∷ front) rest line n before cs f h e =
 -- ---- the entries
 
 -- what a line that is no fault adds
-entry_given : (n : ℕ) (before : Option Discs) (m : Meaning) (given : Option PositionClaim) → claim_in_line n before m ≡ Ok given → entry_claim m ≡ given
+entry_given : (n : ℕ) (before : Option PosView) (m : Meaning) (given : Option PositionClaim) → claim_in_line n before m ≡ Ok given → entry_claim m ≡ given
 entry_given n before Skipped given h = cc
 entry_given n before (Faulty f) given h = cc
 entry_given n before (Holds entry) given h =
@@ -61,12 +61,12 @@ entry_given n before (Holds entry) given h =
     by false true false h = cc
     by false true true h = cc
 
-entries_from : (n : ℕ) (before : Option Discs) (lines : List (List ℕ)) (cs : List PositionClaim) → claims_from n before lines ≡ Ok cs → cs ≡ filter_map (λ line. entry_claim (item_of line)) lines
+entries_from : (n : ℕ) (before : Option PosView) (lines : List (List ℕ)) (cs : List PositionClaim) → claims_from n before lines ≡ Ok cs → cs ≡ filter_map (λ line. entry_claim (item_of line)) lines
 entries_from n before [] cs h = let same = sym (from_end n before) ∙ h in cc
 entries_from n before (line ∷ lines) cs h = by (claim_in_line n before (item_of line)) refl (λ b ds k. entries_from (n + 1) b lines ds k)
   where
     by : (r : Result (Option PositionClaim) BookFault) → claim_in_line n before (item_of line) ≡ r
-        → ((b : Option Discs) (ds : List PositionClaim) → claims_from (n + 1) b lines ≡ Ok ds → ds ≡ filter_map (λ line. entry_claim (item_of line)) lines)
+        → ((b : Option PosView) (ds : List PositionClaim) → claims_from (n + 1) b lines ≡ Ok ds → ds ≡ filter_map (λ line. entry_claim (item_of line)) lines)
         → cs ≡ filter_map (λ line. entry_claim (item_of line)) (line ∷ lines)
     by (Err f) i more = let no = sym (from_err n before line lines f i) ∙ h in cc
     by (Ok None) i more = rw (entry_given n before (item_of line) None i) (more before cs (sym (from_none n before line lines i) ∙ h))
@@ -74,13 +74,13 @@ entries_from n before (line ∷ lines) cs h = by (claim_in_line n before (item_o
         let split = onto_ok c (claims_from (n + 1) (Some c.0) lines) cs (sym (from_some n before line lines c i) ∙ h) in
         rw (entry_given n before (item_of line) (Some c) i) (split.2 ∙ ap (λ ds. c ∷ ds) (more (Some c.0) split.0 split.1))
 
-under_ok : (o : Option Scoring) (lines : List (List ℕ)) (a : Advice) → advice_under o lines ≡ Ok a → claims_from 1 None lines ≡ Ok a.claims
+under_ok : (o : Option Scoring) (lines : List (List ℕ)) (a : ClaimsView) → advice_under o lines ≡ Ok a → claims_from 1 None lines ≡ Ok a.claims
 under_ok None lines a h = cc
 under_ok (Some g) lines a h = by (claims_from 1 None lines) refl h
   where
     by : (r : Given) → claims_from 1 None lines ≡ r → advice g r ≡ Ok a → claims_from 1 None lines ≡ Ok a.claims
-    by (Ok cs) e k = let same : record { scoring = g; claims = cs } ≡ a = cc in e ∙ ap (λ (b : Advice). Ok b.claims) same
+    by (Ok cs) e k = let same : record { scoring = g; claims = cs } ≡ a = cc in e ∙ ap (λ (b : ClaimsView). Ok b.claims) same
     by (Err f) e k = cc
 
-pub entries_are : (text : List ℕ) (a : Advice) → claims_of text ≡ Ok a → a.claims ≡ filter_map (λ line. entry_claim (item_of line)) (lines_of text)
+pub entries_are : (text : List ℕ) (a : ClaimsView) → claims_of text ≡ Ok a → a.claims ≡ filter_map (λ line. entry_claim (item_of line)) (lines_of text)
 entries_are text a h = entries_from 1 None (lines_of text) a.claims (under_ok (scoring_of_lines (lines_of text)) (lines_of text) a h)

@@ -11,7 +11,7 @@ use Rattle.std.proofs.lemmas.Int.{fold-int_max_reached}
 use Rattle.std.proofs.lemmas.Map.Views.{any-filter_same}
 use Rattle.othello_rules.specs.Board.{squares}
 use Rattle.othello_rules.specs.Masks.{in_mask, squares_of}
-use Rattle.othello_rules.specs.Solution.{IsBest}
+use Rattle.othello_rules.specs.Answer.{IsBest}
 use Rattle.othello_rules.specs.Value.{greatest}
 use Rattle.othello_rules.specs.declared.answers.Best.{Best}
 use Rattle.othello_rules.specs.declared.answers.Best.TheVariants as best
@@ -20,7 +20,7 @@ use Rattle.othello_rules.proofs.ListLaws.{Contains-cons_cases, Contains-nil}
 use Rattle.othello_rules.proofs.MoveLaws.{Contains-squares}
 use Rattle.othello_bits.proofs.Bits.{in_mask-zero}
 use Rattle.othello_bits.proofs.TurnedMasks.{zero_from_none}
-use Rattle.othello_bits.proofs.Wheres.{is_where}
+use Rattle.othello_bits.proofs.TestMasks.{is_where}
 use Rattle.obf_text.specs.Fields.{Field, greatest_listed}
 use Rattle.obf_text.specs.Written.{best_fields}
 use Rattle.obf_text.specs.declared.entries.ListedMove.TheVariants.{At, Pass, Over}

@@ -5,7 +5,7 @@ use Rattle.std.proofs.lemmas.Nat.{one_shl}
 use Rattle.std.proofs.lemmas.List.Folds.{list_any_more}
 use Rattle.othello_rules.specs.Masks.{in_mask}
 use Rattle.othello_bits.proofs.Bits.{in_mask-or, in_mask-pow, in_mask-zero}
-use Rattle.othello_bits.proofs.Wheres.{is_where}
+use Rattle.othello_bits.proofs.TestMasks.{is_where}
 use Rattle.obf_text.specs.Fields.{Field}
 use Rattle.solved_book.specs.Listing.{lists_square, listed_squares}
 

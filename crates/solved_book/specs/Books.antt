@@ -4,27 +4,27 @@ use Rattle.std.specs.List.{flat_map}
 use Rattle.othello_rules.specs.declared.discs.Side.TheVariants.{Black}
 use Rattle.othello_rules.specs.declared.scorings.Scoring.{Scoring}
 use Rattle.othello_rules.specs.Scores.{scoring_name}
-use Rattle.othello_rules.specs.Solution.{Solution}
-use Rattle.othello_bits.specs.Discs as bits
-use Rattle.othello_bits.specs.Discs.{discs, position_of, answer_of}
+use Rattle.othello_rules.specs.Answer.{AnswerView}
+use Rattle.othello_bits.specs.Pos as bits
+use Rattle.othello_bits.specs.Pos.{discs, position_of, answer_of}
 use Rattle.obf_text.specs.Written.{line_with_end}
 use Rattle.solved_book.specs.Order.{AreRising, IsCanonical}
 
 -- what contracts see of a book: the scoring of its answers, and its positions
-pub record Contents : Type 0 where
+pub record BookView : Type 0 where
   pub scoring : Scoring
-  pub positions : List bits.Discs
+  pub positions : List bits.PosView
 
 -- the first line of a book
 unfoldable pub header : Scoring → List ℕ
 header g = codes "% ffobook 2 " ++ scoring_name g
 
 -- the line of a position, with Black as the mover
-unfoldable pub entry_text : Scoring → bits.Discs → List ℕ
+unfoldable pub entry_text : Scoring → bits.PosView → List ℕ
 entry_text g p = line_with_end (position_of Black p) (answer_of g p)
 
 -- the header, and a line for each position
-unfoldable pub book_text : Scoring → List bits.Discs → List ℕ
+unfoldable pub book_text : Scoring → List bits.PosView → List ℕ
 book_text g positions = (header g ++ 10 ∷ []) ++ flat_map (entry_text g) positions
 
 -- ---- how a book keeps its positions
@@ -33,22 +33,22 @@ book_text g positions = (header g ++ 10 ∷ []) ++ flat_map (entry_text g) posit
 abbrev pub Masks : Type 0
 Masks = ℕ × ℕ
 
-abbrev pub position_at : Masks → bits.Discs
+abbrev pub position_at : Masks → bits.PosView
 position_at masks = discs masks.0 masks.1
 
 -- the positions of the pairs that are kept with something
-abbrev pub positions_in : {X : Type 0} → List (Masks × X) → List bits.Discs
+abbrev pub positions_in : {X : Type 0} → List (Masks × X) → List bits.PosView
 positions_in {X} kept = map (λ (e : Masks × X). position_at e.0) kept
 
 -- a canonical position is kept with its answer
-pub record IsSolvedEntry (g : Scoring) (e : Masks × Solution) : Type 0 where
+pub record IsSolvedEntry (g : Scoring) (e : Masks × AnswerView) : Type 0 where
   pub canonical : IsCanonical (position_at e.0)
   pub exact : e.1 ≡ answer_of g (position_at e.0)
 
-abbrev pub AreSolved : Scoring → List (Masks × Solution) → Type 0
+abbrev pub AreSolved : Scoring → List (Masks × AnswerView) → Type 0
 AreSolved g kept = All (IsSolvedEntry g) kept
 
 -- what a book keeps: canonical positions in rising order, each with its answer
-pub record IsBook (g : Scoring) (kept : List (Masks × Solution)) : Type 0 where
+pub record IsBook (g : Scoring) (kept : List (Masks × AnswerView)) : Type 0 where
   pub solved : AreSolved g kept
   pub rising : AreRising (positions_in kept)

@@ -1,5 +1,5 @@
 pub mod Order
 pub mod Books
 pub mod Listing
-pub mod Advice
+pub mod Claims
 pub mod Reading

@@ -1,10 +1,10 @@
 -- What the calls that read the lines of a book give.
 use Rattle.std.specs.Prelude.{◌≡◌, List, map, Option, option_map, Result, Ok, Err}
 use Rattle.std.specs.BTreeMap.{BTreeMap}
-use Rattle.othello_bits.specs.Discs.{Discs}
+use Rattle.othello_bits.specs.Pos.{PosView}
 use Rattle.endgame_search.specs.declared.solutions.Claim.{Claim}
 use Rattle.solved_book.specs.Books.{Masks, position_at}
-use Rattle.solved_book.specs.Advice.{PositionClaim}
+use Rattle.solved_book.specs.Claims.{PositionClaim}
 use Rattle.solved_book.specs.declared.faults.BookFault.{BookFault}
 use Rattle.solved_book.specs.declared.faults.BookFault.TheVariants.{Memory}
 
@@ -24,5 +24,5 @@ GivesMap (Ok kept) meaning = meaning ≡ Ok (map position_claim kept.entries)
 GivesMap (Err Memory) meaning = Unit {0}
 GivesMap (Err f) meaning = meaning ≡ Err f
 
-abbrev pub claimed_positions : List PositionClaim → List Discs
+abbrev pub claimed_positions : List PositionClaim → List PosView
 claimed_positions claims = map (λ (c : PositionClaim). c.0) claims

@@ -2,7 +2,7 @@
 
 ghost use Rattle.std.specs.Prelude.{◌≡◌, [], IfOk, None, length};
 ghost use Rattle.obf_text.specs.LineText.{lines_of};
-ghost use Rattle.solved_book.specs.Advice.{GivesAdvice, claims_from, claims_of, claim_for};
+ghost use Rattle.solved_book.specs.Claims.{GivesAdvice, claims_from, claims_of, claim_for};
 ghost use Rattle.solved_book.specs.Books.{positions_in};
 ghost use Rattle.solved_book.specs.Order.{AreRising};
 ghost use Rattle.solved_book.specs.Reading.{GivesMap, claimed_positions};
@@ -29,12 +29,12 @@ pub struct Claims {
 
 impl Model for Claims {
     ghost use Rattle.std.specs.Prelude.{map};
-    ghost use Rattle.solved_book.specs.Advice.{Advice};
+    ghost use Rattle.solved_book.specs.Claims.{ClaimsView};
     ghost use Rattle.solved_book.specs.Books.{positions_in};
     ghost use Rattle.solved_book.specs.Order.{AreRising};
     ghost use Rattle.solved_book.specs.Reading.{position_claim};
 
-    ghost Value = { Advice };
+    ghost Value = { ClaimsView };
 
     ghost view = { λ c.
         record { scoring = c.scoring; claims = map position_claim c.claims.entries } };

@@ -4,7 +4,7 @@ ghost use Rattle.std.specs.Prelude.{◌≡◌, ◌↔◌, ◌⊎◌, [], ◌∷�
 ghost use Rattle.std.specs.Prelude.{OnOk, IsTrue};
 ghost use Rattle.std.specs.Io.KnownBytes.{Appends};
 ghost use Rattle.othello_rules.specs.declared.discs.Side.TheVariants.{Black};
-ghost use Rattle.othello_bits.specs.Discs.{Discs, answer_of, position_of};
+ghost use Rattle.othello_bits.specs.Pos.{PosView, answer_of, position_of};
 ghost use Rattle.othello_bits.specs.Symmetries.{canonical_of, first_symmetry};
 ghost use Rattle.solved_book.specs.Books.{book_text, entry_text, header, position_at};
 ghost use Rattle.solved_book.specs.Books.{IsSolvedEntry};
@@ -32,9 +32,9 @@ pub struct Book {
 }
 
 impl Model for Book {
-    ghost use Rattle.solved_book.specs.Books.{Contents, IsBook, positions_in};
+    ghost use Rattle.solved_book.specs.Books.{BookView, IsBook, positions_in};
 
-    ghost Value = { Contents };
+    ghost Value = { BookView };
 
     ghost view = { λ b.
         record { scoring = b.scoring; positions = positions_in b.answers.entries } };
@@ -115,7 +115,7 @@ impl Book {
         requires { solved.now.scoring ≡ self.old.scoring }
         ensures new { IfOk result (λ added. IsTrue added
             ↔ (Contains self.old.positions (canonical_of solved.now.position) → ⊥)) }
-        ensures holds { OnOk result ((p : Discs) → Contains self.new.positions p
+        ensures holds { OnOk result ((p : PosView) → Contains self.new.positions p
             ↔ ((p ≡ canonical_of solved.now.position) ⊎ Contains self.old.positions p)) }
         ensures scoring { self.new.scoring ≡ self.old.scoring }
         ensures unchanged { OnErr result (self.new ≡ self.old) }

@@ -2,9 +2,9 @@
 
 ghost use Rattle.std.specs.Prelude.{◌≡◌, option_map, IfOk, IfErr};
 ghost use Rattle.obf_text.specs.Obf.{entry_of, item_of};
-ghost use Rattle.othello_bits.specs.Discs.{discs_of};
-ghost use Rattle.solved_book.specs.Advice.{claim_in_entry, is_behind, is_canonical_entry};
-ghost use Rattle.solved_book.specs.Advice.{claim_in_line};
+ghost use Rattle.othello_bits.specs.Pos.{discs_of};
+ghost use Rattle.solved_book.specs.Claims.{claim_in_entry, is_behind, is_canonical_entry};
+ghost use Rattle.solved_book.specs.Claims.{claim_in_line};
 ghost use Rattle.solved_book.specs.Books.{position_at};
 ghost use Rattle.solved_book.specs.Reading.{GivesLine};
 

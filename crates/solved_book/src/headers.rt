@@ -1,7 +1,7 @@
 //! The first line of a book.
 
 ghost use Rattle.std.specs.Prelude.{◌≡◌, OnOk, codes};
-ghost use Rattle.solved_book.specs.Advice.{scoring_in, scoring_of_lines};
+ghost use Rattle.solved_book.specs.Claims.{scoring_in, scoring_of_lines};
 ghost use Rattle.solved_book.specs.Books.{header};
 ghost use Rattle.obf_text.specs.LineText.{lines_of};
 

@@ -5,15 +5,15 @@ ghost use Rattle.std.specs.Prelude.{◌≡◌, ◌↔◌, ℕ, ◌+◌, List, �
 ghost use Rattle.std.specs.Prelude.{Err, Some, None};
 ghost use Rattle.std.specs.List.{filter_map};
 ghost use Rattle.othello_rules.specs.declared.scorings.Scoring.{Scoring};
-ghost use Rattle.othello_bits.specs.Discs.{Discs, answer_of};
+ghost use Rattle.othello_bits.specs.Pos.{PosView, answer_of};
 ghost use Rattle.othello_bits.specs.Symmetries.{canonical_of, image_of};
 ghost use Rattle.othello_bits.specs.declared.symmetries.Sym.{Sym};
 ghost use Rattle.obf_text.specs.LineText.{lines_of};
 ghost use Rattle.obf_text.specs.Obf.{item_of};
 ghost use Rattle.solved_book.specs.declared.faults.BookFault.{BookFault};
-ghost use Rattle.solved_book.specs.Advice.{Advice, PositionClaim, answer_claim, claim_by};
-ghost use Rattle.solved_book.specs.Advice.{claims_from, claims_of, entry_claim, claim_for};
-ghost use Rattle.solved_book.specs.Advice.{last_position, claim_in_line};
+ghost use Rattle.solved_book.specs.Claims.{ClaimsView, PositionClaim, answer_claim, claim_by};
+ghost use Rattle.solved_book.specs.Claims.{claims_from, claims_of, entry_claim, claim_for};
+ghost use Rattle.solved_book.specs.Claims.{last_position, claim_in_line};
 ghost use Rattle.solved_book.specs.Books.{book_text};
 ghost use Rattle.solved_book.specs.Order.{AreRising, AreBookPositions};
 
@@ -21,15 +21,15 @@ ghost use Rattle.solved_book.specs.Order.{AreRising, AreBookPositions};
 /// nothing else. So each image of a position of the book is found with its score and all its best
 /// moves, and no other position is found.
 pub fn book_is_read_again()
-    ensures claims { (g : Scoring) (positions : List Discs) → AreBookPositions positions
+    ensures claims { (g : Scoring) (positions : List PosView) → AreBookPositions positions
         → claims_of (book_text g positions)
         ≡ Ok (record { scoring = g; claims = map (answer_claim g) positions }) }
-    ensures found { (g : Scoring) (positions : List Discs) (a : Advice) (p : Discs) (s : Sym)
+    ensures found { (g : Scoring) (positions : List PosView) (a : ClaimsView) (p : PosView) (s : Sym)
         → AreBookPositions positions
         → claims_of (book_text g positions) ≡ Ok a
         → Contains positions (canonical_of p)
         → claim_for a (image_of s p) ≡ Some (claim_by (answer_of g (image_of s p))) }
-    ensures missing { (g : Scoring) (positions : List Discs) (a : Advice) (p : Discs)
+    ensures missing { (g : Scoring) (positions : List PosView) (a : ClaimsView) (p : PosView)
         → AreBookPositions positions
         → claims_of (book_text g positions) ≡ Ok a
         → (Contains positions (canonical_of p) → ⊥)
@@ -38,7 +38,7 @@ pub fn book_is_read_again()
 
 /// Where a text has no fault, its claims are those of its entries, in their order.
 pub fn claims_are_of_entries()
-    ensures { (text : List ℕ) (a : Advice) → claims_of text ≡ Ok a
+    ensures { (text : List ℕ) (a : ClaimsView) → claims_of text ≡ Ok a
         → a.claims ≡ filter_map (λ line. entry_claim (item_of line)) (lines_of text) }
 {}
 
@@ -53,7 +53,7 @@ pub fn first_fault_decides()
 
 /// Positions have one rising order: what a book holds determines its text.
 pub fn order_is_one()
-    ensures { (xs ys : List Discs) → AreRising xs → AreRising ys
-        → ((p : Discs) → Contains xs p ↔ Contains ys p)
+    ensures { (xs ys : List PosView) → AreRising xs → AreRising ys
+        → ((p : PosView) → Contains xs p ↔ Contains ys p)
         → xs ≡ ys }
 {}

@@ -6,13 +6,13 @@ use Rattle.std.proofs.lemmas.Grind.{flat_map-append}
 use Rattle.std.proofs.lemmas.List.Elements.{All-cons, All-contains, All-nil, All-same, Contains-get_or, Contains-append_left, Contains-append_right, Contains-append_cases, Contains-push, Contains-push_cases}
 use Rattle.othello_rules.proofs.BoundLaws.{Contains-map}
 use Rattle.othello_rules.specs.declared.scorings.Scoring.{Scoring}
-use Rattle.othello_bits.specs.Discs.{Discs}
+use Rattle.othello_bits.specs.Pos.{PosView}
 use Rattle.othello_bits.specs.Symmetries.{canonical_of}
-use Rattle.endgame_search.specs.Problems.{Problem}
-use Rattle.solved_book.specs.Books.{Contents}
+use Rattle.endgame_search.specs.Task.{TaskView}
+use Rattle.solved_book.specs.Books.{BookView}
 use Rattle.solved_book.specs.Order.{AreBookPositions}
 use Rattle.solved_book.proofs.OneOrder.{same_order}
-use Rattle.suite_solver.specs.Parts.{IsBookOf, Yield, canonicals, yield, yield_of, yield_report, yield_reports, yield_tasks}
+use Rattle.suite_solver.specs.Parts.{IsBookOf, PartView, canonicals, part_view, part_view_of, report_of_view, reports_of_views, tasks_of_views}
 use Rattle.suite_solver.specs.Reports.{report, reports_from}
 use Rattle.suite_solver.specs.Rows.{tasks}
 use Rattle.suite_solver.specs.Runs.{all_tasks, texts_of}
@@ -24,37 +24,37 @@ File = Vec ℕ Global
 
 -- ---- reports
 
-pub yields_more : (n : ℕ) (y : Yield) (ys : List Yield) → yield_reports n (y ∷ ys) ≡ yield_report (n, y) ∷ yield_reports (n + 1) ys
-unfolding yield_reports
+pub yields_more : (n : ℕ) (y : PartView) (ys : List PartView) → reports_of_views n (y ∷ ys) ≡ report_of_view (n, y) ∷ reports_of_views (n + 1) ys
+unfolding reports_of_views
 yields_more n y ys = refl
 
-pub yields_none : (n : ℕ) → yield_reports n [] ≡ []
-unfolding yield_reports
+pub yields_none : (n : ℕ) → reports_of_views n [] ≡ []
+unfolding reports_of_views
 yields_none n = refl
 
--- what texts yield has their reports
-pub yields_reported : (g : Scoring) (limit n : ℕ) (texts : List (List ℕ)) → yield_reports n (map (yield g limit) texts) ≡ reports_from g limit n texts
-unfolding yield_reports reports_from
+-- what texts part_view has their reports
+pub yields_reported : (g : Scoring) (limit n : ℕ) (texts : List (List ℕ)) → reports_of_views n (map (part_view g limit) texts) ≡ reports_from g limit n texts
+unfolding reports_of_views reports_from
 yields_reported g limit n [] = refl
 yields_reported g limit n (text ∷ texts) = ap (λ l. report g limit (n, text) ∷ l) (yields_reported g limit (n + 1) texts)
 
 -- ---- tasks
 
-pub yields_tasks : (g : Scoring) (limit : ℕ) (texts : List (List ℕ)) → yield_tasks (map (yield g limit) texts) ≡ all_tasks g limit texts
+pub yields_tasks : (g : Scoring) (limit : ℕ) (texts : List (List ℕ)) → tasks_of_views (map (part_view g limit) texts) ≡ all_tasks g limit texts
 yields_tasks g limit [] = refl
 yields_tasks g limit (text ∷ texts) = ap (λ l. tasks g limit text ++ l) (yields_tasks g limit texts)
 
-abbrev pub AreScored : Scoring → Yield → Type 0
+abbrev pub AreScored : Scoring → PartView → Type 0
 AreScored g y = All (HasScoring g) y.1
 
-pub yields_scored : (g : Scoring) (limit : ℕ) (texts : List (List ℕ)) → All (AreScored g) (map (yield g limit) texts)
+pub yields_scored : (g : Scoring) (limit : ℕ) (texts : List (List ℕ)) → All (AreScored g) (map (part_view g limit) texts)
 yields_scored g limit [] = All-nil (AreScored g)
-yields_scored g limit (text ∷ texts) = All-cons (AreScored g) (yield g limit text) (map (yield g limit) texts) (tasks_scored g limit text) (yields_scored g limit texts)
+yields_scored g limit (text ∷ texts) = All-cons (AreScored g) (part_view g limit text) (map (part_view g limit) texts) (tasks_scored g limit text) (yields_scored g limit texts)
 
 -- each part of scored ones is scored
-pub scored_at : (g : Scoring) (parts : List Part) (i : ℕ) (d : Part) → i < length parts → All (AreScored g) (map yield_of parts) → All (HasScoring g) (get_or parts i d).solved.items
+pub scored_at : (g : Scoring) (parts : List Part) (i : ℕ) (d : Part) → i < length parts → All (AreScored g) (map part_view_of parts) → All (HasScoring g) (get_or parts i d).solved.items
 scored_at g parts i d lt all =
-    All-contains (AreScored g) (map yield_of parts) (yield_of (get_or parts i d)) all (Contains-map yield_of parts (get_or parts i d) (Contains-get_or parts i d lt))
+    All-contains (AreScored g) (map part_view_of parts) (part_view_of (get_or parts i d)) all (Contains-map part_view_of parts (get_or parts i d) (Contains-get_or parts i d lt))
 
 -- ---- the book
 
@@ -65,10 +65,10 @@ contains_one x y c = elim (Contains-push_cases [] x y c) [
 ]
 
 -- a book that holds some and the canonical positions of what was added, and then that of one more
-pub book_step : (old now new : List Discs) (done : List Problem) (t : Problem)
-    → ((p : Discs) → Contains now p ↔ (Contains old p ⊎ Contains (canonicals done) p))
-    → ((p : Discs) → Contains new p ↔ ((p ≡ canonical_of t.position) ⊎ Contains now p))
-    → (p : Discs) → Contains new p ↔ (Contains old p ⊎ Contains (canonicals (done ++ t ∷ [])) p)
+pub book_step : (old now new : List PosView) (done : List TaskView) (t : TaskView)
+    → ((p : PosView) → Contains now p ↔ (Contains old p ⊎ Contains (canonicals done) p))
+    → ((p : PosView) → Contains new p ↔ ((p ≡ canonical_of t.position) ⊎ Contains now p))
+    → (p : PosView) → Contains new p ↔ (Contains old p ⊎ Contains (canonicals (done ++ t ∷ [])) p)
 book_step old now new done t before added p =
     let c = canonical_of t.position in
     let split : canonicals (done ++ t ∷ []) ≡ canonicals done ++ c ∷ [] = map-append _ done (t ∷ []) in (
@@ -101,24 +101,24 @@ yields_step f files i d made x lt h e =
 
 -- a part adds its report
 pub part_reported : (i : ℕ) (parts : List Part) (d : Part) (made : List File) (next : File) (all : List (List ℕ)) → i < length parts
-    → next.items ≡ yield_report (i, yield_of (get_or parts i d)) → texts_of made ++ yield_reports i (map yield_of (drop i parts)) ≡ all
-    → texts_of (made ++ next ∷ []) ++ yield_reports (i + 1) (map yield_of (drop (i + 1) parts)) ≡ all
+    → next.items ≡ report_of_view (i, part_view_of (get_or parts i d)) → texts_of made ++ reports_of_views i (map part_view_of (drop i parts)) ≡ all
+    → texts_of (made ++ next ∷ []) ++ reports_of_views (i + 1) (map part_view_of (drop (i + 1) parts)) ≡ all
 part_reported i parts d made next all lt e h =
-    let k = rw (drop_more parts i d lt, yields_more i (yield_of (get_or parts i d)) (map yield_of (drop (i + 1) parts))) at h in
+    let k = rw (drop_more parts i d lt, yields_more i (part_view_of (get_or parts i d)) (map part_view_of (drop (i + 1) parts))) at h in
     rw (map-append, e, append_assoc) k
 
-pub all_reported : (made : List File) (n : ℕ) (all : List (List ℕ)) (left : List Part) → left ≡ [] → texts_of made ++ yield_reports n (map yield_of left) ≡ all → texts_of made ≡ all
+pub all_reported : (made : List File) (n : ℕ) (all : List (List ℕ)) (left : List Part) → left ≡ [] → texts_of made ++ reports_of_views n (map part_view_of left) ≡ all → texts_of made ≡ all
 all_reported made n all left none h = let k = rw (none, yields_none n) at h in sym (append-nil (texts_of made)) ∙ k
 
 -- a part adds its positions to the book
-pub book_more : (old new : List Discs) (parts : List Part) (i : ℕ) (d : Part) (solved : List Problem) → i < length parts → solved ≡ (get_or parts i d).solved.items
-    → ((p : Discs) → Contains old p ↔ Contains (canonicals (yield_tasks (map yield_of (take i parts)))) p)
-    → ((p : Discs) → Contains new p ↔ (Contains old p ⊎ Contains (canonicals solved) p))
-    → (p : Discs) → Contains new p ↔ Contains (canonicals (yield_tasks (map yield_of (take (i + 1) parts)))) p
+pub book_more : (old new : List PosView) (parts : List Part) (i : ℕ) (d : Part) (solved : List TaskView) → i < length parts → solved ≡ (get_or parts i d).solved.items
+    → ((p : PosView) → Contains old p ↔ Contains (canonicals (tasks_of_views (map part_view_of (take i parts)))) p)
+    → ((p : PosView) → Contains new p ↔ (Contains old p ⊎ Contains (canonicals solved) p))
+    → (p : PosView) → Contains new p ↔ Contains (canonicals (tasks_of_views (map part_view_of (take (i + 1) parts)))) p
 book_more old new parts i d solved lt e before added p =
-    let done = yield_tasks (map yield_of (take i parts)) in
-    let more : canonicals (yield_tasks (map yield_of (take (i + 1) parts))) ≡ canonicals done ++ canonicals solved =
-    ap canonicals (ap yield_tasks (map_more yield_of parts i d lt) ∙ flat_map-append (λ (y : Yield). y.1) (map yield_of (take i parts)) (yield_of (get_or parts i d) ∷ [])
+    let done = tasks_of_views (map part_view_of (take i parts)) in
+    let more : canonicals (tasks_of_views (map part_view_of (take (i + 1) parts))) ≡ canonicals done ++ canonicals solved =
+    ap canonicals (ap tasks_of_views (map_more part_view_of parts i d lt) ∙ flat_map-append (λ (y : PartView). y.1) (map part_view_of (take i parts)) (part_view_of (get_or parts i d) ∷ [])
     ∙ ap (λ l. done ++ l) (append-nil (get_or parts i d).solved.items ∙ sym e)) ∙ map-append _ done solved in (
       (λ h. subst (λ l. Contains l p) (sym more) (elim ((added p).0 h) [
         | inl h ↦ Contains-append_left (canonicals done) (canonicals solved) p ((before p).0 h)
@@ -132,26 +132,26 @@ book_more old new parts i d solved lt e before added p =
 
 -- ---- the outcome
 
-pub parts_few : (parts : List Part) (g : Scoring) (limit : ℕ) (files : List File) → map yield_of parts ≡ map (yield g limit) (texts_of files) → length parts ≡ length files
+pub parts_few : (parts : List Part) (g : Scoring) (limit : ℕ) (files : List File) → map part_view_of parts ≡ map (part_view g limit) (texts_of files) → length parts ≡ length files
 parts_few parts g limit files e =
-    sym (length-map parts yield_of) ∙ ap length e ∙ length-map (texts_of files) (yield g limit) ∙ length-map files (λ (f : File). f.items)
+    sym (length-map parts part_view_of) ∙ ap length e ∙ length-map (texts_of files) (part_view g limit) ∙ length-map files (λ (f : File). f.items)
 
-pub parts_scored : (ys : List Yield) (g : Scoring) (limit : ℕ) (texts : List (List ℕ)) → ys ≡ map (yield g limit) texts → All (AreScored g) ys
-parts_scored ys g limit texts e = All-same (AreScored g) ys (map (yield g limit) texts) e (yields_scored g limit texts)
+pub parts_scored : (ys : List PartView) (g : Scoring) (limit : ℕ) (texts : List (List ℕ)) → ys ≡ map (part_view g limit) texts → All (AreScored g) ys
+parts_scored ys g limit texts e = All-same (AreScored g) ys (map (part_view g limit) texts) e (yields_scored g limit texts)
 
-pub outcome_reports : (ys : List Yield) (g : Scoring) (limit : ℕ) (texts : List (List ℕ)) → ys ≡ map (yield g limit) texts → yield_reports 0 ys ≡ reports_from g limit 0 texts
-outcome_reports ys g limit texts e = ap (yield_reports 0) e ∙ yields_reported g limit 0 texts
+pub outcome_reports : (ys : List PartView) (g : Scoring) (limit : ℕ) (texts : List (List ℕ)) → ys ≡ map (part_view g limit) texts → reports_of_views 0 ys ≡ reports_from g limit 0 texts
+outcome_reports ys g limit texts e = ap (reports_of_views 0) e ∙ yields_reported g limit 0 texts
 
-pub outcome_tasks : (ys : List Yield) (g : Scoring) (limit : ℕ) (texts : List (List ℕ)) → ys ≡ map (yield g limit) texts → yield_tasks ys ≡ all_tasks g limit texts
-outcome_tasks ys g limit texts e = ap yield_tasks e ∙ yields_tasks g limit texts
+pub outcome_tasks : (ys : List PartView) (g : Scoring) (limit : ℕ) (texts : List (List ℕ)) → ys ≡ map (part_view g limit) texts → tasks_of_views ys ≡ all_tasks g limit texts
+outcome_tasks ys g limit texts e = ap tasks_of_views e ∙ yields_tasks g limit texts
 
 -- ---- two runs
 
-same_members : (xs ys zs : List Discs) → ((p : Discs) → Contains xs p ↔ Contains zs p) → ((p : Discs) → Contains ys p ↔ Contains zs p) → (p : Discs) → Contains xs p ↔ Contains ys p
+same_members : (xs ys zs : List PosView) → ((p : PosView) → Contains xs p ↔ Contains zs p) → ((p : PosView) → Contains ys p ↔ Contains zs p) → (p : PosView) → Contains xs p ↔ Contains ys p
 same_members xs ys zs f g p = ((λ h. (g p).1 ((f p).0 h)), (λ h. (f p).1 ((g p).0 h)))
 
 -- two books of equal tasks are equal
-pub one_book : (g : Scoring) (done : List Problem) (a b : Contents) → IsBookOf g done a → IsBookOf g done b
+pub one_book : (g : Scoring) (done : List TaskView) (a b : BookView) → IsBookOf g done a → IsBookOf g done b
     → AreBookPositions a.positions → AreBookPositions b.positions → a ≡ b
 one_book g done a b p q r s =
     let scoring = p.scoring ∙ sym q.scoring in

@@ -6,7 +6,7 @@ use Rattle.std.proofs.lemmas.Bool.{cases_lt}
 use Rattle.std.proofs.Math.Nat.{min_comm, min-eq_left}
 use borrow.Author.Tests.{ltb-false}
 use Rattle.suite_solver.specs.Programs.{AreFrontsOf, AreTextsOf, IsSilent, status_of}
-use Rattle.suite_solver.specs.declared.stops.Stop.{Stop}
+use Rattle.suite_solver.specs.declared.errors.ProgramError.{ProgramError}
 use Rattle.suite_solver.specs.Runs.{first_large, is_large}
 use Rattle.suite_solver.specs.declared.faults.RunFault.{RunFault}
 use Rattle.suite_solver.specs.declared.faults.RunFault.TheVariants.{FileTooLarge, TooManyFiles}
@@ -66,18 +66,18 @@ whole_texts (name ∷ names) given texts read small few = all_named (length text
 
 -- ---- how a call ended
 
-pub on_ok : (r : Result (Unit {0}) Stop) (P : Type 0) → P → OnOk r P
+pub on_ok : (r : Result (Unit {0}) ProgramError) (P : Type 0) → P → OnOk r P
 on_ok (Ok nothing) P p = p
-on_ok (Err stop) P p = tt
+on_ok (Err error) P p = tt
 
 -- an error behind the reports is none that comes before anything was printed
-pub told_late : (r : Result (Unit {0}) Stop) (P : Type 0) → IfErr r (λ stop. IsSilent stop → ⊥) → IfErr r (λ stop. IsSilent stop → P)
+pub told_late : (r : Result (Unit {0}) ProgramError) (P : Type 0) → IfErr r (λ error. IsSilent error → ⊥) → IfErr r (λ error. IsSilent error → P)
 told_late (Ok nothing) P h = tt
-told_late (Err stop) P h = λ silent. absurd (h silent)
+told_late (Err error) P h = λ silent. absurd (h silent)
 
-three_not_one : (stop : Stop) → status_of stop ≡ 3 → status_of stop ≡ 1 → ⊥
-three_not_one stop three one = let e = sym three ∙ one in omega (arith, e)
+three_not_one : (error : ProgramError) → status_of error ≡ 3 → status_of error ≡ 1 → ⊥
+three_not_one error three one = let e = sym three ∙ one in omega (arith, e)
 
-pub not_refused : (r : Result (Unit {0}) Stop) (P : Type 0) → IfErr r (λ stop. status_of stop ≡ 3) → IfErr r (λ stop. status_of stop ≡ 1 → P)
+pub not_refused : (r : Result (Unit {0}) ProgramError) (P : Type 0) → IfErr r (λ error. status_of error ≡ 3) → IfErr r (λ error. status_of error ≡ 1 → P)
 not_refused (Ok nothing) P h = tt
-not_refused (Err stop) P h = λ one. absurd (three_not_one stop h one)
+not_refused (Err error) P h = λ one. absurd (three_not_one error h one)

@@ -9,7 +9,7 @@ use Rattle.suite_solver.specs.declared.rows.RowResult.{RowResult}
 use Rattle.suite_solver.specs.declared.rows.ReportRow.{ReportRow}
 use Rattle.suite_solver.specs.Readings.{result_in, row_in}
 use Rattle.suite_solver.specs.declared.readings.Reading.{Reading}
-use Rattle.suite_solver.specs.declared.texts.NumberedReading.{NumberedReading}
+use Rattle.suite_solver.specs.declared.lines.NumberedReading.{NumberedReading}
 use Rattle.suite_solver.specs.Rows.{report_row, result_of, rows, rows_from}
 
 pub rows_start : (g : Scoring) (limit : ℕ) (text : List ℕ) → rows g limit text ≡ rows_from g limit 1 (lines_of text)

@@ -5,7 +5,7 @@ use Rattle.std.specs.List.{position, position_or_len}
 use Rattle.std.proofs.lemmas.List.{length-map}
 use Rattle.std.proofs.lemmas.List.Sums.{fails_before_first}
 use borrow.Author.Tests.{ltb-true, ltb-false}
-use Rattle.suite_solver.specs.Limits.{Configuration}
+use Rattle.suite_solver.specs.Settings.{SettingsView}
 use Rattle.suite_solver.specs.Runs.{Answers, first_large, is_large, refusal_of, texts_of}
 use Rattle.suite_solver.specs.declared.faults.RunFault.{RunFault}
 use Rattle.suite_solver.specs.declared.faults.RunFault.TheVariants.{Memory, Mixed, TooManyFiles, FileTooLarge}
@@ -42,7 +42,7 @@ refused (Err Mixed) = None
 refused (Err TooManyFiles) = Some TooManyFiles
 refused (Err (FileTooLarge s)) = Some (FileTooLarge s)
 
-answers_refused : (r : Result Outcome RunFault) (s : Configuration) (texts : List (List ℕ)) → Answers r s texts → refused r ≡ refusal_of texts
+answers_refused : (r : Result Outcome RunFault) (s : SettingsView) (texts : List (List ℕ)) → Answers r s texts → refused r ≡ refusal_of texts
 answers_refused (Ok given) s texts a = sym a.0
 answers_refused (Err Memory) s texts a = sym a
 answers_refused (Err Mixed) s texts a = sym a
@@ -81,7 +81,7 @@ refusal_cases texts = go (nat_lt 64 (length texts)) refl
     go true e = inl (ltb-true _ _ e, rw e refl)
     go false e = inr (ltb-false _ _ e, rw e refl)
 
-pub many_iff : (r : Result Outcome RunFault) (s : Configuration) (texts : List (List ℕ)) → Answers r s texts → IsErrOf r TooManyFiles ↔ 64 < length texts
+pub many_iff : (r : Result Outcome RunFault) (s : SettingsView) (texts : List (List ℕ)) → Answers r s texts → IsErrOf r TooManyFiles ↔ 64 < length texts
 many_iff r s texts a =
     let same = answers_refused r s texts a in (
       (λ e. elim (refusal_cases texts) [
@@ -94,7 +94,7 @@ many_iff r s texts a =
       ]),
     )
 
-pub large_iff : (r : Result Outcome RunFault) (c : Configuration) (n : ℕ) (texts : List (List ℕ)) → length texts ≡ n → Answers r c texts → (s : ℕ)
+pub large_iff : (r : Result Outcome RunFault) (c : SettingsView) (n : ℕ) (texts : List (List ℕ)) → length texts ≡ n → Answers r c texts → (s : ℕ)
     → IsErrOf r (FileTooLarge s) ↔ ((n ≤ 64) × (first_large texts ≡ Some s))
 large_iff r c n texts len a s =
     let same = answers_refused r c texts a in (
@@ -125,7 +125,7 @@ not_mixed texts e = elim (refusal_cases texts) [
 ]
 
 -- what is refused is the answer
-pub refused_answers : (fault : RunFault) (c : Configuration) (texts : List (List ℕ)) → refusal_of texts ≡ Some fault → Answers (Err fault) c texts
+pub refused_answers : (fault : RunFault) (c : SettingsView) (texts : List (List ℕ)) → refusal_of texts ≡ Some fault → Answers (Err fault) c texts
 refused_answers Memory c texts e = absurd (not_memory texts e)
 refused_answers Mixed c texts e = absurd (not_mixed texts e)
 refused_answers TooManyFiles c texts e = e

@@ -3,7 +3,7 @@ use Rattle.std.specs.Prelude.{ℤ, ◌&&◌, Bool, true, false, List, [], ◌∷
 use Rattle.std.specs.List.{list_all}
 use Rattle.std.specs.Ordering.{int_eq}
 use Rattle.othello_rules.specs.Masks.{in_mask}
-use Rattle.othello_rules.specs.Solution.{Solution}
+use Rattle.othello_rules.specs.Answer.{AnswerView}
 use Rattle.othello_rules.specs.declared.answers.Best.{Best}
 use Rattle.othello_rules.specs.declared.answers.Best.TheVariants as best
 use Rattle.obf_text.specs.Fields.{Field, greatest_listed}
@@ -29,10 +29,10 @@ abbrev pub are_best_in : Best → ℤ → List Field → Bool
 are_best_in best score fields = list_all (λ f. is_best_in best f.0) (fields_with score fields)
 
 -- the greatest listed score is the answer's, and each move that is listed with it is best
-unfoldable pub agrees : List Field → Solution → Bool
+unfoldable pub agrees : List Field → AnswerView → Bool
 agrees fields answer =
     int_eq (greatest_listed fields) answer.score && are_best_in answer.best answer.score fields
 
-unfoldable pub check : List Field → Solution → Check
+unfoldable pub check : List Field → AnswerView → Check
 check [] answer = Unlisted
 check (f ∷ fs) answer = if agrees (f ∷ fs) answer then Agree else Differ

@@ -15,7 +15,7 @@ use Rattle.clap.specs.declared.error.kind.ErrorKind.{ErrorKind}
 use Rattle.clap.specs.declared.error.kind.ErrorKind.TheVariants.{DisplayHelp, DisplayVersion, OutOfMemory}
 use Rattle.othello_rules.specs.Scores.{scoring_name}
 use Rattle.othello_rules.specs.declared.scorings.Scoring.TheVariants.{Winner, Discs, Sign}
-use Rattle.suite_solver.specs.Limits.{Configuration}
+use Rattle.suite_solver.specs.Settings.{SettingsView}
 use Rattle.suite_solver.specs.declared.requests.ListOptions.{ListOptions}
 use Rattle.suite_solver.specs.declared.requests.Options.{Options}
 use Rattle.suite_solver.specs.declared.requests.OptionFault.{OptionFault}
@@ -97,14 +97,14 @@ pub record HasNumber (name : Text) (rows : List Row) (n : ℕ) : Type 0 where
   pub numeral : IsNumeral 10 (without_leading_plus text)
   pub value : n ≡ digits_value 10 (without_leading_plus text)
 
-pub record HasSettings (c : Configuration) (rows : List Row) : Type 0 where
+pub record HasSettings (c : SettingsView) (rows : List Row) : Type 0 where
   pub max_empties : HasNumber (codes "max-empties") rows c.max_empties
   pub workers : HasNumber (codes "workers") rows c.workers
   pub table : HasNumber (codes "table") rows c.table
   pub scoring : first_of (codes "scoring") rows ≡ Some (scoring_name c.scoring)
 
 -- no workers are asked for
-pub record HasListSettings (c : Configuration) (rows : List Row) : Type 0 where
+pub record HasListSettings (c : SettingsView) (rows : List Row) : Type 0 where
   pub max_empties : HasNumber (codes "max-empties") rows c.max_empties
   pub workers : c.workers ≡ 0
   pub table : HasNumber (codes "table") rows c.table
@@ -116,7 +116,7 @@ names_of names = map string_bytes names
 -- settings, the names of a book to read and of one to write, where there are any, and the names of
 -- files
 pub record Request : Type 0 where
-  pub settings : Configuration
+  pub settings : SettingsView
   pub book_in : Option Text
   pub book_out : Option Text
   pub files : List Text
@@ -142,7 +142,7 @@ pub record Asks (words : List Text) (r : Request) : Type 0 where
 
 -- the settings and the names of the files that words of `ffoscores` ask for
 pub record ListRequest : Type 0 where
-  pub settings : Configuration
+  pub settings : SettingsView
   pub files : List Text
 
 abbrev pub list_request_of : ListOptions → ListRequest

@@ -3,12 +3,12 @@ use Rattle.std.specs.Prelude.{◌≡◌, ◌⊎◌, ◌↔◌, ℕ, List, map, C
 use Rattle.std.specs.declared.alloc.Global.{Global}
 use Rattle.std.specs.List.{enumerate_from, flat_map}
 use Rattle.othello_rules.specs.declared.scorings.Scoring.{Scoring}
-use Rattle.othello_bits.specs.Discs.{Discs}
+use Rattle.othello_bits.specs.Pos.{PosView}
 use Rattle.othello_bits.specs.Symmetries.{canonical_of}
-use Rattle.endgame_search.specs.Problems.{Problem}
+use Rattle.endgame_search.specs.Task.{TaskView}
 use Rattle.job_board.specs.declared.faults.SubmitFault.{SubmitFault}
 use Rattle.job_board.specs.declared.faults.SubmitFault.TheVariants as submit
-use Rattle.solved_book.specs.Books.{Contents}
+use Rattle.solved_book.specs.Books.{BookView}
 use Rattle.suite_solver.specs.Rows.{rows, tasks}
 use Rattle.suite_solver.specs.Text.{report_text}
 use Rattle.suite_solver.specs.declared.faults.RunFault.{RunFault}
@@ -17,44 +17,44 @@ use Rattle.suite_solver.specs.declared.parts.Part.{Part}
 use Rattle.suite_solver.specs.declared.rows.ReportRow.{ReportRow}
 
 -- the rows of a text, and its solved positions
-abbrev pub Yield : Type 0
-Yield = List ReportRow × List Problem
+abbrev pub PartView : Type 0
+PartView = List ReportRow × List TaskView
 
-abbrev pub yield_of : Part → Yield
-yield_of part = (part.rows.items, part.solved.items)
+abbrev pub part_view_of : Part → PartView
+part_view_of part = (part.rows.items, part.solved.items)
 
 -- what a text yields
-abbrev pub yield : Scoring → ℕ → List ℕ → Yield
-yield g limit text = (rows g limit text, tasks g limit text)
+abbrev pub part_view : Scoring → ℕ → List ℕ → PartView
+part_view g limit text = (rows g limit text, tasks g limit text)
 
 -- what a text yields, or that memory or a desk refused it
 abbrev pub GivesPart : Scoring → ℕ → List ℕ → Result Part RunFault → Type 0
-GivesPart g limit text (Ok part) = yield_of part ≡ yield g limit text
+GivesPart g limit text (Ok part) = part_view_of part ≡ part_view g limit text
 GivesPart g limit text (Err fault) = (fault ≡ Memory) ⊎ (fault ≡ Mixed)
 
--- all texts yield their parts, or memory or a desk refused one
+-- all texts part_view their parts, or memory or a desk refused one
 abbrev pub GivesParts : Scoring → ℕ → List (List ℕ) → Result (Vec Part Global) RunFault → Type 0
-GivesParts g limit texts (Ok parts) = map yield_of parts.items ≡ map (yield g limit) texts
+GivesParts g limit texts (Ok parts) = map part_view_of parts.items ≡ map (part_view g limit) texts
 GivesParts g limit texts (Err fault) = (fault ≡ Memory) ⊎ (fault ≡ Mixed)
 
--- the reports of what texts yield, the first of which is that of sender n
-abbrev pub yield_report : ℕ × Yield → List ℕ
-yield_report (sender, y) = report_text sender y.0
+-- the reports of what texts part_view, the first of which is that of sender n
+abbrev pub report_of_view : ℕ × PartView → List ℕ
+report_of_view (sender, y) = report_text sender y.0
 
-unfoldable pub yield_reports : ℕ → List Yield → List (List ℕ)
-yield_reports n yields = map yield_report (enumerate_from n yields)
+unfoldable pub reports_of_views : ℕ → List PartView → List (List ℕ)
+reports_of_views n yields = map report_of_view (enumerate_from n yields)
 
 -- the solved positions
-abbrev pub yield_tasks : List Yield → List Problem
-yield_tasks yields = flat_map (λ (y : Yield). y.1) yields
+abbrev pub tasks_of_views : List PartView → List TaskView
+tasks_of_views yields = flat_map (λ (y : PartView). y.1) yields
 
-abbrev pub canonicals : List Problem → List Discs
-canonicals tasks = map (λ (t : Problem). canonical_of t.position) tasks
+abbrev pub canonicals : List TaskView → List PosView
+canonicals tasks = map (λ (t : TaskView). canonical_of t.position) tasks
 
 -- the book has this scoring; it holds the canonical positions of the tasks, and no others
-pub record IsBookOf (g : Scoring) (tasks : List Problem) (book : Contents) : Type 0 where
+pub record IsBookOf (g : Scoring) (tasks : List TaskView) (book : BookView) : Type 0 where
   pub scoring : book.scoring ≡ g
-  pub positions : (p : Discs) → Contains book.positions p ↔ Contains (canonicals tasks) p
+  pub positions : (p : PosView) → Contains book.positions p ↔ Contains (canonicals tasks) p
 
 -- what a refused submit is to a run
 abbrev pub fault_of_submit : SubmitFault → RunFault

@@ -8,13 +8,13 @@ use Rattle.obf_text.specs.declared.faults.LineFault.TheVariants as line
 use Rattle.solved_book.specs.declared.faults.BookFault.{BookFault}
 use Rattle.solved_book.specs.declared.faults.BookFault.TheVariants as book
 use Rattle.suite_solver.specs.CommandLine.{Asks, Request}
-use Rattle.suite_solver.specs.Limits.{Configuration}
+use Rattle.suite_solver.specs.Settings.{SettingsView}
 use Rattle.suite_solver.specs.Reports.{reports}
 use Rattle.suite_solver.specs.Runs.{first_large}
 use Rattle.suite_solver.specs.declared.faults.RunFault.{RunFault}
 use Rattle.suite_solver.specs.declared.faults.RunFault.TheVariants.{Memory, Mixed, TooManyFiles, FileTooLarge}
-use Rattle.suite_solver.specs.declared.stops.Stop.{Stop}
-use Rattle.suite_solver.specs.declared.stops.Stop.TheVariants.{Run, BadWords, BadBook, CannotRead, NoPlace, CannotWrite}
+use Rattle.suite_solver.specs.declared.errors.ProgramError.{ProgramError}
+use Rattle.suite_solver.specs.declared.errors.ProgramError.TheVariants.{Run, BadWords, BadBook, CannotRead, NoPlace, CannotWrite}
 
 -- The texts of a run: what standard input gives, where that is known, if no file is named; else one
 -- for each name. What a file holds is not known.
@@ -30,14 +30,14 @@ AreFrontsOf (name ∷ names) given fronts = length fronts ≡ min 65 (length (na
 
 -- A run refuses none of the texts, and their reports were written to standard output, one after the
 -- other: it held `old` before and holds `new` now.
-pub record PrintsReports (c : Configuration) (texts : List (List ℕ)) (old new : Option (List ℕ))
+pub record PrintsReports (c : SettingsView) (texts : List (List ℕ)) (old new : Option (List ℕ))
     : Type 0 where
   pub few : length texts ≤ 64
   pub small : first_large texts ≡ None
   pub written : Appends old new (concat (reports c.scoring c.max_empties texts))
 
 -- the reports of the texts that were named
-pub record Prints (c : Configuration) (names : List (List ℕ)) (given old new : Option (List ℕ))
+pub record Prints (c : SettingsView) (names : List (List ℕ)) (given old new : Option (List ℕ))
     : Type 0 where
   pub texts : List (List ℕ)
   pub read : AreTextsOf names given texts
@@ -73,23 +73,23 @@ book_fault_text book.Memory = codes "out of memory"
 book_fault_text book.Header = codes "book line 1: unknown header"
 
 -- what a fault of a book is to the program
-abbrev pub book_stop : BookFault → Stop
-book_stop book.Memory = Run Memory
-book_stop fault = BadBook fault
+abbrev pub book_error : BookFault → ProgramError
+book_error book.Memory = Run Memory
+book_error fault = BadBook fault
 
 -- one line for standard error
-unfoldable pub stop_reason : Stop → List ℕ
-stop_reason (Run fault) = run_fault_text fault
-stop_reason (BadBook fault) = book_fault_text fault
-stop_reason BadWords = codes "cannot read the command line"
-stop_reason (CannotRead name) = codes "cannot read " ++ name.now
-stop_reason (NoPlace name) = codes "cannot write " ++ name.now
-stop_reason (CannotWrite name) = codes "cannot write " ++ name.now
+unfoldable pub error_reason : ProgramError → List ℕ
+error_reason (Run fault) = run_fault_text fault
+error_reason (BadBook fault) = book_fault_text fault
+error_reason BadWords = codes "cannot read the command line"
+error_reason (CannotRead name) = codes "cannot read " ++ name.now
+error_reason (NoPlace name) = codes "cannot write " ++ name.now
+error_reason (CannotWrite name) = codes "cannot write " ++ name.now
 
-unfoldable pub stop_text : Stop → List ℕ
-stop_text stop = codes "ffosolve: " ++ (stop_reason stop ++ 10 ∷ [])
+unfoldable pub error_text : ProgramError → List ℕ
+error_text error = codes "ffosolve: " ++ (error_reason error ++ 10 ∷ [])
 
-abbrev pub status_of : Stop → ℕ
+abbrev pub status_of : ProgramError → ℕ
 status_of (Run fault) = 1
 status_of BadWords = 2
 status_of (BadBook fault) = 3
@@ -98,6 +98,6 @@ status_of (NoPlace name) = 3
 status_of (CannotWrite name) = 3
 
 -- what ends the program before it prints anything: all but what can't be written
-abbrev pub IsSilent : Stop → Type 0
+abbrev pub IsSilent : ProgramError → Type 0
 IsSilent (CannotWrite name) = ⊥
 IsSilent _ = Unit {0}

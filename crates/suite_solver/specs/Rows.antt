@@ -3,8 +3,8 @@ use Rattle.std.specs.Prelude.{ℕ, nat_lt, List, option_map, Option, Some, None,
 use Rattle.std.specs.List.{enumerate_from, filter_map}
 use Rattle.othello_rules.specs.Value.{answer, empties}
 use Rattle.othello_rules.specs.declared.scorings.Scoring.{Scoring}
-use Rattle.othello_bits.specs.Discs.{discs_of}
-use Rattle.endgame_search.specs.Problems.{Problem}
+use Rattle.othello_bits.specs.Pos.{discs_of}
+use Rattle.endgame_search.specs.Task.{TaskView}
 use Rattle.obf_text.specs.LineText.{lines_of}
 use Rattle.obf_text.specs.Obf.{Entry, Faulty, Holds, Meaning, Skipped, item_of}
 use Rattle.obf_text.specs.declared.faults.LineFault.{LineFault}
@@ -30,7 +30,7 @@ fault_result (fault.BadSide column) = Some (Refused (refusal.BadSide column))
 fault_result fault.Memory = None
 
 -- the task of a line: a position that is solved
-abbrev pub task_of : Scoring → ℕ → Meaning → Option Problem
+abbrev pub task_of : Scoring → ℕ → Meaning → Option TaskView
 task_of g limit (Holds entry) =
     if nat_lt limit (empties entry.position)
     then None
@@ -38,10 +38,10 @@ task_of g limit (Holds entry) =
 task_of g limit _ = None
 
 -- the tasks of lines, and of a text, in their order
-unfoldable pub tasks_from : Scoring → ℕ → List (List ℕ) → List Problem
+unfoldable pub tasks_from : Scoring → ℕ → List (List ℕ) → List TaskView
 tasks_from g limit lines = filter_map (λ line. task_of g limit (item_of line)) lines
 
-abbrev pub tasks : Scoring → ℕ → List ℕ → List Problem
+abbrev pub tasks : Scoring → ℕ → List ℕ → List TaskView
 tasks g limit text = tasks_from g limit (lines_of text)
 
 -- a line that is skipped has no result

@@ -4,7 +4,7 @@ use Rattle.std.specs.List.{flat_map, join_with_byte}
 use Rattle.std.specs.Fmt.{decimal}
 use Rattle.othello_rules.specs.Board.{name_of}
 use Rattle.othello_rules.specs.Masks.{squares_of}
-use Rattle.othello_rules.specs.Solution.{Solution}
+use Rattle.othello_rules.specs.Answer.{AnswerView}
 use Rattle.obf_text.specs.Written.{score_text}
 use Rattle.othello_rules.specs.declared.answers.Best.{Best}
 use Rattle.othello_rules.specs.declared.answers.Best.TheVariants.{Moves, Pass, Over}
@@ -40,7 +40,7 @@ refusal_text (BadCell column) = codes "bad square at column " ++ decimal column
 refusal_text (BadSide column) = codes "bad side at column " ++ decimal column
 refusal_text (Empties found limit) = decimal found ++ (codes " empties, limit " ++ decimal limit)
 
-unfoldable pub answer_text : Solution → List ℕ
+unfoldable pub answer_text : AnswerView → List ℕ
 answer_text answer = score_text answer.score ++ (codes " " ++ best_text answer.best)
 
 -- the score, the best moves and the check; or why the line was refused

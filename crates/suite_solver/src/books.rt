@@ -5,7 +5,7 @@ ghost use Rattle.solved_book.specs.Books.{book_text};
 ghost use Rattle.suite_solver.specs.Programs.{IsSilent, status_of};
 
 use crate::places::name_beside;
-use crate::stops::{Stop, read_stop};
+use crate::errors::{ProgramError, read_error};
 use solved_book::{Book, Claims};
 use std::alloc::{AllocError, Global};
 use std::fs::{OpenFile, OpenOptions};
@@ -21,9 +21,9 @@ fn read_whole<R: Read>(alloc: Global, reader: &mut R) -> io::Result<Vec<u8>> {
 }
 
 // The text of a book's file.
-fn read_text<'a, T: Files>(rt: &T, alloc: Global, name: &'a str) -> Result<Vec<u8>, Stop<'a>>
+fn read_text<'a, T: Files>(rt: &T, alloc: Global, name: &'a str) -> Result<Vec<u8>, ProgramError<'a>>
     ensures silent { IfErr result IsSilent }
-    ensures status { IfErr result (λ stop. (status_of stop ≡ 1) ⊎ (status_of stop ≡ 3)) }
+    ensures status { IfErr result (λ error. (status_of error ≡ 1) ⊎ (status_of error ≡ 3)) }
 {
     let read = match fs::open(rt, name) {
         Ok(mut file) => read_whole(alloc, &mut file),
@@ -31,21 +31,21 @@ fn read_text<'a, T: Files>(rt: &T, alloc: Global, name: &'a str) -> Result<Vec<u
     };
     match read {
         Ok(text) => Ok(text),
-        Err(fault) => Err(read_stop(&fault, name)),
+        Err(fault) => Err(read_error(&fault, name)),
     }
 }
 
 // What the book of a file claims.
-fn read_book<'a, T: Files>(rt: &T, alloc: Global, name: &'a str) -> Result<Claims, Stop<'a>>
+fn read_book<'a, T: Files>(rt: &T, alloc: Global, name: &'a str) -> Result<Claims, ProgramError<'a>>
     ensures silent { IfErr result IsSilent }
-    ensures status { IfErr result (λ stop. (status_of stop ≡ 1) ⊎ (status_of stop ≡ 3)) }
+    ensures status { IfErr result (λ error. (status_of error ≡ 1) ⊎ (status_of error ≡ 3)) }
 {
     match read_text(rt, alloc, name) {
         Ok(text) => match Claims::read(alloc, &text) {
             Ok(claims) => Ok(claims),
-            Err(fault) => Err(Stop::from(fault)),
+            Err(fault) => Err(ProgramError::from(fault)),
         },
-        Err(stop) => Err(stop),
+        Err(error) => Err(error),
     }
 }
 
@@ -54,14 +54,14 @@ pub(crate) fn read_advice<'a, T: Files>(
     rt: &T,
     alloc: Global,
     name: &'a Option<String>,
-) -> Result<Option<Claims>, Stop<'a>>
+) -> Result<Option<Claims>, ProgramError<'a>>
     ensures silent { IfErr result IsSilent }
-    ensures status { IfErr result (λ stop. (status_of stop ≡ 1) ⊎ (status_of stop ≡ 3)) }
+    ensures status { IfErr result (λ error. (status_of error ≡ 1) ⊎ (status_of error ≡ 3)) }
 {
     match name {
         Some(name) => match read_book(rt, alloc, name.as_str()) {
             Ok(claims) => Ok(Some(claims)),
-            Err(stop) => Err(stop),
+            Err(error) => Err(error),
         },
         None => Ok(None),
     }
@@ -107,13 +107,13 @@ impl<'a> ReadyBook<'a> {
     }
 
     /// Writes the book. Where a regular file of its name stood, it is whole until the new one is.
-    pub(crate) fn write<T: Files>(&self, rt: &T) -> Result<(), Stop<'a>>
-        ensures told { IfErr result (λ stop. IsSilent stop → ⊥) }
-        ensures status { IfErr result (λ stop. status_of stop ≡ 3) }
+    pub(crate) fn write<T: Files>(&self, rt: &T) -> Result<(), ProgramError<'a>>
+        ensures told { IfErr result (λ error. IsSilent error → ⊥) }
+        ensures status { IfErr result (λ error. status_of error ≡ 3) }
     {
         match self.place(rt) {
             Ok(()) => Ok(()),
-            Err(_) => Err(Stop::CannotWrite(self.name)),
+            Err(_) => Err(ProgramError::CannotWrite(self.name)),
         }
     }
 

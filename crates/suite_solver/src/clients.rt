@@ -9,7 +9,7 @@ use crate::faults::{RunFault, worse_fault};
 use crate::gates::Gate;
 use crate::parts::Part;
 use crate::solvers::Solver;
-use crate::texts::{NumberedReading, readings_of, rows_of};
+use crate::lines::{NumberedReading, readings_of, rows_of};
 use bound_table::Bounds;
 use endgame_search::Solved;
 use job_board::{Client, Desk, Job, Turn};

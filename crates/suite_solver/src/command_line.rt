@@ -192,13 +192,13 @@ fn list_command<'a>(alloc: Global, names: &'a [&'a str]) -> Result<Command<'a>, 
     with_scoring.arg(files_arg(alloc))
 }
 
-fn byte_of(matches: &ArgMatches<'_>, id: &str) -> Option<u8>
+fn u8_of(matches: &ArgMatches<'_>, id: &str) -> Option<u8>
     ensures { IfSome result (λ n. HasNumber id.now (rows_of (found_of matches.now)) n) }
 {
     matches.get_one::<u8>(id)
 }
 
-fn word_of(matches: &ArgMatches<'_>, id: &str) -> Option<u32>
+fn u32_of(matches: &ArgMatches<'_>, id: &str) -> Option<u32>
     ensures { IfSome result (λ n. HasNumber id.now (rows_of (found_of matches.now)) n) }
 {
     matches.get_one::<u32>(id)
@@ -208,9 +208,9 @@ fn word_of(matches: &ArgMatches<'_>, id: &str) -> Option<u32>
 fn settings_of(matches: &ArgMatches<'_>) -> Option<Settings>
     ensures { IfSome result (λ settings. HasSettings settings (rows_of (found_of matches.now))) }
 {
-    let max_empties = byte_of(matches, "max-empties")?;
-    let workers = byte_of(matches, "workers")?;
-    let table = word_of(matches, "table")?;
+    let max_empties = u8_of(matches, "max-empties")?;
+    let workers = u8_of(matches, "workers")?;
+    let table = u32_of(matches, "table")?;
     let scoring = Scoring::from_name(matches.get_str("scoring")?.as_bytes())?;
     Settings::new(max_empties, workers, table, scoring)
 }
@@ -220,8 +220,8 @@ fn list_settings_of(matches: &ArgMatches<'_>) -> Option<Settings>
     ensures { IfSome result
         (λ settings. HasListSettings settings (rows_of (found_of matches.now))) }
 {
-    let max_empties = byte_of(matches, "max-empties")?;
-    let table = word_of(matches, "table")?;
+    let max_empties = u8_of(matches, "max-empties")?;
+    let table = u32_of(matches, "table")?;
     let scoring = Scoring::from_name(matches.get_str("scoring")?.as_bytes())?;
     Settings::new(max_empties, 0, table, scoring)
 }

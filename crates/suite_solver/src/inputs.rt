@@ -5,7 +5,7 @@ ghost use Rattle.suite_solver.specs.CommandLine.{names_of};
 ghost use Rattle.suite_solver.specs.Programs.{AreFrontsOf, status_of};
 ghost use Rattle.suite_solver.specs.Runs.{texts_of};
 
-use crate::stops::{Stop, read_stop};
+use crate::errors::{ProgramError, read_error};
 use std::alloc::Global;
 use std::io::Read;
 use std::rt::Files;
@@ -31,10 +31,10 @@ fn read_capped<R: Read>(alloc: Global, reader: &mut R) -> io::Result<Vec<u8>>
 }
 
 // Standard input as the one file.
-fn read_input<R: Read>(alloc: Global, input: &mut R) -> Result<Vec<Vec<u8>>, Stop<'static>>
+fn read_input<R: Read>(alloc: Global, input: &mut R) -> Result<Vec<Vec<u8>>, ProgramError<'static>>
     ensures ok { IfOk result (λ files. IfSome
         (R.remaining input.old) (λ all. texts_of files.items ≡ take 1048577 all ∷ [])) }
-    ensures err { IfErr result (λ stop. (status_of stop ≡ 1) ⊎ (status_of stop ≡ 3)) }
+    ensures err { IfErr result (λ error. (status_of error ≡ 1) ⊎ (status_of error ≡ 3)) }
 {
     match read_capped(alloc, input) {
         Ok(text) => {
@@ -42,13 +42,13 @@ fn read_input<R: Read>(alloc: Global, input: &mut R) -> Result<Vec<Vec<u8>>, Sto
             files.push(text)?;
             Ok(files)
         }
-        Err(fault) => Err(read_stop(&fault, "standard input")),
+        Err(fault) => Err(read_error(&fault, "standard input")),
     }
 }
 
 // The file of a name.
-fn read_file<'a, T: Files>(rt: &T, alloc: Global, name: &'a str) -> Result<Vec<u8>, Stop<'a>>
-    ensures { IfErr result (λ stop. (status_of stop ≡ 1) ⊎ (status_of stop ≡ 3)) }
+fn read_file<'a, T: Files>(rt: &T, alloc: Global, name: &'a str) -> Result<Vec<u8>, ProgramError<'a>>
+    ensures { IfErr result (λ error. (status_of error ≡ 1) ⊎ (status_of error ≡ 3)) }
 {
     let opened = fs::open(rt, name);
     let read = match opened {
@@ -57,17 +57,17 @@ fn read_file<'a, T: Files>(rt: &T, alloc: Global, name: &'a str) -> Result<Vec<u
     };
     match read {
         Ok(text) => Ok(text),
-        Err(fault) => Err(read_stop(&fault, name)),
+        Err(fault) => Err(read_error(&fault, name)),
     }
 }
 
 // Looks whether a file can be opened. Nothing of it is read.
-fn open_only<'a, T: Files>(rt: &T, name: &'a str) -> Result<(), Stop<'a>>
-    ensures { IfErr result (λ stop. (status_of stop ≡ 1) ⊎ (status_of stop ≡ 3)) }
+fn open_only<'a, T: Files>(rt: &T, name: &'a str) -> Result<(), ProgramError<'a>>
+    ensures { IfErr result (λ error. (status_of error ≡ 1) ⊎ (status_of error ≡ 3)) }
 {
     match fs::open(rt, name) {
         Ok(_) => Ok(()),
-        Err(fault) => Err(read_stop(&fault, name)),
+        Err(fault) => Err(read_error(&fault, name)),
     }
 }
 
@@ -76,9 +76,9 @@ fn read_named<'a, T: Files>(
     rt: &T,
     alloc: Global,
     names: &'a [String],
-) -> Result<Vec<Vec<u8>>, Stop<'a>>
+) -> Result<Vec<Vec<u8>>, ProgramError<'a>>
     ensures ok { IfOk result (λ files. length files.items ≡ min 65 (length names.now)) }
-    ensures err { IfErr result (λ stop. (status_of stop ≡ 1) ⊎ (status_of stop ≡ 3)) }
+    ensures err { IfErr result (λ error. (status_of error ≡ 1) ⊎ (status_of error ≡ 3)) }
 {
     let mut files = Vec::new(alloc);
     for name in names {
@@ -97,10 +97,10 @@ pub(crate) fn read_files<'a, T: Files, R: Read>(
     alloc: Global,
     names: &'a [String],
     input: &mut R,
-) -> Result<Vec<Vec<u8>>, Stop<'a>>
+) -> Result<Vec<Vec<u8>>, ProgramError<'a>>
     ensures ok { IfOk result
         (λ files. AreFrontsOf (names_of names.now) (R.remaining input.old) (texts_of files.items)) }
-    ensures err { IfErr result (λ stop. (status_of stop ≡ 1) ⊎ (status_of stop ≡ 3)) }
+    ensures err { IfErr result (λ error. (status_of error ≡ 1) ⊎ (status_of error ≡ 3)) }
 {
     if names.is_empty() {
         return read_input(alloc, input);

@@ -3,8 +3,8 @@
 
 ghost use Rattle.std.specs.Prelude.{◌≡◌, List};
 ghost use Rattle.othello_rules.specs.declared.scorings.Scoring.{Scoring};
-ghost use Rattle.endgame_search.specs.Problems.{Problem};
-ghost use Rattle.solved_book.specs.Books.{Contents};
+ghost use Rattle.endgame_search.specs.Task.{TaskView};
+ghost use Rattle.solved_book.specs.Books.{BookView};
 ghost use Rattle.solved_book.specs.Order.{AreBookPositions};
 ghost use Rattle.suite_solver.specs.Parts.{IsBookOf};
 
@@ -14,7 +14,7 @@ pub use crate::clients::client_part;
 /// equal books, whatever their workers, tables, claims and gates. That its positions stand in
 /// order, each call of `Book::len` and of `Book::write` says.
 pub fn books_are_one()
-    ensures { (g : Scoring) (tasks : List Problem) (a b : Contents)
+    ensures { (g : Scoring) (tasks : List TaskView) (a b : BookView)
         → IsBookOf g tasks a → IsBookOf g tasks b
         → AreBookPositions a.positions → AreBookPositions b.positions → a ≡ b }
 {}

@@ -1,7 +1,7 @@
 //! The limits of a run, and its settings.
 
 ghost use Rattle.std.specs.Prelude.{◌≡◌, ◌≤◌, ◌↔◌, IsSome, IfSome};
-ghost use Rattle.suite_solver.specs.Limits.{Configuration, IsWithinLimits, defaults};
+ghost use Rattle.suite_solver.specs.Settings.{SettingsView, IsWithinLimits, defaults};
 
 use bound_table::BoundTable;
 use othello_rules::Scoring;
@@ -30,9 +30,9 @@ pub struct Settings {
 }
 
 impl Model for Settings {
-    ghost use Rattle.suite_solver.specs.Limits.{Configuration, IsWithinLimits};
+    ghost use Rattle.suite_solver.specs.Settings.{SettingsView, IsWithinLimits};
 
-    ghost Value = { Configuration };
+    ghost Value = { SettingsView };
 
     ghost view = { λ s. record {
       max_empties = s.max_empties;

@@ -1,9 +1,9 @@
 //! What a run gives.
 
 ghost use Rattle.std.specs.Prelude.{◌≡◌, ◌⊎◌, ◌↔◌, ◌++◌, ◌≤◌, ℕ, List, length, map, All, Contains, IfOk, OnOk};
-ghost use Rattle.othello_bits.specs.Discs.{Discs};
-ghost use Rattle.endgame_search.specs.Problems.{Problem};
-ghost use Rattle.suite_solver.specs.Parts.{IsBookOf, Yield, canonicals, yield_of, yield_report, yield_reports, yield_tasks};
+ghost use Rattle.othello_bits.specs.Pos.{PosView};
+ghost use Rattle.endgame_search.specs.Task.{TaskView};
+ghost use Rattle.suite_solver.specs.Parts.{IsBookOf, PartView, canonicals, part_view_of, report_of_view, reports_of_views, tasks_of_views};
 ghost use Rattle.suite_solver.specs.Runs.{ArePartsOf, Solves, texts_of};
 
 use crate::limits::Settings;
@@ -26,7 +26,7 @@ pub struct Outcome {
 
 // The report of a sender's rows.
 fn report_of(alloc: Global, sender: u32, part: &Part) -> Result<Vec<u8>, AllocError>
-    ensures { IfOk result (λ made. made.items ≡ yield_report (sender, yield_of part.now)) }
+    ensures { IfOk result (λ made. made.items ≡ report_of_view (sender, part_view_of part.now)) }
 {
     let mut report = Vec::new(alloc);
     match write_report(&mut report, sender, &part.rows) {
@@ -39,7 +39,7 @@ fn report_of(alloc: Global, sender: u32, part: &Part) -> Result<Vec<u8>, AllocEr
 fn reports_of(alloc: Global, parts: &[Part]) -> Result<Vec<Vec<u8>>, AllocError>
     requires few { length parts.now ≤ 64 }
     ensures { IfOk result (λ made. texts_of made.items
-        ≡ yield_reports 0 (map yield_of parts.now)) }
+        ≡ reports_of_views 0 (map part_view_of parts.now)) }
 {
     let mut reports = Vec::new(alloc);
     let mut sender: u32 = 0;
@@ -52,9 +52,9 @@ fn reports_of(alloc: Global, parts: &[Part]) -> Result<Vec<Vec<u8>>, AllocError>
 
 // Adds solved positions to a book.
 fn add_all(book: &mut Book, solved: &[Solved]) -> Result<(), AllocError>
-    requires { All (λ (t : Problem). t.scoring ≡ book.old.scoring) solved.now }
+    requires { All (λ (t : TaskView). t.scoring ≡ book.old.scoring) solved.now }
     ensures scoring { OnOk result (book.new.scoring ≡ book.old.scoring) }
-    ensures holds { OnOk result ((p : Discs) → Contains book.new.positions p
+    ensures holds { OnOk result ((p : PosView) → Contains book.new.positions p
         ↔ (Contains book.old.positions p ⊎ Contains (canonicals solved.now) p)) }
 {
     for one in solved {
@@ -65,9 +65,9 @@ fn add_all(book: &mut Book, solved: &[Solved]) -> Result<(), AllocError>
 
 // The book of all solved positions.
 fn book_of(alloc: Global, scoring: Scoring, parts: &[Part]) -> Result<Book, AllocError>
-    requires { All (λ (y : Yield). All (λ (t : Problem). t.scoring ≡ scoring) y.1)
-        (map yield_of parts.now) }
-    ensures { IfOk result (IsBookOf scoring (yield_tasks (map yield_of parts.now))) }
+    requires { All (λ (y : PartView). All (λ (t : TaskView). t.scoring ≡ scoring) y.1)
+        (map part_view_of parts.now) }
+    ensures { IfOk result (IsBookOf scoring (tasks_of_views (map part_view_of parts.now))) }
 {
     let mut book = Book::new(alloc, scoring);
     for part in parts {

@@ -3,7 +3,7 @@
 ghost use Rattle.std.specs.Prelude.{◌≡◌, ◌⊎◌, IfErr};
 ghost use Rattle.suite_solver.specs.Programs.{IsSilent, status_of};
 
-use crate::stops::{Stop, place_stop};
+use crate::errors::{ProgramError, place_error};
 use std::alloc::{AllocError, Global};
 use std::fs::{Metadata, OpenOptions};
 use std::os::unix::fs::{FileTypeExt, MetadataExt};
@@ -96,19 +96,19 @@ pub(crate) fn check_place<'a, T: Files>(
     alloc: Global,
     name: &'a Option<String>,
     files: &[String],
-) -> Result<(), Stop<'a>>
+) -> Result<(), ProgramError<'a>>
     ensures silent { IfErr result IsSilent }
-    ensures status { IfErr result (λ stop. (status_of stop ≡ 1) ⊎ (status_of stop ≡ 3)) }
+    ensures status { IfErr result (λ error. (status_of error ≡ 1) ⊎ (status_of error ≡ 3)) }
 {
     let Some(name) = name else {
         return Ok(());
     };
     let name = name.as_str();
     if is_among(rt, name, files) {
-        return Err(Stop::NoPlace(name));
+        return Err(ProgramError::NoPlace(name));
     }
     match try_place(rt, alloc, name) {
         Ok(()) => Ok(()),
-        Err(fault) => Err(place_stop(&fault, name)),
+        Err(fault) => Err(place_error(&fault, name)),
     }
 }

@@ -4,7 +4,7 @@ ghost use Rattle.std.specs.Prelude.{◌≡◌, ◌≤◌, length, option_map, If
 ghost use Rattle.std.specs.List.{cons_option};
 ghost use Rattle.std.specs.Option.{option_and_then};
 ghost use Rattle.std.specs.Slice.Iter.{iter_rest};
-ghost use Rattle.endgame_search.specs.Problems.{Problem};
+ghost use Rattle.endgame_search.specs.Task.{TaskView};
 ghost use Rattle.obf_text.specs.Obf.{Holds, entry_of, item_of};
 ghost use Rattle.suite_solver.specs.Readings.{result_in, task_in};
 ghost use Rattle.suite_solver.specs.Rows.{entry_result, result_of, task_of};
@@ -22,7 +22,7 @@ use std::slice::Iter;
 #[derive(Drop)]
 pub(crate) enum Reading {
     /// A position to solve, and the moves that are listed for it.
-    Asked(Task, Vec<(ListedMove, i8)>),
+    Position(Task, Vec<(ListedMove, i8)>),
     Refused(Refusal),
 }
 
@@ -34,7 +34,7 @@ impl Reading {
         ensures task { task_in result ≡ task_of scoring limit (Holds (entry_of entry)) }
     {
         match Task::new(Pos::of_grid(&entry.grid), limit, scoring) {
-            Ok(task) => Reading::Asked(task, entry.listed),
+            Ok(task) => Reading::Position(task, entry.listed),
             Err(TooMany(found)) => Reading::Refused(Refusal::Empties(found, limit)),
         }
     }
@@ -44,21 +44,21 @@ impl Reading {
         ensures { result ≡ task_in self.now }
     {
         match self {
-            Reading::Asked(task, _) => Some(*task),
+            Reading::Position(task, _) => Some(*task),
             Reading::Refused(_) => None,
         }
     }
 
     /// The result of the line in its row. A position takes the next of the answers.
     pub(crate) fn result(&self, answers: &mut Iter<'_, Solved>) -> RowResult
-        requires { (task : Problem) → task_in self.now ≡ Some task
+        requires { (task : TaskView) → task_in self.now ≡ Some task
             → slice_get (iter_rest answers.old) 0 ≡ Some task }
         ensures result { result ≡ result_in self.now }
         ensures left { iter_rest answers.old
             ≡ cons_option (task_in self.now) (iter_rest answers.new) }
     {
         match self {
-            Reading::Asked(_, listed) => {
+            Reading::Position(_, listed) => {
                 let Some(solved) = answers.next() else {
                     unreachable!()
                 };

@@ -3,7 +3,7 @@
 ghost use Rattle.std.specs.Prelude.{◌≡◌, ◌<◌, ◌≤◌, ◌+◌, ◌++◌, ◌∷◌, length, map, IfOk, IfErr, Some, None, [], vec_len, vec_capacity};
 ghost use Rattle.suite_solver.specs.Parts.{GivesPart, GivesParts, worse_fault};
 ghost use Rattle.suite_solver.specs.Runs.{first_large, texts_of};
-ghost use Rattle.suite_solver.specs.Threads.{AreJoined, assignment};
+ghost use Rattle.suite_solver.specs.Threads.{AreJoined, started_view};
 
 use crate::clients::{client_part, work};
 use crate::faults::{RunFault, worse_fault};
@@ -88,13 +88,13 @@ impl Shared {
 
 // That a thread gives the part of a text.
 #[derive(Clone, Copy)]
-pub(crate) struct PartOf<'a> {
+pub(crate) struct PartPromise<'a> {
     pub(crate) scoring: Scoring,
     pub(crate) limit: u8,
     pub(crate) text: &'a [u8],
 }
 
-impl<'a> Promise<Result<Part, RunFault>> for PartOf<'a> {
+impl<'a> Promise<Result<Part, RunFault>> for PartPromise<'a> {
     ghost kept_by = { λ promise result.
         GivesPart promise.scoring promise.limit promise.text.now result };
 }
@@ -102,38 +102,38 @@ impl<'a> Promise<Result<Part, RunFault>> for PartOf<'a> {
 // A client in a thread, or what came of it where no thread could be started.
 #[derive(Drop)]
 pub(crate) enum Progress<'a> {
-    There(PromisedHandle<Result<Part, RunFault>, PartOf<'a>>),
-    Here(Result<Part, RunFault>),
+    Spawned(PromisedHandle<Result<Part, RunFault>, PartPromise<'a>>),
+    Done(Result<Part, RunFault>),
 }
 
 // A client that was started.
 #[derive(Drop)]
-pub(crate) struct Started<'a> {
-    pub(crate) promise: PartOf<'a>,
+pub(crate) struct StartedClient<'a> {
+    pub(crate) promise: PartPromise<'a>,
     pub(crate) progress: Progress<'a>,
 }
 
-impl<'a> Model for Started<'a> {
-    ghost use Rattle.suite_solver.specs.Threads.{Assignment, IsFor, assignment_of};
+impl<'a> Model for StartedClient<'a> {
+    ghost use Rattle.suite_solver.specs.Threads.{StartedClientView, IsProgressOf, started_view_of};
 
-    ghost Value = { Assignment };
+    ghost Value = { StartedClientView };
 
-    ghost view = { λ s. assignment_of s.promise };
+    ghost view = { λ s. started_view_of s.promise };
 
-    ghost invariant = { λ s. IsFor (assignment_of s.promise) s.progress };
+    ghost invariant = { λ s. IsProgressOf (started_view_of s.promise) s.progress };
 }
 
-impl<'a> Started<'a> {
+impl<'a> StartedClient<'a> {
     fn join<R: Threads>(self, rt: &R) -> Result<Part, RunFault>
         ensures { GivesPart self.entry.scoring self.entry.limit self.entry.text result }
     {
-        let Started {
+        let StartedClient {
             promise: _,
             progress,
         } = self;
         match progress {
-            Progress::There(handle) => handle.join(rt),
-            Progress::Here(part) => part,
+            Progress::Spawned(handle) => handle.join(rt),
+            Progress::Done(part) => part,
         }
     }
 }
@@ -147,11 +147,11 @@ fn start<'a, E, R: Threads + Wait + Sync, G: Gate>(
     gate: &'a G,
     sender: u32,
     text: &'a [u8],
-) -> Started<'a>
+) -> StartedClient<'a>
     requires { length text.now ≤ 1048576 }
-    ensures { result ≡ assignment shared.now.table.scoring shared.now.settings.max_empties text.now }
+    ensures { result ≡ started_view shared.now.table.scoring shared.now.settings.max_empties text.now }
 {
-    let promise = PartOf {
+    let promise = PartPromise {
         scoring: shared.table.scoring(),
         limit: shared.settings.max_empties(),
         text,
@@ -165,10 +165,10 @@ fn start<'a, E, R: Threads + Wait + Sync, G: Gate>(
         { shared.part(rt, claims, gate, sender, text) },
     );
     let progress = match spawned {
-        Ok(handle) => Progress::There(handle),
-        Err(refused) => Progress::Here((refused.value)()),
+        Ok(handle) => Progress::Spawned(handle),
+        Err(refused) => Progress::Done((refused.value)()),
     };
-    Started { promise, progress }
+    StartedClient { promise, progress }
 }
 
 // Starts a client for each file, in their order.
@@ -179,14 +179,14 @@ fn start_all<'a, E, R: Threads + Wait + Sync, G: Gate>(
     claims: &'a Claims,
     gate: &'a G,
     files: &'a [Vec<u8>],
-    clients: &mut Vec<Started<'a>>,
+    clients: &mut Vec<StartedClient<'a>>,
 )
     requires few { length files.now ≤ 64 }
     requires small { first_large (texts_of files.now) ≡ None }
     requires none { clients.old.items ≡ [] }
     requires room { length files.now ≤ vec_capacity clients.old }
     ensures { clients.new.items ≡ map
-        (assignment shared.now.table.scoring shared.now.settings.max_empties) (texts_of files.now) }
+        (started_view shared.now.table.scoring shared.now.settings.max_empties) (texts_of files.now) }
 {
     let mut sender: u32 = 0;
     for file in files {
@@ -247,7 +247,7 @@ impl Joined {
 }
 
 // Joins all clients.
-pub(crate) fn join_all<R: Threads>(rt: &R, clients: Vec<Started<'_>>, joined: &mut Joined)
+pub(crate) fn join_all<R: Threads>(rt: &R, clients: Vec<StartedClient<'_>>, joined: &mut Joined)
     requires none { (joined.old.parts.items ≡ []) × (joined.old.fault ≡ None) }
     requires room { vec_len clients ≤ vec_capacity joined.old.parts }
     ensures { AreJoined clients.entry.items joined.new.parts.items joined.new.fault }

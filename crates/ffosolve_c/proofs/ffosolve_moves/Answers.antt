@@ -1,5 +1,5 @@
 use Rattle.std.proofs.Common.{◌∙◌, ap}
-use Rattle.othello_bits.specs.Discs.{moves_of}
+use Rattle.othello_bits.specs.Pos.{moves_of}
 use Rattle.ffosolve_c.proofs.ffosolve_moves.Goals as goal
 
 pub returns-in-Ok-clause-moves : goal.returns-in-Ok-clause-moves

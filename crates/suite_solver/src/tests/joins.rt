@@ -4,23 +4,23 @@ ghost use Rattle.std.specs.Prelude.{◌≡◌, ◌≤◌, [], ◌⊎◌, IfOk, v
 ghost use Rattle.suite_solver.specs.declared.faults.RunFault.TheVariants.{Memory, Mixed};
 
 use crate::RunFault;
-use crate::threads::{Joined, PartOf, Progress, Started, join_all};
+use crate::threads::{Joined, PartPromise, Progress, StartedClient, join_all};
 use othello_rules::Scoring;
 use std::alloc::{AllocError, Global};
 use std::test::Fail;
 use std::thread::Threads;
 
 // A client that has ended with a fault.
-fn ended_with(fault: RunFault) -> Started<'static>
+fn ended_with(fault: RunFault) -> StartedClient<'static>
     requires { (fault ≡ Memory) ⊎ (fault ≡ Mixed) }
 {
-    Started {
-        promise: PartOf {
+    StartedClient {
+        promise: PartPromise {
             scoring: Scoring::Winner,
             limit: 20,
             text: b"",
         },
-        progress: Progress::Here(Err(fault)),
+        progress: Progress::Done(Err(fault)),
     }
 }
 

@@ -2,7 +2,7 @@ use Rattle.std.proofs.Common.{◌∙◌, not, ◌||◌, ap, bit_or, ◌<◌, ◌
 use Rattle.std.proofs.lemmas.Nat.{or_lt}
 use Rattle.othello_rules.specs.declared.discs.Side.TheVariants.{Black}
 use Rattle.othello_rules.specs.Masks.{in_mask}
-use Rattle.othello_bits.specs.Discs.{discs, empties_of}
+use Rattle.othello_bits.specs.Pos.{discs, empties_of}
 use Rattle.othello_bits.proofs.Bits.{in_mask-or, in_mask-not}
 use Rattle.othello_bits.proofs.CountMeaning.{free-meaning}
 use Rattle.endgame_search.proofs.Lasts.{free_mask, free_below}

@@ -2,7 +2,7 @@
 use Rattle.std.proofs.Common.{◌≡◌, ◌∙◌, ℕ, pos, ◌+ℤ◌, ◌-ℤ◌, neg_ℤ, sym, subst, refl}
 use Rattle.std.specs.Int.{int_max}
 use Rattle.othello_rules.specs.declared.scorings.Scoring.{Scoring}
-use Rattle.othello_bits.specs.Discs.{Discs, play_of, value_of, IsMove}
+use Rattle.othello_bits.specs.Pos.{PosView, play_of, value_of, IsMove}
 use Rattle.endgame_search.specs.Lasts.{AreLast}
 use Rattle.endgame_search.specs.Windows.{Places}
 use Rattle.endgame_search.proofs.Bounds.{turned_above, first_above, both_above, same_places, other_bound, shown_bound}
@@ -11,7 +11,7 @@ use Rattle.endgame_search.proofs.Windows.{shown}
 use Rattle.endgame_search.proofs.endings.search_both.Goals as goal
 
 -- the value by the positions that the two moves lead to
-worth : (g : Scoring) (p a b : Discs) (i j : ℕ) → AreLast p i j → IsMove p i → IsMove p j → a ≡ play_of p i → b ≡ play_of p j → int_max (neg_ℤ (value_of g a)) (neg_ℤ (value_of g b)) ≡ value_of g p
+worth : (g : Scoring) (p a b : PosView) (i j : ℕ) → AreLast p i j → IsMove p i → IsMove p j → a ≡ play_of p i → b ≡ play_of p j → int_max (neg_ℤ (value_of g a)) (neg_ℤ (value_of g b)) ≡ value_of g p
 worth g p a b i j last m n d e = (λ k. int_max (neg_ℤ (value_of g (d k))) (neg_ℤ (value_of g (e k)))) ∙ sym (both_worth g p i j last m n)
 
 pub search_last_pass-score-requires-clause-bound : goal.search_last_pass-score-requires-clause-bound

@@ -1,7 +1,7 @@
 -- Goals that a search would prove are answered too: the search takes longer.
 use Rattle.std.proofs.Common.{◌≡◌, ◌∙◌, ap, arith}
 use Rattle.std.proofs.lemmas.Int.{ints}
-use Rattle.othello_bits.specs.Discs.{value_of}
+use Rattle.othello_bits.specs.Pos.{value_of}
 use Rattle.othello_bits.proofs.GameLaws.{value_score}
 use Rattle.endgame_search.proofs.Bounds.{decided_window, decided_places}
 use Rattle.endgame_search.proofs.Windows.{shown, exact}

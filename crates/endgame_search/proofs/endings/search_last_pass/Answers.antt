@@ -1,7 +1,7 @@
 -- Goals that a search would prove are answered too: the search takes longer.
 use Rattle.std.proofs.Common.{◌≡◌, ◌∙◌, ◌≢◌, ◌+ℤ◌, pos, ◌-ℤ◌, ap, sym, subst, refl, arith}
 use Rattle.std.proofs.lemmas.Int.{ints}
-use Rattle.othello_bits.specs.Discs.{final_of, moves_of, pass_of, HasNoMove}
+use Rattle.othello_bits.specs.Pos.{final_of, moves_of, pass_of, HasNoMove}
 use Rattle.othello_bits.proofs.GameLaws.{value_score, value-over}
 use Rattle.endgame_search.specs.Lasts.{IsLast}
 use Rattle.endgame_search.specs.Endings.{IsEnding}

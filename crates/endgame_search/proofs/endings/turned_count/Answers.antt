@@ -1,7 +1,7 @@
 use Rattle.std.proofs.Common.{◌≡◌, inl, inr, arith}
 use Rattle.std.specs.Int.Count.{ones}
 use Rattle.std.proofs.lemmas.Bool.{cases_eq}
-use Rattle.othello_bits.specs.Discs.{flips_of}
+use Rattle.othello_bits.specs.Pos.{flips_of}
 use Rattle.endgame_search.proofs.LastScores.{turns_none, turns_some}
 use Rattle.endgame_search.proofs.endings.turned_count.Goals as goal
 

@@ -1,5 +1,5 @@
 use Rattle.std.proofs.Common.{◌*◌, ◌+◌, neg_ℤ, negsuc, ◌≤ℤ◌, take, All}
-use Rattle.othello_bits.specs.Discs.{empties_of, value_of}
+use Rattle.othello_bits.specs.Pos.{empties_of, value_of}
 use Rattle.endgame_search.specs.declared.children.Child.{Child}
 use Rattle.endgame_search.proofs.few_empties.+few.Given as goal
 

@@ -1,5 +1,5 @@
 use Rattle.std.proofs.Common.{take}
-use Rattle.endgame_search.proofs.Leads.{Leads}
+use Rattle.endgame_search.proofs.LeadingMoves.{Leads}
 use Rattle.endgame_search.proofs.roots.leaders_among.Given as goal
 
 abbrev pub invariant-loop-child : goal.invariant-loop-child

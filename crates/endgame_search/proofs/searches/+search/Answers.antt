@@ -4,7 +4,7 @@ use borrow.Author.Count.{falls}
 use borrow.Author.Numbers.{ones_of_64}
 use Rattle.std.proofs.lemmas.Int.{ints}
 use Rattle.std.proofs.lemmas.List.Elements.{All-same}
-use Rattle.othello_bits.specs.Discs.{moves_of, pass_of, empties_of, final_of, value_of, HasNoMove}
+use Rattle.othello_bits.specs.Pos.{moves_of, pass_of, empties_of, final_of, value_of, HasNoMove}
 use Rattle.othello_bits.proofs.GameLaws.{value_score, value-over}
 use Rattle.endgame_search.specs.declared.children.Child.{Child}
 use Rattle.endgame_search.specs.Children.{IsChildOf, AreOthersOf}

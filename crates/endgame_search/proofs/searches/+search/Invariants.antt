@@ -1,5 +1,5 @@
 use Rattle.std.proofs.Common.{◌*◌, ◌+◌, neg_ℤ, ◌≤ℤ◌, take, All}
-use Rattle.othello_bits.specs.Discs.{empties_of, value_of}
+use Rattle.othello_bits.specs.Pos.{empties_of, value_of}
 use Rattle.endgame_search.specs.declared.children.Child.{Child}
 use Rattle.endgame_search.specs.Windows.{KeepsBest}
 use Rattle.endgame_search.proofs.searches.+search.Given as goal

@@ -1,5 +1,5 @@
 use Rattle.std.proofs.Common.{◌≡◌, sym, ap, ◌∙◌}
-use Rattle.othello_bits.specs.Discs.{moves_of}
+use Rattle.othello_bits.specs.Pos.{moves_of}
 use Rattle.othello_rules.specs.declared.answers.Best.TheVariants.{Moves}
 use Rattle.std.proofs.lemmas.Bool.{both_ways}
 use Rattle.endgame_search.proofs.BestOf.{best_of-moves, best_of-pass, best_of-over}

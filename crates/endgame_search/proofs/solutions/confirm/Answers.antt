@@ -1,5 +1,5 @@
 use Rattle.std.proofs.Common.{sym, ◌∙◌}
-use Rattle.othello_bits.specs.Discs.{value_of}
+use Rattle.othello_bits.specs.Pos.{value_of}
 use Rattle.endgame_search.proofs.solutions.confirm.Goals as goal
 
 pub solved_at-solved-requires-clause-value : goal.solved_at-solved-requires-clause-value

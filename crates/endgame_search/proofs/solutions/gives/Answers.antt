@@ -1,7 +1,7 @@
 use lib.Signed.{le_z}
 use Rattle.std.proofs.Common.{◌≡◌, ◌↔◌, true, pos, ◌≤ℤ◌, ◌-ℤ◌, neg_ℤ, sym, subst, arith}
 use Rattle.std.proofs.lemmas.Int.{ints}
-use Rattle.othello_bits.specs.Discs.{value_of}
+use Rattle.othello_bits.specs.Pos.{value_of}
 use Rattle.endgame_search.proofs.Windows.{shown}
 use Rattle.endgame_search.proofs.BestMoves.{gives_told, le_in, le_out}
 use Rattle.endgame_search.proofs.solutions.gives.Goals as goal

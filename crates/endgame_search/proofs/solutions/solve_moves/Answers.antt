@@ -1,7 +1,7 @@
 use Rattle.std.proofs.Common.{◌≢◌, ◌∙◌, sym, ap, arith}
 use Rattle.std.proofs.lemmas.Int.{ints}
 use Rattle.othello_rules.specs.declared.answers.Best.TheVariants.{Moves}
-use Rattle.othello_bits.specs.Discs.{moves_of, is_best_move, mask_where}
+use Rattle.othello_bits.specs.Pos.{moves_of, is_best_move, mask_where}
 use Rattle.othello_bits.proofs.GameLaws.{value_score}
 use Rattle.endgame_search.proofs.Windows.{exact, limit_window}
 use Rattle.endgame_search.proofs.BestOf.{best_of-moves}

@@ -1,6 +1,6 @@
 use Rattle.std.proofs.Common.{◌≡◌, ◌∙◌, sym, subst, arith}
 use Rattle.std.proofs.lemmas.Int.{ints}
-use Rattle.othello_rules.specs.Solution.{IsBest}
+use Rattle.othello_rules.specs.Answer.{IsBest}
 use Rattle.othello_bits.proofs.GameLaws.{value_score}
 use Rattle.endgame_search.proofs.Windows.{shown}
 use Rattle.endgame_search.proofs.BestOf.{best_of-IsBest, answer_told}

@@ -1,6 +1,6 @@
 use Rattle.std.proofs.Common.{◌≡◌, ◌∙◌, sym, arith}
 use Rattle.std.proofs.lemmas.Int.{ints}
-use Rattle.othello_bits.specs.Discs.{value_of, best_answer}
+use Rattle.othello_bits.specs.Pos.{value_of, best_answer}
 use Rattle.endgame_search.proofs.Windows.{shown}
 use Rattle.endgame_search.proofs.solutions.solved_at.Goals as goal
 

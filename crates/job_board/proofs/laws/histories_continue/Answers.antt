@@ -1,5 +1,5 @@
-use Rattle.job_board.specs.Contents.{empty_content}
-use Rattle.job_board.proofs.Joins.{AreLawful-append, after_all-append}
+use Rattle.job_board.specs.Senders.{empty_content}
+use Rattle.job_board.proofs.HistoryAppends.{AreLawful-append, after_all-append}
 use Rattle.job_board.proofs.laws.histories_continue.Goals as goal
 
 pub returns : goal.returns

@@ -1,8 +1,8 @@
 use Rattle.std.proofs.Common.{◌≡◌, ◌+◌, [], ◌∷◌, ◌++◌, take, sym, ap, ◌∙◌, subst, arith}
 use Rattle.std.proofs.lemmas.List.{take_more}
-use Rattle.job_board.specs.Contents.{Content}
+use Rattle.job_board.specs.Senders.{BoardView}
 use Rattle.job_board.specs.Steps.{IsLawful, after}
-use Rattle.job_board.proofs.Joins.{AreLawful-push, after_all-push}
+use Rattle.job_board.proofs.HistoryAppends.{AreLawful-push, after_all-push}
 use Rattle.job_board.proofs.steps.run_steps.Goals as goal
 use Rattle.job_board.proofs.steps.run_steps.Goals.{in-Submit, in-Take, in-Finish, in-GiveBack, in-Deliver, in-Close}
 
@@ -22,7 +22,7 @@ loop-step-preserved c =
     let inv = c.loop-step.invariant in
     let ss = take c.loop-step.step-index c.args.steps.now in
     let e : take (c.loop-step.step-index + 1) c.args.steps.now ≡ ss ++ c.step-item.result ∷ [] = take_more c.args.steps.now c.loop-step.step-index c.step-item.result c.loop-step-test.true ∙ ap (λ x. ss ++ x ∷ []) (sym c.step-item.is) in
-    let P : Content → Type 0 = λ b. IsLawful b c.step-item.result c.match-step.reply in
+    let P : BoardView → Type 0 = λ b. IsLawful b c.step-item.result c.match-step.reply in
     let one = step_holds c in
     record {
       room = omega (arith, inv.room, c.push_reserved.ensures.capacity);

@@ -1,5 +1,5 @@
 use Rattle.std.proofs.Common.{◌<◌, arith}
-use Rattle.othello_bits.specs.Discs.{discs}
+use Rattle.othello_bits.specs.Pos.{discs}
 use Rattle.othello_bits.proofs.GridMeaning.{cells-filled}
 use Rattle.othello_bits.proofs.cells.cells_of_masks.Goals as goal
 

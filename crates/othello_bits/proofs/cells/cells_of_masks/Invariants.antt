@@ -1,6 +1,6 @@
 use Rattle.std.proofs.Common.{◌≡◌, ◌<◌, ℕ, length, get_or}
 use Rattle.othello_rules.specs.declared.discs.Cell.{Cell}
-use Rattle.othello_bits.specs.Discs.{discs, cell_at}
+use Rattle.othello_bits.specs.Pos.{discs, cell_at}
 use Rattle.othello_bits.proofs.cells.cells_of_masks.Given as goal
 
 abbrev pub invariant-loop-number : goal.invariant-loop-number

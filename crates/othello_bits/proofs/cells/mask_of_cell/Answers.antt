@@ -1,7 +1,7 @@
 use Rattle.std.proofs.Common.{◌≡◌, ◌∙◌, sym, ap, true, false, arith}
 use Rattle.othello_rules.specs.Rules as rules
 use Rattle.othello_bits.proofs.Numbers.{number_below}
-use Rattle.othello_bits.proofs.Wheres.{where-number}
+use Rattle.othello_bits.proofs.TestMasks.{where-number}
 use Rattle.othello_bits.proofs.Loops.{add_member, add_other, number_none}
 use Rattle.othello_bits.proofs.cells.mask_of_cell.Goals as goal
 use Rattle.othello_bits.proofs.cells.mask_of_cell.Goals.{then-holds, else-holds}

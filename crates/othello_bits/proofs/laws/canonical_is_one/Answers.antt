@@ -1,6 +1,6 @@
 use Rattle.std.proofs.Common.{◌∙◌, ap}
 use Rattle.othello_rules.specs.declared.discs.Side.TheVariants.{Black}
-use Rattle.othello_bits.specs.Discs.{position_of, value_of, answer_of}
+use Rattle.othello_bits.specs.Pos.{position_of, value_of, answer_of}
 use Rattle.othello_bits.specs.Symmetries.{first_symmetry}
 use Rattle.othello_bits.proofs.CanonicalLaws.{pair_order, own_fits, opp_fits, canonical-least, canonical-image}
 use Rattle.othello_bits.proofs.ImageLaws.{not_before, canonical_of-image_of, canonical_of-is, value_of-image_of, answer_of-image_of, answer_of-back}

@@ -1,5 +1,5 @@
 use Rattle.othello_rules.specs.declared.discs.Side.TheVariants.{Black}
-use Rattle.othello_bits.specs.Discs.{value_of, answer_of}
+use Rattle.othello_bits.specs.Pos.{value_of, answer_of}
 use Rattle.othello_bits.proofs.ColourMeaning.{value-either, answer-either}
 use Rattle.othello_bits.proofs.laws.colours_are_alike.Goals as goal
 

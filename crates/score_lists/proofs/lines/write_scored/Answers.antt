@@ -2,8 +2,8 @@ use Rattle.std.proofs.Common.{◌≡◌, ◌≤◌, refl, ap, ◌∙◌, subst, 
 use Rattle.std.specs.Prelude.{IfOk, OnOk}
 use Rattle.std.specs.Io.KnownBytes.{Appends}
 use Rattle.std.proofs.lemmas.Bool.{false≢true}
-use Rattle.endgame_search.specs.Problems.{Problem}
-use Rattle.othello_bits.specs.Discs.{empties_of}
+use Rattle.endgame_search.specs.Task.{TaskView}
+use Rattle.othello_bits.specs.Pos.{empties_of}
 use Rattle.obf_text.specs.Obf.{entry_of}
 use Rattle.move_scores.specs.Scores.{score_fields_of}
 use Rattle.score_lists.proofs.EntryLines.{out_many, out_scored, right_many, right_scored}
@@ -19,9 +19,9 @@ returns-in-Ok-clause-written g c =
     omega arith in
     let task : c.score_moves-scored.result ≡ record { position = p; scoring = s } =
     c.score_moves-scored.ensures ∙ c.in-Ok.ensures.task
-    ∙ ap (λ r. let t : Problem = record { position = p; scoring = r } in t) c.scoring.ensures in
+    ∙ ap (λ r. let t : TaskView = record { position = p; scoring = r } in t) c.scoring.ensures in
     let scores : c.fields.result.now ≡ score_fields_of s p =
-    c.fields.ensures.value ∙ ap (λ (t : Problem). score_fields_of t.scoring t.position) task in
+    c.fields.ensures.value ∙ ap (λ (t : TaskView). score_fields_of t.scoring t.position) task in
     subst (λ t. OnOk c.write_entry_line.result
     (Appends (g.W.Write.contents c.args.writer.now)
     (g.W.Write.contents c.write_entry_line.new.writer) t))
@@ -38,9 +38,9 @@ returns-in-Ok-clause-right g c =
     omega arith in
     let task : c.score_moves-scored.result ≡ record { position = p; scoring = s } =
     c.score_moves-scored.ensures ∙ c.in-Ok.ensures.task
-    ∙ ap (λ r. let t : Problem = record { position = p; scoring = r } in t) c.scoring.ensures in
+    ∙ ap (λ r. let t : TaskView = record { position = p; scoring = r } in t) c.scoring.ensures in
     let scores : c.fields.result.now ≡ score_fields_of s p =
-    c.fields.ensures.value ∙ ap (λ (t : Problem). score_fields_of t.scoring t.position) task in
+    c.fields.ensures.value ∙ ap (λ (t : TaskView). score_fields_of t.scoring t.position) task in
     subst (λ b. IfOk c.write_entry_line.result (λ r. r ≡ b))
     (right_scored s c.args.limit c.args.line.now (entry_of c.args.entry.now) p whole
     c.of_grid.ensures.value c.fields.result.now small scores)

@@ -4,7 +4,7 @@ use Rattle.std.proofs.lemmas.Result.{err_from_is_err_and}
 use Rattle.obf_text.specs.LineText.{lines_of}
 use Rattle.obf_text.specs.Obf.{item_of}
 use Rattle.solved_book.specs.Books.{position_at}
-use Rattle.solved_book.specs.Advice.{claims_from, claim_in_line}
+use Rattle.solved_book.specs.Claims.{claims_from, claim_in_line}
 use Rattle.solved_book.specs.Reading.{position_claim}
 use Rattle.solved_book.proofs.ClaimSteps.{ahead_more, ahead_none, reads_end, reads_err, reads_none, reads_some, reads_start, room_more, stands_behind}
 use Rattle.solved_book.proofs.KeptEntries.{rising_empty, rising_insert}

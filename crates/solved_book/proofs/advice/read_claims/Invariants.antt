@@ -1,6 +1,6 @@
 use Rattle.std.proofs.Common.{◌+◌, ◌≤◌, None, length}
 use Rattle.obf_text.specs.LineText.{lines_of, room_of}
-use Rattle.solved_book.specs.Advice.{claims_from}
+use Rattle.solved_book.specs.Claims.{claims_from}
 use Rattle.solved_book.specs.Books.{positions_in}
 use Rattle.solved_book.specs.Order.{AreRising}
 use Rattle.solved_book.proofs.ClaimSteps.{IsAhead, ReadsOn}

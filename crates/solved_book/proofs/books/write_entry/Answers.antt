@@ -2,7 +2,7 @@ use Rattle.std.proofs.Common.{◌≡◌, ap, ap₂, ◌∙◌, subst, OnOk}
 use Rattle.std.specs.Io.KnownBytes.{Appends}
 use Rattle.std.proofs.lemmas.Bool.{false≢true}
 use Rattle.othello_rules.specs.declared.discs.Side.TheVariants.{Black}
-use Rattle.othello_bits.specs.Discs.{position_of}
+use Rattle.othello_bits.specs.Pos.{position_of}
 use Rattle.obf_text.specs.Written.{line_with_end}
 use Rattle.solved_book.proofs.Answers.{canonical_apart}
 use Rattle.solved_book.specs.Books.{entry_text, position_at}

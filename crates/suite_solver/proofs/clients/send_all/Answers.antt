@@ -1,21 +1,21 @@
 use Rattle.std.proofs.Common.{◌≡◌, List, ◌∷◌, [], ◌++◌, sym, ◌∙◌, ap, refl, take}
 use Rattle.std.proofs.lemmas.List.{append_assoc}
-use Rattle.endgame_search.specs.Problems.{Problem}
-use Rattle.job_board.specs.Clients.{ClientState, with_sent}
+use Rattle.endgame_search.specs.Task.{TaskView}
+use Rattle.job_board.specs.Client.{ClientView, with_sent}
 use Rattle.suite_solver.specs.Readings.{task_in, tasks_in}
-use Rattle.suite_solver.specs.declared.texts.NumberedReading.{NumberedReading}
+use Rattle.suite_solver.specs.declared.lines.NumberedReading.{NumberedReading}
 use Rattle.suite_solver.proofs.TaskLemmas.{none_taken, task_taken}
 use Rattle.suite_solver.proofs.clients.send_all.Goals as goal
 use Rattle.suite_solver.proofs.clients.send_all.Goals.{in-Some+in_ok-submit, in_default}
 
-abbrev having_sent : ClientState → List Problem → ClientState
+abbrev having_sent : ClientView → List TaskView → ClientView
 having_sent client all = record client { sent = all }
 
 -- a client that has sent more
-abbrev sending : ClientState → List Problem → ClientState
+abbrev sending : ClientView → List TaskView → ClientView
 sending client tasks = record client { sent = client.sent ++ tasks }
 
-sent_more : (now new old : ClientState) (done : List Problem) (t : Problem) → now ≡ sending old done → new ≡ with_sent t now → new ≡ sending old (done ++ t ∷ [])
+sent_more : (now new old : ClientView) (done : List TaskView) (t : TaskView) → now ≡ sending old done → new ≡ with_sent t now → new ≡ sending old (done ++ t ∷ [])
 sent_more now new old done t before e =
     e ∙ ap (with_sent t) before ∙ ap (having_sent old) (append_assoc old.sent done (t ∷ []))
 

@@ -4,7 +4,7 @@ use Rattle.clap.specs.Words.{first_of, found_of, rows_of}
 use Rattle.clap.proofs.WalkLemmas.{first_value-rows}
 use Rattle.othello_rules.specs.Scores.{scoring_name}
 use Rattle.suite_solver.specs.CommandLine.{HasSettings}
-use Rattle.suite_solver.specs.Limits.{Configuration}
+use Rattle.suite_solver.specs.Settings.{SettingsView}
 use Rattle.suite_solver.proofs.command_line.settings_of.Goals as goal
 
 pub returns : goal.returns
@@ -15,7 +15,7 @@ returns c =
     let scoring : first_of (codes "scoring") (rows_of found) ≡ Some (scoring_name c.in_ok-scoring.scoring) =
     sym (first_value-rows found (codes "scoring")) ∙ sym c.get_str.ensures ∙ ap (option_map (λ s. s.now)) got ∙ ap Some named in
     IfSome_then c.new.result c.new.ensures.value
-    (λ s e. subst (λ (x : Configuration). HasSettings x (rows_of found)) (sym e) (record {
+    (λ s e. subst (λ (x : SettingsView). HasSettings x (rows_of found)) (sym e) (record {
       max_empties = c.in_ok-max_empties.ensures;
       workers = c.in_ok-workers.ensures;
       table = c.in_ok-table.ensures;

@@ -2,7 +2,7 @@ use Rattle.std.proofs.Common.{◌∙◌, ap, map, refl, subst}
 use Rattle.std.proofs.lemmas.List.{take_all}
 use Rattle.std.proofs.lemmas.List.Elements.{All-same}
 use Rattle.suite_solver.specs.declared.parts.Part.{Part}
-use Rattle.suite_solver.specs.Parts.{IsBookOf, yield_of, yield_tasks}
+use Rattle.suite_solver.specs.Parts.{IsBookOf, part_view_of, tasks_of_views}
 use Rattle.suite_solver.proofs.PartLemmas.{book_more, scored_at}
 use Rattle.suite_solver.proofs.TaskLemmas.{HasScoring}
 use Rattle.suite_solver.proofs.outcomes.book_of.Goals as goal
@@ -24,5 +24,5 @@ loop-part-preserved c = record {
 
 pub returns : goal.returns
 returns c =
-    subst (λ l. IsBookOf c.args.scoring (yield_tasks (map yield_of l)) c.loop-part.book)
+    subst (λ l. IsBookOf c.args.scoring (tasks_of_views (map part_view_of l)) c.loop-part.book)
     (take_all c.loop-part.part-index c.args.parts.now c.loop-part-test.false) c.loop-part.invariant

@@ -1,7 +1,7 @@
 use Rattle.std.proofs.Common.{◌∷◌, [], ◌++◌, sym, ◌∙◌, ap}
-use Rattle.endgame_search.specs.Problems.{Problem}
+use Rattle.endgame_search.specs.Task.{TaskView}
 use Rattle.suite_solver.specs.Readings.{task_in}
-use Rattle.suite_solver.specs.declared.texts.NumberedReading.{NumberedReading}
+use Rattle.suite_solver.specs.declared.lines.NumberedReading.{NumberedReading}
 use Rattle.suite_solver.proofs.TaskLemmas.{HasScoring, none_taken, task_holds, task_taken}
 use Rattle.suite_solver.proofs.parts.solve_all.Goals as goal
 use Rattle.suite_solver.proofs.parts.solve_all.Goals.{in-Some+in_ok-push, in_default}
@@ -20,7 +20,7 @@ loop-reading-preserved g c =
     let asked = c.task.ensures ∙ ap (λ (n : NumberedReading). task_in n.reading) c.reading-item.is in
     elim c.match-task.branch [
       | in-Some+in_ok-push w ↦
-          ap (λ v. v.items) w.solved-is ∙ w.in_ok-push.ensures.items ∙ ap (λ (t : Problem). c.loop-reading.solved.items ++ t ∷ []) w.answer.ensures
+          ap (λ v. v.items) w.solved-is ∙ w.in_ok-push.ensures.items ∙ ap (λ (t : TaskView). c.loop-reading.solved.items ++ t ∷ []) w.answer.ensures
           ∙ task_taken readings i item c.loop-reading-test.true c.loop-reading.solved.items w.in-Some.task c.loop-reading.invariant (sym w.in-Some.is ∙ asked)
       | in_default w ↦
           ap (λ v. v.items) w.solved-is ∙ c.loop-reading.invariant ∙ none_taken readings i item c.loop-reading-test.true (sym w.in_default.is ∙ asked)

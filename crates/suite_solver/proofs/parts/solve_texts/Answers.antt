@@ -1,6 +1,6 @@
 use Rattle.std.proofs.Common.{◌∷◌, [], ◌∙◌, length, map, ap, ap₂, arith}
 use Rattle.std.proofs.lemmas.List.{map-append}
-use Rattle.suite_solver.specs.Parts.{yield, yield_of}
+use Rattle.suite_solver.specs.Parts.{part_view, part_view_of}
 use Rattle.suite_solver.proofs.PartLemmas.{yields_step}
 use Rattle.suite_solver.proofs.RunLemmas.{small_at}
 use Rattle.suite_solver.proofs.parts.solve_texts.Goals as goal
@@ -14,10 +14,10 @@ solve_text-requires-clause-short c =
 pub loop-file-preserved : goal.loop-file-preserved
 loop-file-preserved c =
     let s = c.args.settings.now in
-    let f = yield s.scoring s.max_empties in
+    let f = part_view s.scoring s.max_empties in
     let made = c.in_ok-solve_text.ensures
-    ∙ ap₂ (λ g limit. yield g limit c.deref.result.now) (ap (λ t. t.scoring) c.new-solver.ensures ∙ c.in_ok-table.ensures) c.max_empties.ensures.value
+    ∙ ap₂ (λ g limit. part_view g limit c.deref.result.now) (ap (λ t. t.scoring) c.new-solver.ensures ∙ c.in_ok-table.ensures) c.max_empties.ensures.value
     ∙ ap f (c.deref.ensures.value ∙ ap (λ v. v.items) c.file-item.is) in
-    rw c.in_ok-push.ensures.items (map-append yield_of c.loop-file.parts.items (c.in_ok-solve_text.field-0 ∷ [])
-    ∙ yields_step f c.args.files.now c.loop-file.file-index c.file-item.result (map yield_of c.loop-file.parts.items) (yield_of c.in_ok-solve_text.field-0)
+    rw c.in_ok-push.ensures.items (map-append part_view_of c.loop-file.parts.items (c.in_ok-solve_text.field-0 ∷ [])
+    ∙ yields_step f c.args.files.now c.loop-file.file-index c.file-item.result (map part_view_of c.loop-file.parts.items) (part_view_of c.in_ok-solve_text.field-0)
     c.loop-file-test.true c.loop-file.invariant made)

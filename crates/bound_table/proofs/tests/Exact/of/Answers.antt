@@ -3,17 +3,17 @@ use Rattle.std.specs.Int.Signed.{≤ℤ_refl}
 use Rattle.std.proofs.lemmas.Int.{to_z-of_z}
 use Rattle.othello_rules.specs.declared.discs.Side.TheVariants.{Black}
 use Rattle.othello_rules.specs.declared.scorings.Scoring.TheVariants.{Winner}
-use Rattle.othello_rules.specs.Rules.{Position}
+use Rattle.othello_rules.specs.Rules.{GridView}
 use Rattle.othello_rules.specs.Value as worth
-use Rattle.othello_bits.specs.Discs.{Discs, position_of, value_of}
-use Rattle.bound_table.specs.Ranges.{Interval, interval, IsTrueOf}
+use Rattle.othello_bits.specs.Pos.{PosView, position_of, value_of}
+use Rattle.bound_table.specs.Range.{RangeView, range_view, IsTrueOf}
 use Rattle.bound_table.proofs.tests.Exact.of.Goals as goal
 
 -- the range from the value to the value is true of the position
-exact_is_true : (p : Discs) (grid : Position) (z : ℤ) (made : Option Interval) (range : Interval) → SFits w8 z → z ≡ worth.value Winner grid → grid ≡ position_of Black p → made ≡ Some range → IfSome made (λ r. r ≡ interval (to_z w8 (of_z w8 z)) (to_z w8 (of_z w8 z))) → IsTrueOf Winner p range
+exact_is_true : (p : PosView) (grid : GridView) (z : ℤ) (made : Option RangeView) (range : RangeView) → SFits w8 z → z ≡ worth.value Winner grid → grid ≡ position_of Black p → made ≡ Some range → IfSome made (λ r. r ≡ range_view (to_z w8 (of_z w8 z)) (to_z w8 (of_z w8 z))) → IsTrueOf Winner p range
 unfolding value_of
 exact_is_true p grid z made range f v b m i =
-    let is : range ≡ interval (to_z w8 (of_z w8 z)) (to_z w8 (of_z w8 z)) = rw m at i in
+    let is : range ≡ range_view (to_z w8 (of_z w8 z)) (to_z w8 (of_z w8 z)) = rw m at i in
     let value = worth.value Winner (position_of Black p) in
     rw (is, to_z-of_z w8 z f, v, b) (≤ℤ_refl value, ≤ℤ_refl value)
 

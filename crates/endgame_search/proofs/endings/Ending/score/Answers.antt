@@ -1,7 +1,7 @@
 use Rattle.std.proofs.Common.{◌≡◌, ℕ, ◌+◌, ◌^◌, ◌<◌, ◌≤◌, ◌∙◌, sym, ap, subst, arith}
 use Rattle.std.proofs.lemmas.Int.{ints}
 use Rattle.std.specs.Int.Count.{ones}
-use Rattle.othello_bits.specs.Discs.{flips_of, value_of, IsMove}
+use Rattle.othello_bits.specs.Pos.{flips_of, value_of, IsMove}
 use Rattle.endgame_search.specs.Endings.{IsEnding}
 use Rattle.endgame_search.specs.declared.endings.Ending.{Ending}
 use Rattle.endgame_search.proofs.LastScores.{last_count, last_score}

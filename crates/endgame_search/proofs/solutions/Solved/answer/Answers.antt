@@ -1,5 +1,5 @@
 use Rattle.std.proofs.Common.{ap, ◌∙◌}
-use Rattle.othello_bits.specs.Discs.{answer_of}
+use Rattle.othello_bits.specs.Pos.{answer_of}
 use Rattle.endgame_search.proofs.solutions.Solved.answer.Goals as goal
 
 pub returns : goal.returns

@@ -2,8 +2,8 @@ use Rattle.std.proofs.Common.{◌≡◌, ◌∙◌, ap, arith}
 use Rattle.std.specs.Int.{int_signum}
 use Rattle.std.proofs.lemmas.Int.{ints}
 use Rattle.othello_rules.specs.declared.scorings.Scoring.TheVariants.{Sign}
-use Rattle.othello_rules.specs.Solution.{Solution}
-use Rattle.othello_bits.specs.Discs.{value_of}
+use Rattle.othello_rules.specs.Answer.{AnswerView}
+use Rattle.othello_bits.specs.Pos.{value_of}
 use Rattle.othello_bits.proofs.AnswerLaws.{answer-is}
 use Rattle.othello_bits.proofs.GameLaws.{value_score}
 use Rattle.endgame_search.proofs.BestOf.{sign_told}
@@ -15,7 +15,7 @@ returns c =
     let solved = c.args.self in
     let score = c.signum.inside.score in
     let e : score ≡ value_of solved.scoring solved.position =
-    ap (λ (r : Solution). r.score) (c.signum.view_is ∙ c.answer.ensures ∙ answer-is solved.scoring solved.position) in
+    ap (λ (r : AnswerView). r.score) (c.signum.view_is ∙ c.answer.ensures ∙ answer-is solved.scoring solved.position) in
     let v = value_score solved.scoring solved.position in
     let l = v.low in
     let h = v.high in

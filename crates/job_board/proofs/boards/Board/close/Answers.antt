@@ -1,6 +1,6 @@
 use Rattle.std.proofs.Common.{Ok, vec_len, ap, sym, ◌∙◌, arith, refl}
 use Rattle.std.proofs.lemmas.Option.{slice_get_read}
-use Rattle.job_board.specs.Contents.{closed_state}
+use Rattle.job_board.specs.Senders.{closed_state}
 use Rattle.job_board.specs.Replies.{close_reply_in}
 use Rattle.job_board.proofs.BoardFacts.{keeps, change_at}
 use Rattle.job_board.proofs.boards.Board.close.Goals as goal

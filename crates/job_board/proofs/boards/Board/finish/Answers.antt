@@ -1,7 +1,7 @@
 use Rattle.std.proofs.Common.{vec_len, refl, sym, arith}
 use Rattle.std.proofs.lemmas.Option.{slice_get_read}
 use Rattle.job_board.specs.declared.jobs.Stage.TheVariants.{Finished}
-use Rattle.job_board.specs.Contents.{with_stage}
+use Rattle.job_board.specs.Senders.{with_stage}
 use Rattle.job_board.proofs.BoardFacts.{finishes, finish_ok, finish_at, some_taken, change_at}
 use Rattle.job_board.proofs.boards.Board.finish.Goals as goal
 

@@ -1,7 +1,7 @@
 use Rattle.std.proofs.Common.{vec_len, refl, ◌≡◌, Some, slice_get, ap, sym, ◌∙◌, arith}
 use Rattle.std.proofs.lemmas.Option.{slice_get_read}
 use Rattle.job_board.specs.declared.jobs.Stage.TheVariants.{Waiting, Taken}
-use Rattle.job_board.specs.Contents.{with_stage, stage_in}
+use Rattle.job_board.specs.Senders.{with_stage, stage_in}
 use Rattle.job_board.specs.Replies.{give_back_reply_at}
 use Rattle.job_board.proofs.BoardFacts.{gives_back, give_back_ok, some_taken, change_at}
 use Rattle.job_board.proofs.boards.Board.give_back.Goals as goal

@@ -1,5 +1,5 @@
 use Rattle.std.proofs.Common.{[], arith, refl, sym}
-use Rattle.job_board.specs.Contents.{empty_content}
+use Rattle.job_board.specs.Senders.{empty_content}
 use Rattle.job_board.proofs.BoardFacts.{new_board, with_ids}
 use Rattle.job_board.proofs.boards.Board.new.Goals as goal
 

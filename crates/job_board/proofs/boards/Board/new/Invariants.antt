@@ -1,5 +1,5 @@
 use Rattle.std.proofs.Common.{◌≡◌, ◌≤◌, vec_len, vec_capacity}
-use Rattle.job_board.specs.Contents.{empty_content}
+use Rattle.job_board.specs.Senders.{empty_content}
 use Rattle.job_board.proofs.boards.Board.new.Given as goal
 
 abbrev pub invariant-made : goal.invariant-made

@@ -2,7 +2,7 @@ use Rattle.std.proofs.Common.{◌≤◌, ◌+◌, ◌∷◌, length, Ok, Err, ve
 use Rattle.std.specs.List.Sorted.{IsPermutation}
 use Rattle.std.proofs.lemmas.Option.{slice_get_read}
 use Rattle.job_board.specs.declared.faults.SubmitFault.TheVariants as fault
-use Rattle.job_board.specs.Contents.{with_task}
+use Rattle.job_board.specs.Senders.{with_task}
 use Rattle.job_board.proofs.BoardFacts.{few_taken, few_tasks, submits, submit_lawful, with_room, with_ids, set_same, change_at}
 use Rattle.job_board.proofs.boards.Board.submit.Goals as goal
 

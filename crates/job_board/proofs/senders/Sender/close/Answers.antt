@@ -1,5 +1,5 @@
 use Rattle.std.proofs.Common.{ap, not}
-use Rattle.job_board.specs.Contents.{closed_state}
+use Rattle.job_board.specs.Senders.{closed_state}
 use Rattle.job_board.proofs.senders.Sender.close.Goals as goal
 
 pub returns-clause-was : goal.returns-clause-was

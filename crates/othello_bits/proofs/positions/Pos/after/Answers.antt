@@ -1,5 +1,5 @@
 use Rattle.std.proofs.Common.{◌≡◌}
-use Rattle.othello_bits.specs.Discs.{discs, flips_of, IsMove}
+use Rattle.othello_bits.specs.Pos.{discs, flips_of, IsMove}
 use Rattle.othello_bits.proofs.MaskMeaning.{then_apart, then_meaning, then_value}
 use Rattle.othello_bits.proofs.positions.Pos.after.Goals as goal
 

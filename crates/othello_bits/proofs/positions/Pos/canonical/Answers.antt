@@ -1,5 +1,5 @@
 use Rattle.othello_rules.specs.declared.discs.Side.TheVariants.{Black}
-use Rattle.othello_bits.specs.Discs.{discs}
+use Rattle.othello_bits.specs.Pos.{discs}
 use Rattle.othello_bits.specs.Symmetries.{canonical_of}
 use Rattle.othello_bits.proofs.PlayMeaning.{apart-masks}
 use Rattle.othello_bits.proofs.LeastImages.{first-is, canonical-is, masks_meet, canonical_masks}

@@ -1,5 +1,5 @@
 use Rattle.othello_rules.specs.declared.discs.Side.TheVariants.{Black}
-use Rattle.othello_bits.specs.Discs.{empties_of}
+use Rattle.othello_bits.specs.Pos.{empties_of}
 use Rattle.othello_bits.proofs.CountMeaning.{free-meaning}
 use Rattle.othello_bits.proofs.positions.Pos.empties.Goals as goal
 

@@ -7,7 +7,7 @@ use Rattle.othello_rules.specs.Board.{squares}
 use Rattle.othello_rules.specs.Rules as rules
 use Rattle.othello_rules.specs.Scores as scores
 use Rattle.othello_rules.specs.Masks.{in_mask}
-use Rattle.othello_bits.specs.Discs.{discs, final_of, position_of}
+use Rattle.othello_bits.specs.Pos.{discs, final_of, position_of}
 use Rattle.othello_bits.proofs.Bits.{empty_meet}
 use Rattle.othello_bits.proofs.TurnedMasks.{ones_count, partition}
 use Rattle.othello_bits.proofs.PlayMeaning.{apart-masks}

@@ -5,9 +5,9 @@ use Rattle.othello_rules.specs.Rules as rules
 use Rattle.othello_rules.specs.Rules.{turned_on}
 use Rattle.othello_rules.specs.Masks.{in_mask}
 use Rattle.othello_bits.specs.Shifts.{lines}
-use Rattle.othello_bits.specs.Discs.{mem, discs, position_of, flips_of}
+use Rattle.othello_bits.specs.Pos.{mem, discs, position_of, flips_of}
 use Rattle.othello_bits.proofs.TurnedMasks.{zero_from_none}
-use Rattle.othello_bits.proofs.Wheres.{is_where}
+use Rattle.othello_bits.proofs.TestMasks.{is_where}
 use Rattle.othello_bits.proofs.MoveMeaning.{is_turned-meaning}
 use Rattle.othello_bits.proofs.PlayMeaning.{apart-masks}
 use Rattle.othello_bits.proofs.positions.Pos.flips.Goals as goal

@@ -1,5 +1,5 @@
 use Rattle.std.proofs.Common.{◌∙◌, sym, bit_and}
-use Rattle.othello_bits.specs.Discs.{discs, position_of}
+use Rattle.othello_bits.specs.Pos.{discs, position_of}
 use Rattle.othello_bits.proofs.PlayMeaning.{apart-masks}
 use Rattle.othello_bits.proofs.MaskImages.{image-position_of, meet_image, image_of-is}
 use Rattle.othello_bits.proofs.LeastImages.{apart-both}

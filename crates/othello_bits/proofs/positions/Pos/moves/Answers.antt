@@ -1,5 +1,5 @@
 use Rattle.std.proofs.Common.{◌∙◌}
-use Rattle.othello_bits.specs.Discs.{discs}
+use Rattle.othello_bits.specs.Pos.{discs}
 use Rattle.othello_bits.proofs.MoveMeaning.{is_move-meaning}
 use Rattle.othello_bits.proofs.PlayMeaning.{apart-masks}
 use Rattle.othello_bits.proofs.MaskMeaning.{moves_of-is}

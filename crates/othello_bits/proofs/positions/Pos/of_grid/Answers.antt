@@ -1,6 +1,6 @@
 use Rattle.std.proofs.Common.{◌≡◌, ◌∙◌, ap, bit_and}
 use Rattle.othello_rules.specs.Rules as rules
-use Rattle.othello_bits.specs.Discs.{discs, mask_where, position_of, discs_of}
+use Rattle.othello_bits.specs.Pos.{discs, mask_where, position_of, discs_of}
 use Rattle.othello_bits.proofs.PlayMeaning.{position_of-discs_of}
 use Rattle.othello_bits.proofs.GridMeaning.{discs-apart}
 use Rattle.othello_bits.proofs.positions.Pos.of_grid.Goals as goal

@@ -1,4 +1,4 @@
-use Rattle.othello_bits.specs.Discs.{discs}
+use Rattle.othello_bits.specs.Pos.{discs}
 use Rattle.othello_bits.proofs.PlayMeaning.{apart-masks, pass-meaning, swapped}
 use Rattle.othello_bits.proofs.MaskMeaning.{pass_of-is}
 use Rattle.othello_bits.proofs.positions.Pos.pass.Goals as goal

@@ -1,7 +1,7 @@
 use Rattle.std.proofs.Common.{refl}
 use Rattle.std.proofs.lemmas.Bool.{both_ways, false≢true}
 use Rattle.othello_rules.specs.Rules as rules
-use Rattle.othello_bits.specs.Discs.{position_of}
+use Rattle.othello_bits.specs.Pos.{position_of}
 use Rattle.othello_bits.proofs.MaskMeaning.{a_move, idle, moving, no_move}
 use Rattle.othello_bits.proofs.positions.Pos.play.Goals as goal
 

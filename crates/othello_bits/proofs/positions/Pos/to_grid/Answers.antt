@@ -1,5 +1,5 @@
 use Rattle.std.proofs.Common.{◌∙◌, ap}
-use Rattle.othello_bits.specs.Discs.{position_of}
+use Rattle.othello_bits.specs.Pos.{position_of}
 use Rattle.othello_bits.proofs.positions.Pos.to_grid.Goals as goal
 
 pub returns : goal.returns

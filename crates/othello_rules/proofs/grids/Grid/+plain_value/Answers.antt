@@ -3,7 +3,7 @@ use Rattle.std.specs.List.{Contains}
 use Rattle.std.proofs.lemmas.Bool.{false≢true, false_from_ne_true}
 use Rattle.std.proofs.lemmas.Int.{ints}
 use Rattle.othello_rules.specs.Rules.{moves, play, pass, is_move}
-use Rattle.othello_rules.specs.Solution.{IsScore}
+use Rattle.othello_rules.specs.Answer.{IsScore}
 use Rattle.othello_rules.specs.Value.{can_move, value, worth, best_worth}
 use Rattle.othello_rules.proofs.SquareLaws.{item_of_squares}
 use Rattle.othello_rules.proofs.MoveLaws.{is_move-from_Contains, Contains-moves}

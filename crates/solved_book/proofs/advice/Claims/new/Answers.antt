@@ -1,5 +1,5 @@
 use Rattle.std.proofs.Common.{ap, map}
-use Rattle.solved_book.specs.Advice.{Advice}
+use Rattle.solved_book.specs.Claims.{ClaimsView}
 use Rattle.solved_book.specs.Reading.{position_claim}
 use Rattle.solved_book.proofs.KeptEntries.{rising_empty}
 use Rattle.solved_book.proofs.advice.Claims.new.Goals as goal
@@ -9,4 +9,4 @@ invariant_of-result c = rw c.new.ensures.empty rising_empty
 
 pub returns : goal.returns
 returns c =
-    ap (λ es. let a : Advice = record { scoring = c.args.scoring; claims = map position_claim es } in a) c.new.ensures.empty
+    ap (λ es. let a : ClaimsView = record { scoring = c.args.scoring; claims = map position_claim es } in a) c.new.ensures.empty

@@ -2,7 +2,7 @@ use Rattle.std.proofs.Common.{sym, ◌∙◌, subst}
 use Rattle.std.specs.Prelude.{Err}
 use Rattle.std.proofs.lemmas.Result.{err_from_is_err_and}
 use Rattle.obf_text.specs.LineText.{lines_of}
-use Rattle.solved_book.specs.Advice.{GivesAdvice, advice_under}
+use Rattle.solved_book.specs.Claims.{GivesAdvice, advice_under}
 use Rattle.solved_book.proofs.ClaimSteps.{gives_fault}
 use Rattle.solved_book.proofs.advice.Claims.read.Goals as goal
 

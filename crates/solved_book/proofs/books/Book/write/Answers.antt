@@ -3,7 +3,7 @@ use Rattle.std.specs.Io.KnownBytes.{Appends}
 use Rattle.std.specs.List.{flat_map}
 use Rattle.std.proofs.lemmas.List.Elements.{recursion_from_All}
 use Rattle.obf_text.proofs.WriterLemmas.{completes_end, completes_more, completes_start}
-use Rattle.solved_book.specs.Books.{Contents, IsSolvedEntry, book_text, entry_text, header, position_at, positions_in}
+use Rattle.solved_book.specs.Books.{BookView, IsSolvedEntry, book_text, entry_text, header, position_at, positions_in}
 use Rattle.solved_book.specs.Order.{AreBookPositions}
 use Rattle.solved_book.proofs.KeptEntries.{book_positions_from}
 use Rattle.solved_book.proofs.books.Book.write.Goals as goal
@@ -36,9 +36,9 @@ loop-masks-preserved g c =
 pub returns-clause-text : goal.returns-clause-text
 returns-clause-text g c =
     let none : c.loop-masks.masks-iterator ≡ [] = search rules in
-    subst (λ (b : Contents). Appends (g.W.Write.contents c.args.writer.now) (g.W.Write.contents c.loop-masks.writer) (book_text b.scoring b.positions)) c.self.view_is
+    subst (λ (b : BookView). Appends (g.W.Write.contents c.args.writer.now) (g.W.Write.contents c.loop-masks.writer) (book_text b.scoring b.positions)) c.self.view_is
     (completes_end _ _ _ (rw none at c.loop-masks.invariant.text))
 
 pub returns-clause-positions : goal.returns-clause-positions
 returns-clause-positions g c =
-    subst (λ (b : Contents). AreBookPositions b.positions) c.self.view_is (book_positions_from c.self.inside.scoring c.self.inside.answers.entries c.self.invariant)
+    subst (λ (b : BookView). AreBookPositions b.positions) c.self.view_is (book_positions_from c.self.inside.scoring c.self.inside.answers.entries c.self.invariant)

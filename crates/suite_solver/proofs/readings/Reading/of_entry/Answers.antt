@@ -1,14 +1,14 @@
 use Rattle.std.proofs.Common.{◌≡◌, ◌≤◌, length, sym, ap, ◌∙◌, arith, refl}
 use Rattle.std.proofs.lemmas.Bool.{false≢true}
-use Rattle.othello_rules.specs.Rules.{Position}
-use Rattle.othello_bits.specs.Discs.{Discs, position_of, empties_of, answer_of}
+use Rattle.othello_rules.specs.Rules.{GridView}
+use Rattle.othello_bits.specs.Pos.{PosView, position_of, empties_of, answer_of}
 use Rattle.othello_bits.proofs.CellLaws.{length-cells_of}
 use Rattle.obf_text.specs.Obf.{entry_of}
 use Rattle.suite_solver.proofs.EntryLemmas.{solved_entry, entry_task, refused_entry, entry_none}
 use Rattle.suite_solver.proofs.readings.Reading.of_entry.Goals as goal
 
-whole_from : (P : Position) (p : Discs) → position_of P.mover p ≡ P → length P.cells ≡ 64
-whole_from P p meaning = ap (λ (Q : Position). length Q.cells) (sym meaning) ∙ length-cells_of P.mover p
+whole_from : (P : GridView) (p : PosView) → position_of P.mover p ≡ P → length P.cells ≡ 64
+whole_from P p meaning = ap (λ (Q : GridView). length Q.cells) (sym meaning) ∙ length-cells_of P.mover p
 
 pub returns-in-Ok-clause-result : goal.returns-in-Ok-clause-result
 returns-in-Ok-clause-result c =

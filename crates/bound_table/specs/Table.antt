@@ -1,0 +1,21 @@
+-- What a table keeps, and what contracts see of it.
+use Rattle.std.specs.Prelude.{◌≡◌, ℕ, ◌≤◌, List, length, All}
+use Rattle.othello_rules.specs.declared.scorings.Scoring.{Scoring}
+use Rattle.othello_bits.specs.Pos.{PosView}
+use Rattle.othello_bits.specs.Symmetries.{canonical_of}
+use Rattle.bound_table.specs.Range.{RangeView, IsTrueOf}
+
+-- what a slot keeps of its entry: the position is canonical, and the range is true of it under the slot's scoring
+pub record IsKnown (g : Scoring) (p : PosView) (i : RangeView) : Type 0 where
+  pub canonical : canonical_of p ≡ p
+  pub holds : IsTrueOf g p i
+
+-- what is seen of a table: the scoring of its ranges and the number of its entries
+pub record TableView : Type 0 where
+  pub scoring : Scoring
+  pub entries : ℕ
+
+-- each slot, seen as the scoring of its range, has the scoring of the table
+pub record IsTable (g : Scoring) (slots : List Scoring) : Type 0 where
+  pub scored : All (λ slot. slot ≡ g) slots
+  pub few : length slots ≤ 4194304

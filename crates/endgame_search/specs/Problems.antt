@@ -1,8 +1,0 @@
--- What a task asks, and what a solved position answers.
-use Rattle.othello_rules.specs.declared.scorings.Scoring.{Scoring}
-use Rattle.othello_bits.specs.Discs.{Discs}
-
--- a position, whose value and best moves are asked for under a scoring
-pub record Problem : Type 0 where
-  pub position : Discs
-  pub scoring : Scoring

@@ -1,0 +1,8 @@
+-- What a task asks, and what a solved position answers.
+use Rattle.othello_rules.specs.declared.scorings.Scoring.{Scoring}
+use Rattle.othello_bits.specs.Pos.{PosView}
+
+-- a position, whose value and best moves are asked for under a scoring
+pub record TaskView : Type 0 where
+  pub position : PosView
+  pub scoring : Scoring

@@ -1,0 +1,19 @@
+-- What contracts see of an answer.
+use Rattle.std.specs.Prelude.{◌<◌, ℤ, negsuc, pos, ◌≤ℤ◌, ⊤}
+use Rattle.othello_rules.specs.declared.answers.Best.{Best}
+use Rattle.othello_rules.specs.declared.answers.Best.TheVariants.{Moves, Pass, Over}
+
+pub record AnswerView : Type 0 where
+  pub score : ℤ
+  pub best : Best
+
+-- a score is from -64 to 64
+pub record IsScore (z : ℤ) : Type 0 where
+  pub low : negsuc 63 ≤ℤ z
+  pub high : z ≤ℤ pos 64
+
+-- where there are best moves, there is one
+abbrev pub IsBest : Best → Type 0
+IsBest (Moves mask) = 0 < mask
+IsBest Pass = ⊤
+IsBest Over = ⊤

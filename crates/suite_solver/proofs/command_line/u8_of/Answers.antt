@@ -1,0 +1,11 @@
+use Rattle.std.specs.Str.Parse.{ParsesUnsigned, ExplainsUnsignedError, HasUnsignedDigitsIfOk}
+use Rattle.clap.specs.Words.{found_of, one_text, rows_of}
+use Rattle.clap.proofs.WalkLemmas.{one_text-rows}
+use Rattle.suite_solver.proofs.NumberLemmas.{number_read}
+use Rattle.suite_solver.proofs.command_line.u8_of.Goals as goal
+
+pub returns : goal.returns
+returns c =
+    let found = found_of c.args.matches.now in
+    number_read (λ bs r. ParsesUnsigned 8 10 bs r × ExplainsUnsignedError 10 bs r × HasUnsignedDigitsIfOk bs r) 8 c.args.id.now (rows_of found)
+    (one_text found c.args.id.now) c.get_one.result (one_text-rows found c.args.id.now) c.get_one.ensures.none c.get_one.ensures.value (λ u x g. g.0)
