@@ -24,7 +24,7 @@ le_in a b h = omega (arith, ints)
 pub le_out : (a b : ℤ) → a ≤ℤ b → le_z a b ≡ true
 le_out a b h = elim (cases_Bool (le_z a b)) [ inl t ↦ t | inr f ↦ absurd (omega (arith, ints)) ]
 
--- a null window under a move tells whether the move is worth at least the score
+-- a null window under a move shows whether the move is worth at least the score
 pub gives_told : (low high s v r : ℤ) → low ≡ neg_ℤ s → high ≡ pos 1 -ℤ s → Places low high v r
     → (r ≤ℤ low → s ≤ℤ neg_ℤ v) × (s ≤ℤ neg_ℤ v → r ≤ℤ low)
 gives_told low high s v r l h p = (
@@ -32,7 +32,7 @@ gives_told low high s v r l h p = (
   λ x. by_lt_z low r (λ y. let k = p.above y in omega (arith, ints)) (λ y. y),
 )
 
--- two null windows tell whether a score is the value
+-- two null windows show whether a score is the value
 pub value_told : (low high s v r q : ℤ) → low ≡ s -ℤ pos 1 → high ≡ s +ℤ pos 1 → Places low s v r → s ≤ℤ r → Places s high v q
     → (q ≤ℤ s → s ≡ v) × (s ≡ v → q ≤ℤ s)
 value_told low high s v r q l h first here second =

@@ -64,7 +64,7 @@ first_above b u w s bound p h =
     let k : s ≤ℤ u = p.above (omega (arith, ints)) in
     record { below = λ x. absurd (omega (arith, ints)); above = λ x. omega (arith, ints, clamps); least = p.least; most = p.most }
 
--- else the greater score tells
+-- where the first score is not above the bound, the greater of both scores places the worth of the better move
 both_plain : (b u w s t : ℤ) → s ≤ℤ b → Places b (b +ℤ pos 1) u s → Places b (b +ℤ pos 1) w t → Places b (b +ℤ pos 1) (int_max u w) (int_max s t)
 both_plain b u w s t o p q =
     let k : u ≤ℤ s = p.below (omega (arith, ints)) in
@@ -86,7 +86,7 @@ both_above b u w s t m bound h p q is =
     let n = r.most in
     recast b (b +ℤ pos 1) b (b +ℤ pos 1) (int_max u w) (int_max s t) _ refl refl (sym (shown_same m (omega (arith, ints, is, l)) (omega (arith, ints, is, n)) ∙ is)) r
 
--- one move is searched: s tells what it is worth, u, which is at most the value v
+-- one move is searched: s places what it is worth, u, which is at most the value v
 module _ (b v u s : ℤ) (bound : IsBound b) (p : Places b (b +ℤ pos 1) u s) (above : u ≤ℤ v) where
   pub cut_above : lt_z (shown b) s ≡ true → Places b (b +ℤ pos 1) v s
   cut_above h =

@@ -1,4 +1,4 @@
--- What the moves of a position tell of its value.
+-- The value of a position by the worth of its moves.
 use Rattle.std.proofs.Common.{◌≡◌, ◌≢◌, ◌⊎◌, ℕ, ◌+◌, ◌<◌, ℤ, neg_ℤ, ◌≤ℤ◌, true, List, take, length, get_or, All, Contains, inl, inr, sym, ap, ◌∙◌, subst, arith}
 use Rattle.othello_rules.specs.Masks.{in_mask}
 use Rattle.std.proofs.lemmas.Int.{ints}

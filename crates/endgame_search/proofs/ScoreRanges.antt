@@ -1,4 +1,4 @@
--- What a score from a search of a window tells of the value.
+-- The range of the value that a score from a search of a window proves.
 use Rattle.std.proofs.Common.{◌≡◌, ℤ, pos, negsuc, ◌≤ℤ◌, ◌<ℤ◌, sym, subst, arith}
 use Rattle.std.proofs.lemmas.Int.{ints, by_lt_z}
 use Rattle.othello_rules.specs.Answer.{IsScore}

@@ -68,7 +68,7 @@ module _ (old new r : ℕ) (here : in_mask old r ≡ true) (taken : (i : ℕ) �
       let b : ones old ≡ count_below 64 (in_mask old) = ap ones (is_number old (in_mask old) ho (λ i l. refl)) ∙ ones_number 64 (in_mask old) in
       omega (arith, a, b, less_above (in_mask old) (in_mask new) r taken 64 hr here)
 
--- the same of a move that is taken out of a mask of moves
+-- a move is taken out of a mask of moves, which leaves one move less
 pub fewer : (p : PosView) (old new r : ℕ) → in_mask old r ≡ true → ((i : ℕ) → in_mask new i ≡ (in_mask old i && not (nat_eq r i))) → old < 2 ^ 64 → new < 2 ^ 64 → IsMove p r → ones new + 1 ≡ ones old
 fewer p old new r here taken ho hn legal = one_less old new r here taken ho hn (IsMove-on_board p r legal)
 

@@ -21,7 +21,8 @@ pub record AreChildrenOf (p : PosView) (cs : List Child) : Type 0 where
   pub each : All (IsChildOf p) cs
   pub every : (q : ℕ) → IsMove p q → Contains (squares_of cs) q
 
--- s holds a child of p without replies and a mask of moves of p, and the list children of p: together, all of them
+-- s holds a child of p without replies and a mask of moves of p, and the list holds children of p.
+-- Each move of p is that child's, in the mask, or a listed child's.
 pub record AreUpTo (p : PosView) (s : Stuck) (cs : List Child) : Type 0 where
   pub child : IsChildOf p s.child
   pub stuck : s.child.replies ≡ 0

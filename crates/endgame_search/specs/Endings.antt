@@ -4,7 +4,8 @@ use Rattle.othello_bits.specs.Pos.{flips_of, IsMove}
 use Rattle.endgame_search.specs.declared.endings.Ending.{Ending}
 use Rattle.endgame_search.specs.Lasts.{IsLast}
 
--- no other square is empty, and a disc of the mover there turns so many: none where that is no move
+-- no square but e.square is empty, and e.turned is the number of discs that the mover turns by a
+-- disc there: 0 where that is no move
 pub record IsEnding (e : Ending) : Type 0 where
   pub last : IsLast e.position e.square
   pub turned : e.turned ≡ count_ones (flips_of e.position e.square)

@@ -1,4 +1,4 @@
--- What a task asks, and what a solved position answers.
+-- What contracts see of a task and of a solved position.
 use Rattle.othello_rules.specs.declared.scorings.Scoring.{Scoring}
 use Rattle.othello_bits.specs.Pos.{PosView}
 

@@ -1,4 +1,4 @@
-//! What a table's range says of a window, and what a search's score says to the table.
+//! Cut-offs from the table, and what a search stores there.
 
 ghost use Rattle.std.specs.Prelude.{◌≡◌, ◌<ℤ◌, ◌≤ℤ◌, IfSome, All, negsuc, pos};
 ghost use Rattle.othello_rules.specs.Answer.{IsScore};
@@ -12,7 +12,8 @@ use bound_table::{Bounds, Range};
 use othello_bits::Pos;
 use othello_rules::Scoring;
 
-// The greatest score under a scoring; the least is minus it. A search need not ask beyond them.
+// The greatest score under a scoring. The least score is minus it. No window needs to reach beyond
+// the two.
 #[inline(always)]
 pub(crate) fn score_limit(scoring: Scoring) -> i8
     ensures some { pos 1 ≤ℤ result }
@@ -26,8 +27,8 @@ pub(crate) fn score_limit(scoring: Scoring) -> i8
     }
 }
 
-// The score that the table's range of the position decides the window by: the range is one value,
-// or lies wholly at or beyond an end of the window.
+// Probes the table for a score that places the position's value in the window. There is one where
+// the range found is a single value, or lies wholly at an end of the window or beyond it.
 #[inline(always)]
 pub(crate) fn decide<T: Bounds>(table: &T, position: Pos, low: i8, high: i8) -> Option<i8>
     requires { IsWindow low high }
@@ -48,8 +49,9 @@ pub(crate) fn decide<T: Bounds>(table: &T, position: Pos, low: i8, high: i8) -> 
     None
 }
 
-// The range of values that a score from a search of the window leaves: at the lower end or below it
-// the score is the most, at the upper end or above it the least, and between them the value.
+// The range of the value that a search of the window proves by its score. A score at the lower end
+// or below it is an upper bound. A score at the upper end or above it is a lower bound. A score
+// between the ends is the value.
 #[inline(always)]
 fn proved_range(low: i8, high: i8, score: i8) -> Range
     requires { IsScore score }
@@ -66,11 +68,12 @@ fn proved_range(low: i8, high: i8, score: i8) -> Range
     Range::new(score, score).unwrap()
 }
 
-// The fewest empty squares of a position that is stored: one with fewer is searched again sooner
-// than it is found.
+// The fewest empty squares of a position that `store` stores. To search a position with fewer again
+// takes less time than to find it in the table.
 const FEWEST_STORED: u8 = 9;
 
-// Stores what a score from a search of the window says of the position, and gives the score back.
+// Stores the range that a search of the window proves by its score, unless too few squares are
+// empty. Returns the score.
 #[inline(always)]
 pub(crate) fn store<T: Bounds>(table: &T, position: Pos, low: i8, high: i8, score: i8) -> i8
     requires window { IsWindow low high }
@@ -83,7 +86,7 @@ pub(crate) fn store<T: Bounds>(table: &T, position: Pos, low: i8, high: i8, scor
     score
 }
 
-// The same however many squares are empty.
+// Stores the range that a search of the window proves by its score, however many squares are empty.
 #[inline(never)]
 pub(crate) fn store_range<T: Bounds>(table: &T, position: Pos, low: i8, high: i8, score: i8)
     requires window { IsWindow low high }
@@ -92,11 +95,13 @@ pub(crate) fn store_range<T: Bounds>(table: &T, position: Pos, low: i8, high: i8
     table.store(&position, proved_range(low, high, score));
 }
 
-// The fewest empty squares of a position whose children are all looked up before one is searched.
+// The fewest empty squares of a position whose listed children are probed before one of them is
+// searched.
 const FEWEST_LOOKED_AHEAD: u8 = 10;
 
-// A score at the upper end of the window or above it, where the table's range of a position after a
-// move shows that the move is worth that. What it says of the position is stored.
+// Probes the children for a cut-off: a move that is worth at least the upper end of the window, by
+// the table's range of its child. Returns a lower bound of the move's worth, and stores it as one
+// of the position's value. None where no child gives a cut-off, or too few squares are empty.
 #[inline(always)]
 pub(crate) fn foresee<T: Bounds>(
     table: &T,
@@ -115,7 +120,8 @@ pub(crate) fn foresee<T: Bounds>(
     look_ahead(table, position, children, low, high)
 }
 
-// The same however many squares are empty.
+// Probes the children for a cut-off, however many squares are empty. Returns a lower bound of the
+// worth of the move found, and passes it to `store`. None where no child gives a cut-off.
 #[inline(never)]
 fn look_ahead<T: Bounds>(
     table: &T,

@@ -1,5 +1,6 @@
-//! The last two empty squares in null windows, each named by its lower end, the bound: without a
-//! list of moves, a sort, or a look at the moves of the positions after them.
+//! Null windows of positions with one or two empty squares. A null window runs from its lower end,
+//! the bound, to one above it. No list of moves is made, nothing is sorted, and no mask of replies
+//! is computed.
 
 ghost use Rattle.std.specs.Prelude.{◌≡◌, ◌≢◌, ◌<◌, ◌↔◌, ◌+ℤ◌, ℕ, neg_ℤ, pos, true, count_ones};
 ghost use Rattle.std.specs.Int.{int_max};
@@ -15,7 +16,8 @@ use bound_table::Bounds;
 use othello_bits::{Pos, lowest, without};
 use othello_rules::{Scoring, Square};
 
-// How many discs a disc on the last empty square turns: none where that is no move.
+// The number of discs that the mover turns by a disc on the last empty square: 0 where that is no
+// move.
 #[inline(always)]
 fn turned_count(position: Pos, square: Square) -> u8
     requires last { IsLast position square }
@@ -25,7 +27,8 @@ fn turned_count(position: Pos, square: Square) -> u8
     position.count_last_flips(square) as u8
 }
 
-// A position with one empty square, and how many discs its mover turns there.
+// A position with one empty square, that square, and the number of discs that the mover turns by a
+// disc there.
 #[derive(Clone, Copy)]
 struct Ending {
     position: Pos,
@@ -48,7 +51,7 @@ impl Ending {
         }
     }
 
-    // What a move to one of two empty squares leaves.
+    // The position after a move to one of two empty squares, with the square that is left.
     #[inline(always)]
     fn after(position: Pos, square: Square, left: Square) -> Ending
         requires legal { IsMove position square }
@@ -59,8 +62,8 @@ impl Ending {
         Ending::new(position.after(square, position.flips(square)), left)
     }
 
-    // The value where the mover has a move: its discs, the one put on the square and those turned
-    // against the rest.
+    // The value of a position whose mover has a move on the last empty square. After it the mover
+    // has its discs, the one put on the square and those turned. The opponent has the rest.
     #[inline(always)]
     fn score(self, scoring: Scoring) -> i8
         requires ending { IsEnding self }
@@ -72,8 +75,8 @@ impl Ending {
     }
 }
 
-// A score that places the position's value in the window from the bound to one above it, where the
-// mover has a move.
+// Searches a position whose one empty square is a move of the mover. Returns a score that places
+// its value in the window from the bound to one above it.
 #[inline(always)]
 fn search_last_move<T: Bounds>(table: &T, ending: Ending, bound: i8) -> i8
     requires ending { IsEnding ending }
@@ -87,7 +90,8 @@ fn search_last_move<T: Bounds>(table: &T, ending: Ending, bound: i8) -> i8
     ending.score(table.scoring())
 }
 
-// The same where the mover has none.
+// Searches a position whose one empty square is no move of the mover: a pass, or the end of the
+// game. Returns a score that places its value in the window from the bound to one above it.
 #[inline(always)]
 fn search_last_pass<T: Bounds>(table: &T, ending: Ending, bound: i8) -> i8
     requires ending { IsEnding ending }
@@ -105,7 +109,8 @@ fn search_last_pass<T: Bounds>(table: &T, ending: Ending, bound: i8) -> i8
     -search_last_move(table, passed, -1 - bound)
 }
 
-// The same with one empty square.
+// Searches a position with one empty square. Returns a score that places its value in the window
+// from the bound to one above it.
 #[inline(always)]
 fn search_last<T: Bounds>(table: &T, ending: Ending, bound: i8) -> i8
     requires ending { IsEnding ending }
@@ -119,7 +124,9 @@ fn search_last<T: Bounds>(table: &T, ending: Ending, bound: i8) -> i8
     }
 }
 
-// The score of two moves, to this position and then to that.
+// Searches the positions after two moves, `this` first. Returns a score that places the worth of
+// the better move in the window from the bound to one above it. `that` is searched only if the
+// first score is not above the bound.
 #[inline(always)]
 fn search_in_order<T: Bounds>(table: &T, this: Ending, that: Ending, bound: i8) -> i8
     requires this { IsEnding this }
@@ -136,8 +143,9 @@ fn search_in_order<T: Bounds>(table: &T, this: Ending, that: Ending, bound: i8) 
     score.max(-search_last(table, that, -1 - bound))
 }
 
-// The same as `search_last_move` with two empty squares, where each is a move: the one that leaves
-// no reply comes first, else the first. The second position is made only where it is needed.
+// Searches a position with two empty squares, where each is a move of the mover. Returns a score
+// that places its value in the window from the bound to one above it. The move that leaves no reply
+// is searched first, else `first` is. The position after `second` is made only where it is needed.
 #[inline(always)]
 fn search_both<T: Bounds>(table: &T, position: Pos, first: Square, second: Square, bound: i8) -> i8
     requires last { AreLast position first second }
@@ -162,7 +170,7 @@ fn search_both<T: Bounds>(table: &T, position: Pos, first: Square, second: Squar
     search_in_order(table, this, that, bound)
 }
 
-// The empty squares.
+// The mask of the empty squares.
 #[inline(always)]
 fn free_of(position: Pos) -> u64
     ensures squares { (q : ℕ) → IsFree position q → in_mask result q ≡ true }
@@ -171,7 +179,7 @@ fn free_of(position: Pos) -> u64
     !(position.own() | position.opp())
 }
 
-// The other of two empty squares.
+// The empty square other than `square`, where two squares are empty.
 #[inline(always)]
 fn other_free(position: Pos, square: Square) -> Square
     requires two { empties_of position ≡ 2 }
@@ -181,7 +189,8 @@ fn other_free(position: Pos, square: Square) -> Square
     lowest(without(free_of(position), square))
 }
 
-// The same with two empty squares, where the mover has a move.
+// Searches a position with two empty squares in which the mover has a move. Returns a score that
+// places its value in the window from the bound to one above it.
 #[inline(never)]
 pub(crate) fn search_two<T: Bounds>(table: &T, position: Pos, moves: u64, bound: i8) -> i8
     requires two { empties_of position ≡ 2 }

@@ -1,5 +1,6 @@
-//! Null windows from 7 empty squares down, each named by its lower end, the bound: nothing is stored,
-//! and no child is looked up before it is searched. A list of 8 children would take a call to make.
+//! Null windows of positions with at most 7 empty squares. A null window runs from its lower end,
+//! the bound, to one above it. Nothing is stored, and no child is probed before it is searched. The
+//! limit is 7 because to make a list of 8 children would take a function call.
 
 ghost use Rattle.std.specs.Prelude.{◌≡◌, ◌≢◌, ◌≤◌, ◌≤ℤ◌, ◌+ℤ◌, pos, negsuc, IsTrue};
 ghost use Rattle.othello_bits.specs.Pos.{moves_of, empties_of, value_of, HasNoMove};
@@ -7,13 +8,14 @@ ghost use Rattle.endgame_search.specs.Windows.{IsBound, IsWindow, Places};
 ghost use Rattle.endgame_search.specs.Children.{AreOthersOf};
 
 use crate::children::{Child, order_children, order_until_stuck};
-use crate::endings::search_two;
 use crate::cutoffs::decide;
+use crate::endings::search_two;
 use arrayvec::ArrayVec;
 use bound_table::Bounds;
 use othello_bits::Pos;
 
-// Whether a window of a position with so many empty squares is searched here.
+// Whether this module searches a window of a position with `empties` empty squares: the window is
+// null, and at most 7 squares are empty.
 #[inline(always)]
 pub(crate) fn is_null_of_few(empties: u8, low: i8, high: i8) -> bool
     requires { IsWindow low high }
@@ -22,7 +24,8 @@ pub(crate) fn is_null_of_few(empties: u8, low: i8, high: i8) -> bool
     empties <= 7 && high == low + 1
 }
 
-// A score that places the position's value in the window from the bound to one above it.
+// Searches a position with at most 7 empty squares. Returns a score that places its value in the
+// window from the bound to one above it.
 #[cycle(few)]
 #[inline(always)]
 pub(crate) fn search_few<T: Bounds>(
@@ -45,7 +48,8 @@ pub(crate) fn search_few<T: Bounds>(
     }
 }
 
-// The same where the mover has no move.
+// Searches a position with at most 7 empty squares in which the mover has no move. Returns a score
+// that places its value in the window from the bound to one above it.
 #[cycle(few)]
 #[inline(never)]
 fn search_few_pass<T: Bounds>(table: &T, position: Pos, bound: i8) -> i8
@@ -65,7 +69,8 @@ fn search_few_pass<T: Bounds>(table: &T, position: Pos, bound: i8) -> i8
     -search_few_moves(table, passed, replies, position.empties(), -1 - bound)
 }
 
-// The same where the mover has a move.
+// Searches a position with at most 7 empty squares in which the mover has a move. Returns a score
+// that places its value in the window from the bound to one above it.
 #[cycle(few)]
 #[inline(always)]
 fn search_few_moves<T: Bounds>(table: &T, position: Pos, moves: u64, empties: u8, bound: i8) -> i8
@@ -83,8 +88,10 @@ fn search_few_moves<T: Bounds>(table: &T, position: Pos, moves: u64, empties: u8
     }
 }
 
-// The same by a list of the children. One without replies is first in the order, so it is searched
-// before the children after it are made.
+// Searches a position with at most 7 empty squares in which the mover has a move, by a list of its
+// children. Returns a score that places its value in the window from the bound to one above it. A
+// child without replies is first in the order, so it is searched before the remaining children are
+// made.
 #[cycle(few)]
 #[inline(never)]
 fn search_listed<T: Bounds>(table: &T, position: Pos, moves: u64, bound: i8) -> i8
@@ -110,8 +117,9 @@ fn search_listed<T: Bounds>(table: &T, position: Pos, moves: u64, bound: i8) -> 
     search_few_children(table, position, &children, score, bound)
 }
 
-// The same where some moves were searched, the best of them worth `searched` (-65 before the
-// first), and the children of the others are at hand.
+// Searches the remaining children. `searched` is the best score so far, or -65 before the first
+// move. Returns a score that places the position's value in the window from the bound to one above
+// it.
 #[cycle(few)]
 #[inline(always)]
 fn search_few_children<T: Bounds>(

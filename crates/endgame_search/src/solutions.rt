@@ -17,8 +17,9 @@ use othello_bits::{Pos, without};
 use othello_rules::{Answer, Best, Scoring, Square, squares_in};
 use std::marker::Model;
 
-/// A position with its answer under a scoring. `solve` and `confirm` alone make one. Contracts see
-/// the problem that it solves: by this type its answer is the one of the definitions.
+/// A position with its answer under a scoring. Only `solve` and `confirm` make one. Its answer is
+/// the one of the definitions, by the invariant of this type. Contracts see the position and the
+/// scoring.
 #[derive(Clone, Copy, PartialEq, Eq, Debug)]
 pub struct Solved {
     position: Pos,
@@ -47,28 +48,30 @@ impl Model for Solved {
 }
 
 impl Solved {
-    /// The position.
+    /// The position that is solved.
     pub fn pos(self) -> Pos
         ensures { result ≡ self.position }
     {
         self.position
     }
 
-    /// The scoring under which the answer is the position's.
+    /// The scoring under which the position is solved.
     pub fn scoring(self) -> Scoring
         ensures { result ≡ self.scoring }
     {
         self.scoring
     }
 
-    /// The value of the position, and all moves that attain it.
+    /// The value of the position as the mover sees it, in discs, or 1, 0 or -1 under `Sign`; and
+    /// what attains it: all best moves as a mask, in which A1 is bit 0, or a pass, or the end of
+    /// the game.
     pub fn answer(self) -> Answer
         ensures { result ≡ answer_of self.scoring self.position }
     {
         self.answer
     }
 
-    /// +1, 0 or -1, as the mover wins, draws or loses, whatever the scoring.
+    /// 1, 0 or -1 as the mover wins, draws or loses, whatever the scoring.
     pub fn outcome(self) -> i8
         ensures { result ≡ value_of Sign self.position }
     {
@@ -76,15 +79,16 @@ impl Solved {
     }
 }
 
-/// What a source that is not trusted says of a position: its score, and what attains it.
+/// An answer that is not trusted: the score of a position as the mover sees it, in discs, or 1, 0
+/// or -1 under `Sign`, and what attains it. Any score and any mask are allowed.
 #[derive(Clone, Copy, PartialEq, Eq, Debug)]
 pub struct Claim {
     pub score: i8,
     pub best: Best,
 }
 
-/// The value of a position under the table's scoring, in points as the mover sees it. Where few
-/// squares are empty nothing is stored, so that a probe of a larger position need not look for it.
+/// The value of a position under the table's scoring, as the mover sees it: in discs from -64 to
+/// 64, or 1, 0 or -1 under `Sign`. Positions with fewer than 9 empty squares are not stored.
 pub fn exact_value<T: Bounds>(table: &T, position: Pos) -> i8
     ensures value { result ≡ value_of (T.scoring table.now) position }
     ensures in_range { IsScore result }
@@ -92,7 +96,8 @@ pub fn exact_value<T: Bounds>(table: &T, position: Pos) -> i8
     search_scores(table, position, -65, 65)
 }
 
-/// The task's position with its value and all moves that attain it.
+/// Solves a task: its position with the exact value and all moves that attain it. The table has the
+/// scoring of the task.
 pub fn solve<T: Bounds>(table: &T, task: Task) -> Solved
     requires { task.scoring ≡ T.scoring table.now }
     ensures { result ≡ task }
@@ -105,7 +110,8 @@ pub fn solve<T: Bounds>(table: &T, task: Task) -> Solved
     solved_at(table, task, score)
 }
 
-// The same where the mover has a move: one pass over the moves, unless the table shows the value.
+// Solves a task whose mover has a move. One pass over the moves finds the value and the moves that
+// attain it. Where the table shows the value, null windows find the moves.
 fn solve_moves<T: Bounds>(table: &T, task: Task, moves: u64) -> Solved
     requires scoring { task.scoring ≡ T.scoring table.now }
     requires moves { moves ≡ moves_of task.position }
@@ -122,8 +128,9 @@ fn solve_moves<T: Bounds>(table: &T, task: Task, moves: u64) -> Solved
     solved_as(task, score, Best::Moves(leaders.moves))
 }
 
-/// What `solve` gives, sooner where the claim is right: two null windows test the score, and one
-/// tests each move. Where a test fails the position is solved afresh.
+/// Solves a task by tests of a claim. The result is that of `solve` whatever the claim is, and
+/// comes sooner where the claim is right. Two null windows test the score, and one tests each move.
+/// Where a test fails, `solve` finds the answer. The table has the scoring of the task.
 pub fn confirm<T: Bounds>(table: &T, task: Task, claim: Claim) -> Solved
     requires { task.scoring ≡ T.scoring table.now }
     ensures { result ≡ task }
@@ -153,7 +160,7 @@ fn is_value<T: Bounds>(table: &T, position: Pos, score: i8) -> bool
     search_scores(table, position, score, score + 1) <= score
 }
 
-// The task's position with its answer, where its value is known.
+// The solved position of a task whose value is known: null windows find what attains it.
 fn solved_at<T: Bounds>(table: &T, task: Task, score: i8) -> Solved
     requires scoring { task.scoring ≡ T.scoring table.now }
     requires value { score ≡ value_of task.scoring task.position }
@@ -163,7 +170,7 @@ fn solved_at<T: Bounds>(table: &T, task: Task, score: i8) -> Solved
     solved_as(task, score, best)
 }
 
-// The task's position with its answer, where both parts of it are known.
+// The solved position of a task whose value is known, and what attains it.
 fn solved_as(task: Task, score: i8, best: Best) -> Solved
     requires value { score ≡ value_of task.scoring task.position }
     requires best { best ≡ best_answer task.scoring task.position }
@@ -176,7 +183,7 @@ fn solved_as(task: Task, score: i8, best: Best) -> Solved
     }
 }
 
-// What attains the value, where it is known.
+// What attains the value `score` of the position: its best moves, a pass, or the end of the game.
 fn best_from<T: Bounds>(table: &T, position: Pos, score: i8) -> Best
     requires { score ≡ value_of (T.scoring table.now) position }
     ensures { result ≡ best_answer (T.scoring table.now) position }
@@ -192,7 +199,8 @@ fn best_from<T: Bounds>(table: &T, position: Pos, score: i8) -> Best
     }
 }
 
-// The moves that attain the value, where it is known.
+// The mask of the moves that attain the value `score` of the position, by one null window for each
+// move.
 fn best_moves<T: Bounds>(table: &T, position: Pos, moves: u64, score: i8) -> u64
     requires moves { moves ≡ moves_of position }
     requires value { score ≡ value_of (T.scoring table.now) position }

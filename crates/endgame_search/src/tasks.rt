@@ -29,13 +29,14 @@ impl Model for Task {
     } };
 }
 
-/// Why a position is no task: it has this many empty squares.
+/// The refusal of a position as a task: the number of its empty squares, which is above the limit.
 #[derive(Clone, Copy, PartialEq, Eq, Debug, Error)]
 #[error("{0} empty squares are too many")]
 pub struct TooMany(pub u8);
 
 impl Task {
-    /// Refuses a position with more empty squares than the limit. A limit above 60 counts as 60.
+    /// The task of a position under a scoring. The limit is the greatest number of empty squares
+    /// that is accepted. A limit above 60 counts as 60. `TooMany` where the position has more.
     pub fn new(position: Pos, limit: u8, scoring: Scoring) -> Result<Task, TooMany>
         ensures when { IsOk result ↔ (empties_of position ≤ min limit 60) }
         ensures task { IfOk result
@@ -50,7 +51,7 @@ impl Task {
         }
     }
 
-    /// The position.
+    /// The position to be solved. It has at most 60 empty squares.
     pub fn pos(self) -> Pos
         ensures value { result ≡ self.position }
         ensures few_empties { empties_of result ≤ 60 }

@@ -16,8 +16,8 @@ use std::alloc::Global;
 use std::cell::Cell;
 use std::process::Abort;
 
-// The masks of Black's discs and of White's: A1 is the lowest bit, H8 the highest. Rows are told
-// from row 1, X for Black, O for White, - for an empty square.
+// The masks of Black's discs and of White's: A1 is the lowest bit, H8 the highest. The comments
+// show the rows, row 1 first: X is a black disc, O a white disc, - an empty square.
 type Discs = (u64, u64);
 
 // XXXXXXXX in all rows
@@ -48,7 +48,7 @@ const UNEQUAL_CORNERS: Discs = (!0x8_0000_8083, 0x8_0000_8002);
 // ----O--X --------
 const FFO_40: Discs = (0x80_80c0_c48c_8080, 0x10_783f_3b73_7e79);
 
-// the same without its disc on H7
+// position 40 of the FFO endgame test without the disc on H7
 const FFO_40_WITHOUT_H7: Discs = (0x80c0_c48c_8080, 0x10_783f_3b73_7e79);
 
 // OOOOOOOX OXXXXXXX OOXXOXOX OOOXXOXX OXOOXOXX OOXXOXXX --OXXXXX --------
@@ -113,14 +113,14 @@ impl Bounds for ProbeCounter {
     }
 }
 
-// Notes where a watched position is the one probed.
+// Sets `seen` if the watched position is the one probed.
 fn note(watched: &Pos, seen: &Cell<bool>, probed: &Pos) {
     if watched == probed {
         seen.set(true);
     }
 }
 
-// With a new table of so many entries.
+// A counter over a new table of `entries` entries under Winner.
 fn count_probes(rt: &impl Abort, alloc: Global, entries: usize, watched: [Pos; 2]) -> ProbeCounter
     ensures { result.table ≡ record { scoring = Winner; entries = entries } }
 {
@@ -137,8 +137,8 @@ fn after(rt: &impl Abort, position: Pos, square: Square) -> Pos {
     position.play(square).expect(rt, "a move")
 }
 
-// Whether the move to the first of two squares is enough for a window from 0 to 1, and the second
-// is not looked at.
+// Whether the move to the first of two squares is enough for the window from 0 to 1, and the
+// position after the second is not probed.
 fn is_first_enough(
     rt: &impl Abort,
     alloc: Global,

@@ -10,7 +10,8 @@ use othello_bits::{Pos, Sym};
 use othello_rules::{Best, Scoring, Side, Square};
 use std::process::Abort;
 
-// A position, its mover, its scores as Winner, Discs and Sign count them, what attains the first two, and the third.
+// A position, its mover, its scores under Winner, Discs and Sign, what attains the score under
+// Winner and Discs, and what attains it under Sign.
 type Row = (Discs, Side, [i8; 3], Best, Best);
 
 const BOTH_CORNERS: Best = Best::Moves(CORNERS);
@@ -63,7 +64,7 @@ const ROWS: &[Row] = &[
     (UNEQUAL_CORNERS, Side::White, [-40, -39, -1], AT_H1, AT_H1),
 ];
 
-// Whether the position is answered so under the scoring, with this outcome.
+// Whether the position is solved with this answer and this outcome under the scoring.
 fn is_answered(
     rt: &impl Abort,
     position: Pos,
@@ -133,7 +134,7 @@ const CLAIMED: &[Best] = &[
     Best::Over,
 ];
 
-// Whether the position is answered so, whatever the claim says.
+// Whether a test of the claim finds this score and these best moves.
 fn is_told(rt: &impl Abort, discs: Discs, claim: Claim, score: i8, best: u64) -> bool {
     let task = task_of(rt, pos_of(rt, discs, Side::Black), Scoring::Winner);
     let answer = confirm(&NoTable::new(Scoring::Winner), task, claim).answer();

@@ -5,12 +5,12 @@ use crate::tests::{EQUAL_CORNERS, OPEN_CORNERS, RINGS, is_first_enough, pos_of};
 use arrayvec::ArrayVec;
 use othello_rules::{Side, Square};
 
-// Whether one has fewer replies, or as many and the lower square.
+// Whether one child has fewer replies than the next, or as many and the lower square.
 fn comes_before(one: &Child, next: &Child) -> bool {
     (one.replies.count_ones(), one.square) < (next.replies.count_ones(), next.square)
 }
 
-// Whether each comes before the next.
+// Whether each child comes before the next in the order.
 fn are_in_order(children: &[Child]) -> bool {
     for i in 1..children.len() {
         if !comes_before(&children[i - 1], &children[i]) {
@@ -30,7 +30,7 @@ fn children_come_in_order(rt: HostRuntime) {
 
 #[test]
 fn the_lower_of_the_last_two_squares_comes_first(rt: HostRuntime) {
-    // Neither move leaves a reply; each leaves one.
+    // In the first position neither move leaves a reply. In the second each leaves one.
     assert!(rt; is_first_enough(&rt, rt.alloc(), EQUAL_CORNERS, Square::at(0), Square::at(7)));
     assert!(rt; is_first_enough(&rt, rt.alloc(), OPEN_CORNERS, Square::at(0), Square::at(7)));
 }

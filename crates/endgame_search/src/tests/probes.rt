@@ -1,4 +1,4 @@
-//! What a search stores, and what it ends by.
+//! What a search stores, and which stored ranges end it.
 
 ghost use Rattle.std.specs.Prelude.{◌≡◌};
 ghost use Rattle.endgame_search.specs.Windows.{IsWindow};
@@ -36,7 +36,7 @@ fn store_value(table: &BoundTable, position: Pos) {
     table.store(&position, exact);
 }
 
-// Whether one probe shows the value 62, and the best move, H1, takes more.
+// Whether one probe shows the value 62, and the best move, H1, takes more probes.
 fn is_62_at_h1(counter: &ProbeCounter, task: Task) -> bool
     requires { task.scoring ≡ counter.now.table.scoring }
 {
@@ -58,7 +58,7 @@ fn a_stored_value_is_told(rt: HostRuntime) {
     assert!(rt; is_stored_value_told(&rt, rt.alloc(), position));
 }
 
-// What is asked of a position: a scoring, and the ends of a window.
+// A scoring, and the ends of a window.
 #[derive(Clone, Copy)]
 struct Asked {
     scoring: Scoring,
@@ -66,7 +66,7 @@ struct Asked {
     high: i8,
 }
 
-// Whether a new table of one entry shows this range of the position once `value_in` was asked.
+// Whether a new table of one entry shows this range of the position after a call of `value_in`.
 fn is_stored_as(
     rt: &impl Abort,
     alloc: Global,
@@ -118,7 +118,7 @@ fn results_are_stored_as_the_window_says(rt: HostRuntime) {
 #[test]
 fn results_are_stored_under_sign(rt: HostRuntime) {
     let alloc = rt.alloc();
-    // White wins by 6, and Black loses by 10.
+    // With White to move White wins by 6. With Black to move Black loses by 10.
     let won = pos_of(&rt, TEN_EMPTY_SQUARES, Side::White);
     assert!(rt; is_stored_as(&rt, alloc, won, by_sign(-65, 65), 1, 1));
     assert!(rt; is_stored_as(&rt, alloc, won, by_sign(0, 1), 1, 64));
@@ -127,8 +127,7 @@ fn results_are_stored_under_sign(rt: HostRuntime) {
     assert!(rt; is_stored_as(&rt, alloc, lost, by_sign(-65, 65), -1, -1));
 }
 
-// Whether neither the solving of a small position nor its value nor a test of a claim stores
-// anything: a probe of a larger one need not look for what is that small.
+// Whether `solve`, `confirm` and `exact_value` store nothing for a small position.
 fn stores_nothing(counter: &ProbeCounter, task: Task) -> bool
     requires { task.scoring ≡ counter.now.table.scoring }
 {
@@ -153,8 +152,8 @@ fn a_small_position_is_solved_without_a_store(rt: HostRuntime) {
     assert!(rt; stores_nothing(&counter, task_of(&rt, position, Scoring::Winner)));
 }
 
-// Whether a search takes more than one probe and stores the position last: one probe more shows its
-// value.
+// Whether a search takes more than one probe and stores the position last: a second search ends at
+// its first probe.
 fn is_value_stored(counter: &ProbeCounter, position: Pos) -> bool {
     let score = search_scores(counter, position, -65, 65);
     counter.probes.replace(0) > 1
@@ -178,7 +177,8 @@ fn ends_at_once(counter: &ProbeCounter, position: Pos, low: i8, high: i8) -> boo
     counter.probes.get() == 1
 }
 
-// Whether a range of scores no less than the value 62 ends it, and one of scores no greater.
+// Whether a search ends at its first probe where the value 62 is stored as a lower bound and the
+// window lies below, and where it is stored as an upper bound and the window lies above.
 fn do_ranges_end(counter: &ProbeCounter, position: Pos) -> bool {
     let value = value_in(counter, position, -65, 65);
     let table = &counter.table;
@@ -197,7 +197,7 @@ fn ranges_beyond_the_window_end_a_search(rt: HostRuntime) {
     assert!(rt; do_ranges_end(&counter, position));
 }
 
-// Whether a search of the window is stored: the same search then ends at its first probe.
+// Whether a search of the window is stored: a second search of it ends at its first probe.
 fn is_stored(counter: &ProbeCounter, position: Pos, low: i8, high: i8) -> bool
     requires { IsWindow low high }
 {
@@ -205,7 +205,7 @@ fn is_stored(counter: &ProbeCounter, position: Pos, low: i8, high: i8) -> bool
     ends_at_once(counter, position, low, high)
 }
 
-// Whether searches of the windows beside the value are.
+// Whether searches of the null windows below and above the value are stored.
 fn are_cut_offs_stored(counter: &ProbeCounter, position: Pos) -> bool {
     let value = value_in(&NoTable::new(Scoring::Winner), position, -65, 65);
     is_stored(counter, position, value - 1, value) && is_stored(counter, position, value, value + 1)
@@ -218,8 +218,8 @@ fn cut_offs_are_stored(rt: HostRuntime) {
     assert!(rt; are_cut_offs_stored(&counter, position));
 }
 
-// Whether the position itself is probed first where a null window asks for it: its stored value
-// ends the search.
+// Whether a search of a null window probes the position itself first: its stored value ends the
+// search.
 fn is_probed_first(rt: &impl Abort, alloc: Global, discs: Discs, side: Side) -> bool {
     let position = pos_of(rt, discs, side);
     let counter = count_probes(rt, alloc, 1, [position, position]);
@@ -229,7 +229,7 @@ fn is_probed_first(rt: &impl Abort, alloc: Global, discs: Discs, side: Side) -> 
 
 #[test]
 fn few_empty_squares_are_probed_first(rt: HostRuntime) {
-    // One empty square, which Black moves to and White passes at, and two.
+    // One empty square where Black moves, one where White passes, and two empty squares.
     assert!(rt; is_probed_first(&rt, rt.alloc(), LAST_CORNER, Side::Black));
     assert!(rt; is_probed_first(&rt, rt.alloc(), LAST_CORNER, Side::White));
     assert!(rt; is_probed_first(&rt, rt.alloc(), UNEQUAL_CORNERS, Side::Black));
@@ -237,7 +237,7 @@ fn few_empty_squares_are_probed_first(rt: HostRuntime) {
 
 #[test]
 fn the_last_square_is_probed_before_and_after_a_pass(rt: HostRuntime) {
-    // H1 leaves White no move, and Black A1.
+    // After H1 White has no move, and Black has A1.
     let position = pos_of(&rt, UNEQUAL_CORNERS, Side::Black);
     let stuck = after(&rt, position, Square::at(7));
     let counter = count_probes(&rt, rt.alloc(), 0, [stuck, stuck.pass()]);

@@ -6,7 +6,7 @@ use othello_rules::{Scoring, Side};
 use std::alloc::AllocError;
 use std::process::Abort;
 
-// Whether a position is a task at this limit, or is refused for having so many empty squares.
+// Whether a position is a task at this limit, or is refused with this number of empty squares.
 fn is_limited(rt: &impl Abort, discs: Discs, limit: u8, refused: Option<u8>) -> bool {
     let position = pos_of(rt, discs, Side::Black);
     match Task::new(position, limit, Scoring::Winner) {
