@@ -1,43 +1,42 @@
-//! What ends the program early.
+//! The errors that end the program early.
 
-ghost use Rattle.std.specs.Prelude.{◌≡◌, ◌⊎◌, OnOk};
+ghost use Rattle.std.specs.Prelude.{◌≡◌, ◌⊎◌, OnOk, Some};
 ghost use Rattle.std.specs.Io.KnownBytes.{Appends};
-ghost use Rattle.ffoscores.specs.Errors.{status_of, error_of, error_reason, error_text};
-ghost use Rattle.ffoscores.specs.declared.errors.ProgramError.TheVariants.{Memory};
+ghost use Rattle.suite_solver.specs.declared.faults.RunFault.TheVariants.{Memory};
+ghost use Rattle.ffoscores.specs.Errors.{error_of, error_reason, error_text, status_of};
+ghost use Rattle.ffoscores.specs.declared.errors.ProgramError.TheVariants.{Run};
 
 use score_lists::ListFault;
 use std::alloc::{AllocError, AllocFailed};
-use std::io;
 use std::io::{ErrorKind, Write};
+use std::{fmt, io};
+use suite_solver::RunFault;
 
-/// What ends the program early.
+/// An error that ends the program early.
 #[derive(Drop)]
 pub(crate) enum ProgramError<'a> {
-    Memory,
+    Run(RunFault),
     /// A word of the command line is no text.
     BadWords,
-    TooManyFiles,
-    /// The number of the file, from 1.
-    FileTooLarge(usize),
-    /// The name of the file as given, or of standard input.
+    /// The name of the file as the words have it, or of standard input.
     CannotRead(&'a str),
     /// Standard output.
     CannotWrite,
 }
 
 impl From<AllocError> for ProgramError<'_> {
-    ghost from_gives = { λ _ error. error ≡ Memory };
+    ghost from_gives = { λ _ error. error ≡ Run Memory };
 
     fn from(_error: AllocError) -> Self {
-        ProgramError::Memory
+        ProgramError::Run(RunFault::Memory)
     }
 }
 
 impl<T: Drop> From<AllocFailed<T>> for ProgramError<'_> {
-    ghost from_gives = { λ _ error. error ≡ Memory };
+    ghost from_gives = { λ _ error. error ≡ Run Memory };
 
     fn from(_error: AllocFailed<T>) -> Self {
-        ProgramError::Memory
+        ProgramError::Run(RunFault::Memory)
     }
 }
 
@@ -46,7 +45,7 @@ impl From<ListFault> for ProgramError<'_> {
 
     fn from(fault: ListFault) -> Self {
         match fault {
-            ListFault::Memory => ProgramError::Memory,
+            ListFault::Memory => ProgramError::Run(RunFault::Memory),
             ListFault::CannotWrite => ProgramError::CannotWrite,
         }
     }
@@ -57,7 +56,7 @@ pub(crate) fn read_error<'a>(fault: &io::Error, name: &'a str) -> ProgramError<'
     ensures { status_of result ≡ 3 }
 {
     match fault.kind() {
-        ErrorKind::OutOfMemory => ProgramError::Memory,
+        ErrorKind::OutOfMemory => ProgramError::Run(RunFault::Memory),
         _ => ProgramError::CannotRead(name),
     }
 }
@@ -67,23 +66,22 @@ pub(crate) fn words_error(fault: &io::Error) -> ProgramError<'static>
     ensures { (status_of result ≡ 2) ⊎ (status_of result ≡ 3) }
 {
     match fault.kind() {
-        ErrorKind::OutOfMemory => ProgramError::Memory,
+        ErrorKind::OutOfMemory => ProgramError::Run(RunFault::Memory),
         _ => ProgramError::BadWords,
     }
 }
 
-#[tactic(auto, unfolding(crate::specs::Errors::error_reason))]
-fn write_reason<E: Write>(errors: &mut E, error: &ProgramError<'_>) -> io::Result<()>
-    ensures { OnOk result
-        (Appends (E.contents errors.old) (E.contents errors.new) (error_reason error.now)) }
-{
-    match error {
-        ProgramError::Memory => errors.write_all(b"out of memory"),
-        ProgramError::BadWords => errors.write_all(b"cannot read the command line"),
-        ProgramError::TooManyFiles => errors.write_all(b"more than 64 files"),
-        ProgramError::FileTooLarge(number) => write!(errors, "file {number} is larger than 1048576 bytes"),
-        ProgramError::CannotRead(name) => write!(errors, "cannot read {name}"),
-        ProgramError::CannotWrite => errors.write_all(b"cannot write standard output"),
+impl fmt::Display for ProgramError<'_> {
+    ghost output = { λ error. Some (error_reason error) };
+
+    #[tactic(auto, unfolding(crate::specs::Errors::error_reason))]
+    fn fmt<W: fmt::Write>(&self, f: &mut fmt::Formatter<W>) -> fmt::Result {
+        match self {
+            ProgramError::Run(fault) => write!(f, "{fault}"),
+            ProgramError::BadWords => f.write_str("cannot read the command line"),
+            ProgramError::CannotRead(name) => write!(f, "cannot read {name}"),
+            ProgramError::CannotWrite => f.write_str("cannot write standard output"),
+        }
     }
 }
 
@@ -94,9 +92,8 @@ impl ProgramError<'_> {
         ensures { OnOk result
             (Appends (E.contents errors.old) (E.contents errors.new) (error_text self.now)) }
     {
-        errors.write_all(b"ffoscores: ")?;
-        write_reason(errors, self)?;
-        errors.write_all(b"\n")
+        let error = self;
+        write!(errors, "ffoscores: {error}\n")
     }
 
     // The exit status.

@@ -11,27 +11,25 @@ use std::alloc::Global;
 use std::io::Read;
 use std::rt::Files;
 use std::{fs, io};
-use suite_solver::{MOST_BYTES, MOST_FILES};
+use suite_solver::{MOST_BYTES, MOST_FILES, RunFault};
 
-// One byte more than a file may have: a file that is too large is told by it.
-const MOST_READ: usize = 1_048_577;
-
-// The front of what a reader gives. A reader that tells nothing of its bytes is cut again.
+// The first bytes of a reader: one more than a file may have, by which a file that is too large is
+// known. They are cut once more, for a reader of which no contract says what bytes it gives.
 fn read_front<R: Read>(alloc: Global, reader: &mut R) -> io::Result<Vec<u8>>
     ensures { IfOk result
         (λ bytes. IfSome (R.remaining reader.old) (λ all. bytes.items ≡ take 1048577 all)) }
 {
     let mut bytes = Vec::new(alloc);
-    reader.take(MOST_READ as u64).read_to_end(&mut bytes)?;
-    bytes.truncate(MOST_READ);
+    reader.take(MOST_BYTES as u64 + 1).read_to_end(&mut bytes)?;
+    bytes.truncate(MOST_BYTES + 1);
     Ok(bytes)
 }
 
-// All that a reader gives: the file of this number, from 1, and of this name.
+// All that a reader gives: the file of this sender, counted from 0, and of this name.
 fn read_whole<'a, R: Read>(
     alloc: Global,
     reader: &mut R,
-    number: usize,
+    sender: u32,
     name: &'a str,
 ) -> Result<Vec<u8>, ProgramError<'a>>
     ensures small { IfOk result (λ text. length text.items ≤ 1048576) }
@@ -42,7 +40,7 @@ fn read_whole<'a, R: Read>(
     match read_front(alloc, reader) {
         Ok(text) => {
             if text.len() > MOST_BYTES {
-                return Err(ProgramError::FileTooLarge(number));
+                return Err(ProgramError::Run(RunFault::FileTooLarge(sender)));
             }
             Ok(text)
         }
@@ -54,14 +52,14 @@ fn read_whole<'a, R: Read>(
 fn read_file<'a, T: Files>(
     rt: &T,
     alloc: Global,
-    number: usize,
+    sender: u32,
     name: &'a str,
 ) -> Result<Vec<u8>, ProgramError<'a>>
     ensures small { IfOk result (λ text. length text.items ≤ 1048576) }
     ensures err { IfErr result (λ error. status_of error ≡ 3) }
 {
     match fs::open(rt, name) {
-        Ok(mut file) => read_whole(alloc, &mut file, number, name),
+        Ok(mut file) => read_whole(alloc, &mut file, sender, name),
         Err(fault) => Err(read_error(&fault, name)),
     }
 }
@@ -72,7 +70,7 @@ fn read_input<R: Read>(alloc: Global, input: &mut R) -> Result<Vec<Vec<u8>>, Pro
         (λ texts. AreLists (names_of []) (R.remaining input.old) (texts_of texts.items)) }
     ensures err { IfErr result (λ error. status_of error ≡ 3) }
 {
-    let text = read_whole(alloc, input, 1, "standard input")?;
+    let text = read_whole(alloc, input, 0, "standard input")?;
     let mut texts = Vec::new(alloc);
     texts.push(text)?;
     Ok(texts)
@@ -90,13 +88,14 @@ fn read_named<'a, T: Files>(
 {
     let mut texts = Vec::new(alloc);
     for name in names {
-        let text = read_file(rt, alloc, texts.len() + 1, name.as_str())?;
+        let text = read_file(rt, alloc, texts.len() as u32, name.as_str())?;
         texts.push(text)?;
     }
     Ok(texts)
 }
 
-// The lists of these names, or standard input where there is no name. All are read before anything is printed.
+// The lists of these names, or standard input where there is no name. All are read before anything
+// is printed.
 pub(crate) fn read_lists<'a, T: Files, R: Read>(
     rt: &T,
     alloc: Global,
@@ -111,7 +110,7 @@ pub(crate) fn read_lists<'a, T: Files, R: Read>(
         return read_input(alloc, input);
     }
     if names.len() > MOST_FILES {
-        return Err(ProgramError::TooManyFiles);
+        return Err(ProgramError::Run(RunFault::TooManyFiles));
     }
     read_named(rt, alloc, names)
 }

@@ -8,8 +8,8 @@ ghost use Rattle.suite_solver.specs.CommandLine.{AsksForText, IsTakenBy, IsTextK
 ghost use Rattle.ffoscores.specs.Programs.{IsAnswered, IsBegun, Prints, Stops};
 ghost use Rattle.ffoscores.specs.Errors.{status_of};
 
-use crate::inputs::read_lists;
 use crate::errors::{ProgramError, words_error};
+use crate::inputs::read_lists;
 use bound_table::BoundTable;
 use clap::error::ErrorKind;
 use score_lists::write_lists;
@@ -17,9 +17,10 @@ use std::alloc::{AllocError, Global};
 use std::io;
 use std::io::{Read, Write};
 use std::rt::Files;
-use suite_solver::{ListOptions, OptionFault, Settings, list_options};
+use suite_solver::{ListOptions, OptionFault, RunFault, Settings, list_options};
 
-// Prints lists again with every move's score, over one table, and tells whether nothing is wrong in them.
+// Prints lists again with every move's score, over one table. The answer is whether nothing is
+// wrong in them.
 fn print_lists<W: Write>(
     alloc: Global,
     settings: &Settings,
@@ -36,7 +37,7 @@ fn print_lists<W: Write>(
 {
     let entries = settings.table() as usize;
     let Ok(table) = BoundTable::new(alloc, entries, settings.scoring()) else {
-        return Err(ProgramError::Memory);
+        return Err(ProgramError::Run(RunFault::Memory));
     };
     match write_lists(&table, alloc, output, settings.max_empties(), texts) {
         Ok(right) => Ok(right),
@@ -44,7 +45,8 @@ fn print_lists<W: Write>(
     }
 }
 
-// Reads the lists that are asked for, and prints them again. The answer is whether nothing is wrong in them.
+// Reads the lists that are asked for, and prints them again. The answer is whether nothing is wrong
+// in them.
 fn carry_out<'a, T: Files, R: Read, W: Write>(
     rt: &T,
     alloc: Global,
@@ -64,7 +66,8 @@ fn carry_out<'a, T: Files, R: Read, W: Write>(
     print_lists(alloc, &asked.settings, &texts, output)
 }
 
-// Tells what ends the program, and gives its status. A standard error that fails changes nothing.
+// Prints the error that ends the program. The answer is the exit status. A standard error that
+// fails changes nothing.
 fn print_error<E: Write>(error: &ProgramError<'_>, errors: &mut E) -> u8
     ensures { result ≡ status_of error.now }
 {
@@ -78,8 +81,8 @@ fn write_help<W: Write>(output: &mut W, help: &clap::Error) -> io::Result<()> {
     output.flush()
 }
 
-// Prints what clap says in place of options: help and the version on standard output, why the words are refused on
-// standard error.
+// Prints what clap says in place of options: help and the version on standard output, why the words
+// are refused on standard error.
 fn explain<W: Write, E: Write>(error: &clap::Error, output: &mut W, errors: &mut E) -> u8
     ensures status { (result ≡ 0) ⊎ ((result ≡ 2) ⊎ (result ≡ 3)) }
     ensures helped { result ≢ 2 → IsTextKind (kind_of error.now) }
@@ -97,13 +100,14 @@ fn explain<W: Write, E: Write>(error: &clap::Error, output: &mut W, errors: &mut
     }
 }
 
-/// The whole program over the words of its command line, the program's name first: it reads the lists that they name, or
-/// standard input, and prints them again on standard output with every move's score, each line as soon as it is solved.
-/// The status is 0 where nothing is wrong in them, or where help or the version was asked for and printed; 1 where a line
-/// is refused or something is remarked; 2 where the command line is refused; 3 where a list can't be read, is too large or
-/// one of too many, where standard output can't be written, or where memory ran out. What ends it early is told on
-/// standard error, by one line or clap's text, and what was printed before stands; a standard error that fails changes
-/// nothing.
+/// The whole program over the words of its command line, the program's name first: it reads the
+/// lists that they name, or standard input, and prints them again on standard output with every
+/// move's score, each line as soon as it is solved. The status is 0 where nothing is wrong in them,
+/// or where help or the version was asked for and printed; 1 where a line is refused or something
+/// is remarked; 2 where the command line is refused; 3 where a list can't be read, is too large or
+/// one of too many, where standard output can't be written, or where memory ran out. An error that
+/// ends it early is printed on standard error, by one line or clap's text, and what was printed
+/// before stands; a standard error that fails changes nothing.
 pub(crate) fn program<T: Files, R: Read, W: Write, E: Write>(
     rt: &T,
     alloc: Global,
@@ -113,8 +117,8 @@ pub(crate) fn program<T: Files, R: Read, W: Write, E: Write>(
     errors: &mut E,
 ) -> u8
     ensures status { (result ≡ 0) ⊎ ((result ≡ 1) ⊎ ((result ≡ 2) ⊎ (result ≡ 3))) }
-    // The lists that the words ask for were printed, and nothing is wrong in them; or help or the version was, which they
-    // ask for.
+    // The lists that the words ask for were printed, and nothing is wrong in them; or help or the
+    // version was printed, which they ask for.
     ensures right { result ≡ 0 → AsksForText ffoscores (map (λ word. word.now) words.now) ⊎
         IsAnswered (map (λ word. word.now) words.now)
         (R.remaining input.old) (W.contents output.old) (W.contents output.new) true }
@@ -134,7 +138,7 @@ pub(crate) fn program<T: Files, R: Read, W: Write, E: Write>(
             Ok(false) => 1,
             Err(error) => print_error(&error, errors),
         },
-        Err(OptionFault::Memory) => print_error(&ProgramError::Memory, errors),
+        Err(OptionFault::Memory) => print_error(&ProgramError::Run(RunFault::Memory), errors),
         Err(OptionFault::Refused(error)) => explain(&error, output, errors),
     }
 }
@@ -150,7 +154,8 @@ fn borrow_words(alloc: Global, words: &[String]) -> Result<Vec<&str>, AllocError
     Ok(borrowed)
 }
 
-/// The whole program over the words as `env::args` gives them. Where a word is no text, the status is 2.
+/// The whole program over the words as `env::args` gives them. Where a word is no text, the status
+/// is 2.
 pub(crate) fn program_of<T: Files, R: Read, W: Write, E: Write>(
     rt: &T,
     alloc: Global,
@@ -178,6 +183,6 @@ pub(crate) fn program_of<T: Files, R: Read, W: Write, E: Write>(
     };
     match borrow_words(alloc, &words) {
         Ok(borrowed) => program(rt, alloc, &borrowed, input, output, errors),
-        Err(_) => print_error(&ProgramError::Memory, errors),
+        Err(_) => print_error(&ProgramError::Run(RunFault::Memory), errors),
     }
 }

@@ -1,5 +1,5 @@
 -- The pieces of a line that holds a position list the fields that the line lists.
-use Rattle.std.proofs.Common.{◌≡◌, ℕ, ◌+◌, ◌==◌, Bool, true, false, List, [], ◌∷◌, length, map, take, drop, refl, sym, ap, ◌∙◌, inl, inr, Option, Some, None, arith}
+use Rattle.std.proofs.Common.{◌≡◌, ℕ, ◌+◌, ◌==◌, List, [], ◌∷◌, length, map, take, drop, sym, ap, ◌∙◌, inl, inr, Option, Some, None}
 use Rattle.std.specs.Prelude.{nat_lt}
 use Rattle.std.specs.List.{filter_map, position_or_len}
 use Rattle.std.proofs.lemmas.Bool.{cases_Bool}
@@ -7,8 +7,8 @@ use Rattle.std.proofs.lemmas.List.{drop-drop}
 use Rattle.othello_rules.specs.declared.discs.Cell.{Cell}
 use Rattle.othello_rules.specs.declared.discs.Side.{Side}
 use Rattle.obf_text.specs.Bytes.{cell_of, is_content, is_no_cell, side_of}
-use Rattle.obf_text.specs.Fields.{Field, field_of, fields_of}
-use Rattle.obf_text.specs.Obf.{Entry, Faulty, Holds, Meaning, Skipped, board_item, content_item, gap_item, item_of, side_item, side_item_at}
+use Rattle.obf_text.specs.Fields.{field_of, fields_of}
+use Rattle.obf_text.specs.Obf.{Entry, Faulty, Holds, Skipped, board_item, content_item, gap_item, item_of, side_item, side_item_at}
 use Rattle.obf_text.specs.Pieces.{behind_side, line_pieces}
 use Rattle.obf_text.specs.declared.faults.LineFault.{LineFault}
 

@@ -1,16 +1,14 @@
 -- A line that is written with any fields and with a comment behind them is read back.
-use Rattle.std.proofs.Common.{◌≡◌, ℕ, ◌<◌, ◌≤◌, ◌==◌, zero, suc, ◌+◌, true, false, Some, List, [], ◌∷◌, ◌++◌, length, get_or, map, take, refl, sym, inl, inr, ◌∙◌, ap, ap₂, subst, arith}
+use Rattle.std.proofs.Common.{◌≡◌, ℕ, ◌==◌, zero, suc, ◌+◌, true, false, Some, List, [], ◌∷◌, ◌++◌, length, map, take, refl, sym, inl, inr, ◌∙◌, ap, ap₂, subst, arith}
 use Rattle.std.specs.List.{AllPass, All, before_first, position_or_len, slice_split}
-use Rattle.std.proofs.lemmas.Grind.{common_steps}
-use Rattle.std.proofs.lemmas.List.{append_assoc, append-nil, length-append}
+use Rattle.std.proofs.lemmas.List.{append_assoc, append-nil}
 use Rattle.std.proofs.lemmas.List.Splits.{slice_split_at}
-use Rattle.std.proofs.lemmas.List.Sums.{position_or_len_is}
 use Rattle.othello_rules.specs.declared.discs.Cell.{Cell}
 use Rattle.othello_rules.specs.declared.discs.Cell.TheVariants as cell
 use Rattle.othello_rules.specs.declared.discs.Side.{Side}
 use Rattle.othello_rules.specs.declared.discs.Side.TheVariants as side
 use Rattle.othello_rules.specs.Rules.{GridView}
-use Rattle.obf_text.specs.Bytes.{is_blank, is_cell, cell_of, side_of}
+use Rattle.obf_text.specs.Bytes.{is_cell, cell_of, side_of}
 use Rattle.obf_text.specs.Fields.{Field, Lists, pieces_of}
 use Rattle.obf_text.specs.Obf.{Holds, Says, item_of}
 use Rattle.obf_text.specs.Written.{AreWritable, board_text, cell_byte, entry_text, fields_text, side_byte}

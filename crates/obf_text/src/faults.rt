@@ -1,28 +1,43 @@
 //! Why a line can't be read.
 
-ghost use Rattle.std.specs.Prelude.{◌≡◌};
+ghost use Rattle.std.specs.Prelude.{◌≡◌, Some};
+ghost use Rattle.obf_text.specs.Faults.{line_fault_text};
 ghost use Rattle.obf_text.specs.declared.faults.LineFault.TheVariants.{Memory};
 
 use std::alloc::AllocError;
-use thiserror::Error;
+use std::error::Error;
+use std::fmt;
 
-/// Why a line can't be read. Columns are bytes of the line, counted from 1.
-#[derive(Clone, Copy, PartialEq, Eq, Debug, Error)]
+/// Why a line can't be read. Columns are bytes of the line, counted from 1. What is printed of a
+/// fault is a reason in a report.
+#[derive(Clone, Copy, PartialEq, Eq, Debug, Drop)]
 pub enum LineFault {
-    /// The line ends after so many board bytes, fewer than 64.
-    #[error("board has {0} of 64 squares")]
+    /// The line ends after this number of board bytes, fewer than 64.
     Short(usize),
     /// A byte that is no square stands in a square's place, at this column.
-    #[error("bad square at column {0}")]
     BadCell(usize),
     /// The side to move is missing at this column: another byte stands there, or the line ends
     /// before it.
-    #[error("bad side at column {0}")]
     BadSide(usize),
     /// The listed fields found no memory.
-    #[error("out of memory")]
     Memory,
 }
+
+impl fmt::Display for LineFault {
+    ghost output = { λ fault. Some (line_fault_text fault) };
+
+    #[tactic(auto, unfolding(crate::specs::Faults::line_fault_text))]
+    fn fmt<W: fmt::Write>(&self, f: &mut fmt::Formatter<W>) -> fmt::Result {
+        match self {
+            LineFault::Short(found) => write!(f, "board has {found} of 64 squares"),
+            LineFault::BadCell(column) => write!(f, "bad square at column {column}"),
+            LineFault::BadSide(column) => write!(f, "bad side at column {column}"),
+            LineFault::Memory => f.write_str("out of memory"),
+        }
+    }
+}
+
+impl Error for LineFault {}
 
 impl From<AllocError> for LineFault {
     ghost from_gives = { λ _ fault. fault ≡ Memory };

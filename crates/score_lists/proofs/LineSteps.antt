@@ -13,7 +13,8 @@ use Rattle.obf_text.specs.declared.entries.Item.TheVariants as item
 use Rattle.obf_text.specs.declared.entries.Line.{Line}
 use Rattle.obf_text.specs.declared.faults.LineFault.{LineFault}
 use Rattle.obf_text.specs.declared.faults.LineFault.TheVariants.{Short, BadCell, BadSide, Memory}
-use Rattle.score_lists.specs.Lines.{AppendsFront, Prints, are_right, fault_text, is_right}
+use Rattle.obf_text.specs.Faults.{line_fault_text}
+use Rattle.score_lists.specs.Lines.{AppendsFront, Prints, are_right, is_right}
 use Rattle.score_lists.specs.Lines.{kept_text, lines_text, lists_right, lists_text, out_text}
 use Rattle.score_lists.specs.Lines.{refused_text, scores_text, texts_of}
 use Rattle.score_lists.proofs.Prints.{prints_end, prints_more, prints_stop}
@@ -158,7 +159,7 @@ unfolding is_right
 right_skip g limit line m e = rw e refl
 
 pub out_fault : (g : Scoring) (limit : ℕ) (line : List ℕ) (m : Meaning) (f : LineFault)
-    → m ≡ Faulty f → refused_text (fault_text f) line ≡ out_text g limit line m
+    → m ≡ Faulty f → refused_text (line_fault_text f) line ≡ out_text g limit line m
 unfolding out_text
 out_fault g limit line m f e = rw e refl
 

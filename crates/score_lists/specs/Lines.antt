@@ -8,21 +8,14 @@ use Rattle.std.specs.declared.alloc.Global.{Global}
 use Rattle.othello_rules.specs.declared.scorings.Scoring.{Scoring}
 use Rattle.othello_rules.specs.Rules.{GridView}
 use Rattle.othello_rules.specs.Value.{empties}
+use Rattle.obf_text.specs.Faults.{line_fault_text}
 use Rattle.obf_text.specs.Fields.{Field}
 use Rattle.obf_text.specs.LineText.{lines_of}
 use Rattle.obf_text.specs.Obf.{Faulty, Holds, Meaning, Skipped, item_of}
 use Rattle.obf_text.specs.Pieces.{comment_of, line_pieces}
 use Rattle.obf_text.specs.Written.{entry_text}
-use Rattle.obf_text.specs.declared.faults.LineFault.{LineFault}
-use Rattle.obf_text.specs.declared.faults.LineFault.TheVariants.{Short, BadCell, BadSide, Memory}
 use Rattle.move_scores.specs.Scores.{score_fields}
 use Rattle.score_lists.specs.Remarks.{has_remarks, remarks, remarks_text}
-
-unfoldable pub fault_text : LineFault → List ℕ
-fault_text (Short found) = codes "board has " ++ (decimal found ++ codes " of 64 squares")
-fault_text (BadCell column) = codes "bad square at column " ++ decimal column
-fault_text (BadSide column) = codes "bad side at column " ++ decimal column
-fault_text Memory = codes "out of memory"
 
 unfoldable pub many_text : ℕ → ℕ → List ℕ
 many_text found limit = decimal found ++ (codes " empties, limit " ++ decimal limit)
@@ -58,7 +51,7 @@ out_text g limit line (Holds entry) =
     if nat_lt limit (empties entry.position)
     then refused_text (many_text (empties entry.position) limit) line
     else scored_text entry.position (score_fields g entry.position) line
-out_text g limit line (Faulty fault) = refused_text (fault_text fault) line
+out_text g limit line (Faulty fault) = refused_text (line_fault_text fault) line
 
 -- what is written for lines, and for a text
 unfoldable pub lines_text : Scoring → ℕ → List (List ℕ) → List ℕ

@@ -3,10 +3,11 @@
 ghost use Rattle.std.specs.Prelude.{◌≡◌, ◌≢◌, ◌≤◌, ◌<◌, ◌++◌, ◌∷◌, [], All, IfOk, IsOk, OnOk};
 ghost use Rattle.std.specs.Prelude.{nat_abs, not, true, false};
 ghost use Rattle.std.specs.Io.KnownBytes.{Appends};
+ghost use Rattle.obf_text.specs.Faults.{line_fault_text};
 ghost use Rattle.obf_text.specs.Obf.{Holds, entry_of, item_of};
 ghost use Rattle.obf_text.specs.Pieces.{line_pieces};
 ghost use Rattle.obf_text.specs.declared.faults.LineFault.TheVariants.{Memory};
-ghost use Rattle.score_lists.specs.Lines.{comment_text, fault_text, is_right, kept_text, many_text};
+ghost use Rattle.score_lists.specs.Lines.{comment_text, is_right, kept_text, many_text};
 ghost use Rattle.score_lists.specs.Lines.{out_text, quoted_text, refused_text, scored_text};
 ghost use Rattle.score_lists.specs.Remarks.{has_remarks, remarks};
 
@@ -29,17 +30,11 @@ fn write_kept<W: Write>(writer: &mut W, line: &[u8]) -> io::Result<()>
     writer.write_all(b"\n")
 }
 
-#[tactic(auto, unfolding(crate::specs::Lines::fault_text))]
 fn write_fault<W: Write>(writer: &mut W, fault: LineFault) -> io::Result<()>
     ensures { OnOk result
-        (Appends (W.contents writer.old) (W.contents writer.new) (fault_text fault)) }
+        (Appends (W.contents writer.old) (W.contents writer.new) (line_fault_text fault)) }
 {
-    match fault {
-        LineFault::Short(found) => write!(writer, "board has {found} of 64 squares"),
-        LineFault::BadCell(column) => write!(writer, "bad square at column {column}"),
-        LineFault::BadSide(column) => write!(writer, "bad side at column {column}"),
-        LineFault::Memory => writer.write_all(b"out of memory"),
-    }
+    write!(writer, "{fault}")
 }
 
 // A line behind a colon.
@@ -55,7 +50,7 @@ fn write_quoted<W: Write>(writer: &mut W, line: &[u8]) -> io::Result<()>
 // A line that is refused for a fault.
 fn write_faulty<W: Write>(writer: &mut W, fault: LineFault, line: &[u8]) -> io::Result<()>
     ensures { OnOk result (Appends (W.contents writer.old)
-        (W.contents writer.new) (refused_text (fault_text fault) line.now)) }
+        (W.contents writer.new) (refused_text (line_fault_text fault) line.now)) }
 {
     writer.write_all(b"% refused: ")?;
     write_fault(writer, fault)?;
@@ -151,7 +146,7 @@ fn write_skipped<W: Write>(writer: &mut W, line: &[u8]) -> io::Result<bool>
 // A line that is refused for a fault, which is wrong. Want of memory is said of no line.
 fn write_refused<W: Write>(writer: &mut W, fault: LineFault, line: &[u8]) -> io::Result<bool>
     ensures written { OnOk result (Appends (W.contents writer.old)
-        (W.contents writer.new) (refused_text (fault_text fault) line.now)) }
+        (W.contents writer.new) (refused_text (line_fault_text fault) line.now)) }
     ensures right { IfOk result (λ right. right ≡ false) }
     ensures told { IsOk result → fault ≢ Memory }
 {

@@ -3,3 +3,4 @@ pub mod Books
 pub mod Listing
 pub mod Claims
 pub mod Reading
+pub mod Faults

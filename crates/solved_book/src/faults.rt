@@ -1,34 +1,48 @@
 //! Why a text is no book.
 
-ghost use Rattle.std.specs.Prelude.{◌≡◌};
+ghost use Rattle.std.specs.Prelude.{◌≡◌, Some};
+ghost use Rattle.solved_book.specs.Faults.{book_fault_text};
 ghost use Rattle.solved_book.specs.declared.faults.BookFault.TheVariants.{Memory};
 
 use obf_text::LineFault;
 use std::alloc::{AllocError, AllocFailed};
-use thiserror::Error;
+use std::error::Error;
+use std::fmt;
 
 /// Why a text is no book. Lines are numbered from 1, skipped ones counted; the first faulty line
 /// decides.
-#[derive(Clone, Copy, PartialEq, Eq, Debug, Error)]
+#[derive(Clone, Copy, PartialEq, Eq, Debug, Drop)]
 pub enum BookFault {
-    /// The line is no line of OBF text. Want of memory is never told here.
-    #[error("book line {0}: {1}")]
+    /// The line is no line of OBF text. The fault is never `LineFault::Memory`.
     Line(usize, LineFault),
     /// The line lists no move.
-    #[error("book line {0}: no moves")]
     NoMoves(usize),
     /// The position does not stand behind the one before it.
-    #[error("book line {0}: not in order")]
     Unsorted(usize),
     /// White is to move, or the position is not the canonical one of its images.
-    #[error("book line {0}: not canonical")]
     NotCanonical(usize),
-    #[error("out of memory")]
     Memory,
     /// The first line begins as a header and is none that is known.
-    #[error("book line 1: unknown header")]
     Header,
 }
+
+impl fmt::Display for BookFault {
+    ghost output = { λ fault. Some (book_fault_text fault) };
+
+    #[tactic(auto, unfolding(crate::specs::Faults::book_fault_text))]
+    fn fmt<W: fmt::Write>(&self, f: &mut fmt::Formatter<W>) -> fmt::Result {
+        match self {
+            BookFault::Line(number, fault) => write!(f, "book line {number}: {fault}"),
+            BookFault::NoMoves(number) => write!(f, "book line {number}: no moves"),
+            BookFault::Unsorted(number) => write!(f, "book line {number}: not in order"),
+            BookFault::NotCanonical(number) => write!(f, "book line {number}: not canonical"),
+            BookFault::Memory => f.write_str("out of memory"),
+            BookFault::Header => f.write_str("book line 1: unknown header"),
+        }
+    }
+}
+
+impl Error for BookFault {}
 
 impl From<AllocError> for BookFault {
     ghost from_gives = { λ _ fault. fault ≡ Memory };

@@ -1,18 +1,16 @@
 -- What the program prints, and the status it ends with.
 use Rattle.std.specs.Prelude.{◌≡◌, ℕ, ◌+◌, ◌≤◌, List, [], ◌∷◌, ◌++◌, length, codes, min, Option, None, IfSome, take}
-use Rattle.std.specs.Fmt.{decimal}
 use Rattle.std.specs.Io.KnownBytes.{Appends}
 use Rattle.std.specs.List.{concat}
-use Rattle.obf_text.specs.declared.faults.LineFault.{LineFault}
-use Rattle.obf_text.specs.declared.faults.LineFault.TheVariants as line
+use Rattle.solved_book.specs.Faults.{book_fault_text}
 use Rattle.solved_book.specs.declared.faults.BookFault.{BookFault}
 use Rattle.solved_book.specs.declared.faults.BookFault.TheVariants as book
 use Rattle.suite_solver.specs.CommandLine.{Asks, Request}
+use Rattle.suite_solver.specs.Faults.{run_fault_text}
 use Rattle.suite_solver.specs.Settings.{SettingsView}
 use Rattle.suite_solver.specs.Reports.{reports}
 use Rattle.suite_solver.specs.Runs.{first_large}
-use Rattle.suite_solver.specs.declared.faults.RunFault.{RunFault}
-use Rattle.suite_solver.specs.declared.faults.RunFault.TheVariants.{Memory, Mixed, TooManyFiles, FileTooLarge}
+use Rattle.suite_solver.specs.declared.faults.RunFault.TheVariants.{Memory}
 use Rattle.suite_solver.specs.declared.errors.ProgramError.{ProgramError}
 use Rattle.suite_solver.specs.declared.errors.ProgramError.TheVariants.{Run, BadWords, BadBook, CannotRead, NoPlace, CannotWrite}
 
@@ -48,29 +46,6 @@ pub record IsAnswered (words : List (List ℕ)) (given old new : Option (List �
   pub request : Request
   pub asked : Asks words request
   pub printed : Prints request.settings request.files given old new
-
-unfoldable pub run_fault_text : RunFault → List ℕ
-run_fault_text Memory = codes "out of memory"
-run_fault_text Mixed = codes "answers mixed"
-run_fault_text TooManyFiles = codes "more than 64 files"
-run_fault_text (FileTooLarge sender) =
-    codes "file " ++ (decimal (sender + 1) ++ codes " is larger than 1048576 bytes")
-
--- the reason of a line that is no line of OBF text
-unfoldable pub line_fault_text : LineFault → List ℕ
-line_fault_text (line.Short found) = codes "board has " ++ (decimal found ++ codes " of 64 squares")
-line_fault_text (line.BadCell column) = codes "bad square at column " ++ decimal column
-line_fault_text (line.BadSide column) = codes "bad side at column " ++ decimal column
-line_fault_text line.Memory = codes "out of memory"
-
-unfoldable pub book_fault_text : BookFault → List ℕ
-book_fault_text (book.Line n fault) =
-    codes "book line " ++ (decimal n ++ (codes ": " ++ line_fault_text fault))
-book_fault_text (book.NoMoves n) = codes "book line " ++ (decimal n ++ codes ": no moves")
-book_fault_text (book.Unsorted n) = codes "book line " ++ (decimal n ++ codes ": not in order")
-book_fault_text (book.NotCanonical n) = codes "book line " ++ (decimal n ++ codes ": not canonical")
-book_fault_text book.Memory = codes "out of memory"
-book_fault_text book.Header = codes "book line 1: unknown header"
 
 -- what a fault of a book is to the program
 abbrev pub book_error : BookFault → ProgramError

@@ -8,6 +8,8 @@ use Rattle.othello_rules.specs.Answer.{AnswerView}
 use Rattle.obf_text.specs.Written.{score_text}
 use Rattle.othello_rules.specs.declared.answers.Best.{Best}
 use Rattle.othello_rules.specs.declared.answers.Best.TheVariants.{Moves, Pass, Over}
+use Rattle.obf_text.specs.Faults.{line_fault_text}
+use Rattle.obf_text.specs.declared.faults.LineFault.TheVariants as fault
 use Rattle.suite_solver.specs.declared.checks.Check.{Check}
 use Rattle.suite_solver.specs.declared.checks.Check.TheVariants.{Agree, Differ, Unlisted}
 use Rattle.suite_solver.specs.declared.rows.Refusal.{Refusal}
@@ -35,9 +37,9 @@ check_text Differ = codes "differ"
 check_text Unlisted = codes "unlisted"
 
 unfoldable pub refusal_text : Refusal → List ℕ
-refusal_text (Short found) = codes "board has " ++ (decimal found ++ codes " of 64 squares")
-refusal_text (BadCell column) = codes "bad square at column " ++ decimal column
-refusal_text (BadSide column) = codes "bad side at column " ++ decimal column
+refusal_text (Short found) = line_fault_text (fault.Short found)
+refusal_text (BadCell column) = line_fault_text (fault.BadCell column)
+refusal_text (BadSide column) = line_fault_text (fault.BadSide column)
 refusal_text (Empties found limit) = decimal found ++ (codes " empties, limit " ++ decimal limit)
 
 unfoldable pub answer_text : AnswerView → List ℕ

@@ -1,19 +1,17 @@
 //! The errors that end the program early.
 
-ghost use Rattle.std.specs.Prelude.{◌≡◌, ◌⊎◌, ◌++◌, OnOk, codes};
-ghost use Rattle.std.specs.Fmt.{decimal};
+ghost use Rattle.std.specs.Prelude.{◌≡◌, ◌⊎◌, OnOk, Some};
 ghost use Rattle.std.specs.IoError.{error_kind};
 ghost use Rattle.std.specs.Io.KnownBytes.{Appends};
-ghost use Rattle.suite_solver.specs.Programs.{IsSilent, book_fault_text, book_error, line_fault_text, run_fault_text, status_of, error_reason, error_text};
+ghost use Rattle.suite_solver.specs.Programs.{IsSilent, book_error, error_reason, error_text, status_of};
 ghost use Rattle.suite_solver.specs.declared.faults.RunFault.TheVariants.{Memory};
 ghost use Rattle.suite_solver.specs.declared.errors.ProgramError.TheVariants.{CannotRead, NoPlace, Run};
 
 use crate::faults::RunFault;
-use obf_text::LineFault;
 use solved_book::BookFault;
 use std::alloc::{AllocError, AllocFailed};
-use std::io;
 use std::io::{ErrorKind, Write};
+use std::{fmt, io};
 
 /// An error that ends the program early. Names are those of files as the words have them, or of a
 /// standard stream.
@@ -65,71 +63,20 @@ impl<T: Drop> From<AllocFailed<T>> for ProgramError<'_> {
     }
 }
 
-#[tactic(auto, unfolding(crate::specs::Programs::run_fault_text))]
-fn write_run_fault<E: Write>(errors: &mut E, fault: RunFault) -> io::Result<()>
-    ensures { OnOk result
-        (Appends (E.contents errors.old) (E.contents errors.new) (run_fault_text fault)) }
-{
-    match fault {
-        RunFault::Memory => errors.write_all(b"out of memory"),
-        RunFault::Mixed => errors.write_all(b"answers mixed"),
-        RunFault::TooManyFiles => errors.write_all(b"more than 64 files"),
-        RunFault::FileTooLarge(sender) => {
-            let number = u64::from(sender) + 1;
-            write!(errors, "file {number} is larger than 1048576 bytes")
+impl fmt::Display for ProgramError<'_> {
+    ghost output = { λ error. Some (error_reason error) };
+
+    #[tactic(auto, unfolding(crate::specs::Programs::error_reason))]
+    fn fmt<W: fmt::Write>(&self, f: &mut fmt::Formatter<W>) -> fmt::Result {
+        match self {
+            ProgramError::Run(fault) => write!(f, "{fault}"),
+            ProgramError::BadWords => f.write_str("cannot read the command line"),
+            ProgramError::BadBook(fault) => write!(f, "{fault}"),
+            ProgramError::CannotRead(name) => write!(f, "cannot read {name}"),
+            ProgramError::NoPlace(name) | ProgramError::CannotWrite(name) => {
+                write!(f, "cannot write {name}")
+            }
         }
-    }
-}
-
-#[tactic(auto, unfolding(crate::specs::Programs::line_fault_text))]
-fn write_line_fault<E: Write>(errors: &mut E, fault: LineFault) -> io::Result<()>
-    ensures { OnOk result
-        (Appends (E.contents errors.old) (E.contents errors.new) (line_fault_text fault)) }
-{
-    match fault {
-        LineFault::Short(found) => write!(errors, "board has {found} of 64 squares"),
-        LineFault::BadCell(column) => write!(errors, "bad square at column {column}"),
-        LineFault::BadSide(column) => write!(errors, "bad side at column {column}"),
-        LineFault::Memory => errors.write_all(b"out of memory"),
-    }
-}
-
-fn write_line_number<E: Write>(errors: &mut E, number: usize) -> io::Result<()>
-    ensures { OnOk result (Appends (E.contents errors.old) (E.contents errors.new)
-        (codes "book line " ++ (decimal number ++ codes ": "))) }
-{
-    write!(errors, "book line {number}: ")
-}
-
-#[tactic(auto, unfolding(crate::specs::Programs::book_fault_text))]
-fn write_book_fault<E: Write>(errors: &mut E, fault: BookFault) -> io::Result<()>
-    ensures { OnOk result
-        (Appends (E.contents errors.old) (E.contents errors.new) (book_fault_text fault)) }
-{
-    match fault {
-        BookFault::Line(number, fault) => {
-            write_line_number(errors, number)?;
-            write_line_fault(errors, fault)
-        }
-        BookFault::NoMoves(number) => write!(errors, "book line {number}: no moves"),
-        BookFault::Unsorted(number) => write!(errors, "book line {number}: not in order"),
-        BookFault::NotCanonical(number) => write!(errors, "book line {number}: not canonical"),
-        BookFault::Memory => errors.write_all(b"out of memory"),
-        BookFault::Header => errors.write_all(b"book line 1: unknown header"),
-    }
-}
-
-#[tactic(auto, unfolding(crate::specs::Programs::error_reason))]
-fn write_reason<E: Write>(errors: &mut E, error: &ProgramError<'_>) -> io::Result<()>
-    ensures { OnOk result
-        (Appends (E.contents errors.old) (E.contents errors.new) (error_reason error.now)) }
-{
-    match error {
-        ProgramError::Run(fault) => write_run_fault(errors, *fault),
-        ProgramError::BadWords => errors.write_all(b"cannot read the command line"),
-        ProgramError::BadBook(fault) => write_book_fault(errors, *fault),
-        ProgramError::CannotRead(name) => write!(errors, "cannot read {name}"),
-        ProgramError::NoPlace(name) | ProgramError::CannotWrite(name) => write!(errors, "cannot write {name}"),
     }
 }
 
@@ -180,9 +127,8 @@ impl ProgramError<'_> {
         ensures { OnOk result
             (Appends (E.contents errors.old) (E.contents errors.new) (error_text self.now)) }
     {
-        errors.write_all(b"ffosolve: ")?;
-        write_reason(errors, self)?;
-        errors.write_all(b"\n")
+        let error = self;
+        write!(errors, "ffosolve: {error}\n")
     }
 
     // The exit status.

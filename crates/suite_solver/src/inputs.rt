@@ -6,27 +6,22 @@ ghost use Rattle.suite_solver.specs.Programs.{AreFrontsOf, status_of};
 ghost use Rattle.suite_solver.specs.Runs.{texts_of};
 
 use crate::errors::{ProgramError, read_error};
+use crate::limits::{MOST_BYTES, MOST_FILES};
 use std::alloc::Global;
 use std::io::Read;
 use std::rt::Files;
 use std::{fs, io};
 
-/// One byte more than a file may have: by it a file that is too large is known.
-pub(crate) const MOST_READ: usize = 1_048_577;
-
-/// One file more than a run may have: by it too many files are known.
-pub(crate) const MOST_KEPT: usize = 65;
-
-// The first bytes of a reader. They are cut once more, for a reader of which no contract says what
-// bytes it gives.
+// The first bytes of a reader: one more than a file may have, by which a file that is too large is
+// known. They are cut once more, for a reader of which no contract says what bytes it gives.
 fn read_capped<R: Read>(alloc: Global, reader: &mut R) -> io::Result<Vec<u8>>
     ensures most { IfOk result (λ bytes. vec_len bytes ≤ 1048577) }
     ensures front { IfOk result
         (λ bytes. IfSome (R.remaining reader.old) (λ all. bytes.items ≡ take 1048577 all)) }
 {
     let mut bytes = Vec::new(alloc);
-    reader.take(MOST_READ as u64).read_to_end(&mut bytes)?;
-    bytes.truncate(MOST_READ);
+    reader.take(MOST_BYTES as u64 + 1).read_to_end(&mut bytes)?;
+    bytes.truncate(MOST_BYTES + 1);
     Ok(bytes)
 }
 
@@ -71,7 +66,8 @@ fn open_only<'a, T: Files>(rt: &T, name: &'a str) -> Result<(), ProgramError<'a>
     }
 }
 
-// The files of these names, in their order. From the 66th on none is read or kept.
+// The files of these names, in their order: one more than a run may have, by which too many files
+// are known. From the 66th on a file is opened, but not read.
 fn read_named<'a, T: Files>(
     rt: &T,
     alloc: Global,
@@ -82,7 +78,7 @@ fn read_named<'a, T: Files>(
 {
     let mut files = Vec::new(alloc);
     for name in names {
-        if files.len() < MOST_KEPT {
+        if files.len() <= MOST_FILES {
             files.push(read_file(rt, alloc, name.as_str())?)?;
         } else {
             open_only(rt, name.as_str())?;

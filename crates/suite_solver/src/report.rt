@@ -3,13 +3,14 @@
 ghost use Rattle.std.specs.Prelude.{◌≡◌, ◌<◌, ◌≤◌, length, OnOk};
 ghost use Rattle.std.specs.Io.KnownBytes.{Appends};
 ghost use Rattle.othello_rules.specs.Masks.{squares_of};
+ghost use Rattle.obf_text.specs.Faults.{line_fault_text};
 ghost use Rattle.suite_solver.specs.Text.{answer_text, best_text, check_text, comma_name, head_text, last_text};
 ghost use Rattle.suite_solver.specs.Text.{names_text, refusal_text, report_text, result_text};
 ghost use Rattle.suite_solver.specs.Text.{row_text, solved_count};
 
 use crate::checks::Check;
 use crate::rows::{Refusal, ReportRow, RowResult};
-use obf_text::score_bytes;
+use obf_text::{LineFault, score_bytes};
 use othello_rules::{Answer, Best, Square, squares_in};
 use std::io;
 use std::io::Write;
@@ -62,15 +63,22 @@ fn write_check<W: Write>(writer: &mut W, check: Check) -> io::Result<()>
     }
 }
 
+fn write_fault<W: Write>(writer: &mut W, fault: LineFault) -> io::Result<()>
+    ensures { OnOk result
+        (Appends (W.contents writer.old) (W.contents writer.new) (line_fault_text fault)) }
+{
+    write!(writer, "{fault}")
+}
+
 #[tactic(auto, unfolding(crate::specs::Text::refusal_text))]
 fn write_refusal<W: Write>(writer: &mut W, refusal: Refusal) -> io::Result<()>
     ensures { OnOk result
         (Appends (W.contents writer.old) (W.contents writer.new) (refusal_text refusal)) }
 {
     match refusal {
-        Refusal::Short(found) => write!(writer, "board has {found} of 64 squares"),
-        Refusal::BadCell(column) => write!(writer, "bad square at column {column}"),
-        Refusal::BadSide(column) => write!(writer, "bad side at column {column}"),
+        Refusal::Short(found) => write_fault(writer, LineFault::Short(found as usize)),
+        Refusal::BadCell(column) => write_fault(writer, LineFault::BadCell(column as usize)),
+        Refusal::BadSide(column) => write_fault(writer, LineFault::BadSide(column as usize)),
         Refusal::Empties(found, limit) => write!(writer, "{found} empties, limit {limit}"),
     }
 }

@@ -9,7 +9,7 @@ const TEXTS: &[(RunFault, &str)] = &[
     (RunFault::TooManyFiles, "more than 64 files"),
     (
         RunFault::FileTooLarge(1),
-        "the file of sender 1 is larger than 1048576 bytes",
+        "file 2 is larger than 1048576 bytes",
     ),
 ];
 

@@ -1,7 +1,8 @@
 use Rattle.std.proofs.Common.{◌++◌}
 use Rattle.std.specs.Prelude.{codes}
 use Rattle.obf_text.proofs.WriterLemmas.{appends_both}
-use Rattle.score_lists.specs.Lines.{fault_text, quoted_text, refused_text}
+use Rattle.obf_text.specs.Faults.{line_fault_text}
+use Rattle.score_lists.specs.Lines.{quoted_text, refused_text}
 use Rattle.score_lists.proofs.Results.{on_ok}
 use Rattle.score_lists.proofs.lines.write_faulty.Goals as goal
 
@@ -10,7 +11,7 @@ unfolding refused_text
 returns g c =
     on_ok c.write_quoted.result _ _
     (λ ok w. appends_both _ _ _ (codes "% refused: ")
-    ((fault_text c.args.fault) ++ quoted_text c.args.line.now) c.in_ok-write_all.ensures.bytes
-    (appends_both _ _ _ (fault_text c.args.fault) (quoted_text c.args.line.now)
+    ((line_fault_text c.args.fault) ++ quoted_text c.args.line.now) c.in_ok-write_all.ensures.bytes
+    (appends_both _ _ _ (line_fault_text c.args.fault) (quoted_text c.args.line.now)
     c.in_ok-write_fault.ensures w))
     c.write_quoted.ensures

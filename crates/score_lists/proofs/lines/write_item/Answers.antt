@@ -2,7 +2,8 @@ use Rattle.std.proofs.Common.{◌≡◌, subst}
 use Rattle.std.specs.Prelude.{IfOk, OnOk, false}
 use Rattle.std.specs.Io.KnownBytes.{Appends}
 use Rattle.obf_text.specs.Obf.{item_of}
-use Rattle.score_lists.specs.Lines.{fault_text, is_right, out_text, refused_text}
+use Rattle.obf_text.specs.Faults.{line_fault_text}
+use Rattle.score_lists.specs.Lines.{is_right, out_text, refused_text}
 use Rattle.score_lists.proofs.LineSteps.{out_fault, out_skip, right_fault, right_skip, said_fault}
 use Rattle.score_lists.proofs.LineSteps.{said_skip}
 use Rattle.score_lists.proofs.Results.{if_ok, on_ok}
@@ -34,7 +35,7 @@ returns-in-Err-clause-written g c =
     let line = c.args.line.now in
     let old = g.W.Write.contents c.args.writer.now in
     let new = g.W.Write.contents c.write_refused.new.writer in
-    on_ok c.write_refused.result (Appends old new (refused_text (fault_text c.in-Err.fault) line))
+    on_ok c.write_refused.result (Appends old new (refused_text (line_fault_text c.in-Err.fault) line))
     (Appends old new (out_text s c.args.limit line (item_of line)))
     (λ ok. subst (Appends old new)
     (out_fault s c.args.limit line (item_of line) c.in-Err.fault

@@ -1,0 +1,11 @@
+-- What is printed of a line that can't be read.
+use Rattle.std.specs.Prelude.{ℕ, List, ◌++◌, codes}
+use Rattle.std.specs.Fmt.{decimal}
+use Rattle.obf_text.specs.declared.faults.LineFault.{LineFault}
+use Rattle.obf_text.specs.declared.faults.LineFault.TheVariants.{Short, BadCell, BadSide, Memory}
+
+unfoldable pub line_fault_text : LineFault → List ℕ
+line_fault_text (Short found) = codes "board has " ++ (decimal found ++ codes " of 64 squares")
+line_fault_text (BadCell column) = codes "bad square at column " ++ decimal column
+line_fault_text (BadSide column) = codes "bad side at column " ++ decimal column
+line_fault_text Memory = codes "out of memory"
