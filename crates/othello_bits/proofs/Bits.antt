@@ -129,7 +129,7 @@ miss n k l h =
 pub none_from_zero : (m : ℕ) → m ≡ 0 → (q : ℕ) → in_mask m q ≡ false
 none_from_zero m e q = ap (λ x. in_mask x q) e ∙ in_mask-zero q
 
--- a mask that is not 0 in_mask a square
+-- a mask that is not 0 has a square
 pub some_square : (m : ℕ) → m < 2 ^ 64 → (m ≡ 0 → ⊥) → (i : ℕ) × (in_mask m i ≡ true)
 unfolding in_mask
 some_square m h n =

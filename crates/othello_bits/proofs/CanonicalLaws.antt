@@ -18,7 +18,7 @@ use Rattle.othello_bits.proofs.PlayMeaning.{position_of-discs_of}
 use Rattle.othello_bits.proofs.SymmetryKeeps.{renaming, image-image, inverse-inverse}
 use Rattle.othello_bits.proofs.SymmetryPlaces.{place_below, at_place, one_at}
 
--- pairs tell positions of 64 cells apart
+-- equal pairs have equal masks
 pairs_apart : (a b c d : ℕ) → b < 2 ^ 64 → d < 2 ^ 64 → a * 2 ^ 64 + b ≡ c * 2 ^ 64 + d → (a ≡ c) × (b ≡ d)
 pairs_apart a b c d hb hd e = (omega arith, omega arith)
 

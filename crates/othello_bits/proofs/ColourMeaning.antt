@@ -1,4 +1,4 @@
--- The side to move does not matter: with the masks as they are, both sides have the same moves, value and answer.
+-- The side to move does not matter: two masks have equal moves, values and answers with Black and with White to move.
 use Rattle.std.proofs.Common.{◌≡◌, ℕ, Bool, true, false, cond, List, [], ◌∷◌, map, refl, ap, sym, ◌∙◌}
 use Rattle.othello_rules.specs.declared.discs.Side.{Side}
 use Rattle.othello_rules.specs.declared.discs.Side.TheVariants as side

@@ -70,7 +70,7 @@ moves_of_lt : (p : PosView) → moves_of p < 2 ^ 64
 unfolding moves_of rules.moves
 moves_of_lt p = where_lt (rules.is_move (position_of Black p))
 
--- what a mask of turned squares tells of moves
+-- a square is a move exactly where the mask of the turned squares is not 0
 module _ (p : PosView) (q f : ℕ) (fits : f < 2 ^ 64) (turns : (s : Side) (i : ℕ) → in_mask f i ≡ mem i (rules.flips (position_of s p) q)) where
   pub moving : (s : Side) → (f ≡ 0 → ⊥) → rules.is_move (position_of s p) q ≡ true
   moving s n =

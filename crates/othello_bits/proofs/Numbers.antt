@@ -70,7 +70,7 @@ bit_from_test (suc zero) (suc zero) hx hy e = refl
 bit_from_test (suc zero) (suc (suc y)) hx hy e = absurd (omega arith)
 bit_from_test (suc (suc x)) y hx hy e = absurd (omega arith)
 
--- masks with the same squares are equal
+-- masks whose squares agree are equal
 pub same_mask : (a b : ℕ) → a < 2 ^ 64 → b < 2 ^ 64 → ((i : ℕ) → i < 64 → in_mask a i ≡ in_mask b i) → a ≡ b
 unfolding in_mask
 same_mask a b ha hb h = same_from_bits_below 64 a b ha hb (λ i l. bit_from_test _ _ (bit_at-lt a i) (bit_at-lt b i) (h i l))

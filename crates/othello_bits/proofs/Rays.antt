@@ -59,7 +59,7 @@ module _ (can inner : ℕ → Bool) (back : ℕ → ℕ) (next : ℕ → Option 
     (is_within : (i : ℕ) → within i ≡ (opp i && inner i))
     (apart : (i : ℕ) → (own i && opp i) ≡ false)
   where
-    -- what a step tells
+    -- a step from q to p: `can` holds at q, p is `back q` and on the board, and a step from p needs `inner` and `can`
     step : (q p : ℕ) → q < 64 → next q ≡ Some p → (can q ≡ true) × (p ≡ back q) × (p < 64) × (is_some (next p) ≡ (inner p && can p))
     step q p h e =
         let t : fits_to can inner back next q (Some p) ≡ true = ap (fits_to can inner back next q) (sym e) ∙ all_fit q h in

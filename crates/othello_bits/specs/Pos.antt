@@ -52,7 +52,7 @@ discs_of P = record {
   opp = mask_where (rules.has P (rules.opposing P));
 }
 
--- From here on Black is the mover; with White to move all of it is the same.
+-- From here on Black is the mover. With White to move each definition below has equal results.
 -- The masks of the moves and of what a move turns, and the masks after a move and after a pass:
 unfoldable pub moves_of : PosView → ℕ
 moves_of p = mask_of (rules.moves (position_of Black p))
@@ -89,11 +89,12 @@ value_of g p = worth.value g (position_of Black p)
 unfoldable pub answer_of : Scoring → PosView → AnswerView
 answer_of g p = worth.answer g (position_of Black p)
 
--- q is a move that attains the value; and what attains it: all such moves, or a pass, or that the game is over
+-- q is a move that attains the value
 abbrev pub is_best_move : Scoring → PosView → ℕ → Bool
 is_best_move g p q =
     in_mask (moves_of p) q && int_eq (neg_ℤ (value_of g (play_of p q))) (value_of g p)
 
+-- what attains the value: the mask of all best moves, a pass, or the end of the game
 unfoldable pub best_answer : Scoring → PosView → Best
 best_answer g p =
     if nat_eq (moves_of p) 0

@@ -53,7 +53,7 @@ place TurnRight = 5
 place TurnLeft = 6
 place AntiTranspose = 7
 
--- the cell of P on a square stands where the symmetry sends that square; the same side is to move
+-- the cell of P on a square stands where the symmetry sends that square; the side to move stays
 abbrev pub image : Sym → GridView → GridView
 image s P = image_by (target (inverse s)) P
 
@@ -82,7 +82,7 @@ first_symmetry P = best_of (λ s t. nat_lt (image_pair P s) (image_pair P t)) Id
 abbrev pub canonical : GridView → GridView
 canonical P = image (first_symmetry P) P
 
--- the same of two masks
+-- the image and the canonical position of two masks
 unfoldable pub image_of : Sym → PosView → PosView
 image_of s p = discs_of (image s (position_of Black p))
 

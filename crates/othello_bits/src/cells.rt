@@ -6,14 +6,14 @@ ghost use Rattle.othello_bits.specs.Pos.{discs, cell_at, cells_of, mask_where};
 
 use othello_rules::{Cell, Grid, Side, Square};
 
-// Whether a square has this in its cell.
+// Whether `cell` is the cell of a square.
 fn holds(grid: &Grid, cell: Cell, square: Square) -> bool
     ensures { result ≡ rules.has grid.now cell square }
 {
     cell == grid.cell(square)
 }
 
-// The squares that have this in their cell.
+// The mask of the squares whose cell is `cell`.
 pub fn mask_of_cell(grid: &Grid, cell: Cell) -> u64
     ensures { result ≡ mask_where (rules.has grid.now cell) }
 {
@@ -26,7 +26,7 @@ pub fn mask_of_cell(grid: &Grid, cell: Cell) -> u64
     mask
 }
 
-// What stands on a square.
+// The cell of a square, where `side` is the mover.
 fn cell_on(own: u64, opp: u64, number: u8, side: Side) -> Cell
     requires { number < 64 }
     ensures { result ≡ cell_at side (discs own opp) number }
@@ -40,7 +40,7 @@ fn cell_on(own: u64, opp: u64, number: u8, side: Side) -> Cell
     }
 }
 
-// The cells where the side is the mover.
+// The 64 cells of two masks, where `side` is the mover.
 pub fn cells_of_masks(own: u64, opp: u64, side: Side) -> [Cell; 64]
     ensures { result ≡ cells_of side (discs own opp) }
 {

@@ -5,7 +5,7 @@ ghost use Rattle.othello_rules.specs.Rules.{turned_on, is_nonempty};
 ghost use Rattle.othello_rules.specs.Masks.{in_mask};
 ghost use Rattle.othello_bits.specs.Shifts.{back, can, chain, inside, line, opposite};
 
-/// One of the eight directions.
+/// One of the eight directions. North leads to row 1, and west to column A.
 #[derive(Clone, Copy, PartialEq, Eq)]
 pub enum Heading {
     North,
@@ -19,7 +19,8 @@ pub enum Heading {
 }
 
 impl Heading {
-    // The mask moved by one step; what goes over the edge of a row comes out in the row beside it.
+    // The mask moved by one step. A square that leaves its row at the edge comes out in the row
+    // beside it.
     #[inline(always)]
     fn shifted(self, mask: u64) -> u64
         ensures { (i : ℕ) → in_mask result i ≡ (can self i && in_mask mask (back self i)) }
@@ -36,7 +37,8 @@ impl Heading {
         }
     }
 
-    // Without the discs in columns A and H, from which no run goes on over the edge.
+    // The discs at which a run in this direction can go on. Those in columns A and H are left out,
+    // unless the direction is north or south.
     #[inline(always)]
     fn inner(self, discs: u64) -> u64
         ensures { (i : ℕ) → in_mask result i ≡ (in_mask discs i && inside self i) }
@@ -77,8 +79,8 @@ impl Heading {
         }
     }
 
-    // The squares from which a disc would turn others in this direction, occupied squares not left
-    // out.
+    // The mask of the squares from which a disc of the mover would turn others in this direction.
+    // Occupied squares are not left out.
     #[inline(always)]
     pub fn reached(self, own: u64, opp: u64) -> u64
         requires { bit_and own opp ≡ 0 }

@@ -27,7 +27,7 @@ impl Image {
         }
     }
 
-    // The other image where it is less as a pair (own, opp), else this one.
+    // The other image where its pair (own, opp) is less, own compared first; else this image.
     #[inline(always)]
     fn least(self, other: Image) -> Image
         ensures { result ≡ (if is_less other self then other else self) }
@@ -39,7 +39,7 @@ impl Image {
         }
     }
 
-    // The lesser of two images, the first where they are equal.
+    // The lesser of the images under two symmetries. Where they are equal, the symmetry is `first`.
     #[inline(always)]
     fn lesser(own: u64, opp: u64, first: Sym, second: Sym) -> Image
         ensures { let one = image_with own opp first in let other = image_with own opp second in
@@ -48,8 +48,8 @@ impl Image {
         Image::new(own, opp, first).least(Image::new(own, opp, second))
     }
 
-    // The least image, by the first symmetry that gives it: the lesser of two pairs at a time, in
-    // the order of the symmetries.
+    // The least image, with the first symmetry that leads to it. Two images at a time are compared,
+    // in the order of the symmetries.
     #[inline(always)]
     pub(crate) fn canonical(own: u64, opp: u64) -> Image
         ensures leads { result ≡ image_with own opp result.sym }

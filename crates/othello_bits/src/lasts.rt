@@ -1,5 +1,6 @@
-//! How many discs a move on the last empty square turns, line by line: by the mover's discs on a
-//! line as a byte, since all others there are the opponent's. No mask of turned discs is made.
+//! The number of discs that a move on the last empty square turns, line by line. The mover's discs
+//! on a line are gathered in a byte. All other discs on the line are the opponent's. No mask of
+//! turned discs is made.
 
 ghost use Rattle.std.specs.Prelude.{◌≡◌, ◌≢◌, ◌<◌, ◌||◌, ℕ, true, false, bit_and};
 ghost use Rattle.std.specs.List.{count_by};
@@ -10,8 +11,9 @@ ghost use Rattle.othello_bits.specs.Lasts.{turned_by};
 
 use crate::headings::Heading;
 
-// By a place in a line of eight and the mover's discs on the line, how many discs a move on that
-// place turns where all other places are the opponent's.
+// The number of discs that a move turns in a line of eight squares. The first index is the place of
+// the move, from 0 to 7. The second is the byte of the mover's discs on the line. All other squares
+// of the line hold discs of the opponent.
 static TURNED_IN_LINE: [[u8; 256]; 8] = [
     [
         0, 0, 0, 0, 1, 1, 0, 0, 2, 2, 0, 0, 1, 1, 0, 0, 3, 3, 0, 0, 1, 1, 0, 0, 2, 2, 0, 0, 1, 1,
@@ -103,8 +105,8 @@ static TURNED_IN_LINE: [[u8; 256]; 8] = [
     ],
 ];
 
-// The diagonals through each square: from the north-west to the south-east, and from the south-west
-// to the north-east.
+// The masks of the two diagonals through each square: first the one from the north-west to the
+// south-east, then the one from the south-west to the north-east.
 static DIAGONALS: [[u64; 2]; 64] = [
     [0x8040201008040201, 0x1],
     [0x80402010080402, 0x102],
@@ -172,7 +174,7 @@ static DIAGONALS: [[u64; 2]; 64] = [
     [0x8040201008040201, 0x8000000000000000],
 ];
 
-// What a move on the square turns in its row.
+// The number of discs that a move on the square turns in its row.
 #[inline(always)]
 fn in_row(own: u64, square: u8) -> u8
     requires on_board { square < 64 }
@@ -184,7 +186,8 @@ fn in_row(own: u64, square: u8) -> u8
     TURNED_IN_LINE[(square % 8) as usize][((discs >> start) % 256) as usize]
 }
 
-// What it turns in its column, the discs of which a product gathers in its highest byte.
+// The number of discs that a move on the square turns in its column. A product gathers the mover's
+// discs of the column in its highest byte.
 #[inline(always)]
 fn in_column(own: u64, square: u8) -> u8
     requires on_board { square < 64 }
@@ -196,7 +199,8 @@ fn in_column(own: u64, square: u8) -> u8
     TURNED_IN_LINE[(square / 8) as usize][gathered as usize]
 }
 
-// What it turns in its diagonals, each gathered like a column.
+// The number of discs that a move on the square turns in its diagonal from the north-west to the
+// south-east. A product gathers the mover's discs of the diagonal in its highest byte.
 #[inline(always)]
 fn in_falling(own: u64, square: u8) -> u8
     requires on_board { square < 64 }
@@ -208,6 +212,8 @@ fn in_falling(own: u64, square: u8) -> u8
     TURNED_IN_LINE[(square % 8) as usize][gathered as usize]
 }
 
+// The number of discs that a move on the square turns in its diagonal from the south-west to the
+// north-east. A product gathers the mover's discs of the diagonal in its highest byte.
 #[inline(always)]
 fn in_rising(own: u64, square: u8) -> u8
     requires on_board { square < 64 }
@@ -219,7 +225,8 @@ fn in_rising(own: u64, square: u8) -> u8
     TURNED_IN_LINE[(square % 8) as usize][gathered as usize]
 }
 
-// How many discs a disc on the square turns where no other square is empty: none if it is occupied.
+// The number of discs that the mover turns by a disc on the square, where no other square is empty:
+// 0 if the square is occupied.
 #[inline(always)]
 pub fn count_flips(own: u64, opp: u64, square: u8) -> u32
     requires apart { bit_and own opp ≡ 0 }

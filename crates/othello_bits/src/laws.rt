@@ -1,5 +1,4 @@
-//! What the definitions promise above their own text. Each function's body is empty: its contract
-//! is the law.
+//! Laws that follow from the definitions. Each function's body is empty: its contract is the law.
 
 ghost use Rattle.std.specs.Prelude.{◌≡◌, ◌≢◌, ◌≤ℤ◌, ◌≤◌, ◌<◌, ◌-◌, ◌^◌, ◌↔◌, ◌⊎◌, ℕ, [], ◌∷◌};
 ghost use Rattle.std.specs.Prelude.{neg_ℤ, length, slice_index_or};
@@ -23,7 +22,8 @@ ghost use Rattle.othello_bits.specs.Symmetries.{canonical, canonical_of};
 ghost use Rattle.othello_bits.specs.declared.symmetries.Sym.{Sym};
 ghost use Rattle.othello_bits.specs.declared.symmetries.Sym.TheVariants as sym;
 
-/// The value over two masks is the one of textbook minimax, and a move fills one square.
+/// The value of a position of two masks is the one of textbook minimax, from -64 to 64. A move
+/// fills one empty square, and a pass fills none.
 pub fn value_is_minimax()
     ensures over { (g : Scoring) (p : PosView) → IsOver p → value_of g p ≡ final_of g p }
     ensures passed { (g : Scoring) (p : PosView) → HasNoMove p → moves_of (pass_of p) ≢ 0
@@ -40,7 +40,7 @@ pub fn value_is_minimax()
     ensures kept { (p : PosView) → empties_of (pass_of p) ≡ empties_of p }
 {}
 
-/// The same masks have the same value and the same answer, whichever side is to move.
+/// The value and the answer of two masks are equal with Black to move and with White to move.
 pub fn colours_are_alike()
     ensures value { (g : Scoring) (s : Side) (p : PosView)
         → value g (position_of s p) ≡ value_of g p }
@@ -48,15 +48,16 @@ pub fn colours_are_alike()
         → answer g (position_of s p) ≡ answer_of g p }
 {}
 
-/// The answer is the value with the mask of the moves that attain it, or a pass, or that the game
-/// is over.
+/// The answer is the value and what attains it: the mask of all best moves, a pass, or the end of
+/// the game.
 pub fn answer_is_gathered()
     ensures { (g : Scoring) (p : PosView)
         → answer_of g p ≡ record { score = value_of g p; best = best_answer g p } }
 {}
 
-/// The symmetries stand in the order of their places. Three of them turn the columns round, turn
-/// the rows round, and exchange columns with rows; the others are made of these.
+/// The symmetries stand in the order of their places. Identity keeps each square. FlipColumns
+/// reverses the columns, FlipRows reverses the rows, and Transpose exchanges columns with rows. The
+/// others are made of these.
 pub fn symmetries_are_in_order()
     ensures order { symmetries ≡ sym.Identity ∷ sym.FlipColumns ∷ sym.FlipRows ∷ sym.HalfTurn
         ∷ sym.Transpose ∷ sym.TurnRight ∷ sym.TurnLeft ∷ sym.AntiTranspose ∷ [] }
@@ -78,8 +79,8 @@ pub fn symmetries_are_in_order()
         → target sym.AntiTranspose q ≡ target sym.HalfTurn (target sym.Transpose q) }
 {}
 
-/// The image of a position of 64 cells has the cell of each square where the symmetry sends that
-/// square; the inverse leads back, and one symmetry after another is one of the eight.
+/// In the image of a position of 64 cells, the cell of a square stands where the symmetry sends
+/// that square. The inverse leads back. One symmetry after another is one of the eight.
 pub fn images_are_placed()
     ensures on_board { (s : Sym) (q : ℕ) → q < 64 → target s q < 64 }
     ensures back { (s : Sym) (q : ℕ) → q < 64 → target (inverse s) (target s q) ≡ q }
@@ -116,8 +117,9 @@ pub fn images_are_alike()
         ≡ record { score = value_of g p; best = best_image s (answer_of g p).best } }
 {}
 
-/// All images of a position of 64 cells have one canonical position: of the eight images the one
-/// with the least pair of masks, own first, to which the first symmetry leads and none before it.
+/// All images of a position of 64 cells have one canonical position: the image with the least pair
+/// of masks, own compared first. `first_symmetry` leads to it, and no earlier symmetry does. It has
+/// the value of the position, and its best moves are the images of the best moves.
 pub fn canonical_is_one()
     ensures pairs { (p q : PosView) → p.opp < 2 ^ 64 → q.opp < 2 ^ 64
         → (pair_of p < pair_of q)

@@ -5,7 +5,7 @@ ghost use Rattle.othello_rules.specs.Masks.{in_mask};
 
 use othello_rules::Square;
 
-/// The lowest square of a mask that has one.
+/// The lowest square of a mask that is not 0. Bit n is square n: A1 is bit 0.
 #[inline(always)]
 pub fn lowest(mask: u64) -> Square
     requires { 0 < mask }
@@ -15,7 +15,7 @@ pub fn lowest(mask: u64) -> Square
     Square::at(mask.trailing_zeros() as u8)
 }
 
-/// The mask without a square.
+/// The mask with the bit of a square cleared. Bit n is square n: A1 is bit 0.
 #[inline(always)]
 pub fn without(mask: u64, square: Square) -> u64
     ensures { (i : ℕ) → in_mask result i ≡ (in_mask mask i && not (square == i)) }
@@ -23,7 +23,7 @@ pub fn without(mask: u64, square: Square) -> u64
     mask & !(1u64 << square.number())
 }
 
-/// The mask with a square.
+/// The mask with the bit of a square set. Bit n is square n: A1 is bit 0.
 #[inline(always)]
 pub fn including(mask: u64, square: Square) -> u64
     ensures { (i : ℕ) → in_mask result i ≡ (in_mask mask i || square == i) }

@@ -22,9 +22,9 @@ use crate::{lasts, lines};
 use othello_rules::{Grid, Scoring, Side, Square};
 use std::marker::Model;
 
-/// The discs of the side to move and those of the other side: bit n of a mask is square n, A1 is
-/// bit 0. The colours are not kept: the same masks are one position with Black to move and one with
-/// White.
+/// A position as two masks: the discs of the side to move, the mover, and those of the opponent.
+/// Bit n of a mask is square n: A1 is bit 0, H8 is bit 63. The masks share no bit. The colours are
+/// not kept: two masks are one position with Black to move and one with White to move.
 #[derive(Clone, Copy, PartialEq, Eq, Debug)]
 pub struct Pos {
     own: u64,
@@ -45,8 +45,8 @@ impl Model for Pos {
 }
 
 impl Pos {
-    /// The position of these masks of the mover's and the opponent's discs; None where they share a
-    /// bit.
+    /// The position with the mover's discs `own` and the opponent's discs `opp`: A1 is bit 0. None
+    /// where the masks share a bit.
     pub fn new(own: u64, opp: u64) -> Option<Pos>
         ensures apart { IsSome result ↔ (bit_and own opp ≡ 0) }
         ensures value { IfSome result (λ p. p ≡ discs own opp) }
@@ -58,7 +58,7 @@ impl Pos {
         }
     }
 
-    /// The masks of a grid's side to move and of the other side.
+    /// The position of a grid. The side to move is the mover.
     pub fn of_grid(grid: &Grid) -> Pos
         ensures meaning { position_of grid.now.mover result ≡ grid.now }
         ensures value { result ≡ discs_of grid.now }
@@ -70,14 +70,14 @@ impl Pos {
         }
     }
 
-    /// The grid on which the given side is the mover.
+    /// The grid of the position, where `side` is the mover.
     pub fn to_grid(self, side: Side) -> Grid
         ensures { result ≡ position_of side self }
     {
         Grid::new(cells_of_masks(self.own, self.opp, side), side)
     }
 
-    /// The mover's discs.
+    /// The mask of the mover's discs: A1 is bit 0.
     #[inline(always)]
     pub fn own(self) -> u64
         ensures { result ≡ self.own }
@@ -85,7 +85,7 @@ impl Pos {
         self.own
     }
 
-    /// The opponent's discs.
+    /// The mask of the opponent's discs: A1 is bit 0.
     #[inline(always)]
     pub fn opp(self) -> u64
         ensures { result ≡ self.opp }
@@ -93,7 +93,7 @@ impl Pos {
         self.opp
     }
 
-    /// The squares on which the mover may move.
+    /// The mask of the squares on which the mover may move: A1 is bit 0.
     #[inline(always)]
     pub fn moves(self) -> u64
         ensures squares { (s : Side) → (q : ℕ) → q < 64
@@ -103,7 +103,8 @@ impl Pos {
         lines::moves(self.own, self.opp)
     }
 
-    /// The discs that a move on the square turns: none if it is occupied.
+    /// The mask of the discs that a move on the square turns: A1 is bit 0. The mask is 0 where the
+    /// square is occupied or no disc is turned.
     #[inline(always)]
     pub fn flips(self, square: Square) -> u64
         ensures squares { (s : Side) → (i : ℕ)
@@ -115,8 +116,8 @@ impl Pos {
         lines::flips(self.own, self.opp, square.number())
     }
 
-    /// How many discs a move on the square turns, where no other square is empty: none if it is
-    /// occupied.
+    /// The number of discs that a move on the square turns, where no other square is empty. It is 0
+    /// where the square is occupied or no disc is turned.
     #[inline(always)]
     pub fn count_last_flips(self, square: Square) -> u32
         requires last { (q : ℕ) → rules.has (position_of Black self) cell.Empty q ≡ true
@@ -127,7 +128,8 @@ impl Pos {
         lasts::count_flips(self.own, self.opp, square.number())
     }
 
-    /// The position after a move; None where the square is occupied or nothing is turned.
+    /// The position after a move on the square, with the opponent to move. None where the square is
+    /// occupied or no disc is turned.
     #[inline]
     pub fn play(self, square: Square) -> Option<Pos>
         ensures legal { (s : Side)
@@ -144,7 +146,8 @@ impl Pos {
         Some(self.after(square, flips))
     }
 
-    /// The position after a move that is known to be one, from the discs that it turns.
+    /// The position after an allowed move on the square, with the opponent to move. `flips` is the
+    /// mask of the discs that the move turns.
     #[inline(always)]
     pub fn after(self, square: Square, flips: u64) -> Pos
         requires legal { IsMove self square }
@@ -159,7 +162,8 @@ impl Pos {
         }
     }
 
-    /// The same discs with the other side to move; no test is made.
+    /// The position with the opponent to move and all discs as they are. Whether the rules allow
+    /// the pass is not tested.
     #[inline(always)]
     pub fn pass(self) -> Pos
         ensures discs { result ≡ discs self.opp self.own }
@@ -173,7 +177,7 @@ impl Pos {
         }
     }
 
-    /// The position under a symmetry of the board.
+    /// The image of the position under a symmetry of the board. The side to move stays.
     pub fn image(self, sym: Sym) -> Pos
         ensures meaning { (s : Side) → position_of s result ≡ image sym (position_of s self) }
         ensures value { result ≡ image_of sym self }
@@ -184,8 +188,9 @@ impl Pos {
         }
     }
 
-    /// The image with the least pair (own, opp), compared as numbers, own first; and of the
-    /// symmetries that lead to it the first in the order of `Sym::all`.
+    /// The canonical position, and the first symmetry in the order of `Sym::all` that leads to it.
+    /// The canonical position is the image with the least pair (own, opp), compared as numbers, own
+    /// first.
     pub fn canonical(self) -> (Pos, Sym)
         ensures meaning { (s : Side) → position_of s result.0 ≡ canonical (position_of s self) }
         ensures symmetry { (s : Side) → result.1 ≡ first_symmetry (position_of s self) }
@@ -199,7 +204,8 @@ impl Pos {
         (pos, least.sym)
     }
 
-    /// The position of `canonical` alone.
+    /// The canonical position: the image with the least pair (own, opp), compared as numbers, own
+    /// first.
     #[inline]
     pub fn least_image(self) -> Pos
         ensures meaning { (s : Side) → position_of s result ≡ canonical (position_of s self) }
@@ -208,7 +214,7 @@ impl Pos {
         self.canonical().0
     }
 
-    /// How many squares are empty.
+    /// The number of empty squares, from 0 to 64.
     #[inline(always)]
     pub fn empties(self) -> u8
         ensures squares { (s : Side) → result ≡ rules.count_of (position_of s self) cell.Empty }
@@ -218,7 +224,7 @@ impl Pos {
         (!(self.own | self.opp)).count_ones() as u8
     }
 
-    /// Whether neither side has an allowed move.
+    /// Whether the game is over: neither side has a move.
     #[inline]
     pub fn is_over(self) -> bool
         ensures meaning { (s : Side) → IsTrue result ↔ rules.IsOver (position_of s self) }
@@ -227,7 +233,8 @@ impl Pos {
         self.moves() == 0 && self.pass().moves() == 0
     }
 
-    /// The score as the mover sees it, by discs and empty squares as they stand, over or not.
+    /// The score of the discs and empty squares as they stand, as the mover sees it: in discs from
+    /// -64 to 64, or 1, 0 or -1 under `Sign`. Whether the game is over is not tested.
     pub fn final_score(self, scoring: Scoring) -> i8
         ensures meaning { (s : Side) → result ≡ final scoring (position_of s self) }
         ensures value { result ≡ final_of scoring self }

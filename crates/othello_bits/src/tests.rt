@@ -8,8 +8,8 @@ use crate::Pos;
 use othello_rules::Side;
 use std::process::Abort;
 
-// The masks of Black's discs and of White's. Rows are told from row 1, X for Black, O for White, -
-// for an empty square.
+// The masks of Black's discs and of White's: A1 is bit 0. The comments show the rows, row 1 first:
+// X is a black disc, O a white disc, - an empty square.
 type Discs = (u64, u64);
 
 // four rows XXXXXXXX, two empty rows, two rows OOOOOOOO

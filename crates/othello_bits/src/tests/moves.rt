@@ -1,4 +1,4 @@
-//! Moves, the discs that they turn, and what stands after them.
+//! Moves, the discs that they turn, and the positions after them.
 
 use crate::tests::{Discs, LAST_CORNER, UNEQUAL_CORNERS, pos_of};
 use crate::{Pos, including, lowest, without};
@@ -10,7 +10,7 @@ const G1: u8 = 6;
 
 const H1: u8 = 7;
 
-// The position, its mover, the moves, and what A1 and H1 turn.
+// The position, its mover, the mask of its moves, and the masks of the discs that A1 and H1 turn.
 const ROWS: &[(Discs, Side, u64, u64, u64)] = &[
     (UNEQUAL_CORNERS, Side::Black, 0x81, 0x2, 0x8000),
     (UNEQUAL_CORNERS, Side::White, 0x80, 0, 0x1020_407c),

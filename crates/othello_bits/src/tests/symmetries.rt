@@ -24,7 +24,8 @@ const ROWS: &[(u8, Sym)] = &[
     (H1, Sym::AntiTranspose),
 ];
 
-// Whether H1 goes there and back; A1 and H1 are the position's moves.
+// Whether H1 goes to the square `to` and this symmetry is the inverse. The squares A1 and H1 are
+// those of the position's moves.
 fn sends(pos: Pos, sym: Sym, to: u8, inverse: Sym) -> bool {
     sym.square(Square::at(H1)).number() == to
         && sym.mask(1 << H1) == 1 << to
@@ -48,7 +49,7 @@ const CANONICAL: &[(Discs, Side, Sym, Discs)] = &[
         Sym::HalfTurn,
         (0x01ff_ffff_ffff_ffff, 0x7e00_0000_0000_0000),
     ),
-    // Two images have the mover on the same squares.
+    // Two images have equal masks of the mover's discs.
     (LAST_CORNER, Side::White, Sym::FlipColumns, (0x7e, !0xfe)),
     (
         CORNER_LEFT_OVER,
