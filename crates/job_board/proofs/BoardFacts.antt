@@ -1,4 +1,4 @@
--- What the steps do to a board's facts.
+-- Each step keeps the facts of a board.
 use Rattle.std.proofs.Common.{◌≡◌, ◌≢◌, ℕ, suc, zero, ◌+◌, ◌*◌, ◌-◌, ◌<◌, ◌≤◌, ◌==◌, ◌&&◌, Bool, true, false, List, [], ◌∷◌, ◌++◌, length, set, get_or, Option, Some, None, Result, Ok, Err, slice_get, count_by, cond, ltb, refl, sym, ap, ◌∙◌, subst, arith, inl, inr, ◌⊎◌, length-append, length-set, All, replicate}
 use Rattle.std.specs.List.Sorted.{IsPermutation}
 use Rattle.std.proofs.lemmas.List.Sorted.{sum_by_pushed, sum_by_popped, length_permutation, IsPermutation-refl}
@@ -57,7 +57,7 @@ id_count-pushed s k id ids ids' h = sum_by_pushed (λ x. cond (is_id_of s k x) 1
 pub id_count-popped : (s k : ℕ) (id : JobId) (ids ids' : List JobId) → IsPermutation ids (id ∷ ids') → id_count s k ids' + bit (is_id_of s k id) ≡ id_count s k ids
 id_count-popped s k id ids ids' h = sum_by_popped (λ x. cond (is_id_of s k x) 1 0) id ids ids' h
 
--- the states of the others stay, and this state keeps its facts
+-- a board keeps its facts where one sender's view is replaced by a view that has them
 pub content_set : (c : BoardView) (s : ℕ) (state : SenderView) → s < length c → IsBoardView c → IsSender state → IsBoardView (set c s state)
 content_set c s state h kept new s' state' at =
     elim (cases_eq s' s) [
@@ -65,7 +65,7 @@ content_set c s state h kept new s' state' at =
       | inr ne ↦ kept s' state' (sym (slice_get-set_other c s s' state ne) ∙ at)
     ]
 
--- the list of waiting jobs and one state change together
+-- the list of waiting jobs and the view of one sender change together
 pub lists_set : (c : BoardView) (s : ℕ) (state new : SenderView) (ids ids' : List JobId) → slice_get c s ≡ Some state
     → ListsWaiting ids c
     → ((k : ℕ) → id_count s k ids' + bit (is_waiting (slice_get state.stages k)) ≡ id_count s k ids + bit (is_waiting (slice_get new.stages k)))
@@ -85,7 +85,7 @@ lists_set c s state new ids ids' at kept here there s' k =
           there s' k ne ∙ (kept s' k ∙ ap (λ o. bit (is_waiting o)) (sym now))
     ]
 
--- how the count of taken jobs changes with one state
+-- how the number of taken jobs changes with the view of one sender
 pub taken-set : (c : BoardView) (s : ℕ) (state new : SenderView) → slice_get c s ≡ Some state → taken_count (set c s new) + taken_in state ≡ taken_count c + taken_in new
 taken-set c s state new at =
     let e = sum_by-set taken_in c s new state (slice_get_within c s state at) in
@@ -107,7 +107,7 @@ pub bit_other : (id : JobId) (s k : ℕ) → (s ≢ id.sender) ⊎ (k ≢ id.num
 bit_other id s k (inl ne) = grind (arith, nat_tests)
 bit_other id s k (inr ne) = grind (arith, nat_tests)
 
--- one state changes, and none of its stages
+-- the view of one sender changes, and none of its stages
 pub keeps : (c : BoardView) (ids : List JobId) (taken room s : ℕ) (state new : SenderView) → IsBoard c ids taken room → slice_get c s ≡ Some state
     → new.stages ≡ state.stages → IsSender new → IsBoard (set c s new) ids taken room
 keeps c ids taken room s state new b at same is_state = record {
@@ -154,7 +154,7 @@ state_restaged state k old new h was undone fits = record {
   ];
 }
 
--- what one changed stage does to the count of taken jobs
+-- how the number of taken jobs changes with one stage
 pub taken_restaged : (c : BoardView) (s k : ℕ) (state : SenderView) (old new : Stage) → slice_get c s ≡ Some state → slice_get state.stages k ≡ Some old
     → taken_count (set c s (with_stage k new state)) + bit (is_taken old) ≡ taken_count c + bit (is_taken new)
 taken_restaged c s k state old new at was =
@@ -207,7 +207,7 @@ not_next : (state : SenderView) (b : Bool) → state_after_handed state (cond b 
 not_next state true = refl
 not_next state false = refl
 
--- a state after a deliver
+-- a sender keeps its facts in a deliver
 pub handed_is_state : (state : SenderView) (o : Option Stage) → slice_get state.stages state.handed ≡ o → IsSender state → IsSender (state_after_handed state (deliver_reply_at state o))
 handed_is_state state None at h = let P : SenderView → Type 0 = IsSender in subst P (sym (not_next state (state.closed && (state.handed == length state.tasks)))) h
 handed_is_state state (Some Waiting) at h = let P : SenderView → Type 0 = IsSender in subst P (sym (not_next state (state.closed && (state.handed == length state.tasks)))) h
@@ -237,24 +237,24 @@ delivered c s state handed.Waiting at = set_same c s state at
 delivered c s state handed.Drained at = set_same c s state at
 delivered c s state handed.NoSender at = set_same c s state at
 
--- what an accepted finish shows
+-- where a finish is accepted, the job was taken and the answer is that of its task
 pub finish_ok : (o : Option Stage) (task : Option TaskView) (a : TaskView) (u : Unit {0}) → FinishAs o task a (Ok u) → (o ≡ Some Taken) × (task ≡ Some a)
 finish_ok None task a u h = cc
 finish_ok (Some Waiting) task a u h = cc
 finish_ok (Some Taken) task a u h = (refl, h)
 finish_ok (Some (Finished b)) task a u h = cc
 
--- the reply of the state of s is that of the board
+-- a reply to a finish that is lawful of the view of the job's sender is lawful of the board
 pub finish_at : (c : BoardView) (id : JobId) (a : TaskView) (r : Result (Unit {0}) JobFault) (state : SenderView) → slice_get c id.sender ≡ Some state
     → FinishAs (slice_get state.stages id.number) (slice_get state.tasks id.number) a r → Finishes c id a r
 finish_at c id a r state at h = let P : Option SenderView → Type 0 = λ o. FinishAs (stage_in id.number o) (task_in id.number o) a r in subst P (sym at) h
 
--- the same, from the board to the state
+-- a reply to a finish that is lawful of the board is lawful of the view of the job's sender
 pub finish_from : (c : BoardView) (id : JobId) (a : TaskView) (r : Result (Unit {0}) JobFault) (state : SenderView) → slice_get c id.sender ≡ Some state
     → Finishes c id a r → FinishAs (slice_get state.stages id.number) (slice_get state.tasks id.number) a r
 finish_from c id a r state at h = let P : Option SenderView → Type 0 = λ o. FinishAs (stage_in id.number o) (task_in id.number o) a r in subst P at h
 
--- what an accepted give back shows
+-- where a give back is accepted, the job was taken
 pub give_back_ok : (o : Option Stage) (u : Unit {0}) → Ok u ≡ give_back_reply_at o → o ≡ Some Taken
 give_back_ok None u e = cc
 give_back_ok (Some Waiting) u e = cc
@@ -271,14 +271,14 @@ state_from : (k : ℕ) (o : Option SenderView) → stage_in k o ≡ Some Waiting
 state_from k None e = cc
 state_from k (Some state) e = (state, refl, e)
 
--- a job that the queue gave waits
+-- a job that the queue returned waits
 pub first_waits : (c : BoardView) (id : JobId) (ids ids' : List JobId) (taken room : ℕ) → IsBoard c ids taken room → IsPermutation ids (id ∷ ids') → stage_at c id.sender id.number ≡ Some Waiting
 first_waits c id ids ids' taken room b moved = waiting_from (stage_at c id.sender id.number) (omega (arith, b.lists id.sender id.number, bit_same id, id_count-popped id.sender id.number id ids ids' moved))
 
 pub first_state : (c : BoardView) (id : JobId) (ids ids' : List JobId) (taken room : ℕ) → IsBoard c ids taken room → IsPermutation ids (id ∷ ids') → (state : SenderView) × (slice_get c id.sender ≡ Some state) × (slice_get state.stages id.number ≡ Some Waiting)
 first_state c id ids ids' taken room b moved = state_from id.number (slice_get c id.sender) (first_waits c id ids ids' taken room b moved)
 
--- the same of a state that was found there
+-- a job that the queue returned waits in the view of its sender
 pub first_stage : (c : BoardView) (id : JobId) (ids ids' : List JobId) (taken room : ℕ) (state : SenderView) → IsBoard c ids taken room → IsPermutation ids (id ∷ ids') → slice_get c id.sender ≡ Some state → slice_get state.stages id.number ≡ Some Waiting
 first_stage c id ids ids' taken room state b moved at = sym (ap (stage_in id.number) at) ∙ first_waits c id ids ids' taken room b moved
 
@@ -311,7 +311,7 @@ state_with_task state t h few = record {
   ];
 }
 
--- a state whose answer was delivered
+-- a sender keeps its facts where its next answer is delivered
 pub state_handed : (state : SenderView) (d : Delivery) → IsSender state → handed.Next d ≡ deliver_reply_of state → IsSender (with_one_handed state)
 state_handed state d h e = let P : Handed → Type 0 = λ r. IsSender (state_after_handed state r) in subst P (sym e) (handed_is_state state (slice_get state.stages state.handed) refl h)
 
@@ -343,7 +343,7 @@ submits c s t ids ids' taken room room' state b at few moved enough =
 pub with_ids : (c : BoardView) (ids ids' : List JobId) (taken room : ℕ) → IsBoard c ids taken room → ids ≡ ids' → IsBoard c ids' taken room
 with_ids c ids ids' taken room b e = let P : List JobId → Type 0 = λ l. IsBoard c l taken room in subst P e b
 
--- the same with more room
+-- a board keeps its facts where there is more room
 pub with_room : (c : BoardView) (ids : List JobId) (taken room room' : ℕ) → IsBoard c ids taken room → room ≤ room' → IsBoard c ids taken room'
 with_room c ids taken room room' b more = record { few = b.few; content = b.content; lists = b.lists; counts = b.counts; has_room = omega (arith, b.has_room) }
 
@@ -441,7 +441,7 @@ not_next_if : (d : Delivery) (b : Bool) → handed.Next d ≡ cond b handed.Drai
 not_next_if d true e = cc
 not_next_if d false e = cc
 
--- what the next answer shows
+-- a delivered answer has the next number, and its job is finished with it
 pub next_facts : (state : SenderView) (d : Delivery) (o : Option Stage) → handed.Next d ≡ deliver_reply_at state o → (d.number ≡ state.handed) × (o ≡ Some (Finished d.solved))
 next_facts state d None e = absurd (not_next_if d (state.closed && (state.handed == length state.tasks)) e)
 next_facts state d (Some Waiting) e = absurd (not_next_if d (state.closed && (state.handed == length state.tasks)) e)

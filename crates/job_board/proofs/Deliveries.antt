@@ -1,4 +1,4 @@
--- What a sender is handed.
+-- The answers that are delivered to a sender are in order.
 use Rattle.std.proofs.Common.{◌≡◌, ℕ, suc, zero, ◌+◌, ◌<◌, ◌==◌, ◌&&◌, Bool, true, false, List, [], ◌∷◌, ◌++◌, length, Option, Some, None, Ok, slice_get, cond, ltb, refl, sym, ap, ◌∙◌, subst, arith, inl, inr, length-append, append-nil, append_assoc}
 use Rattle.std.proofs.lemmas.Bool.{cases_eq, ne_eqb, eqb-true, false≢true}
 use Rattle.endgame_search.specs.Task.{TaskView}
@@ -28,7 +28,7 @@ one_if : (b : Bool) (tasks : List TaskView) (first : ℕ) (d : Delivery) → (b 
 one_if true tasks first d h = let p = h refl in (p.0, p.1, tt)
 one_if false tasks first d h = tt
 
--- what one step delivers is the next of its state
+-- the answer that one step delivers is the sender's next
 one_in_order : (c : BoardView) (s : ℕ) (state : SenderView) (st : Step) (r : Reply) (more : List TaskView) → slice_get c s ≡ Some state → IsSender state → IsLawful c st r → InOrder (state.tasks ++ more) state.handed (deliveries_by s st r)
 one_in_order c s state (step.Deliver s') (reply.Handed (handed.Next d)) more at h law =
     one_if (s' == s) (state.tasks ++ more) state.handed d (λ is.
@@ -41,7 +41,7 @@ InOrder-append : (tasks : List TaskView) (first : ℕ) (ds es : List Delivery) �
 InOrder-append tasks first [] es h more = let P : ℕ → Type 0 = λ n. InOrder tasks n es in subst P (omega arith) more
 InOrder-append tasks first (d ∷ ds) es h more = (h.0, h.1, InOrder-append tasks (first + 1) ds es h.2 (let P : ℕ → Type 0 = λ n. InOrder tasks n es in subst P (omega arith) more))
 
--- from any content on, what is delivered to a sender is in order
+-- from any view of a board on, the answers that are delivered to a sender are in order
 pub in_order : (c : BoardView) (s : ℕ) (state : SenderView) (ss : List Step) (rs : List Reply) → slice_get c s ≡ Some state → IsSender state → AreLawful c ss rs
     → InOrder (state.tasks ++ accepted_tasks s ss rs) state.handed (deliveries_to s ss rs)
 in_order c s state [] [] at h law = tt
@@ -57,7 +57,7 @@ in_order c s state (st ∷ ss) (r ∷ rs) at h law =
     (one_in_order c s state st r (tasks_by s st r ++ accepted_tasks s ss rs) at h law.0)
     (subst Q (handed_step s state st r) (subst P tasks rest))
 
--- the same of a history from its beginning
+-- in a history, the answers that are delivered to a sender are in order
 pub all_in_order : (n s : ℕ) (ss : List Step) (rs : List Reply) → s < n → AreLawful (empty_content n) ss rs → InOrder (accepted_tasks s ss rs) 0 (deliveries_to s ss rs)
 all_in_order n s ss rs lt law = in_order (empty_content n) s empty_state ss rs (slice_get-replicate n s empty_state lt) empty_is_state law
 
@@ -94,7 +94,7 @@ drained_stage state (Some Waiting) e = drained_if state state.closed (state.hand
 drained_stage state (Some Taken) e = drained_if state state.closed (state.handed == length state.tasks) e
 drained_stage state (Some (Finished a)) e = cc
 
--- where a sender is drained, as many answers were handed over as tasks were accepted
+-- where a sender is drained, as many answers were delivered as tasks were accepted
 pub drained_all : (n s : ℕ) (ss : List Step) (rs : List Reply) → s < n → handed.Drained ≡ deliver_reply (after_all (empty_content n) ss rs) s → length (deliveries_to s ss rs) ≡ length (accepted_tasks s ss rs)
 drained_all n s ss rs lt e =
     let state : SenderView = state_all s empty_state ss rs in
@@ -112,7 +112,7 @@ none_if b t e = ap (λ x. cond x (t ∷ []) []) e
 still : (s' s : ℕ) (state new : SenderView) → state.closed ≡ true → new.closed ≡ state.closed → (cond (s' == s) new state).closed ≡ true
 still s' s state new e same = cond_same (λ l. l.closed) (s' == s) new state same ∙ e
 
--- a lawful step of a closed state accepts nothing, and leaves it closed
+-- a lawful step accepts no task of a closed sender, and leaves the sender closed
 closed_step : (c : BoardView) (s : ℕ) (state : SenderView) (st : Step) (r : Reply) → slice_get c s ≡ Some state → state.closed ≡ true → IsLawful c st r
     → (tasks_by s st r ≡ []) × ((state_step s state st r).closed ≡ true)
 closed_step c s state (step.Submit s' t) (reply.Submitted (Ok n)) at e law = (
@@ -131,7 +131,7 @@ closed_step c s state (step.Deliver s') (reply.Handed (handed.Next d)) at e law 
 closed_step c s state (step.Close s') (reply.Closed r) at e law = (refl, still s' s state (closed_state state) e (sym e))
 closed_step c s state _ _ at e law = (refl, e)
 
--- nothing is accepted after a close
+-- no task of a closed sender is accepted
 pub accepted_closed : (c : BoardView) (s : ℕ) (state : SenderView) (ss : List Step) (rs : List Reply) → slice_get c s ≡ Some state → state.closed ≡ true → AreLawful c ss rs → accepted_tasks s ss rs ≡ []
 accepted_closed c s state [] [] at e law = refl
 accepted_closed c s state [] (r ∷ rs) at e law = refl

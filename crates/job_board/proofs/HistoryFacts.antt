@@ -1,4 +1,4 @@
--- The content after a history is what the history says of each sender and job.
+-- The view of a board after a history is what the history says of each sender and job.
 use Rattle.std.proofs.Common.{◌≡◌, ℕ, suc, zero, ◌<◌, ◌==◌, ◌&&◌, ◌||◌, Bool, true, false, List, [], ◌∷◌, ◌++◌, length, set, Option, Some, None, Result, Ok, Err, slice_get, cond, refl, sym, ap, ◌∙◌, subst, arith, inl, inr, length-append, length-set, not}
 use Rattle.std.proofs.lemmas.Option.{slice_get_within, slice_get_past, same_Some}
 use Rattle.std.proofs.lemmas.List.{length-replicate}
@@ -73,7 +73,7 @@ was_closed : (b : Bool) (r : Result Bool NoSender) → r ≡ Ok false → r ≡ 
 was_closed true r is e = refl
 was_closed false r is e = cc
 
--- what a lawful step adds to whether a state is closed
+-- after a lawful step a sender is closed exactly where it was before or the step closes it
 closed_next : (c : BoardView) (s : ℕ) (state : SenderView) (st : Step) (r : Reply) → slice_get c s ≡ Some state → IsLawful c st r → (state_step s state st r).closed ≡ (state.closed || is_closed_by s st r)
 closed_next c s state (step.Submit s' t) (reply.Submitted (Ok n)) at law = cond_same (λ l. l.closed) (s' == s) (with_task t state) state refl ∙ sym (or-false state.closed)
 closed_next c s state step.Take (reply.Took (Some job)) at law = cond_same (λ l. l.closed) (job.id.sender == s) (with_stage job.id.number Taken state) state refl ∙ sym (or-false state.closed)
@@ -103,7 +103,7 @@ closed_all c s state (st ∷ ss) (r ∷ rs) at law =
     closed_all (after c st r) s (state_step s state st r) ss rs (state_after c s state st r at) law.1
     ∙ (ap (λ b. b || is_closed s ss rs) (closed_next c s state st r at law.0) ∙ or-assoc state.closed (is_closed_by s st r) (is_closed s ss rs))
 
--- a job's stage, and that of a job to come
+-- a job's stage; `Waiting` for a job that is not yet accepted
 abbrev or_waiting : Option Stage → Stage
 or_waiting None = Waiting
 or_waiting (Some stage) = stage
@@ -178,7 +178,7 @@ state_of_all s c ss rs at law =
       closed = closed_all c s empty_state ss rs at law;
     }
 
--- the content after a history says what the history says
+-- the view of a sender after a history is what the history says
 pub content_of : (n s : ℕ) (ss : List Step) (rs : List Reply) (state : SenderView) → AreLawful (empty_content n) ss rs → slice_get (after_all (empty_content n) ss rs) s ≡ Some state → IsStateOf s ss rs state
 content_of n s ss rs state law at =
     let lt : s < n = omega (arith, slice_get_within (after_all (empty_content n) ss rs) s state at, senders_all n ss rs) in
@@ -186,7 +186,7 @@ content_of n s ss rs state law at =
     let P : SenderView → Type 0 = IsStateOf s ss rs in
     subst P (same_Some (state_all s empty_state ss rs) state (sym (state_after_all (empty_content n) s empty_state ss rs first) ∙ at)) (state_of_all s (empty_content n) ss rs first law)
 
--- a history leaves a content that a board may have
+-- a lawful history leaves a view that a board may have
 pub content_kept : (n : ℕ) (ss : List Step) (rs : List Reply) → AreLawful (empty_content n) ss rs → IsBoardView (after_all (empty_content n) ss rs)
 content_kept n ss rs law s state at =
     let lt : s < n = omega (arith, slice_get_within (after_all (empty_content n) ss rs) s state at, senders_all n ss rs) in
@@ -202,11 +202,11 @@ no_more tasks more (d ∷ ds) e h =
     let no : Some d.solved ≡ None = sym h.1 ∙ past in
     cc
 
--- the state of a sender that a history knows
+-- the view of sender s after a history of n senders, where s < n
 state_there : (n s : ℕ) (ss : List Step) (rs : List Reply) → s < n → slice_get (after_all (empty_content n) ss rs) s ≡ Some (state_all s empty_state ss rs)
 state_there n s ss rs lt = state_after_all (empty_content n) s empty_state ss rs (slice_get-replicate n s empty_state lt)
 
--- a sender that is drained stays so
+-- a sender that is drained stays drained
 pub drained_stays : (n s : ℕ) (ss ss' : List Step) (rs rs' : List Reply) → s < n → AreLawful (empty_content n) ss rs → handed.Drained ≡ deliver_reply (after_all (empty_content n) ss rs) s
     → AreLawful (after_all (empty_content n) ss rs) ss' rs' → (accepted_tasks s ss' rs' ≡ []) × (deliveries_to s ss' rs' ≡ [])
 drained_stays n s ss ss' rs rs' lt law e more =
@@ -219,7 +219,7 @@ drained_stays n s ss ss' rs rs' lt law e more =
     let P : ℕ → Type 0 = λ first. InOrder (state.tasks ++ accepted_tasks s ss' rs') first (deliveries_to s ss' rs') in
     (none, no_more state.tasks (accepted_tasks s ss' rs') (deliveries_to s ss' rs') none (subst P (eqb-true state.handed (length state.tasks) facts.1) (in_order c s state ss' rs' at h more)))
 
--- nothing is accepted after a close
+-- no task of a sender is accepted after its close
 pub closed_stays : (n s : ℕ) (ss ss' : List Step) (rs rs' : List Reply) → s < n → AreLawful (empty_content n) ss rs → is_closed s ss rs ≡ true
     → AreLawful (after_all (empty_content n) ss rs) ss' rs' → accepted_tasks s ss' rs' ≡ []
 closed_stays n s ss ss' rs rs' lt law e more =

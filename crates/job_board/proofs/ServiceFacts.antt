@@ -1,4 +1,4 @@
--- What a client received is, in order, the answers of what it sent.
+-- The answers that a client received are, in order, those of the tasks that it sent.
 use Rattle.std.proofs.Common.{◌≡◌, ℕ, ◌+◌, List, [], ◌∷◌, ◌++◌, length, map, refl, sym, ap, ◌∙◌, subst, arith, append-nil, append_assoc}
 use Rattle.std.proofs.lemmas.List.{length_push}
 use Rattle.std.proofs.lemmas.Option.{same_Some}
@@ -36,7 +36,7 @@ in_order_from old (Told Drained ∷ es) new leads =
 abbrev state_of : ℕ → List TaskView → ℕ → ClientView
 state_of s tasks n = record { sender = s; sent = tasks; received = n }
 
--- what a client knows after the events
+-- the view of a client after the events
 abbrev known_after : ClientView → List Event → ClientView
 known_after old es = state_of old.sender (old.sent ++ sent_tasks es) (old.received + length (received_answers es))
 
@@ -53,7 +53,7 @@ known_from old (Told (Next d) ∷ es) new leads =
 known_from old (Told (Work job) ∷ es) new leads = known_from leads.0 es new leads.2 ∙ ap (λ me. known_after me es) leads.1
 known_from old (Told Drained ∷ es) new leads = known_from leads.0 es new leads.2 ∙ ap (λ me. known_after me es) leads.1.0
 
--- the client before the last of the events
+-- the view of the client before the last of the events
 last_from : (old : ClientView) (es : List Event) (turn : Turn) (new : ClientView) → Leads old (es ++ Told turn ∷ []) new
     → (me : ClientView) × Leads old es me × Leads me (Told turn ∷ []) new
 last_from old [] turn new leads = (old, refl, leads)

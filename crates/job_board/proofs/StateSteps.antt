@@ -1,4 +1,4 @@
--- What a step does to the state of one sender.
+-- The view of one sender after a step.
 use Rattle.std.proofs.Common.{◌≡◌, ◌≢◌, ℕ, suc, zero, ◌+◌, ◌<◌, ◌==◌, Bool, true, false, [], ◌∷◌, ◌++◌, length, set, Option, Some, None, Ok, slice_get, cond, ltb, refl, sym, ap, ◌∙◌, subst, arith, inl, inr, append-nil, replicate}
 use Rattle.std.proofs.lemmas.Option.{slice_get_within}
 use Rattle.std.proofs.lemmas.Bool.{cases_eq, eq-eqb, ne_eqb, ltb-false}
@@ -18,7 +18,7 @@ use Rattle.job_board.specs.Steps.{IsLawful, after}
 use Rattle.job_board.specs.Histories.{tasks_by, deliveries_by}
 use Rattle.job_board.proofs.BoardFacts.{slice_get-set_same, slice_get-set_other, change_at, state_restaged, state_with_task, state_handed, finish_ok, finish_from, give_back_ok, same_finished}
 
--- what a step does to the state of s
+-- the view of sender s after a step
 abbrev pub state_step : ℕ → SenderView → Step → Reply → SenderView
 state_step s state (step.Submit s' t) (reply.Submitted (Ok n)) = cond (s' == s) (with_task t state) state
 state_step s state step.Take (reply.Took (Some job)) = cond (job.id.sender == s) (with_stage job.id.number Taken state) state
@@ -50,7 +50,7 @@ state_after c s state (step.Deliver s') (reply.Handed (handed.Next d)) at = chan
 state_after c s state (step.Close s') (reply.Closed r) at = change_state c s' s closed_state state at
 state_after c s state _ _ at = at
 
--- either another state, or this one
+-- the facts of a sender hold of its view after a step, whether or not the step is of this sender
 both : (s' s : ℕ) (state new : SenderView) → IsSender state → (s' ≡ s → IsSender new) → IsSender (cond (s' == s) new state)
 both s' s state new h here =
     let P : SenderView → Type 0 = IsSender in
@@ -70,7 +70,7 @@ submit_few state n c s t at h =
     let P : Option SenderView → Type 0 = λ o. SubmitAs (submit_refusal o) (task_count o) (Ok n) in
     submit_room state n state.closed (ltb 65534 (length state.tasks)) refl (subst P at h)
 
--- a lawful step keeps a state's facts
+-- a lawful step keeps the facts of a sender
 pub state_kept : (c : BoardView) (s : ℕ) (state : SenderView) (st : Step) (r : Reply) → slice_get c s ≡ Some state → IsSender state → IsLawful c st r → IsSender (state_step s state st r)
 state_kept c s state (step.Submit s' t) (reply.Submitted (Ok n)) at h law = both s' s state (with_task t state) h (λ e. state_with_task state t h (submit_few state n c s' t (ap (slice_get c) e ∙ at) law))
 state_kept c s state step.Take (reply.Took (Some job)) at h law =
@@ -111,7 +111,7 @@ slice_get-replicate (suc n) (suc s) x lt = slice_get-replicate n s x (omega arit
 pub empty_is_state : IsSender empty_state
 empty_is_state = record { stages = refl; most = omega arith; handed = omega arith; finished = λ k lt. absurd (omega arith); solved = λ k a e. cc }
 
--- what a step adds to the tasks of a state
+-- what a step adds to the tasks of a sender
 pub tasks_step : (s : ℕ) (state : SenderView) (st : Step) (r : Reply) → (state_step s state st r).tasks ≡ state.tasks ++ tasks_by s st r
 tasks_step s state (step.Submit s' t) (reply.Submitted (Ok n)) = tasks_if (s' == s) state t
 tasks_step s state step.Take (reply.Took (Some job)) = cond_same (λ l. l.tasks) (job.id.sender == s) (with_stage job.id.number Taken state) state refl ∙ sym (append-nil state.tasks)
@@ -121,7 +121,7 @@ tasks_step s state (step.Deliver s') (reply.Handed (handed.Next d)) = cond_same 
 tasks_step s state (step.Close s') (reply.Closed r) = cond_same (λ l. l.tasks) (s' == s) (closed_state state) state refl ∙ sym (append-nil state.tasks)
 tasks_step s state _ _ = sym (append-nil state.tasks)
 
--- what a step adds to the count of a state's deliveries
+-- what a step adds to the number of delivered answers of a sender
 pub handed_step : (s : ℕ) (state : SenderView) (st : Step) (r : Reply) → (state_step s state st r).handed ≡ state.handed + length (deliveries_by s st r)
 handed_step s state (step.Submit s' t) (reply.Submitted (Ok n)) = cond_same (λ l. l.handed) (s' == s) (with_task t state) state refl ∙ omega arith
 handed_step s state step.Take (reply.Took (Some job)) = cond_same (λ l. l.handed) (job.id.sender == s) (with_stage job.id.number Taken state) state refl ∙ omega arith

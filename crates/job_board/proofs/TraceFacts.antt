@@ -1,4 +1,4 @@
--- For each content that a board may have, its trace is lawful and leaves it.
+-- The trace of each view that a board may have is lawful and leaves that view.
 use Rattle.std.proofs.Common.{◌≡◌, ℕ, suc, zero, ◌+◌, ◌<◌, ◌≤◌, Bool, true, false, List, [], ◌∷◌, ◌++◌, length, set, Option, Some, Ok, slice_get, refl, sym, ap, ◌∙◌, subst, arith, inl, append-nil, append_assoc, replicate, add-zero, zero-add}
 use Rattle.std.proofs.lemmas.Option.{slice_get_within}
 use Rattle.std.proofs.lemmas.List.{set_at, set-set, length_push}
@@ -19,7 +19,7 @@ use Rattle.job_board.specs.Traces.{submit_steps, submit_replies, job_id, stage_s
 use Rattle.job_board.proofs.BoardFacts.{slice_get-set_same, change_at, set_same, submit_lawful, not_refused, finish_at}
 use Rattle.job_board.proofs.HistoryAppends.{AreLawful-append, after_all-append}
 
--- these steps with these replies are lawful of c, and leave d
+-- the steps with their replies are lawful from view c on, and leave view d
 pub record Runs (c : BoardView) (ss : List Step) (rs : List Reply) (d : BoardView) : Type 0 where
   pub lawful : AreLawful c ss rs
   pub leaves : after_all c ss rs ≡ d
@@ -48,7 +48,7 @@ slice_get-mid [] y ys (suc n) e = absurd (omega arith)
 slice_get-mid (x ∷ p) y ys zero e = absurd (omega arith)
 slice_get-mid (x ∷ p) y ys (suc n) e = slice_get-mid p y ys n (omega arith)
 
--- the submits
+-- the submits of a trace are lawful, and add their tasks as waiting jobs
 pub submits_run : (c : BoardView) (s : ℕ) (T : List TaskView) (S : List Stage) (h k : ℕ) (ts : List TaskView) → slice_get c s ≡ Some (state_of T S h false) → length T ≡ k → k + length ts ≤ 65535
     → Runs c (submit_steps s ts) (submit_replies k ts) (set c s (state_of (T ++ ts) (S ++ replicate (length ts) Waiting) h false))
 submits_run c s T S h k [] at is few =
@@ -63,13 +63,13 @@ submits_run c s T S h k (t ∷ ts) at is few =
     ends c _ _ (submit_steps s (t ∷ ts)) (submit_replies k (t ∷ ts)) (runs-append c d _ (step.Submit s t ∷ []) (submit_steps s ts) (reply.Submitted (Ok k) ∷ []) (submit_replies (k + 1) ts) first rest)
     (set-set c s new _ ∙ (ap (λ (l : List TaskView). set c s (state_of l ((S ++ Waiting ∷ []) ++ replicate (length ts) Waiting) h false)) (append_assoc T (t ∷ []) ts) ∙ ap (λ (l : List Stage). set c s (state_of (T ++ t ∷ ts) l h false)) (append_assoc S (Waiting ∷ []) (replicate (length ts) Waiting))))
 
--- one step that changes one stage in the middle
+-- the view of the board where one stage in the middle of a sender's list changes
 restage : (c : BoardView) (s : ℕ) (T : List TaskView) (P R : List Stage) (h k : ℕ) (old new : Stage) → slice_get c s ≡ Some (state_of T (P ++ old ∷ R) h false) → length P ≡ k
     → content_with c s (with_stage k new) ≡ set c s (state_of T (P ++ new ∷ R) h false)
 restage c s T P R h k old new at is =
     change_at c s (state_of T (P ++ old ∷ R) h false) (with_stage k new) at ∙ ap (λ (l : List Stage). set c s (state_of T l h false)) (set_at P old R new k is)
 
--- a taken job is brought to its stage
+-- the steps of a trace that bring a taken job to its stage are lawful
 stage_run : (c : BoardView) (s : ℕ) (T : List TaskView) (P R : List Stage) (h k : ℕ) (st : Stage) → slice_get c s ≡ Some (state_of T (P ++ Taken ∷ R) h false) → length P ≡ k
     → ((a : TaskView) → st ≡ Finished a → slice_get T k ≡ Some a)
     → Runs c (stage_steps (job_id s k) st) (stage_replies st) (set c s (state_of T (P ++ st ∷ R) h false))
@@ -84,7 +84,7 @@ stage_run c s T P' R h k (Finished a) at is fits =
     (finish_at c (job_id s k) a (Ok tt) (state_of T (P' ++ Taken ∷ R) h false) at (subst P (sym taken) (fits a refl)))
     (restage c s T P' R h k Taken (Finished a) at is)
 
--- the jobs from number k on
+-- the steps of a trace for the jobs from number k on are lawful
 pub jobs_run : (c : BoardView) (s : ℕ) (T Tp ts : List TaskView) (P sts : List Stage) (h k : ℕ) → slice_get c s ≡ Some (state_of T (P ++ replicate (length sts) Waiting) h false)
     → T ≡ Tp ++ ts → length Tp ≡ k → length P ≡ k → length sts ≡ length ts
     → ((i : ℕ) (a : TaskView) → slice_get sts i ≡ Some (Finished a) → slice_get ts i ≡ Some a)
@@ -113,7 +113,7 @@ jobs_run c s T Tp (t ∷ ts) P (st ∷ sts) h k at split tk pk same fits =
     (runs-append c c1 _ (step.Take ∷ []) _ _ _ take (runs-append c1 c2 _ (stage_steps (job_id s k) st) _ (stage_replies st) _ settle rest))
     (set-set c s (state_of T (P ++ st ∷ R) h false) _ ∙ ap (λ (l : List Stage). set c s (state_of T l h false)) (append_assoc P (st ∷ []) sts))
 
--- the deliveries
+-- the delivers of a trace are lawful, and count their answers
 pub deliver_run : (c : BoardView) (s : ℕ) (T : List TaskView) (S Sp sts : List Stage) (k n : ℕ) → slice_get c s ≡ Some (state_of T S k false) → S ≡ Sp ++ sts → length Sp ≡ k
     → ((i : ℕ) → i < n → is_finished (slice_get sts i) ≡ true)
     → Runs c (deliver_steps s n) (deliver_replies k n sts) (set c s (state_of T S (k + n) false))
@@ -140,7 +140,7 @@ close_run : (c : BoardView) (s : ℕ) (T : List TaskView) (S : List Stage) (h : 
 close_run c s T S h false at = none c _ (sym (set_same c s (state_of T S h false) at))
 close_run c s T S h true at = one c _ (step.Close s) (reply.Closed (Ok true)) (sym (ap close_reply_in at)) (change_at c s (state_of T S h false) closed_state at)
 
--- the steps of one sender bring its state from nothing to what it is
+-- the steps of one sender in a trace are lawful, and lead from its empty view to its view
 pub state_run : (c : BoardView) (s : ℕ) (state : SenderView) → slice_get c s ≡ Some empty_state → IsSender state → Runs c (state_steps s state) (state_replies s state) (set c s state)
 state_run c s state at is =
     let T : List TaskView = state.tasks in
@@ -165,7 +165,7 @@ state_run c s state at is =
     ends (set c s l3) _ _ (close_steps s state.closed) (close_replies state.closed) (close_run (set c s l3) s T S state.handed state.closed at3) (set-set c s l3 state) in
     runs-append c c1 _ _ _ _ _ r1 (runs-append c1 (set c s l2) _ _ _ _ _ r2 (runs-append (set c s l2) (set c s l3) _ _ _ _ _ r3 r4))
 
--- the trace of a content is lawful, and leaves the content
+-- the trace of a view is lawful, and leaves the view
 pub trace_run : (D c : BoardView) (s : ℕ) → length D ≡ s → IsBoardView c → Runs (D ++ replicate (length c) empty_state) (trace_steps s c) (trace_replies s c) (D ++ c)
 trace_run D [] s is all = none (D ++ []) _ refl
 trace_run D (state ∷ c) s is all =

@@ -8,8 +8,8 @@ use Rattle.job_board.specs.declared.jobs.Stage.TheVariants.{Finished}
 use Rattle.job_board.specs.Queues.{id_count}
 use Rattle.job_board.specs.Senders.{SenderView, BoardView, stage_at, is_waiting, is_taken, is_finished}
 
--- of one sender: each job has a stage, a finished one the answer of its own task, and the jobs
--- handed over are the first ones, all of them finished
+-- of one sender: each job has a stage; a finished job has the answer of its own task; the jobs
+-- whose answers were delivered are the first ones, and all of them are finished
 pub record IsSender (state : SenderView) : Type 0 where
   pub stages : length state.stages ≡ length state.tasks
   pub most : length state.tasks ≤ 65535
@@ -35,8 +35,8 @@ taken_in state = count_by is_taken state.stages
 abbrev pub taken_count : BoardView → ℕ
 taken_count c = sum_by taken_in c
 
--- what a board keeps: its content, the jobs that wait, how many are taken, and that all of these
--- have room to wait
+-- what holds of a board: c is the view of its at most 64 senders, ids names the jobs that wait,
+-- taken is the number of taken jobs, and room is enough for all waiting and taken jobs
 pub record IsBoard (c : BoardView) (ids : List JobId) (taken room : ℕ) : Type 0 where
   pub few : length c ≤ 64
   pub content : IsBoardView c

@@ -1,4 +1,4 @@
--- What a client knows.
+-- What contracts see of a client.
 use Rattle.std.specs.Prelude.{ℕ, List, [], ◌∷◌, ◌++◌}
 use Rattle.endgame_search.specs.Task.{TaskView}
 

@@ -1,4 +1,4 @@
--- What a history says of a sender and of a job: filters over its steps and their replies.
+-- What the steps and replies of a history say of one sender, and of one job.
 use Rattle.std.specs.Prelude.{ℕ, ◌≡◌, ◌+◌, ◌<◌, ◌==◌, ◌||◌, Bool, false, List, [], ◌∷◌, ◌++◌}
 use Rattle.std.specs.Prelude.{length, true, Some, Ok, slice_get, if◌then◌else◌}
 use Rattle.endgame_search.specs.Task.{TaskView}
@@ -26,7 +26,7 @@ abbrev pub deliveries_by : ℕ → Step → Reply → List Delivery
 deliveries_by s (step.Deliver s') (reply.Handed (handed.Next d)) = if s' == s then d ∷ [] else []
 deliveries_by s _ _ = []
 
--- what the delivers of s handed over
+-- the answers that the delivers of s returned
 abbrev pub deliveries_to : ℕ → List Step → List Reply → List Delivery
 deliveries_to s (st ∷ ss) (r ∷ rs) = deliveries_by s st r ++ deliveries_to s ss rs
 deliveries_to s _ _ = []
@@ -40,7 +40,7 @@ abbrev pub is_closed : ℕ → List Step → List Reply → Bool
 is_closed s (st ∷ ss) (r ∷ rs) = is_closed_by s st r || is_closed s ss rs
 is_closed s _ _ = false
 
--- the stage to which a step brings job k of s, from another
+-- the stage of job k of s after a step, where it was `stage` before
 abbrev pub stage_by : ℕ → ℕ → Stage → Step → Reply → Stage
 stage_by s k stage step.Take (reply.Took (Some job)) =
     if is_id_of s k job.id then Taken else stage
@@ -50,13 +50,13 @@ stage_by s k stage (step.GiveBack id) (reply.GaveBack (Ok u)) =
     if is_id_of s k id then Waiting else stage
 stage_by s k stage _ _ = stage
 
--- how far job k of s has come: as the last accepted take, finish or give back of it says, else as
--- before
+-- the stage of job k of s after all steps: that of the last accepted take, finish or give back of
+-- the job, else `stage`
 abbrev pub stage_after : ℕ → ℕ → Stage → List Step → List Reply → Stage
 stage_after s k stage (st ∷ ss) (r ∷ rs) = stage_after s k (stage_by s k stage st r) ss rs
 stage_after s k stage _ _ = stage
 
--- the state of s says what the steps and replies say
+-- the view of sender s is what the steps and replies say
 pub record IsStateOf (s : ℕ) (ss : List Step) (rs : List Reply) (state : SenderView) : Type 0 where
   pub tasks : state.tasks ≡ accepted_tasks s ss rs
   pub each_staged : length state.stages ≡ length (accepted_tasks s ss rs)

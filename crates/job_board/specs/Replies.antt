@@ -1,4 +1,4 @@
--- The lawful replies of each step at a board with content c, and the content after it (the steps of
+-- The lawful replies of each step at a board of view c, and the view after the step (the steps of
 -- the state machine).
 use Rattle.std.specs.Prelude.{ℕ, ◌≡◌, ◌≢◌, ◌==◌, ◌&&◌, Bool, false, length, Option, Some, None}
 use Rattle.std.specs.Prelude.{Result, Ok, Err, slice_get, if◌then◌else◌, ◌⊎◌, nat_lt, not}
@@ -32,7 +32,8 @@ abbrev pub SubmitAs : Option SubmitFault → ℕ → Result ℕ SubmitFault → 
 SubmitAs (Some e) n r = r ≡ Err e
 SubmitAs None n r = (r ≡ Ok n) ⊎ (r ≡ Err fault.Memory)
 
--- a submit: its refusal; else the number of tasks accepted before, or want of memory
+-- the lawful replies of a submit of s: its refusal if it has one; else the number of tasks of s
+-- that were accepted before, or `Memory`
 abbrev pub Submits : BoardView → ℕ → Result ℕ SubmitFault → Type 0
 Submits c s r = SubmitAs (submit_refusal (slice_get c s)) (task_count (slice_get c s)) r
 
@@ -40,7 +41,7 @@ abbrev pub after_submit : BoardView → ℕ → TaskView → Result ℕ SubmitFa
 after_submit c s t (Ok n) = content_with c s (with_task t)
 after_submit c s t (Err e) = c
 
--- a take: any job that waits, with its own task; None only where none waits
+-- the lawful replies of a take: any job that waits, with its own task; None only where none waits
 abbrev pub Takes : BoardView → Option Job → Type 0
 Takes c (Some job) =
     (stage_at c job.id.sender job.id.number ≡ Some Waiting)
@@ -51,14 +52,15 @@ abbrev pub after_take : BoardView → Option Job → BoardView
 after_take c (Some job) = content_with c job.id.sender (with_stage job.id.number Taken)
 after_take c None = c
 
--- by the job's stage and its task
+-- the lawful replies of a finish, by the job's stage and its task
 abbrev pub FinishAs : Option Stage → Option TaskView → TaskView → Result (Unit {0}) JobFault → Type 0
 FinishAs (Some Taken) task a (Ok u) = task ≡ Some a
 FinishAs (Some Taken) task a (Err OtherPosition) = task ≢ Some a
 FinishAs (Some Taken) task a (Err NotTaken) = ⊥
 FinishAs _ task a r = r ≡ Err NotTaken
 
--- a finish: a taken job, by the answer of its own position under its own scoring
+-- the lawful replies of a finish: `Ok` exactly for a taken job and the answer of its own position
+-- under its own scoring
 abbrev pub Finishes : BoardView → JobId → TaskView → Result (Unit {0}) JobFault → Type 0
 Finishes c id a r = FinishAs (stage_at c id.sender id.number) (task_at c id.sender id.number) a r
 
@@ -70,7 +72,7 @@ abbrev pub give_back_reply_at : Option Stage → Result (Unit {0}) JobFault
 give_back_reply_at (Some Taken) = Ok tt
 give_back_reply_at _ = Err NotTaken
 
--- a give back: a taken job
+-- the reply of a give back: `Ok` exactly for a taken job
 abbrev pub give_back_reply : BoardView → JobId → Result (Unit {0}) JobFault
 give_back_reply c id = give_back_reply_at (stage_at c id.sender id.number)
 
@@ -78,7 +80,7 @@ abbrev pub after_give_back : BoardView → JobId → Result (Unit {0}) JobFault 
 after_give_back c id (Ok u) = content_with c id.sender (with_stage id.number Waiting)
 after_give_back c id (Err e) = c
 
--- the answer of a job at this stage
+-- the answer of a job at this stage; None where it is not finished
 abbrev pub answer_in : Option Stage → Option TaskView
 answer_in (Some (Finished a)) = Some a
 answer_in _ = None
@@ -89,8 +91,9 @@ deliver_reply_at state (Some (Finished a)) =
 deliver_reply_at state _ =
     if state.closed && (state.handed == length state.tasks) then handed.Drained else handed.Waiting
 
--- of one sender: where k answers were handed over and job k is finished, its answer; else, where it
--- is closed and was handed all, that it is drained
+-- the reply of a deliver to one sender: where k answers were delivered and job k is finished, the
+-- answer of job k; else `Drained` where the sender is closed and all its answers were delivered,
+-- and `Waiting` where not
 abbrev pub deliver_reply_of : SenderView → Handed
 deliver_reply_of state = deliver_reply_at state (slice_get state.stages state.handed)
 
@@ -113,7 +116,7 @@ abbrev pub close_reply_in : Option SenderView → Result Bool NoSender
 close_reply_in None = Err (record {})
 close_reply_in (Some state) = Ok (not state.closed)
 
--- a close: whether it was open
+-- the reply of a close: whether the sender was open
 abbrev pub close_reply : BoardView → ℕ → Result Bool NoSender
 close_reply c s = close_reply_in (slice_get c s)
 

@@ -5,22 +5,22 @@ use Rattle.endgame_search.specs.Task.{TaskView}
 use Rattle.job_board.specs.declared.jobs.Stage.{Stage}
 use Rattle.job_board.specs.declared.jobs.Stage.TheVariants.{Waiting, Taken, Finished}
 
--- of one sender: its accepted tasks, how far each has come, how many answers it was handed, and
--- whether it is closed
+-- what contracts see of one sender: its accepted tasks, the stage of each, how many answers were
+-- delivered to it, and whether it is closed
 pub record SenderView : Type 0 where
   pub tasks : List TaskView
   pub stages : List Stage
   pub handed : ℕ
   pub closed : Bool
 
--- the states of the senders 0, 1, 2, ..
+-- what contracts see of a board: the view of each sender, in the order of their numbers from 0
 abbrev pub BoardView : Type 0
 BoardView = List SenderView
 
 abbrev pub empty_state : SenderView
 empty_state = record { tasks = []; stages = []; handed = 0; closed = false }
 
--- of n senders, none of which has submitted a task
+-- the view of a board of n senders, none of which has submitted a task
 abbrev pub empty_content : ℕ → BoardView
 empty_content n = replicate n empty_state
 
@@ -28,7 +28,7 @@ abbrev pub content_by : BoardView → ℕ → (SenderView → SenderView) → Op
 content_by c s f None = c
 content_by c s f (Some state) = slice_set c s (f state)
 
--- the content with f of the state of s in its place, if there is such a sender
+-- c with f applied to the view of sender s, if there is such a sender
 abbrev pub content_with : BoardView → ℕ → (SenderView → SenderView) → BoardView
 content_with c s f = content_by c s f (slice_get c s)
 
@@ -36,7 +36,7 @@ abbrev pub stage_in : ℕ → Option SenderView → Option Stage
 stage_in k None = None
 stage_in k (Some state) = slice_get state.stages k
 
--- how far job k of sender s has come; None where there is no such job
+-- the stage of job k of sender s; None where there is no such job
 abbrev pub stage_at : BoardView → ℕ → ℕ → Option Stage
 stage_at c s k = stage_in k (slice_get c s)
 
@@ -44,7 +44,7 @@ abbrev pub task_in : ℕ → Option SenderView → Option TaskView
 task_in k None = None
 task_in k (Some state) = slice_get state.tasks k
 
--- the task of job k of sender s
+-- the task of job k of sender s; None where there is no such job
 abbrev pub task_at : BoardView → ℕ → ℕ → Option TaskView
 task_at c s k = task_in k (slice_get c s)
 
@@ -65,11 +65,11 @@ abbrev pub with_task : TaskView → SenderView → SenderView
 with_task t state =
     record state { tasks = state.tasks ++ t ∷ []; stages = state.stages ++ Waiting ∷ [] }
 
--- job k comes to this stage
+-- job k has this stage from now on
 abbrev pub with_stage : ℕ → Stage → SenderView → SenderView
 with_stage k stage state = record state { stages = slice_set state.stages k stage }
 
--- one more answer is handed over
+-- one more answer is delivered
 abbrev pub with_one_handed : SenderView → SenderView
 with_one_handed state = record state { handed = state.handed + 1 }
 

@@ -10,7 +10,7 @@ use Rattle.job_board.specs.Replies.{Submits, after_submit, Takes, after_take, Fi
 use Rattle.job_board.specs.Replies.{after_finish, give_back_reply, after_give_back, deliver_reply}
 use Rattle.job_board.specs.Replies.{after_deliver, close_reply, after_close}
 
--- the reply is lawful of a board with content c
+-- the reply to the step is lawful at a board of view c
 abbrev pub IsLawful : BoardView → Step → Reply → Type 0
 IsLawful c (step.Submit s t) (reply.Submitted r) = Submits c s r
 IsLawful c step.Take (reply.Took r) = Takes c r
@@ -20,7 +20,7 @@ IsLawful c (step.Deliver s) (reply.Handed r) = r ≡ deliver_reply c s
 IsLawful c (step.Close s) (reply.Closed r) = r ≡ close_reply c s
 IsLawful c _ _ = ⊥
 
--- the content after a step with its reply
+-- the view of a board after a step with its reply, from view c
 abbrev pub after : BoardView → Step → Reply → BoardView
 after c (step.Submit s t) (reply.Submitted r) = after_submit c s t r
 after c step.Take (reply.Took r) = after_take c r
@@ -30,7 +30,7 @@ after c (step.Deliver s) (reply.Handed r) = after_deliver c s r
 after c (step.Close s) (reply.Closed r) = after_close c s r
 after c _ _ = c
 
--- the content after all steps with their replies
+-- the view of a board after all steps with their replies, from view c
 abbrev pub after_all : BoardView → List Step → List Reply → BoardView
 after_all c (s ∷ ss) (r ∷ rs) = after_all (after c s r) ss rs
 after_all c _ _ = c
@@ -42,14 +42,14 @@ AreLawful c (s ∷ ss) (r ∷ rs) = IsLawful c s r × AreLawful (after c s r) ss
 AreLawful c _ _ = ⊥
 
 -- A history of n senders is a list of steps with their replies. It is legal if each reply is lawful
--- after those before.
+-- after the steps and replies before it.
 abbrev pub IsLegal : ℕ → List Step → List Reply → Type 0
 IsLegal n ss rs = AreLawful (empty_content n) ss rs
 
--- what a history of n senders leaves
+-- the view of the board that a history of n senders leaves
 abbrev pub content : ℕ → List Step → List Reply → BoardView
 content n ss rs = after_all (empty_content n) ss rs
 
--- after a history of n senders, a deliver of s is answered Drained
+-- after a history of n senders, the reply of a deliver of s is `Drained`
 abbrev pub IsDrained : ℕ → ℕ → List Step → List Reply → Type 0
 IsDrained n s ss rs = handed.Drained ≡ deliver_reply (content n ss rs) s

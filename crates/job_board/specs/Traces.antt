@@ -1,4 +1,4 @@
--- For each content that a board may have, a history that leaves it.
+-- For each view that a board may have, a history that leaves it: its trace.
 use Rattle.std.specs.Prelude.{ℕ, zero, suc, ◌+◌, Bool, true, false, List, [], ◌∷◌, ◌++◌, Some, Ok}
 use Rattle.endgame_search.specs.Task.{TaskView}
 use Rattle.job_board.specs.declared.jobs.JobId.{JobId}
@@ -11,7 +11,7 @@ use Rattle.job_board.specs.declared.steps.Reply.{Reply}
 use Rattle.job_board.specs.declared.steps.Reply.TheVariants as reply
 use Rattle.job_board.specs.Senders.{SenderView, BoardView}
 
--- the tasks are submitted, and get the numbers from k on
+-- the submits of the tasks by s, and their replies: the numbers from k on
 abbrev pub submit_steps : ℕ → List TaskView → List Step
 submit_steps s [] = []
 submit_steps s (t ∷ ts) = step.Submit s t ∷ submit_steps s ts
@@ -23,7 +23,7 @@ submit_replies k (t ∷ ts) = reply.Submitted (Ok k) ∷ submit_replies (k + 1) 
 abbrev pub job_id : ℕ → ℕ → JobId
 job_id s k = record { sender = s; number = k }
 
--- what brings a taken job to its stage
+-- the steps that bring a taken job to its stage, and their replies
 abbrev pub stage_steps : JobId → Stage → List Step
 stage_steps id Waiting = step.GiveBack id ∷ []
 stage_steps id Taken = []
@@ -34,7 +34,7 @@ stage_replies Waiting = reply.GaveBack (Ok tt) ∷ []
 stage_replies Taken = []
 stage_replies (Finished a) = reply.Finished (Ok tt) ∷ []
 
--- each job is taken, and then brought to its stage
+-- the steps that take each job from number k on and bring it to its stage, and their replies
 abbrev pub job_steps : ℕ → ℕ → List TaskView → List Stage → List Step
 job_steps s k (t ∷ ts) (st ∷ sts) =
     step.Take ∷ (stage_steps (job_id s k) st ++ job_steps s (k + 1) ts sts)
@@ -46,7 +46,7 @@ job_replies s k (t ∷ ts) (st ∷ sts) =
     ∷ (stage_replies st ++ job_replies s (k + 1) ts sts)
 job_replies s k _ _ = []
 
--- n answers are handed over, from number k on
+-- n delivers of s, and their replies: the answers from number k on
 abbrev pub deliver_steps : ℕ → ℕ → List Step
 deliver_steps s zero = []
 deliver_steps s (suc n) = step.Deliver s ∷ deliver_steps s n
@@ -56,7 +56,7 @@ deliver_replies k (suc n) (Finished a ∷ sts) =
     reply.Handed (handed.Next (record { number = k; solved = a })) ∷ deliver_replies (k + 1) n sts
 deliver_replies k _ _ = []
 
--- a closed sender is closed
+-- the close of a sender that is closed in the view, and its reply
 abbrev pub close_steps : ℕ → Bool → List Step
 close_steps s true = step.Close s ∷ []
 close_steps s false = []
@@ -65,7 +65,7 @@ abbrev pub close_replies : Bool → List Reply
 close_replies true = reply.Closed (Ok true) ∷ []
 close_replies false = []
 
--- what brings a sender from nothing to its state
+-- the steps that bring a sender without tasks to its view, and their replies
 abbrev pub state_steps : ℕ → SenderView → List Step
 state_steps s state =
     submit_steps s state.tasks
@@ -78,7 +78,7 @@ state_replies s state =
     ++ (job_replies s 0 state.tasks state.stages
     ++ (deliver_replies 0 state.handed state.stages ++ close_replies state.closed))
 
--- a history that leaves the content: the steps of one sender after those of another
+-- the trace: the steps of each sender in the order of their numbers from s on, and their replies
 abbrev pub trace_steps : ℕ → BoardView → List Step
 trace_steps s [] = []
 trace_steps s (state ∷ c) = state_steps s state ++ trace_steps (s + 1) c

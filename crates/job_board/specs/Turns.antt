@@ -1,4 +1,4 @@
--- What a client is told in a turn.
+-- What a turn returns to its client.
 use Rattle.std.specs.Prelude.{◌≡◌, ◌+◌, length, Option, Some, None, Result, Ok, Err, slice_get}
 use Rattle.job_board.specs.declared.jobs.Delivery.{Delivery}
 use Rattle.job_board.specs.declared.jobs.Handed.{Handed}
@@ -10,24 +10,24 @@ use Rattle.job_board.specs.Senders.{BoardView, content_with, with_one_handed}
 use Rattle.job_board.specs.Replies.{Takes, after_take}
 use Rattle.job_board.specs.Client.{ClientView}
 
--- the delivery is the next of the client: of the number that it has received, with the answer of
--- that task
+-- the delivery is the client's next answer: its number is how many answers the client received
+-- before, and it is the answer of the sent task of that number
 abbrev pub IsNext : ClientView → Delivery → Type 0
 IsNext me d = (d.number ≡ me.received) × (slice_get me.sent me.received ≡ Some d.solved)
 
--- every answer that the client may ask for came back
+-- the answers of all sent tasks came back
 abbrev pub IsServed : ClientView → Type 0
 IsServed me = me.received ≡ length me.sent
 
--- what a turn tells its client, and what the client knows then: the next answer, which it counts;
--- or work; or that all of its tasks came back
+-- what a turn may return, and the client's view after it: the next answer, which is counted; or a
+-- job; or `Drained`, where the answers of all sent tasks came back
 abbrev pub TurnGives : ClientView → ClientView → Turn → Type 0
 TurnGives old new (Next d) = IsNext old d × (new ≡ record old { received = old.received + 1 })
 TurnGives old new (Work job) = new ≡ old
 TurnGives old new Drained = (new ≡ old) × IsServed old
 
--- One hold of the lock in a turn, by what the board's deliver answers, at a board with content c.
--- It finds nothing where the client has to wait.
+-- One hold of the lock in a turn at a board of view c, by the reply of the board's deliver: what
+-- the turn finds, and the board's view after it. It finds None where the client has to wait.
 abbrev pub LooksAt : BoardView → ClientView → Handed → Option (Result Turn Mixed) → BoardView → Type 0
 LooksAt c me (handed.Next d) (Some (Ok turn)) new =
     (turn ≡ Next d) × IsNext me d × (new ≡ content_with c me.sender with_one_handed)

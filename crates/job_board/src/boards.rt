@@ -11,9 +11,9 @@ use endgame_search::{Solved, Task};
 use std::alloc::Global;
 use std::marker::Model;
 
-/// The jobs of up to 64 senders: each waits, is taken or is finished. Contracts see what it holds
-/// of each sender. It doesn't record who took a job: any caller may finish one that is taken, or
-/// give it back.
+/// The jobs of up to 64 senders. Each job waits, is taken or is finished. A board doesn't record
+/// who took a job: any caller may finish a taken job, or give it back. Contracts see of each sender
+/// the tasks, their stages, how many answers were delivered, and whether it is closed.
 #[derive(Drop)]
 pub struct Board {
     pub(crate) senders: Vec<Sender>,
@@ -48,14 +48,14 @@ impl Board {
     ghost use Rattle.job_board.specs.Replies.{deliver_reply, after_deliver, close_reply};
     ghost use Rattle.job_board.specs.Replies.{after_close};
 
-    /// The most senders.
+    /// The most senders of a board.
     pub const MOST_SENDERS: u32 = 64;
 
     /// The most jobs of one sender.
     pub const MOST_JOBS: usize = MOST_JOBS;
 
-    /// A board of so many senders, whose numbers count from 0, with no jobs. `TooManySenders` above
-    /// `MOST_SENDERS`, before any memory is asked for; `Memory` where it was refused.
+    /// A board of `senders` senders, numbered from 0, with no jobs. `TooManySenders` above
+    /// `MOST_SENDERS`, before any memory is asked for; `Memory` where memory was refused.
     pub fn new(alloc: Global, senders: u32) -> Result<Board, BoardFault>
         ensures too_many { (result ≡ Err fault.TooManySenders) ↔ (Self.MOST_SENDERS < senders) }
         ensures empty { IfOk result (λ board. board ≡ empty_content senders) }
@@ -76,9 +76,10 @@ impl Board {
         })
     }
 
-    /// Accepts a task for a sender, and gives the number of its job. All memory that the job will
-    /// ever need is taken here, room to wait again included. The first refusal of `SubmitFault`
-    /// decides, and changes nothing.
+    /// Accepts a task for a sender, and returns the number of its job: how many tasks of the sender
+    /// were accepted before. All memory that the job will ever need is taken here, also the room to
+    /// wait again. Where several faults of `SubmitFault` hold, the first is returned. `Err` leaves
+    /// what the board holds as it was.
     pub fn submit(&mut self, sender: u32, task: Task) -> Result<u32, SubmitFault>
         ensures lawful { Submits self.old sender result }
         ensures content { self.new ≡ after_submit self.old sender task result }
@@ -100,8 +101,8 @@ impl Board {
         Ok(number)
     }
 
-    /// Takes a job that waits, the one with most empty squares first, then of the first sender,
-    /// then of the least number. None where no job waits.
+    /// Takes the waiting job with most empty squares. Of equal ones it takes a job of the first
+    /// sender, and of its jobs the one with the least number. None where no job waits.
     pub fn take(&mut self) -> Option<Job>
         ensures lawful { Takes self.old result }
         ensures content { self.new ≡ after_take self.old result }
@@ -116,7 +117,9 @@ impl Board {
         Some(Job { id, task })
     }
 
-    /// Finishes a taken job by the answer of its own position under its own scoring.
+    /// Finishes a taken job by the answer of its own position under its own scoring. `NotTaken`
+    /// where the job is unknown, waits or is finished; `OtherPosition` where the answer is that of
+    /// another position or scoring. `Err` changes nothing.
     pub fn finish(&mut self, id: JobId, solved: Solved) -> Result<(), JobFault>
         ensures lawful { Finishes self.old id solved result }
         ensures content { self.new ≡ after_finish self.old id solved result }
@@ -129,7 +132,8 @@ impl Board {
         Ok(())
     }
 
-    /// Lets a taken job wait again.
+    /// Lets a taken job wait again. `NotTaken` where the job is unknown, waits or is finished;
+    /// nothing is changed then.
     pub fn give_back(&mut self, id: JobId) -> Result<(), JobFault>
         ensures lawful { result ≡ give_back_reply self.old id }
         ensures content { self.new ≡ after_give_back self.old id result }
@@ -146,8 +150,10 @@ impl Board {
         Ok(())
     }
 
-    /// Hands over the next answer of a sender, in the order of its submits. `Drained` where the
-    /// sender is closed and was handed all answers.
+    /// Returns the next answer of a sender, in the order of its submits, and counts it as
+    /// delivered. `Waiting` where the sender's next job is not finished, or where all its answers
+    /// were delivered and it is open; `Drained` where all were delivered and it is closed;
+    /// `NoSender` where the board has no such sender.
     pub fn deliver(&mut self, sender: u32) -> Handed
         ensures lawful { result ≡ deliver_reply self.old sender }
         ensures content { self.new ≡ after_deliver self.old sender result }
@@ -158,8 +164,8 @@ impl Board {
         jobs.deliver()
     }
 
-    /// Ends the submits of a sender. True where it was open. Its jobs are still solved and
-    /// delivered.
+    /// Closes a sender, which accepts no task from then on. Its jobs are still solved and
+    /// delivered. True where it was open; `Err` where the board has no such sender.
     pub fn close(&mut self, sender: u32) -> Result<bool, NoSender>
         ensures lawful { result ≡ close_reply self.old sender }
         ensures content { self.new ≡ after_close self.old sender result }
@@ -170,7 +176,7 @@ impl Board {
         Ok(jobs.close())
     }
 
-    /// Whether all senders are closed, and all jobs finished.
+    /// Whether all senders are closed and all jobs finished. Answers may still be undelivered.
     pub fn is_done(&self) -> bool
         ensures { IsTrue result ↔ AllDone self.now }
     {

@@ -1,4 +1,4 @@
-//! What the thread of one sender knows: what it sent, and how much of it came back.
+//! One sender at a desk: which tasks it sent, and how many of their answers came back.
 
 ghost use Rattle.std.specs.Prelude.{◌≡◌, ◌≢◌, ◌<◌, ◌+◌, length, IfOk, IfErr, IfSome, IfNone, OnOk};
 ghost use Rattle.std.specs.Prelude.{OnErr, Err, slice_get};
@@ -13,7 +13,7 @@ use endgame_search::Task;
 use std::alloc::Global;
 use std::marker::Model;
 
-/// What a turn at a desk gives.
+/// What `Desk::turn` returns.
 #[derive(Clone, Copy, PartialEq, Eq, Debug)]
 pub enum Turn {
     /// The client's next answer.
@@ -24,8 +24,8 @@ pub enum Turn {
     Drained,
 }
 
-/// One sender's part at a desk: its number, the tasks that it sent, and how many of their answers
-/// came back.
+/// One sender at a desk: its number, the tasks that it sent, and how many of their answers came
+/// back.
 #[derive(Drop)]
 pub struct Client {
     sender: u32,
@@ -49,7 +49,8 @@ impl Client {
     ghost use Rattle.job_board.specs.Replies.{Submits, after_submit, deliver_reply};
     ghost use Rattle.job_board.specs.Turns.{IsNext, IsServed, TurnGives, LooksAt};
 
-    /// A client of the sender, which has sent nothing. It takes no memory yet.
+    /// A client of sender `sender`, which counts from 0. It has sent nothing, and takes no memory
+    /// yet.
     pub fn new(alloc: Global, sender: u32) -> Client
         ensures { result ≡ new_client sender }
     {
@@ -80,7 +81,7 @@ impl Client {
         self.sender
     }
 
-    /// Makes room for one more task, so that `send` grows nothing of the client.
+    /// Makes room for one more task, so that `send` need not ask memory for the client's list.
     pub(crate) fn make_room(&mut self) -> Result<(), SubmitFault>
         ensures client { self.new ≡ self.old }
         ensures fault { IfErr result (λ e. e ≡ fault.Memory) }
@@ -91,8 +92,8 @@ impl Client {
         }
     }
 
-    /// Submits a task to the board, and keeps it. The client's own want of memory comes before all
-    /// other refusals.
+    /// Submits a task to the board, and adds an accepted task to the client's list. `Memory` where
+    /// there is no memory for that list, before the board is asked.
     pub(crate) fn send(&mut self, board: &mut Board, task: Task) -> Result<u32, SubmitFault>
         ensures ok { OnOk result (self.new ≡ with_sent task self.old) }
         ensures err { OnErr result (self.new ≡ self.old) }
@@ -107,8 +108,8 @@ impl Client {
         Ok(number)
     }
 
-    /// What one hold of the board gives the client: a deliver, and where that says to wait, a take.
-    /// None where the client has to wait.
+    /// Asks the board for the client's next answer, and takes a job where the board replies
+    /// `Waiting`. None where no job waits either: the client has to wait.
     pub(crate) fn look(&mut self, board: &mut Board) -> Option<Result<Turn, Mixed>>
         ensures ok { IfSome result (λ found. IfOk found (TurnGives self.old self.new)) }
         ensures err { IfSome result (λ found. OnErr found (self.new ≡ self.old)) }
@@ -116,7 +117,7 @@ impl Client {
         ensures hold { LooksAt
             board.old self.old (deliver_reply board.old self.old.sender) result board.new }
     {
-        // So a number that the board hands over is small enough to be counted.
+        // By this law the number of a delivery is below 65,535, as `accept` requires.
         boards_have_contents(board);
         match board.deliver(self.sender) {
             Handed::Next(delivery) => Some(self.accept(delivery)),
@@ -129,14 +130,14 @@ impl Client {
         }
     }
 
-    // The task whose answer comes next, if it was sent.
+    // The task whose answer comes next. None where all tasks that were sent have their answers.
     fn awaited(&self) -> Option<Task>
         ensures { result ≡ slice_get self.now.sent self.now.received }
     {
         self.sent.get(self.received as usize).copied()
     }
 
-    // Counts a delivery, if it is the next.
+    // Counts a delivery that is the client's next answer. `Mixed` at any other.
     fn accept(&mut self, delivery: Delivery) -> Result<Turn, Mixed>
         requires { delivery.number < 65535 }
         ensures ok { IfOk result (λ turn.
@@ -153,7 +154,7 @@ impl Client {
         Ok(Turn::Next(delivery))
     }
 
-    // `Drained`, if all answers came back.
+    // `Drained` where all answers came back, else `Mixed`.
     fn check_drained(&self) -> Result<Turn, Mixed>
         ensures ok { IfOk result (λ turn. (turn ≡ Drained) × IsServed self.now) }
         ensures err { OnErr result (IsServed self.now → ⊥) }

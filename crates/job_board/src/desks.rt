@@ -1,11 +1,11 @@
-//! A board that threads share under a lock. What one hold of the lock does is a call of `Board` or
-//! of `Client`; a desk takes the lock, makes the call, and wakes those who wait.
+//! A board that threads share under a lock. A desk takes the lock, calls `Board` or `Client`, and
+//! wakes threads that wait.
 //!
-//! A worker waits for a job or for the end; a client waits for its next answer, for a job or for
-//! its end. One more waiting job is of use to one of them, whichever it is, so a submit and a give
-//! back wake one. What a finish or a close changes may be of use to any, so they wake all. A client
-//! that was woken for a job may find its answer there and leave the job; but the finish of that
-//! answer wakes all others, who look for the job.
+//! A worker waits until there is a job, or the board is done. A client waits until there is its
+//! next answer or a job, or it is drained. Any thread that waits can take one more waiting job, so
+//! a submit and a give back wake one thread. A finish or a close may be what any of them waits for,
+//! so they wake all. A client that was woken for a job may find its answer, and leave the job. The
+//! finish of that answer wakes all the others, and they look for the job.
 
 ghost use Rattle.std.specs.Prelude.{◌≡◌, ◌<◌, ◌↔◌, IfOk, OnOk, OnErr};
 ghost use Rattle.job_board.specs.declared.faults.BoardFault.TheVariants as fault;
@@ -29,7 +29,8 @@ impl Desk {
     ghost use Rattle.job_board.specs.Client.{with_sent};
     ghost use Rattle.job_board.specs.Turns.{TurnGives};
 
-    /// A desk round a new board, which refuses as `Board::new` does.
+    /// A desk with a new board of `senders` senders, numbered from 0. The faults are those of
+    /// `Board::new`: `TooManySenders` above `Board::MOST_SENDERS`, and `Memory`.
     pub fn new(alloc: Global, senders: u32) -> Result<Desk, BoardFault>
         ensures { (result ≡ Err fault.TooManySenders) ↔ (Board.MOST_SENDERS < senders) }
     {
@@ -40,8 +41,9 @@ impl Desk {
         })
     }
 
-    /// Submits a task for the client's sender, and gives the number of its job. A refusal changes
-    /// neither the client nor the board; the client's own want of memory comes first.
+    /// Submits a task for the client's sender, and returns the number of its job, as
+    /// `Board::submit` does. `Err` changes neither the client nor what the board holds. `Memory`
+    /// where the client has no memory for the task, before the board is asked.
     pub fn submit<R: Wait>(
         &self,
         rt: &R,
@@ -60,8 +62,8 @@ impl Desk {
         Ok(number)
     }
 
-    /// Takes a job, as `Board::take` does; waits while there is none. None once the board is done:
-    /// all senders are closed, and all jobs finished.
+    /// Takes a job as `Board::take` does. While no job waits, the calling thread waits. None once
+    /// the board is done: all senders are closed, and all jobs finished.
     pub fn take_or_wait<R: Wait>(&self, rt: &R) -> Option<Job> {
         let mut board = self.board.lock(rt);
         for _ in rt.forever() {
@@ -76,24 +78,27 @@ impl Desk {
         unreachable!()
     }
 
-    /// `Board::finish`.
+    /// Finishes a taken job as `Board::finish` does, with its faults, and then wakes all threads
+    /// that wait at the desk.
     pub fn finish<R: Wait>(&self, rt: &R, id: JobId, solved: Solved) -> Result<(), JobFault> {
         self.board.lock(rt).finish(id, solved)?;
         self.changed.notify_all();
         Ok(())
     }
 
-    /// `Board::give_back`.
+    /// Lets a taken job wait again as `Board::give_back` does, with its faults, and then wakes one
+    /// thread that waits at the desk.
     pub fn give_back<R: Wait>(&self, rt: &R, id: JobId) -> Result<(), JobFault> {
         self.board.lock(rt).give_back(id)?;
         self.changed.notify_one();
         Ok(())
     }
 
-    /// The client's next answer; else a job, which the client has now taken; else that all answers
-    /// came back. Waits while there is none of these. `Mixed` where the board hands over what is
-    /// not the client's next, where it says `Drained` and a sent task hasn't come back, and where
-    /// it has no such sender; the client is unchanged then.
+    /// Returns the client's next answer where it is there, and counts it; `Drained` where the
+    /// sender is closed and all answers came back; else a job, which the client has now taken.
+    /// While there is none of these, the calling thread waits. `Mixed` where the board delivers an
+    /// answer that is not the client's next, where the board replies `Drained` before the client
+    /// has all answers, and where the board has no such sender. `Err` leaves the client as it was.
     pub fn turn<R: Wait>(&self, rt: &R, client: &mut Client) -> Result<Turn, Mixed>
         ensures ok { IfOk result (TurnGives client.old client.new) }
         ensures err { OnErr result (client.new ≡ client.old) }
@@ -108,7 +113,8 @@ impl Desk {
         unreachable!()
     }
 
-    /// Ends the submits of the client's sender. True where it was open.
+    /// Closes the client's sender, as `Board::close` does, and then wakes all threads that wait at
+    /// the desk. True where the sender was open; `Err` where the board has no such sender.
     pub fn close<R: Wait>(&self, rt: &R, client: &Client) -> Result<bool, NoSender> {
         let was_open = self.board.lock(rt).close(client.sender())?;
         self.changed.notify_all();

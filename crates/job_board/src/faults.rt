@@ -1,11 +1,11 @@
-//! Why a step, or a call round it, is refused.
+//! Why a call of a board, a desk or a client is refused.
 
 use thiserror::Error;
 
 /// Why a board is not made.
 #[derive(Clone, Copy, PartialEq, Eq, Debug, Error)]
 pub enum BoardFault {
-    /// More senders were asked for than a board may have.
+    /// More than 64 senders were asked for.
     #[error("more than 64 senders")]
     TooManySenders,
     /// There was no memory for the senders.
@@ -13,7 +13,8 @@ pub enum BoardFault {
     Memory,
 }
 
-/// Why a task is not accepted. Where several hold, the first of these is told.
+/// Why a task is not accepted. Where several hold, `Board::submit` returns the first of these.
+/// `Desk::submit` returns `Memory` before the others where the client has no memory for the task.
 #[derive(Clone, Copy, PartialEq, Eq, Debug, Error)]
 pub enum SubmitFault {
     /// The board has no sender of that number.
@@ -22,7 +23,7 @@ pub enum SubmitFault {
     /// The sender was closed.
     #[error("the sender is closed")]
     Closed,
-    /// The sender has as many jobs as it may have.
+    /// The sender has 65,535 jobs, the most that it may have.
     #[error("more than 65535 jobs")]
     Full,
     /// There was no memory for one more job.
@@ -36,7 +37,7 @@ pub enum JobFault {
     /// The job is unknown, waits or is finished.
     #[error("the job is not taken")]
     NotTaken,
-    /// The answer is that of another position, or of another scoring.
+    /// The job is taken, and the answer is that of another position or of another scoring.
     #[error("the answer is of another position")]
     OtherPosition,
 }
@@ -46,7 +47,9 @@ pub enum JobFault {
 #[error("no such sender")]
 pub struct NoSender;
 
-/// A client was handed what is not the next of its answers, as where two clients have one sender.
+/// The board's reply does not fit the client. It is an answer that is not the client's next; or
+/// `Drained` while a task that the client sent has no answer; or the board has no such sender. This
+/// happens where two clients have one sender.
 #[derive(Clone, Copy, PartialEq, Eq, Debug, Error)]
 #[error("answers mixed")]
 pub struct Mixed;

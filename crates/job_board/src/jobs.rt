@@ -1,4 +1,4 @@
-//! Jobs, and what becomes of them.
+//! Jobs, their stages and their answers.
 
 ghost use Rattle.std.specs.Prelude.{◌≡◌, ◌↔◌, IsTrue};
 
@@ -23,33 +23,33 @@ pub struct Job {
 pub enum Stage {
     /// It waits to be taken.
     Waiting,
-    /// Somebody took it, and has neither finished it nor given it back.
+    /// It was taken, and since then neither finished nor given back.
     Taken,
-    /// It has its answer.
+    /// It is finished, with this answer.
     Finished(Solved),
 }
 
-/// The answer of a sender's job, with the job's number among the sender's jobs.
+/// The answer of a job, with the job's number among the jobs of its sender, from 0.
 #[derive(Clone, Copy, PartialEq, Eq, Debug)]
 pub struct Delivery {
     pub number: u32,
     pub solved: Solved,
 }
 
-/// What a sender is handed.
+/// What `Board::deliver` returns for a sender.
 #[derive(Clone, Copy, PartialEq, Eq, Debug)]
 pub enum Handed {
     /// The next answer, in the order of the submits.
     Next(Delivery),
-    /// The next answer isn't there yet, or more may be submitted.
+    /// The sender's next job is not finished; or all its answers were delivered and it is open.
     Waiting,
-    /// The sender is closed, and was handed all of its answers.
+    /// The sender is closed, and all its answers were delivered.
     Drained,
     /// The board has no sender of that number.
     NoSender,
 }
 
-/// Whether this is the answer of the task: of its position, under its scoring.
+/// Whether the answer is that of the task: of its position, under its scoring.
 pub(crate) fn is_answer_of(solved: Solved, task: Task) -> bool
     ensures { IsTrue result ↔ (task ≡ solved) }
 {

@@ -1,5 +1,5 @@
-//! What holds of every list of steps, in whatever order threads make them: laws over the
-//! definitions alone. Each function's contract is a law; calling it does nothing.
+//! What holds of every list of steps, in whatever order threads make them. Each function's contract
+//! is a law; calling the function does nothing.
 
 ghost use Rattle.std.specs.Prelude.{◌≡◌, ◌<◌, ◌≤◌, ◌++◌, ℕ, List, [], ◌∷◌, Some, length, map};
 ghost use Rattle.std.specs.Prelude.{slice_get, true};
@@ -17,9 +17,10 @@ ghost use Rattle.job_board.specs.Traces.{trace_steps, trace_replies};
 
 use crate::boards::Board;
 
-/// Of a legal history: what a sender is handed is, in order and each once, the answers of a prefix
-/// of its accepted tasks; of all of them where it is drained, and from then on it is handed no
-/// more; and after its close nothing is accepted.
+/// In a legal history the answers that are delivered to a sender are, in order and each once, those
+/// of a prefix of its accepted tasks. Where the sender is drained they are those of all its
+/// accepted tasks, and from then on no task of it is accepted and no answer delivered. After its
+/// close no task of it is accepted.
 pub fn deliveries_are_in_order()
     ensures in_order { (n s : ℕ) (ss : List Step) (rs : List Reply)
         → s < n → IsLegal n ss rs
@@ -37,10 +38,11 @@ pub fn deliveries_are_in_order()
         → accepted_tasks s later replies ≡ [] }
 {}
 
-/// Of a client at any desk, whatever other threads do there: over any list of its accepted submits
-/// and of its turns, what it received is, in order and each once, the answers of a prefix of what
-/// it sent; of all of it where a turn says that the client is drained. `Client::sent` and
-/// `Client::received` tell just that.
+/// Take any list of the accepted submits and the turns of a client at a desk, whatever other
+/// threads do there. The answers that the client received are, in order and each once, those of a
+/// prefix of the tasks that it sent. Where its last turn returns `Drained`, they are those of all
+/// these tasks. `Client::sent` is the list of these tasks, and `Client::received` the number of
+/// these answers.
 pub fn clients_receive_in_order()
     ensures in_order { (s : ℕ) (es : List Event) (me : ClientView)
         → Leads (new_client s) es me
@@ -53,9 +55,9 @@ pub fn clients_receive_in_order()
         → (me.sent ≡ sent_tasks es) × (me.received ≡ length (received_answers es)) }
 {}
 
-/// Of a legal history: its content has as many senders as the history, and is one that a board may
-/// have; and the state of each sender is what the steps and replies say: its accepted tasks, how
-/// far each job has come, how many answers it was handed, whether it was closed.
+/// A legal history of `n` senders leaves a `BoardView` of `n` senders that meets `IsBoardView`. The
+/// `SenderView` of each sender there is what the steps and replies say: its accepted tasks, the
+/// stage of each job, how many answers were delivered to it, and whether it was closed.
 pub fn contents_are_of_histories()
     ensures senders { (n : ℕ) (ss : List Step) (rs : List Reply) → length (content n ss rs) ≡ n }
     ensures kept { (n : ℕ) (ss : List Step) (rs : List Reply)
@@ -65,7 +67,8 @@ pub fn contents_are_of_histories()
         → IsStateOf s ss rs state }
 {}
 
-/// A legal history, followed by steps with replies that are lawful of its content, is legal.
+/// Let a legal history leave a `BoardView`. Later steps whose replies are lawful from that view on
+/// continue the history to a legal one, which leaves what these steps make of the view.
 pub fn histories_continue()
     ensures legal { (n : ℕ) (ss later : List Step) (rs replies : List Reply)
         → IsLegal n ss rs → AreLawful (content n ss rs) later replies
@@ -75,18 +78,18 @@ pub fn histories_continue()
         → content n (ss ++ later) (rs ++ replies) ≡ after_all (content n ss rs) later replies }
 {}
 
-/// Of any board: what it holds is a content that a board may have, of no more senders than that.
+/// The view of every board meets `IsBoardView`, and has at most `MOST_SENDERS` senders.
 pub fn boards_have_contents(board: &Board)
     ensures content { IsBoardView board.now }
     ensures few { length board.now ≤ Board.MOST_SENDERS }
 {
-    // A look at a field, so that the invariant of the type is known here.
+    // Reading a field makes the invariant of the type known here.
     let _ = &board.senders;
 }
 
-/// Each content that a board may have, and so the one that a hold of a desk's lock finds, is left
-/// by a legal history, its trace. `boards_have_contents` says that a board's content meets the
-/// premise.
+/// Each `BoardView` that meets `IsBoardView` is left by a legal history, its trace. By
+/// `boards_have_contents` the view of every board meets it, so also the view of the board that a
+/// thread finds when it takes a desk's lock.
 pub fn contents_have_histories()
     ensures legal { (c : BoardView)
         → IsBoardView c → IsLegal (length c) (trace_steps 0 c) (trace_replies 0 c) }

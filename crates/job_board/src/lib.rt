@@ -12,7 +12,8 @@
 //! ```
 //!
 //! A `Board` is a machine of six steps, which runs on one thread. A `Desk` is a board that threads
-//! share under a lock, and a `Client` is one sender's part at a desk.
+//! share under a lock. A `Client` stores which tasks one sender sent to a desk, and how many of
+//! their answers came back.
 #![tactic(auto)]
 
 mod boards;

@@ -1,4 +1,4 @@
-//! The jobs that wait, the longest first.
+//! The jobs that wait, those with most empty squares first.
 
 ghost use Rattle.std.specs.Prelude.{◌≡◌, ◌<◌, ◌≤◌, ◌+◌, ◌^◌, ◌↔◌, [], ◌∷◌, length};
 ghost use Rattle.std.specs.Prelude.{IfSome, IfNone, IsTrue, OnOk};
@@ -11,16 +11,17 @@ use std::cmp::Reverse;
 use std::collections::BinaryHeap;
 use std::marker::Model;
 
-// Greatest is the job with most empty squares, then of the first sender, then of the least number.
+// A waiting job in the heap. The greatest has most empty squares; of equal ones it is of the first
+// sender, and of its jobs it has the least number.
 #[derive(Clone, Copy, PartialEq, Eq, PartialOrd, Ord)]
 struct Entry {
     empties: u8,
     id: Reverse<JobId>,
 }
 
-/// A priority queue of jobs: those with most empty squares come first, then those of the first
-/// sender, then those of the least number. Contracts see the jobs in no certain order, and for how
-/// many there is room.
+/// A priority queue of jobs. The job with most empty squares comes first; of equal ones a job of
+/// the first sender, and of its jobs the one with the least number. Contracts see the jobs in no
+/// certain order, and for how many jobs there is room.
 #[derive(Drop)]
 pub(crate) struct JobQueue {
     heap: BinaryHeap<Entry>,
@@ -54,7 +55,7 @@ impl JobQueue {
         self.heap.is_empty()
     }
 
-    /// Makes room for so many more jobs than wait.
+    /// Makes room for `additional` jobs beyond those in the queue.
     pub(crate) fn reserve(&mut self, additional: usize) -> Result<(), AllocError>
         ensures jobs { self.new.jobs ≡ self.old.jobs }
         ensures room { self.old.room ≤ self.new.room }
@@ -78,7 +79,7 @@ impl JobQueue {
         };
     }
 
-    /// Takes out the first job.
+    /// Takes out the first job. None where the queue is empty.
     pub(crate) fn pop(&mut self) -> Option<JobId>
         ensures some { IfSome result (λ id. IsPermutation self.old.jobs (id ∷ self.new.jobs)) }
         ensures none { IfNone result ((self.old.jobs ≡ []) × (self.new.jobs ≡ [])) }

@@ -1,4 +1,4 @@
-//! What a board holds of one sender.
+//! The jobs of one sender at a board.
 
 ghost use Rattle.std.specs.Prelude.{◌≡◌, ◌<◌, ◌≤◌, Some, length, slice_get, not, OnOk, OnErr};
 ghost use Rattle.job_board.specs.declared.jobs.Stage.TheVariants.{Waiting, Taken, Finished};
@@ -12,7 +12,8 @@ use std::marker::Model;
 /// The most jobs of one sender.
 pub(crate) const MOST_JOBS: usize = 65_535;
 
-/// The jobs of one sender.
+/// The jobs of one sender, numbered from 0: the task and the stage of each, how many answers were
+/// delivered, and whether the sender is closed.
 #[derive(Drop)]
 pub(crate) struct Sender {
     tasks: Vec<Task>,
@@ -50,21 +51,21 @@ impl Sender {
         }
     }
 
-    /// The task of a job.
+    /// The task of job `number`. None where the sender has no such job.
     pub(crate) fn task(&self, number: u32) -> Option<Task>
         ensures { result ≡ slice_get self.now.tasks number }
     {
         self.tasks.get(number as usize).copied()
     }
 
-    /// How far a job has come.
+    /// The stage of job `number`. None where the sender has no such job.
     pub(crate) fn stage(&self, number: u32) -> Option<Stage>
         ensures { result ≡ slice_get self.now.stages number }
     {
         self.stages.get(number as usize).copied()
     }
 
-    /// How many jobs there are.
+    /// How many jobs the sender has.
     pub(crate) fn len(&self) -> usize
         ensures { result ≡ length self.now.tasks }
     {
@@ -77,7 +78,8 @@ impl Sender {
         self.closed
     }
 
-    /// Why no task is accepted, but for want of memory.
+    /// Why the sender accepts no task: `Closed`, else `Full`. None where it accepts one, if there
+    /// is memory.
     pub(crate) fn refusal(&self) -> Option<SubmitFault>
         ensures { result ≡ submit_refusal (Some self.now) }
     {
@@ -90,7 +92,7 @@ impl Sender {
         None
     }
 
-    /// Adds a job, which waits.
+    /// Adds a job, which waits. `Err` leaves the sender as it was.
     pub(crate) fn push(&mut self, task: Task) -> Result<(), AllocError>
         ensures ok { OnOk result (self.new ≡ with_task task self.old) }
         ensures err { OnErr result (self.new ≡ self.old) }
@@ -102,7 +104,7 @@ impl Sender {
         Ok(())
     }
 
-    /// Brings a job to a stage.
+    /// Sets the stage of job `number`.
     pub(crate) fn set_stage(&mut self, number: u32, stage: Stage)
         requires { number < length self.old.stages }
         ensures { self.new ≡ with_stage number stage self.old }
@@ -110,7 +112,8 @@ impl Sender {
         self.stages[number as usize] = stage;
     }
 
-    /// Ends a job that was taken, by the answer of its own task.
+    /// Finishes a taken job by the answer of its own task. `NotTaken` where job `number` is
+    /// unknown, waits or is finished; `OtherPosition` where the answer is not that of its task.
     pub(crate) fn finish(&mut self, number: u32, solved: Solved) -> Result<(), JobFault>
         ensures reply { FinishAs
             (slice_get self.old.stages number) (slice_get self.old.tasks number) solved result }
@@ -129,7 +132,7 @@ impl Sender {
         }
     }
 
-    /// Lets a job that was taken wait again.
+    /// Lets a taken job wait again. `NotTaken` where job `number` is unknown, waits or is finished.
     pub(crate) fn give_back(&mut self, number: u32) -> Result<(), JobFault>
         ensures reply { result ≡ give_back_reply_at (slice_get self.old.stages number) }
         ensures ok { OnOk result (self.new ≡ with_stage number Waiting self.old) }
@@ -142,7 +145,7 @@ impl Sender {
         Ok(())
     }
 
-    /// The answer of a job that is finished.
+    /// The answer of job `number`. None where the job is unknown or not finished.
     fn answer(&self, number: u32) -> Option<Solved>
         ensures { result ≡ answer_in (slice_get self.now.stages number) }
     {
@@ -152,7 +155,9 @@ impl Sender {
         }
     }
 
-    /// Hands over the next answer, if it is there.
+    /// Returns the next answer, in the order of the submits, and counts it. `Waiting` where the
+    /// next job is not finished, or where there is none and the sender is open; `Drained` where
+    /// there is none and the sender is closed.
     pub(crate) fn deliver(&mut self) -> Handed
         requires { self.old.handed ≤ 65535 }
         ensures reply { result ≡ deliver_reply_of self.old }
@@ -170,7 +175,7 @@ impl Sender {
         }
     }
 
-    /// True where it was open.
+    /// Closes the sender. True where it was open.
     pub(crate) fn close(&mut self) -> bool
         ensures was { result ≡ not self.old.closed }
         ensures state { self.new ≡ closed_state self.old }

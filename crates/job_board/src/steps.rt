@@ -9,8 +9,8 @@ use crate::jobs::{Handed, Job, JobId};
 use endgame_search::{Solved, Task};
 use std::alloc::{AllocError, Global};
 
-/// A step of a board, with any senders, numbers and answers in it: the call of that name, and what
-/// it is given.
+/// A step of a board: the call of `Board` of that name, with its arguments. A `u32` is the number
+/// of a sender, from 0. The arguments may be any, also a sender or a job that the board hasn't.
 #[derive(Clone, Copy, PartialEq, Eq, Debug)]
 pub enum Step {
     Submit(u32, Task),
@@ -21,7 +21,8 @@ pub enum Step {
     Close(u32),
 }
 
-/// What a board answers to a step: to `Submit` by `Submitted`, to `Take` by `Took`, and so on.
+/// What the call of a step returns: `Submitted` of `Submit`, `Took` of `Take`, `Finished` of
+/// `Finish`, `GaveBack` of `GiveBack`, `Handed` of `Deliver` and `Closed` of `Close`.
 #[derive(Clone, Copy, PartialEq, Eq, Debug)]
 pub enum Reply {
     Submitted(Result<u32, SubmitFault>),
@@ -32,8 +33,9 @@ pub enum Reply {
     Closed(Result<bool, NoSender>),
 }
 
-/// Runs all steps in order, with one reply for each. The list of replies is made first: at `Err` no
-/// step was run. A submit that is refused memory says so in its reply, and the later steps go on.
+/// Runs all steps in order, and returns one reply for each, in that order. Memory for the replies
+/// is taken first: at `Err` no step was run. A submit that is refused memory has that refusal as
+/// its reply, and the steps behind it are run.
 pub fn run_steps(alloc: Global, board: &mut Board, steps: &[Step]) -> Result<Vec<Reply>, AllocError>
     ensures one_each { IfOk result (λ replies. length replies.items ≡ length steps.now) }
     ensures lawful { IfOk result (λ replies. AreLawful board.old steps.now replies.items) }

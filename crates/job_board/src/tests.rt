@@ -1,5 +1,5 @@
 //! Worked lists of steps, the order of `take`, limits, and a desk on one thread and on many. Each
-//! test also passes where one request for memory is refused: what was refused is done again.
+//! test also passes where one request for memory is refused: the refused call is made again.
 
 mod at_the_end;
 mod boards;
@@ -35,7 +35,7 @@ const UNEQUAL_CORNERS: Masks = (0x81, 0x8_0000_8002);
 // A board full of the opponent's discs.
 const NO_DISCS: Masks = (0, u64::MAX);
 
-// The first job of the first sender, and its second.
+// The first and the second job of the first sender.
 const FIRST: JobId = JobId {
     sender: 0,
     number: 0,
@@ -60,7 +60,7 @@ fn solved(task: Task) -> Solved {
     solve(&NoTable::new(task.scoring()), task)
 }
 
-// A submit, and the next one where it is refused memory, which comes before all other refusals.
+// The result of a submit. A submit that is refused memory is made again.
 fn submit<R: Wait>(
     rt: &R,
     desk: &Desk,
@@ -74,12 +74,12 @@ fn submit<R: Wait>(
     sent
 }
 
-// Whether a submit gets this number. Where it is refused memory, the next one gets it.
+// Whether a submit gets this number. A submit that is refused memory is made again.
 fn sends<R: Wait>(rt: &R, desk: &Desk, client: &mut Client, task: Task, number: u32) -> bool {
     submit(rt, desk, client, task) == Ok(number)
 }
 
-// Whether the client's turn gives this.
+// Whether the client's turn returns `turn`.
 fn turns_to<R: Wait>(rt: &R, desk: &Desk, client: &mut Client, turn: Turn) -> bool {
     desk.turn(rt, client) == Ok(turn)
 }

@@ -1,6 +1,6 @@
-//! What a desk gives once its senders are closed: a job that is given back is still taken, and who waits
-//! is told of the end. One more thread ends the test where the others have not ended in time: so these
-//! tests come before all others, which would wait for ever.
+//! A desk whose senders are closed: a job that was given back is still taken, and threads that wait
+//! are woken at the end. One more thread ends the test where the others have not ended in time. So
+//! these tests come before all others, which would wait for ever.
 
 use super::{
     CORNER_LEFT_OVER, EQUAL_CORNERS, FIRST, UNEQUAL_CORNERS, finishes, gives_back, sends, solved,
@@ -20,10 +20,10 @@ use std::time::{Clock, Duration};
 #[derive(Drop)]
 struct Scene {
     desk: Desk,
-    // Of the first sender, with all that was sent.
+    // The client of the first sender, which has sent all jobs.
     client: Mutex<Client>,
     tasks: [Task; 3],
-    // How many were sent.
+    // How many jobs were sent.
     sent: u32,
     // Whether the first job was taken.
     taken: AtomicBool,
@@ -31,7 +31,7 @@ struct Scene {
     ended: AtomicU32,
 }
 
-// A desk of so many senders, the first of which sends so many of the tasks. Each is closed.
+// A desk of `senders` senders. The first sends `sent` jobs, with the tasks in turn. Each is closed.
 fn scene_of<R: Wait>(
     rt: &R,
     alloc: Global,
@@ -59,7 +59,7 @@ fn scene_of<R: Wait>(
     })
 }
 
-// Takes the first job, gives it back while another thread works or waits, and leaves.
+// Takes the first job, gives it back while another thread works or waits, and ends.
 fn leave<R: Wait + Clock>(rt: &R, scene: &Scene) -> bool {
     let task = scene.tasks[0];
     let is_first = scene.desk.take_or_wait(rt) == Some(Job { id: FIRST, task });
@@ -78,7 +78,8 @@ fn stand_by<R: Clock>(rt: &R, scene: &Scene) {
     }
 }
 
-// Finishes each job that it takes, until there are no more: how many.
+// Finishes each job that it takes, until the board is done, and returns how many. None where the
+// board refuses one.
 fn work<R: Wait + Clock>(rt: &R, scene: &Scene) -> Option<u32> {
     stand_by(rt, scene);
     let mut finished = 0u32;
@@ -98,8 +99,8 @@ fn is_next(scene: &Scene, received: u32, next: Delivery) -> bool {
     next.number == received && next.solved == solved(scene.tasks[received as usize % 3])
 }
 
-// Whether the client's turns give all answers in their order and then the end. It solves the jobs that
-// it is given.
+// Whether the client's turns return all answers in their order and then `Drained`. The client
+// solves the jobs that its turns return.
 fn receive<R: Wait + Clock>(rt: &R, scene: &Scene) -> bool {
     stand_by(rt, scene);
     let mut client = scene.client.lock(rt);
@@ -118,7 +119,7 @@ fn receive<R: Wait + Clock>(rt: &R, scene: &Scene) -> bool {
     unreachable!()
 }
 
-// Ends the test where so many threads have not ended within half a minute.
+// Ends the test where fewer than `threads` threads have ended within half a minute.
 fn watch<R: Abort + Clock>(rt: &R, scene: &Scene, threads: u32) -> bool {
     for _ in 0..600 {
         if scene.ended.load(Ordering::SeqCst) >= threads {
@@ -134,7 +135,8 @@ fn end(scene: &Scene, passed: bool) -> bool {
     passed
 }
 
-// The parts of the threads: the only job is given back, and a worker that waits gets it.
+// The work of thread `thread`: the first gives the only job back, the second waits and takes it,
+// and the third watches.
 fn wait_for_it<R: Wait + Clock + Abort>(rt: &R, scene: &Scene, thread: usize) -> bool {
     match thread {
         0 => end(scene, leave(rt, scene)),
@@ -143,8 +145,8 @@ fn wait_for_it<R: Wait + Clock + Abort>(rt: &R, scene: &Scene, thread: usize) ->
     }
 }
 
-// The parts of the threads: a worker gives its job back and ends, another works, and the client
-// receives.
+// The work of thread `thread`: the first gives its job back and ends, the second works, the third
+// receives the client's answers, and the fourth watches.
 fn serve_all<R: Wait + Clock + Abort>(rt: &R, scene: &Scene, thread: usize) -> bool {
     match thread {
         0 => end(scene, leave(rt, scene)),

@@ -12,8 +12,8 @@ const OTHER: JobId = JobId {
     number: 0,
 };
 
-// One job of the second sender, then two of the first, which are taken in this order. The first two of
-// these are given back, and taken again.
+// One job of the second sender and two of the first are submitted, and all are taken. The first two
+// that were taken are given back, and taken again.
 fn steps_of_three_jobs(tasks: &[Task; 3], taken: &[Job; 3]) -> [Step; 11] {
     [
         Step::Submit(1, tasks[0]),
@@ -68,7 +68,7 @@ fn job_of(id: JobId, task: Task) -> Job {
     Job { id, task }
 }
 
-// Of jobs of one length the first sender's comes first.
+// Of jobs with equally many empty squares a job of the first sender is taken first.
 #[test]
 fn longest_jobs_first_then_those_of_the_first_sender(rt: HostRuntime) {
     let short = task_of(&rt, LAST_CORNER);

@@ -1,7 +1,7 @@
 //! Many threads at one desk: some send jobs and receive the answers, others solve jobs, and one
-//! leaves with its first job given back. All are served, in order. One more watches: where nothing is
-//! done for some seconds, it wakes the others again and again, so that a test whose wake-up is lost
-//! ends all the same, and fails.
+//! gives its first job back and ends. Each client receives its answers in order. One more thread
+//! watches. Where no job is finished or given back for five seconds, it wakes the others again and
+//! again, so that a test whose wake-up is lost ends and fails.
 
 use super::{
     CORNER_LEFT_OVER, EQUAL_CORNERS, LAST_CORNER, SECOND, UNEQUAL_CORNERS, finishes, gives_back,
@@ -17,10 +17,10 @@ use std::thread;
 use std::thread::Threads;
 use std::time::{Clock, Duration};
 
-// A job whose number is a multiple of this is given back when a thread has it for the first time.
+// A thread gives a job back whose number is a multiple of this, unless it gave this job back last.
 const GIVEN_BACK: u32 = 7;
 
-// What each client sends in turn, and how many jobs in all.
+// The tasks that each client sends in turn, and how many jobs each client sends.
 #[derive(Clone, Copy)]
 struct Load {
     tasks: [Task; 4],
@@ -44,10 +44,10 @@ fn task_at(load: &Load, number: u32) -> Task {
 #[derive(Drop)]
 struct Crowd {
     desk: Desk,
-    // Of a sender that is closed.
+    // The client of a sender that is closed.
     idle: Client,
     load: Load,
-    // Of the threads that are watched.
+    // How many threads are watched.
     threads: u32,
     // How many jobs were given back or finished.
     served: AtomicU32,
@@ -55,7 +55,7 @@ struct Crowd {
     ended: AtomicU32,
 }
 
-// Takes a job, gives it back and leaves.
+// Takes a job, gives it back and ends.
 fn leave<R: Wait>(rt: &R, crowd: &Crowd) -> bool {
     match crowd.desk.take_or_wait(rt) {
         Some(job) => gives_back(rt, &crowd.desk, job.id),
@@ -73,7 +73,7 @@ fn serve<R: Wait>(rt: &R, crowd: &Crowd, job: Job, last: &mut JobId) -> bool {
     finishes(rt, &crowd.desk, job)
 }
 
-// Whether all jobs that the worker took were accepted again.
+// Whether the board accepted each job that the worker took, finished or given back.
 fn work<R: Wait>(rt: &R, crowd: &Crowd) -> bool {
     let mut last = SECOND;
     for _ in rt.forever() {
@@ -126,8 +126,8 @@ fn receive_all<R: Wait>(rt: &R, crowd: &Crowd, client: &mut Client) -> bool {
     unreachable!()
 }
 
-// The part of a thread: the second leaves; of the others the even ones work, and the first and the
-// odd ones are clients.
+// The work of a thread: thread 1 gives a job back and ends; of the others, thread 0 and the odd
+// ones are clients, and the even ones are workers.
 fn play<R: Wait>(rt: &R, alloc: Global, crowd: &Crowd, thread: u32) -> bool {
     if thread == 1 {
         return leave(rt, crowd);
@@ -143,7 +143,7 @@ fn have_ended(crowd: &Crowd) -> bool {
     crowd.ended.load(Ordering::SeqCst) >= crowd.threads
 }
 
-// Whether something is done within five seconds, or all have ended.
+// Whether a job is given back or finished, or all threads have ended, within some five seconds.
 fn goes_on<R: Clock>(rt: &R, crowd: &Crowd) -> bool {
     let served = crowd.served.load(Ordering::SeqCst);
     for _ in 0..100 {
@@ -155,7 +155,7 @@ fn goes_on<R: Clock>(rt: &R, crowd: &Crowd) -> bool {
     false
 }
 
-// Wakes all until they have ended, by closes of a sender that is closed.
+// Wakes all threads until they have ended, by closes of a sender that is closed.
 fn wake_all<R: Wait + Clock>(rt: &R, crowd: &Crowd) {
     for _ in 0..10_000 {
         if have_ended(crowd) || crowd.desk.close(rt, &crowd.idle).is_err() {
@@ -165,7 +165,7 @@ fn wake_all<R: Wait + Clock>(rt: &R, crowd: &Crowd) {
     }
 }
 
-// Whether the others end by themselves.
+// Whether the other threads end without being woken by this one.
 fn watch<R: Wait + Clock>(rt: &R, crowd: &Crowd) -> bool {
     for _ in rt.forever() {
         if have_ended(crowd) {
@@ -179,7 +179,7 @@ fn watch<R: Wait + Clock>(rt: &R, crowd: &Crowd) -> bool {
     unreachable!()
 }
 
-// The part of a thread of the crowd, or of the one that watches.
+// The work of a thread of the crowd, or of the thread that watches.
 fn take_part<R: Wait + Clock>(rt: &R, alloc: Global, crowd: &Crowd, thread: usize) -> bool {
     match u32::try_from(thread) {
         Ok(thread) if thread < crowd.threads => {
@@ -208,7 +208,7 @@ fn crowd_of<R: Wait>(rt: &R, alloc: Global, load: Load, threads: u32) -> Result<
     })
 }
 
-// Whether all threads are served.
+// Whether the work of each thread passes.
 fn are_served<R: Threads + Wait + Clock + Sync>(
     rt: &R,
     alloc: Global,
@@ -225,7 +225,7 @@ fn are_served<R: Threads + Wait + Clock + Sync>(
     Ok(!served.contains(&false))
 }
 
-// The same, where memory may be refused once.
+// Whether the work of each thread passes. Memory may be refused once.
 fn are_served_at_last<R: Threads + Wait + Clock + Sync>(
     rt: &R,
     alloc: Global,

@@ -14,17 +14,17 @@ use std::sync::Wait;
 enum Call {
     // A submit of the job's task, which gets the job's number.
     Send,
-    // A submit that is refused so.
+    // A submit that is refused with this fault.
     Refused(SubmitFault),
-    // A turn that gives the job to solve.
+    // A turn that returns the job to solve.
     Work,
-    // A turn that gives the job's answer.
+    // A turn that returns the job's answer.
     Next,
-    // A turn that says so.
+    // A turn that returns `Drained`, or the fault `Mixed`.
     Drained,
     Mixed,
     Finish,
-    // A finish that is refused so.
+    // A finish that is refused with this fault.
     Unfinished(JobFault),
     // A finish by the answer of another position.
     FinishByOther,
@@ -36,26 +36,27 @@ enum Call {
     Close(Result<bool, NoSender>),
 }
 
-// A job that the sender hasn't.
+// A job that the sender doesn't have.
 const THIRD: JobId = JobId {
     sender: 0,
     number: 2,
 };
 
-// Calls about these jobs, in their order.
+// Calls with their jobs, in the order in which they are made.
 type Calls = &'static [(Call, JobId)];
 
-// What a client of this sender calls at a desk of one sender, after a first client made its calls.
+// The calls of two clients at a desk of one sender: first those of a client of sender 0, then those
+// of a client of `sender`.
 #[derive(Clone, Copy)]
 struct Case {
     first: Calls,
     sender: u32,
     calls: Calls,
-    // Whether both tasks are sent and both answers received.
+    // Whether the second client sent two tasks and received both answers.
     served: bool,
 }
 
-// A client that sends two tasks is served.
+// A client sends two tasks and receives their answers.
 const SERVED: Case = Case {
     first: &[],
     sender: 0,
@@ -82,7 +83,7 @@ const SERVED: Case = Case {
     served: true,
 };
 
-// A client of a sender that the desk doesn't have is refused all.
+// Each call of a client whose sender the desk doesn't have is refused.
 const REFUSED: Case = Case {
     first: &[],
     sender: 1,
@@ -94,7 +95,7 @@ const REFUSED: Case = Case {
     served: false,
 };
 
-// The second of two clients of one sender is told that their answers are mixed.
+// Two clients have one sender: a turn of the second returns `Mixed`.
 const MIXED: Case = Case {
     first: &[(Call::Send, FIRST)],
     sender: 0,
@@ -128,7 +129,7 @@ fn next_of(number: u32, task: Task) -> Turn {
     Turn::Next(Delivery { number, solved })
 }
 
-// Whether the call has its answer. The other task is that of no job.
+// Whether the call has its answer. `other` is the task of no job.
 fn is_answered<R: Wait>(
     rt: &R,
     desk: &Desk,
@@ -184,7 +185,7 @@ fn desk_of_one(alloc: Global) -> Option<Desk> {
     Desk::new(alloc, 1).ok()
 }
 
-// Whether the case has its answers at a new desk.
+// Whether the calls of the case have their answers at a new desk.
 fn passes<R: Wait>(rt: &R, alloc: Global, case: &Case, tasks: &[Task; 3]) -> bool {
     let Some(desk) = desk_of_one(alloc) else {
         return false;
@@ -208,7 +209,8 @@ fn a_desk_on_one_thread(rt: HostRuntime) {
     }
 }
 
-// Whether a new client's submit is refused so. `Err` where it is refused memory, which comes first.
+// Whether a new client's submit is refused with this fault. `Err` where it is refused memory, which
+// comes first.
 fn is_refused<R: Wait>(
     rt: &R,
     desk: &Desk,
@@ -222,8 +224,9 @@ fn is_refused<R: Wait>(
     }
 }
 
-// Clients of a sender that is closed and of one that the desk doesn't have. Each asks for memory of its own
-// before the board is asked: `tests/refused` counts the requests, and sees each refusal told.
+// Clients of a sender that is closed and of a sender that the desk doesn't have. Each asks for
+// memory for its list before the board is asked. `tests/refused` counts the requests, and sees each
+// refusal returned.
 #[test]
 fn a_clients_memory_comes_first(rt: HostRuntime) -> Result<(), AllocError> {
     let alloc = rt.alloc();

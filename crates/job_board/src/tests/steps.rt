@@ -18,7 +18,7 @@ pub(super) fn board_of(alloc: Global, senders: u32) -> Option<Board> {
     Board::new(alloc, senders).ok()
 }
 
-// The board's replies. Where there is no memory for the list of replies, the board is as it was, and
+// The board's replies. Where memory for the list of replies is refused, the board is as it was, and
 // the steps are run on it again.
 fn replies_of(alloc: Global, board: &mut Board, steps: &[Step]) -> Option<Vec<Reply>> {
     if let Ok(replies) = run_steps(alloc, board, steps) {
@@ -32,8 +32,8 @@ fn is_refused(reply: &Reply) -> bool {
     matches!(reply, Reply::Submitted(Err(SubmitFault::Memory)))
 }
 
-// Whether a new board of so many senders gives these replies, and then is done, or is not. None where a
-// submit was refused memory.
+// Whether a new board of `senders` senders gives the replies `wanted`, and then `is_done` gives
+// `done`. None where a submit was refused memory.
 fn gives(
     alloc: Global,
     senders: u32,
@@ -51,7 +51,8 @@ fn gives(
     Some(replies.as_slice() == wanted && board.is_done() == done)
 }
 
-// The same, once more where a submit was refused memory.
+// Whether a new board of `senders` senders gives the replies `wanted`, and then `is_done` gives
+// `done`. Where a submit was refused memory, the steps are run on one more new board.
 pub(super) fn gives_at_last(
     alloc: Global,
     senders: u32,
@@ -65,12 +66,12 @@ pub(super) fn gives_at_last(
     }
 }
 
-// The reply to a take that gives this job.
+// The reply to a take that returns this job.
 pub(super) fn took(id: JobId, task: Task) -> Reply {
     Reply::Took(Some(Job { id, task }))
 }
 
-// The reply to a deliver that gives this answer.
+// The reply to a deliver that returns the answer of `task` with this number.
 fn next(number: u32, task: Task) -> Reply {
     let solved = solved(task);
     Reply::Handed(Handed::Next(Delivery { number, solved }))
@@ -117,7 +118,8 @@ fn replies_to_two_jobs(first: Task, second: Task) -> [Reply; 15] {
     ]
 }
 
-// The replies from the third on where one submit was refused memory: the other task's job is the first.
+// The replies from the third on where one of two submits was refused memory: the accepted task,
+// `task`, has the first job.
 fn replies_to_one_job(task: Task, finished: [Result<(), JobFault>; 3]) -> [Reply; 13] {
     [
         took(FIRST, task),
@@ -140,8 +142,8 @@ const NOT_TAKEN: Result<(), JobFault> = Err(JobFault::NotTaken);
 
 const OTHER_POSITION: Result<(), JobFault> = Err(JobFault::OtherPosition);
 
-// Whether the replies are lawful after the first two, one of which may be a refusal of memory: the next
-// accepted submit gets its number.
+// Whether the replies are lawful. One of the first two may be a refusal of memory: then the other
+// submit gets number 0.
 fn are_lawful_at_last(replies: &[Reply], first: Task, second: Task) -> bool {
     if replies.len() != 15 {
         return false;
@@ -158,7 +160,7 @@ fn are_lawful_at_last(replies: &[Reply], first: Task, second: Task) -> bool {
     replies == replies_to_two_jobs(first, second).as_slice()
 }
 
-// Whether one board gives lawful replies, whatever it is refused.
+// Whether one board gives lawful replies, also where one submit is refused memory.
 fn goes_on(alloc: Global, first: Task, second: Task, by_discs: Solved) -> bool {
     let steps = steps_of_two_jobs(first, second, by_discs);
     let Some(mut board) = board_of(alloc, 1) else {
@@ -192,7 +194,8 @@ fn steps_go_on_after_a_refused_submit(rt: HostRuntime) {
     assert!(rt; goes_on(rt.alloc(), first, second, by_discs));
 }
 
-// Whether the submits get the numbers from 0 on; one that is refused memory is made again at the board.
+// Whether the submits get the numbers from 0 on. A submit that is refused memory is made again at
+// the same board.
 fn counts_on(alloc: Global, task: Task) -> bool {
     let Some(mut board) = board_of(alloc, 1) else {
         return false;

@@ -1,5 +1,5 @@
-//! Who waits at a desk is woken. The thread that wakes it does so again by other calls if it sees
-//! no answer for some seconds, so that a test whose wake-up is lost ends all the same, and fails.
+//! A thread that waits at a desk is woken. Where it doesn't go on within five seconds, other calls
+//! wake it, so that a test whose wake-up is lost ends and fails.
 
 use super::{FIRST, UNEQUAL_CORNERS, finishes, gives_back, sends, solved, task_of, turns_to};
 use crate::{Client, Delivery, Desk, Job, Turn};
@@ -30,7 +30,7 @@ const EVENTS: &[Event] = &[Event::Submit, Event::GiveBack, Event::Finish, Event:
 #[derive(Drop)]
 struct Scene {
     desk: Desk,
-    // Of the thread that waits.
+    // The client of the thread that waits.
     client: Mutex<Client>,
     // The client's first job.
     job: Job,
@@ -56,8 +56,8 @@ fn scene_of<R: Wait>(rt: &R, alloc: Global, task: Task, event: Event) -> Result<
     })
 }
 
-// A worker that waits before the client does, and to which a finish and a close are of no use: they
-// have to wake the client too. It gets the job of the other sender at last.
+// A worker that waits before the client does. It can't go on after the finish or the close, so that
+// call has to wake the client too. At last the worker takes a job of the other sender.
 fn stand_by<R: Wait>(rt: &R, scene: &Scene) -> bool {
     match scene.event {
         Event::Submit | Event::GiveBack => true,
@@ -65,13 +65,13 @@ fn stand_by<R: Wait>(rt: &R, scene: &Scene) -> bool {
     }
 }
 
-// Whether the turn of the waiting client gives this.
+// Whether the turn of the waiting client returns `wanted`.
 fn is_told<R: Wait>(rt: &R, scene: &Scene, wanted: Turn) -> bool {
     let mut client = scene.client.lock(rt);
     turns_to(rt, &scene.desk, &mut client, wanted)
 }
 
-// Whether the waiting thread gets what the event lets it have.
+// Whether the call of the waiting thread returns what the event lets it return.
 fn is_given<R: Wait>(rt: &R, scene: &Scene) -> bool {
     let next = Delivery {
         number: 0,
@@ -101,7 +101,7 @@ fn call<R: Wait>(rt: &R, scene: &Scene, client: &mut Client) -> bool {
     }
 }
 
-// Whether the waiting thread goes on within five seconds.
+// Whether the waiting thread goes on within some five seconds.
 fn is_woken<R: Clock>(rt: &R, scene: &Scene) -> bool {
     for _ in 0..50 {
         if scene.woken.load(Ordering::SeqCst) {
@@ -112,8 +112,8 @@ fn is_woken<R: Clock>(rt: &R, scene: &Scene) -> bool {
     false
 }
 
-// Makes the call while the other thread waits. Then two submits and a close of another sender wake that
-// thread, and the one that stands by, in any case.
+// Makes the call while the other threads wait. Afterwards two submits and a close of another sender
+// let both of them go on, also where the call did not.
 fn wake<R: Wait + Clock>(rt: &R, alloc: Global, scene: &Scene) -> bool {
     thread::sleep(rt, Duration::from_millis(150));
     let called = call(rt, scene, &mut Client::new(alloc, 0));
@@ -145,7 +145,7 @@ fn goes_on<R: Threads + Wait + Clock + Sync>(
     Ok(!passed.contains(&false))
 }
 
-// Whether the event wakes who waits for it. Memory may be refused once.
+// Whether the event wakes the thread that waits for it. Memory may be refused once.
 fn wakes<R: Threads + Wait + Clock + Abort + Sync>(rt: &R, alloc: Global, event: Event) -> bool {
     let task = task_of(rt, UNEQUAL_CORNERS);
     let woken = match goes_on(rt, alloc, task, event) {

@@ -6,7 +6,7 @@ use Rattle.job_board.proofs.HistoryAppends.{AreLawful-push, after_all-push}
 use Rattle.job_board.proofs.steps.run_steps.Goals as goal
 use Rattle.job_board.proofs.steps.run_steps.Goals.{in-Submit, in-Take, in-Finish, in-GiveBack, in-Deliver, in-Close}
 
--- the reply of the step is lawful, and the board is as the step leaves it
+-- the reply of the step is lawful, and the view of the board is the one after the step
 pub step_holds : (c : goal.After-push_reserved) → IsLawful c.loop-step.board c.step-item.result c.match-step.reply × (c.match-step.board ≡ after c.loop-step.board c.step-item.result c.match-step.reply)
 step_holds c = elim c.match-step.branch [
   | in-Submit w ↦ rw (w.in-Submit.is, w.board-is, w.reply-is) (w.submit.ensures.lawful, w.submit.ensures.content)
