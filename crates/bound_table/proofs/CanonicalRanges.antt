@@ -1,4 +1,4 @@
--- The canonical position has the value of the position, so the same ranges are true of both.
+-- The canonical position has the value of the position, so a range that is true of one is true of both.
 use Rattle.std.proofs.Common.{◌≡◌, ◌∙◌, ap, Some, None, Option, IfSome}
 use Rattle.std.specs.Option.{SomeIff}
 use Rattle.othello_rules.specs.declared.discs.Side.TheVariants.{Black}

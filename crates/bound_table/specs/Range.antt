@@ -17,6 +17,6 @@ pub record IsRange (i : RangeView) : Type 0 where
   pub ordered : i.low ≤ℤ i.high
   pub most : i.high ≤ℤ pos 64
 
--- the value of the position under the scoring lies in the range_view
+-- the value of the position under the scoring lies in the range
 abbrev pub IsTrueOf : Scoring → PosView → RangeView → Type 0
 IsTrueOf g p i = (i.low ≤ℤ value_of g p) × (value_of g p ≤ℤ i.high)

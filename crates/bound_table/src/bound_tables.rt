@@ -14,10 +14,11 @@ use std::alloc::Global;
 use std::marker::Model;
 use std::sync::atomic::{AtomicU8, Ordering};
 
-/// A table with a fixed number of entries, which threads share by reference: no call waits, and
-/// none but `new` takes memory. An entry holds a canonical position and a range that is true of it.
-/// A store replaces what its entry holds, and is skipped where another thread uses the entry; a
-/// probe then shows None.
+/// A table with a fixed number of entries, which threads share by reference. No call waits, and
+/// only `new` takes memory. An entry holds a canonical position and a range that is true of it. A
+/// store replaces what its entry holds. It is skipped where another thread reads or writes the
+/// entry. A probe shows None where another thread writes the entry, and may show None where one
+/// reads it.
 #[derive(Drop)]
 pub struct BoundTable {
     scoring: Scoring,
@@ -45,8 +46,8 @@ fn hash_of(position: Pos) -> u64 {
     (products ^ (products >> 29)).wrapping_mul(0xbf58_476d_1ce4_e5b9)
 }
 
-// The number of the entry where a position is kept: the upper half of its hash, taken as a fraction
-// of 2^32, of the entries.
+// The number of the entry of a position, counted from 0. The upper half of the position's hash is a
+// fraction of 2^32, and the number is that fraction of the number of entries.
 #[inline]
 fn entry_index(position: Pos, entries: usize) -> usize
     requires some { 0 < entries }
@@ -58,12 +59,12 @@ fn entry_index(position: Pos, entries: usize) -> usize
 }
 
 impl BoundTable {
-    /// The greatest number of entries.
+    /// The greatest number of entries of a table.
     pub const MOST_ENTRIES: usize = 4_194_304;
 
-    /// A table under the scoring with so many entries, none of them stored to. With 0 entries it
-    /// keeps nothing. `TooMany` above `MOST_ENTRIES`, before any memory is asked for; `Memory`
-    /// where it was refused.
+    /// A table under the scoring with `entries` entries, none of them stored to. With 0 entries it
+    /// keeps nothing. `TooMany` above `MOST_ENTRIES`, before any memory is asked for. `Memory`
+    /// where memory was refused.
     pub fn new(alloc: Global, entries: usize, scoring: Scoring) -> Result<BoundTable, TableFault>
         ensures too_many { (result ≡ Err fault.TooMany) ↔ (Self.MOST_ENTRIES < entries) }
         ensures made { IfOk result
@@ -94,13 +95,14 @@ impl BoundTable {
         self.slots.is_empty()
     }
 
-    // Whether no position with so few empty squares was stored: then a probe need not look for it.
+    // Whether each stored position has more than `empties` empty squares. A probe of a position
+    // with `empties` then need not look at the entries.
     #[inline]
     fn is_below_all(&self, empties: u8) -> bool {
         empties < self.fewest_empties.load(Ordering::SeqCst)
     }
 
-    // Notes how few empty squares a stored position has.
+    // Notes the number of empty squares of a position that is stored.
     #[inline]
     fn note(&self, empties: u8) {
         if self.is_below_all(empties) {

@@ -1,8 +1,8 @@
 //! An entry of a shared table, in a slot that many threads may read or one may write.
 //!
-//! Each call looks at the slot's word and makes one turn: to read, which ends by a leave, or to
-//! write, which ends by a put. Where another thread was first, the turn gains nothing and its claim
-//! is given back; nothing is tried again, and nobody waits.
+//! Each call loads the slot's word and tries one turn. A turn to read ends by a leave, and a turn
+//! to write ends by a put. Where another thread was first, the turn is lost: its claim is done,
+//! nothing is tried again, and nobody waits.
 
 ghost use Rattle.std.specs.Prelude.{◌≡◌, ◌<◌, ◌+◌, ◌^◌, IfSome, IsTrue};
 ghost use Rattle.std.specs.Option.{SomeIff};
@@ -31,7 +31,7 @@ impl Fits for Entry {
 }
 
 impl Entry {
-    /// The canonical position of this one, and the range.
+    /// The entry of a position and a range: it holds the canonical position.
     #[inline]
     pub(crate) fn of(position: &Pos, range: Range) -> Entry
         ensures position { result.position ≡ canonical_of position.now }
@@ -43,7 +43,7 @@ impl Entry {
         }
     }
 
-    /// The range, where the entry is of this position.
+    /// The range of the entry. None where the entry holds another position.
     #[inline]
     pub(crate) fn range_of(self, position: Pos) -> Option<Range>
         ensures { SomeIff result (self.position ≡ position) self.range }
@@ -71,7 +71,7 @@ pub(crate) fn empty_slot(scoring: Scoring) -> Slot
     Counted::new(entry, &scoring)
 }
 
-// Whether one more may read under this word.
+// Whether a slot with this word admits one more reader.
 #[inline]
 fn admits_reader(word: u64) -> bool
     ensures turn { IsTrue result → IsTurn word (word + ONE_READER) }

@@ -26,7 +26,7 @@ impl Model for Range {
 }
 
 impl Range {
-    /// None unless `-64 <= low <= high <= 64`.
+    /// The range from `low` to `high`. None unless `-64 <= low <= high <= 64`.
     #[inline]
     pub fn new(low: i8, high: i8) -> Option<Range>
         ensures ordered { IsSome result ↔ IsRange (range_view low high) }

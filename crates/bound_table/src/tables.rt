@@ -1,4 +1,4 @@
-//! What a search asks and tells of positions' values.
+//! The table that a search probes and stores to.
 
 ghost use Rattle.std.specs.Prelude.{◌≡◌, IfSome, IsNone};
 ghost use Rattle.othello_rules.specs.declared.scorings.Scoring.{Scoring};
@@ -9,7 +9,7 @@ use othello_bits::Pos;
 use othello_rules::Scoring;
 use std::marker::Model;
 
-/// What is known of positions' values under one scoring. Two probes of one position may differ:
+/// A table of ranges of positions' values under one scoring. Two probes of one position may differ:
 /// another thread may store between them, and a probe may always show None.
 pub trait Bounds {
     ghost scoring: { Self → Scoring };
@@ -18,11 +18,13 @@ pub trait Bounds {
     fn scoring(&self) -> Scoring
         ensures { result ≡ scoring self.now };
 
-    /// A range that is true of the position under the scoring, or None.
+    /// Probes the table for a position: a range that holds the position's value under the scoring,
+    /// or None.
     fn probe(&self, position: &Pos) -> Option<Range>
         ensures { IfSome result (IsTrueOf (scoring self.now) position.now) };
 
-    /// Offers a range that is true of the position under the scoring, to be kept or not.
+    /// Offers a range that holds the position's value under the scoring. The table may keep it or
+    /// not.
     fn store(&self, position: &Pos, range: Range)
         requires { IsTrueOf (scoring self.now) position.now range };
 }

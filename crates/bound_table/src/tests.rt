@@ -1,5 +1,5 @@
-//! What no clause says: that a store is shown, to every image and in every thread, and which calls
-//! succeed.
+//! What no contract says: that a store is shown, to every image and in every thread, and which
+//! calls succeed.
 
 ghost use Rattle.std.specs.Prelude.{◌≡◌};
 ghost use Rattle.othello_rules.specs.declared.scorings.Scoring.TheVariants.{Winner};
@@ -23,8 +23,8 @@ struct Exact {
 }
 
 impl Exact {
-    // The position where these discs are the opponent's and A1 and H1 are empty, with its value by
-    // full minimax.
+    // The position where the opponent has the discs `opp`, A1 and H1 are empty, and the mover has
+    // all other squares. The range is its value by full minimax.
     fn of(rt: &impl Abort, opp: u64) -> Exact {
         let position = Pos::new(!(opp | 0x81), opp).expect(rt, "no square is taken twice");
         let value = position.to_grid(Side::Black).plain_value(Scoring::Winner);
@@ -74,7 +74,7 @@ fn a_store_is_shown_to_every_image(rt: HostRuntime) -> Result<(), Fail> {
     Ok(())
 }
 
-// Offers a range to the table, and whether it shows nothing then.
+// Whether the table shows nothing after a range was offered to it.
 fn keeps_nothing<T: Bounds>(table: &T, exact: &Exact) -> bool
     requires { T.scoring table.now ≡ Winner }
 {
@@ -106,7 +106,7 @@ fn store_by_turns(table: &BoundTable, one: &Exact, other: &Exact)
     }
 }
 
-// Whether the value is in what the table shows of the position.
+// Whether the range that the table shows of the position, if any, holds its value.
 fn is_shown_truly(table: &BoundTable, exact: &Exact) -> bool {
     let value = exact.range.low();
     match table.probe(&exact.position) {
@@ -164,7 +164,7 @@ fn with_row_2(rt: &impl Abort, discs: u64) -> Exact {
     Exact::of(rt, (discs & 0x1f) << 8)
 }
 
-// How many of 31 positions a table shows once all were stored.
+// How many of 31 positions a table shows after all of them were stored.
 fn count_shown(rt: &impl Abort, table: &BoundTable) -> usize
     requires { table.now.scoring ≡ Winner }
 {
