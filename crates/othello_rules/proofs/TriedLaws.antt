@@ -39,7 +39,7 @@ unfolding best_so_far greatest
 best_so_far_push [] w = refl
 best_so_far_push (x ∷ xs) w = ap Some (fold_push int_max x xs w)
 
--- what the moves among the first n squares come to
+-- the greatest worth of the moves among the first n squares, if there are any
 pub tried : Scoring → GridView → ℕ → Option ℤ
 tried g P n = best_so_far (map (worth (value g) P) (first_moves P n))
 

@@ -12,7 +12,7 @@ pub record IsScore (z : ℤ) : Type 0 where
   pub low : negsuc 63 ≤ℤ z
   pub high : z ≤ℤ pos 64
 
--- where there are best moves, there is one
+-- a mask of best moves is not 0
 abbrev pub IsBest : Best → Type 0
 IsBest (Moves mask) = 0 < mask
 IsBest Pass = ⊤

@@ -1,4 +1,4 @@
--- The square beside a square in a direction, on the board: what a ray is told by in the laws.
+-- The square beside a square in a direction, if the board has one. The law of rays is stated by it.
 use Rattle.std.specs.Prelude.{ℕ, ◌+◌, ◌-◌, nat_lt, if◌then◌else◌, Option, Some, None}
 use Rattle.othello_rules.specs.declared.directions.Step.{Step}
 use Rattle.othello_rules.specs.declared.directions.Step.TheVariants.{Back, Stay, Ahead}

@@ -45,7 +45,7 @@ abbrev pub is_some_cell : Cell → Option Cell → Bool
 is_some_cell c None = false
 is_some_cell c (Some d) = same_cell c d
 
--- square q is on the board and has this in its cell
+-- square q is on the board, and c is its cell
 abbrev pub has : GridView → Cell → ℕ → Bool
 has P c q = is_some_cell c (slice_get P.cells q)
 
@@ -54,12 +54,12 @@ unfoldable pub run : (ℕ → Bool) → List ℕ → List ℕ
 run opp [] = []
 run opp (s ∷ ss) = if opp s then s ∷ run opp ss else []
 
--- the square behind that run exists and holds an own disc
+-- the square behind the longest run of opposing discs at the front exists and holds an own disc
 unfoldable pub closes : (ℕ → Bool) → (ℕ → Bool) → List ℕ → Bool
 closes own opp [] = false
 closes own opp (s ∷ ss) = if opp s then closes own opp ss else own s
 
--- the run, if an own disc closes it
+-- the longest run of opposing discs at the front, if an own disc closes it
 abbrev pub turned_on : (ℕ → Bool) → (ℕ → Bool) → List ℕ → List ℕ
 turned_on own opp met = if closes own opp met then run opp met else []
 
@@ -67,7 +67,7 @@ turned_on own opp met = if closes own opp met then run opp met else []
 unfoldable pub turned : GridView → ℕ → Direction → List ℕ
 turned P q d = turned_on (has P (own P)) (has P (opposing P)) (ray d q)
 
--- what it would turn in all directions, one after the other: nothing if q is occupied
+-- what a disc put on q would turn in all directions, one after the other: nothing if q is occupied
 unfoldable pub flips : GridView → ℕ → List ℕ
 flips P q = if has P cell.Empty q then flat_map (turned P q) directions else []
 
@@ -82,7 +82,7 @@ is_move P q = is_nonempty (flips P q)
 unfoldable pub moves : GridView → List ℕ
 moves P = filter (is_move P) squares
 
--- the other side to move
+-- the position with the other side to move
 abbrev pub pass : GridView → GridView
 pass P = record P { mover = other P.mover }
 

@@ -55,6 +55,6 @@ best g P =
     then Moves (mask_of (best_moves g P))
     else (if can_move (pass P) then Pass else Over)
 
--- the value, and all moves that attain it; or a pass; or that the game is over
+-- the value, and what attains it: the mask of all best moves, a pass, or the end of the game
 unfoldable pub answer : Scoring → GridView → AnswerView
 answer g P = record { score = value g P; best = best g P }

@@ -1,5 +1,6 @@
 -- Worked examples: flips, moves and answers of small positions, which the check computes from the definitions.
--- Each position is told by its rows, row 1 first: X a black disc, O a white one, - an empty square.
+-- The comments show the rows of each position, row 1 first: X is a black disc, O a white disc, - an
+-- empty square.
 use Rattle.std.specs.Prelude.{◌≡◌, List, [], ◌∷◌, ◌++◌, ℤ, pos, negsuc, replicate, refl}
 use Rattle.othello_rules.specs.declared.discs.Side.{Side}
 use Rattle.othello_rules.specs.declared.discs.Side.TheVariants as side
@@ -60,7 +61,7 @@ moves-equal_corners : moves (to_move side.Black equal_corners) ≡ 0 ∷ 7 ∷ [
 unfolding equal_corners moves flips turned run closes ray directions squares
 moves-equal_corners = refl
 
--- the answers as Winner, Discs and Sign score them
+-- the answers under Winner, Discs and Sign
 abbrev answers : GridView → List AnswerView
 answers P = answer Winner P ∷ answer Discs P ∷ answer Sign P ∷ []
 

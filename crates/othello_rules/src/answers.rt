@@ -5,7 +5,7 @@ use std::marker::Model;
 /// What attains the score of a position.
 #[derive(Clone, Copy, PartialEq, Eq, Debug)]
 pub enum Best {
-    /// The best moves, all of them: square n is bit n, so A1 is bit 0 and H8 bit 63. In an `Answer`
+    /// The mask of all best moves: square n is bit n, so A1 is bit 0 and H8 bit 63. In an `Answer`
     /// it is not 0.
     Moves(u64),
     /// The mover has no move and the opponent has one.
@@ -14,7 +14,8 @@ pub enum Best {
     Over,
 }
 
-/// The score of a position, from -64 to 64 as the side to move sees it, and what attains it.
+/// The score of a position as the mover sees it, and what attains it. The score is in discs from
+/// -64 to 64, or 1, 0 or -1 under `Scoring::Sign`.
 #[derive(Clone, Copy, PartialEq, Eq, Debug)]
 pub struct Answer {
     pub score: i8,

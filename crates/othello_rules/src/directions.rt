@@ -12,7 +12,7 @@ pub(crate) enum Step {
 }
 
 impl Step {
-    // How many steps can be made from `at` before the edge.
+    // The number of steps from the column or row `at`, from 0 to 7, to the edge: 7 for `Stay`.
     pub(crate) fn room(self, at: u8) -> u8
         requires { at < 8 }
         ensures value { result ≡ room_along self at }
@@ -25,7 +25,7 @@ impl Step {
         }
     }
 
-    // The column, or the row, so many steps from `at`.
+    // The column, or the row, `by` steps from `at`.
     pub(crate) fn advance(self, at: u8, by: u8) -> u8
         requires on_board { at < 8 }
         requires room { by ≤ room_along self at }
@@ -47,7 +47,7 @@ pub(crate) struct Direction {
     pub(crate) row: Step,
 }
 
-// North, north-east, and so on round the board.
+// The eight directions: north, north-east, east, and so on clockwise.
 pub(crate) const DIRECTIONS: [Direction; 8] = [
     Direction {
         column: Step::Stay,

@@ -19,7 +19,7 @@ pub enum Cell {
 }
 
 impl Side {
-    /// The opponent.
+    /// The opponent of this side.
     pub fn other(self) -> Side
         ensures { result ≡ other self }
     {
@@ -41,7 +41,7 @@ impl Side {
 }
 
 impl Cell {
-    // Whether this is the same cell as another.
+    // Whether two cells are equal.
     pub(crate) fn is(self, cell: Cell) -> bool
         ensures { result ≡ same_cell self cell }
     {

@@ -53,7 +53,7 @@ fn negate(score: i8) -> i8
     -score
 }
 
-// The greater of the best so far, if there is one, and one more.
+// The greater of `worth` and the best so far, if there is one.
 fn raise(best: Option<i8>, worth: i8) -> i8
     ensures { result ≡ option_map_or (λ so_far. int_max so_far worth) best worth }
 {
@@ -64,7 +64,7 @@ fn raise(best: Option<i8>, worth: i8) -> i8
 }
 
 impl Grid {
-    /// The position of these cells with this side to move.
+    /// The position with these cells, in the order A1, B1, .. H8, and with `side` to move.
     pub fn new(cells: [Cell; 64], side: Side) -> Grid
         ensures { result ≡ record { cells = cells; mover = side } }
     {
@@ -97,7 +97,7 @@ impl Grid {
         Grid::new(self.cells, self.side.other())
     }
 
-    // Whether a square has this in its cell.
+    // Whether `cell` is the cell of a square.
     fn has(&self, cell: Cell, square: Square) -> bool
         ensures value { result ≡ has self.now cell square }
         ensures on_board { square < 64 }
@@ -106,7 +106,7 @@ impl Grid {
         cell.is(self.cell(square))
     }
 
-    // How many of the squares in a direction a move would turn.
+    // The number of discs that a move on `from` would turn in a direction.
     fn count_turned(&self, from: Square, direction: Direction) -> u8
         ensures value { turned self.now from direction ≡ take result (ray direction from) }
         ensures short { result ≤ 6 }
@@ -128,7 +128,7 @@ impl Grid {
         open_run
     }
 
-    // Adds the squares that a move would turn in a direction, nearest first.
+    // Adds the squares of the discs that a move on `from` would turn in a direction, nearest first.
     fn push_turned(&self, from: Square, direction: Direction, out: &mut ArrayVec<Square, 64>)
         requires { array_vec_len out.old ≤ 58 }
         ensures items { out.new.items ≡ out.old.items ++ turned self.now from direction }
@@ -139,8 +139,9 @@ impl Grid {
         }
     }
 
-    /// The squares whose discs a move would turn: direction by direction (north, north-east, and so
-    /// on round the board), nearest first, and none on an occupied square.
+    /// The squares of the discs that a move on the square would turn: direction by direction
+    /// (north, north-east, and so on clockwise), nearest first. There are none where the square is
+    /// occupied.
     pub fn flips(&self, square: Square) -> ArrayVec<Square, 64>
         ensures value { result.items ≡ flips self.now square }
         ensures on_board { square < 64 }
@@ -155,7 +156,8 @@ impl Grid {
         out
     }
 
-    /// Whether a move is allowed: the square is empty, and a disc on it would turn something.
+    /// Whether a move on the square is allowed: the square is empty, and a disc of the mover on it
+    /// would turn at least one disc.
     pub fn is_legal(&self, square: Square) -> bool
         ensures value { IsTrue result ↔ Contains (moves self.now) square }
         ensures whole { length self.now.cells ≡ 64 }
@@ -163,9 +165,9 @@ impl Grid {
         !self.flips(square).is_empty()
     }
 
-    /// The position after a move: the square and all that the move turns are the mover's, and the
-    /// other side is to move. `Occupied` on an occupied square, else `TurnsNothing` where nothing
-    /// would turn.
+    /// The position after a move on the square: the disc put there and all discs that it turns are
+    /// the mover's, and the other side is to move. `Occupied` where the square is occupied;
+    /// `TurnsNothing` where it is empty and no disc would be turned.
     pub fn play(&self, square: Square) -> Result<Grid, RuleFault>
         ensures occupied { (result ≡ Err RuleFault.Occupied)
             ↔ (has self.now Cell.Empty square ≡ false) }
@@ -212,7 +214,7 @@ impl Grid {
         !self.can_move() && !self.pass().can_move()
     }
 
-    // How many cells hold this.
+    // The number of cells that are `cell`.
     fn count(&self, cell: Cell) -> u8
         ensures value { result ≡ count_of self.now cell }
         ensures at_most { result ≤ 64 }
@@ -227,7 +229,7 @@ impl Grid {
         count
     }
 
-    /// How many squares are empty.
+    /// The number of empty squares, from 0 to 64.
     pub fn empties(&self) -> u8
         ensures value { result ≡ empties self.now }
         ensures at_most { result ≤ 64 }
@@ -235,7 +237,8 @@ impl Grid {
         self.count(Cell::Empty)
     }
 
-    /// The score as the mover sees it, by discs and empty squares as they stand, over or not.
+    /// The score of the discs and empty squares as they stand, as the mover sees it: in discs from
+    /// -64 to 64, or 1, 0 or -1 under `Sign`. Whether the game is over is not tested.
     pub fn final_score(&self, scoring: Scoring) -> i8
         ensures value { result ≡ final scoring self.now }
         ensures in_range { IsScore result }
@@ -245,7 +248,9 @@ impl Grid {
         scoring.score(own, opposing, self.empties())
     }
 
-    /// The value by full minimax, as the mover sees it: the slow oracle.
+    /// The value of the position by full minimax, as the mover sees it: in discs from -64 to 64, or
+    /// 1, 0 or -1 under `Sign`. It follows every line of play to its end: it is slow with many
+    /// empty squares.
     pub fn plain_value(&self, scoring: Scoring) -> i8
         ensures value { result ≡ value scoring self.now }
         ensures in_range { IsScore result }
@@ -274,7 +279,7 @@ impl Grid {
         }
     }
 
-    // The moves that are worth the score, as the bits of a number.
+    // The mask of the moves that are worth the value `score`: A1 is bit 0.
     fn best_mask(&self, scoring: Scoring, score: i8) -> u64
         requires { score ≡ value scoring self.now }
         ensures { result ≡ mask_of (best_moves scoring self.now) }
@@ -292,7 +297,9 @@ impl Grid {
         mask
     }
 
-    /// The value and every move that attains it, by full minimax: the slow oracle.
+    /// The answer of the position by full minimax: its value, and all moves that attain it, a pass,
+    /// or the end of the game. It follows every line of play to its end: it is slow with many empty
+    /// squares.
     pub fn plain_answer(&self, scoring: Scoring) -> Answer
         ensures { result ≡ answer scoring self.now }
     {

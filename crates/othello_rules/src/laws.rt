@@ -1,5 +1,4 @@
-//! What the definitions promise above their own text. Each function's body is empty: its contract
-//! is the law.
+//! Laws that follow from the definitions. Each function's body is empty: its contract is the law.
 
 ghost use Rattle.std.specs.Prelude.{◌≡◌, ◌≢◌, ◌<◌, ◌≤◌, ◌≤ℤ◌, ℕ, [], ◌∷◌, Some, None};
 ghost use Rattle.std.specs.Prelude.{neg_ℤ, length, map};
@@ -16,8 +15,8 @@ ghost use Rattle.othello_rules.specs.Value.{greatest, value, best_moves, answer}
 ghost use Rattle.othello_rules.specs.Colours.{colour_swap};
 ghost use Rattle.othello_rules.specs.Answer.{IsScore};
 
-/// A ray goes step by step: it is empty where the square has no neighbour in the direction, and
-/// else it is the neighbour, and then the neighbour's ray.
+/// The ray from a square is empty where the square has no neighbour in the direction. Else it is
+/// the neighbour, followed by the neighbour's ray.
 pub fn rays_go_step_by_step()
     ensures edge { (d : Direction) (q : ℕ) → Contains directions d → q < 64
         → neighbour d q ≡ None
@@ -27,9 +26,9 @@ pub fn rays_go_step_by_step()
         → ray d q ≡ next ∷ ray d next }
 {}
 
-/// The value is the one of textbook minimax: the score where the game is over, minus the value
-/// after a pass where only the mover has no move, and else the greatest of minus the value after
-/// each move.
+/// The value is the one of textbook minimax. Where the game is over, it is the final score. Where
+/// only the mover has no move, it is minus the value after a pass. Else it is the greatest of minus
+/// the value after each move. The value of at most 64 cells is from -64 to 64.
 pub fn value_is_minimax()
     ensures over { (g : Scoring) (P : GridView) → IsOver P → value g P ≡ final g P }
     ensures passed { (g : Scoring) (P : GridView) → moves P ≡ [] → moves (pass P) ≢ []
@@ -50,8 +49,8 @@ pub fn colours_are_alike()
     ensures answer { (g : Scoring) (P : GridView) → answer g (colour_swap P) ≡ answer g P }
 {}
 
-/// The sign of a value is the value under `Scoring::Sign`, and a best move under any scoring is
-/// best under that one.
+/// The sign of a value is the value under `Scoring::Sign`, and a best move under any scoring is a
+/// best move under `Scoring::Sign`.
 pub fn scorings_agree()
     ensures value { (g : Scoring) (P : GridView) → int_signum (value g P) ≡ value Sign P }
     ensures best { (g : Scoring) (P : GridView) (q : ℕ) → Contains (best_moves g P) q

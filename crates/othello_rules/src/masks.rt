@@ -6,7 +6,7 @@ ghost use Rattle.othello_rules.specs.Masks.{in_mask, squares_of};
 use crate::squares::Square;
 use arrayvec::ArrayVec;
 
-/// Whether a square is in a mask.
+/// Whether a square is in a mask: square n is bit n, so A1 is bit 0.
 #[inline]
 pub fn has_square(mask: u64, square: Square) -> bool
     ensures { result ≡ in_mask mask square }
@@ -14,7 +14,7 @@ pub fn has_square(mask: u64, square: Square) -> bool
     mask >> square.number() & 1 == 1
 }
 
-/// The squares of a mask, in the order of their numbers.
+/// The squares of a mask, in the order of their numbers: square n is bit n, so A1 is bit 0.
 pub fn squares_in(mask: u64) -> ArrayVec<Square, 64>
     ensures { result.items ≡ squares_of mask }
 {

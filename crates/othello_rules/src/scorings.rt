@@ -17,7 +17,7 @@ pub enum Scoring {
     Winner,
     /// The plain disc difference.
     Discs,
-    /// +1, 0 or -1, as the mover has more, as many or fewer discs.
+    /// 1, 0 or -1, as the mover has more discs, as many or fewer.
     Sign,
 }
 
@@ -33,7 +33,7 @@ impl Scoring {
         }
     }
 
-    /// The scoring of a name; None for anything else.
+    /// The scoring of a name: `winner`, `discs` or `sign`. None for any other bytes.
     pub fn from_name(name: &[u8]) -> Option<Scoring>
         ensures named { IfSome result (λ scoring. name.now ≡ scoring_name scoring) }
         ensures all { (g : Scoring) → name.now ≡ scoring_name g → result ≡ Some g }
@@ -50,7 +50,9 @@ impl Scoring {
         None
     }
 
-    /// The score of so many discs of the mover, discs of the opponent and empty squares.
+    /// The score of a position with `own` discs of the mover, `opposing` discs of the opponent and
+    /// `empty` empty squares, 64 in all at most: in discs from -64 to 64, or 1, 0 or -1 under
+    /// `Sign`.
     pub fn score(self, own: u8, opposing: u8, empty: u8) -> i8
         requires { own + opposing + empty ≤ 64 }
         ensures value { result ≡ score_of self own opposing empty }

@@ -34,7 +34,7 @@ impl Default for Square {
 }
 
 impl Square {
-    /// The square of a number, or None from 64 up.
+    /// The square of a number: A1 is 0, H8 is 63. None from 64 up.
     pub fn new(number: u8) -> Option<Square>
         ensures valid { IsSome result ↔ (number < 64) }
         ensures value { IfSome result (λ s. s ≡ number) }
@@ -46,7 +46,7 @@ impl Square {
         }
     }
 
-    /// The square of a number that is known to be below 64.
+    /// The square of a number below 64: A1 is 0, H8 is 63.
     pub fn at(number: u8) -> Square
         requires { number < 64 }
         ensures { result ≡ number }
@@ -73,7 +73,7 @@ impl Square {
         self.index
     }
 
-    // How many steps can be made from here in a direction before the edge.
+    // The number of steps from this square to the edge in a direction.
     pub(crate) fn room(self, direction: Direction) -> u8
         ensures value { result ≡ room direction self }
         ensures below { result < 8 }
@@ -83,7 +83,7 @@ impl Square {
         along_columns.min(along_rows)
     }
 
-    // The square so many steps from here.
+    // The square `steps` steps from this one in a direction.
     pub(crate) fn step(self, direction: Direction, steps: u8) -> Square
         requires { steps ≤ room direction self }
         ensures value { result ≡ square_after direction self steps }
@@ -93,8 +93,8 @@ impl Square {
         Square::at(column + 8 * row)
     }
 
-    /// The square's name: the letter of its column, `A` to `H`, and the digit of its row, `1` to
-    /// `8`.
+    /// The square's name, two bytes: the letter of its column, `A` to `H`, and the digit of its
+    /// row, `1` to `8`.
     #[tactic(auto, unfolding(crate::specs::Board::name_of))]
     pub fn name(self) -> [u8; 2]
         ensures { result ≡ name_of self }
@@ -102,8 +102,8 @@ impl Square {
         [b'A' + self.number() % 8, b'1' + self.number() / 8]
     }
 
-    /// The square of a name of two bytes, a letter in either case and a digit; None for anything
-    /// else.
+    /// The square of a name of two bytes: a letter, `A` to `H` in either case, and a digit, `1` to
+    /// `8`. None for any other bytes.
     #[tactic(auto, unfolding(crate::specs::Board::name_of))]
     pub fn from_name(name: &[u8]) -> Option<Square>
         ensures named { IfSome result (λ q. IsNameOf name.now q) }

@@ -8,7 +8,7 @@ mod values;
 
 use crate::{Cell, Grid, Side};
 
-// Eight rows, row 1 first: X a black disc, O a white one, - an empty square.
+// Eight rows, row 1 first: X is a black disc, O a white disc, - an empty square.
 type Board = [&'static [u8; 8]; 8];
 
 // A row of black discs, of white discs, and of empty squares.

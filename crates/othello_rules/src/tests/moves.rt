@@ -1,9 +1,9 @@
-//! One move: what it turns, what stands after it, and when it is refused.
+//! One move: the discs that it turns, the position after it, and when it is refused.
 
 use crate::tests::{LAST_CORNER, UNEQUAL_CORNERS, grid_of};
 use crate::{RuleFault, Scoring, Side, Square};
 
-// G2, F3 and E4, and then G1 to C1
+// the numbers of G2, F3 and E4, and then of G1 to C1
 const TURNED_BY_H1: [u8; 8] = [14, 21, 28, 6, 5, 4, 3, 2];
 
 #[test]
