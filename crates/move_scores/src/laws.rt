@@ -1,4 +1,4 @@
-//! What holds of scores. Each function's body is empty: its contract is the law.
+//! What holds of the scores of moves. Each function's body is empty: its contract is the law.
 
 ghost use Rattle.std.specs.Prelude.{◌≡◌, ◌≢◌, ℕ, map, neg_ℤ, Contains};
 ghost use Rattle.std.specs.List.Sorted.{IsPermutation};
@@ -10,19 +10,19 @@ ghost use Rattle.obf_text.specs.declared.entries.ListedMove.TheVariants.{At};
 ghost use Rattle.move_scores.specs.Ranks.{AreRanked};
 ghost use Rattle.move_scores.specs.Scores.{move_scores, score_fields_of, scored};
 
-/// Every move is among the scores of a position, once and with what it is worth, and nothing else
-/// is.
+/// The scores of a position list every move once, with what it is worth to the mover, and nothing
+/// else.
 pub fn scores_are_of_moves()
     ensures { (g : Scoring) (P : GridView)
         → IsPermutation (map (scored g P) (moves P)) (move_scores g P) }
 {}
 
-/// The greatest of the scores is the value.
+/// The greatest score in the fields of a position is the value of the position.
 pub fn greatest_is_value()
     ensures { (g : Scoring) (p : PosView) → greatest_listed (score_fields_of g p) ≡ value_of g p }
 {}
 
-/// A move is listed with the value exactly where it is best.
+/// A move is listed with the value of the position exactly where it is a best move.
 pub fn best_are_first()
     ensures listed { (g : Scoring) (p : PosView) (q : ℕ) → IsMove p q
         → neg_ℤ (value_of g (play_of p q)) ≡ value_of g p
@@ -32,7 +32,8 @@ pub fn best_are_first()
         → IsMove p q × (neg_ℤ (value_of g (play_of p q)) ≡ value_of g p) }
 {}
 
-/// The scores are ranked: each is more than those behind it, or as much on an earlier square.
+/// The scores are ranked: each move has a greater score than those behind it, or an equal score and
+/// an earlier square.
 pub fn scores_are_ranked()
     ensures { (g : Scoring) (P : GridView) → AreRanked (move_scores g P) }
 {}

@@ -22,7 +22,7 @@ fn pos_of(rt: &impl Abort, (mover, other): (u64, u64)) -> Pos {
     Pos::new(mover, other).expect(rt, "no square is taken twice")
 }
 
-// Whether these are the scores of the position's moves, with a table and with none.
+// Whether `score_moves` finds `fields` for the position, with a table and with none.
 fn is_scored(
     rt: &(impl Abort + AllocGlobal),
     position: Pos,
