@@ -1,4 +1,4 @@
--- What a loop that looks for the first refused position says of the list.
+-- A loop that looks for the first refused position finds the one of the definition.
 use Rattle.std.proofs.Common.{arith, ◌≡◌, ℕ, ◌<◌, ◌≤◌, List, length, take, Some, None, Bool, true, false, cond, is_some, nat_lt, ap, sym, ◌∙◌}
 use Rattle.std.specs.List.{position_or_len}
 use Rattle.std.specs.Prelude.{option_and_then, slice_get, get_or}
@@ -12,7 +12,7 @@ use Rattle.ffosolve_c.specs.Exports.{first_refused, first_refusal, position_refu
 abbrev is_refused : FfosolvePosition → Bool
 is_refused p = is_some (position_refusal p)
 
--- what stands where a list is read beyond its end
+-- the position that is read beyond the end of a list
 abbrev pub bare : FfosolvePosition
 bare = record { own = 0; opp = 0 }
 

@@ -1,4 +1,4 @@
--- What C hands in and is handed back: scorings, refusals and answers as numbers.
+-- Scorings, positions, answers and refusals as the numbers that C passes and reads.
 use Rattle.std.specs.Prelude.{◌≡◌, ◌⊎◌, ℕ, ℤ, pos, All, List, length, map, IfSome, Option, Some}
 use Rattle.std.specs.Prelude.{None, is_some, option_and_then, position, slice_get, bit_and, nat_eq}
 use Rattle.std.specs.Prelude.{nat_lt, neg_ℤ, if◌then◌else◌}
@@ -33,8 +33,8 @@ discs_at p = discs p.own p.opp
 abbrev pub c_position : PosView → FfosolvePosition
 c_position p = record { own = p.own; opp = p.opp }
 
--- what attains the score, as a kind: 0 moves, 1 a pass, 2 the end of the game; and the mask of the
--- moves, 0 for none
+-- the kind of what attains the score: 0 moves, 1 a pass, 2 the end of the game; and the mask of the
+-- best moves, 0 for a pass and for the end of the game
 abbrev pub kind_of : Best → ℤ
 kind_of (Moves mask) = pos 0
 kind_of Pass = pos 1
@@ -60,11 +60,11 @@ IsAnswer scoring p answer = IfSome (scoring_of scoring) (λ g. answer ≡ answer
 abbrev pub AreAnswers : ℕ → List FfosolvePosition → List FfosolveAnswer → Type 0
 AreAnswers scoring ps answers = IfSome (scoring_of scoring) (λ g. answers ≡ map (answer_at g) ps)
 
--- what a move to the square is worth to the mover, and 127 where it is none
+-- what the move to square q is worth to the mover, and 127 where it is no move
 abbrev pub score_at : Scoring → PosView → ℕ → ℤ
 score_at g p q = if in_mask (moves_of p) q then neg_ℤ (value_of g (play_of p q)) else pos 127
 
--- that of each square, under the scoring of this number
+-- the scores are those of the squares 0 to 63, in their order, under the scoring of this number
 abbrev pub AreScores : ℕ → FfosolvePosition → List ℤ → Type 0
 AreScores scoring p scores =
     IfSome (scoring_of scoring) (λ g. scores ≡ map (score_at g (discs_at p)) squares)
@@ -106,7 +106,7 @@ AreSolvable ps = All (λ p. position_refusal p ≡ None) ps
 abbrev pub refusal_of : ℕ → ℕ → FfosolvePosition → Option Refusal
 refusal_of scoring entries p = first_of (table_refusal scoring entries) (position_refusal p)
 
--- why two lists don't fit
+-- why a list of m positions and room for n answers don't fit
 abbrev pub lengths_refusal : ℕ → ℕ → Option Refusal
 lengths_refusal m n = if nat_eq m n then None else Some UnequalLengths
 
@@ -118,13 +118,13 @@ abbrev pub first_refusal : List FfosolvePosition → Option Refusal
 first_refusal ps =
     option_and_then (λ i. option_and_then position_refusal (slice_get ps i)) (first_refused ps)
 
--- why a request for the answers of a list is refused, where there is room for so many answers
+-- why a request for the answers of a list is refused, where there is room for `room` answers
 abbrev pub refusal_of_all : ℕ → ℕ → List FfosolvePosition → ℕ → Option Refusal
 refusal_of_all scoring entries ps room =
     first_of (table_refusal scoring entries)
     (first_of (lengths_refusal (length ps) room) (first_refusal ps))
 
--- what a request ends with that has this refusal: a good one may still want memory
+-- the refusal that a failed request returns: its own, or `NoMemory` where it has none
 abbrev pub IsRefusal : Option Refusal → Refusal → Type 0
 IsRefusal (Some refusal) told = told ≡ refusal
 IsRefusal None told = told ≡ NoMemory
@@ -133,7 +133,7 @@ abbrev pub IsStatus : Option Refusal → ℤ → Type 0
 IsStatus (Some refusal) status = status ≡ status_of refusal
 IsStatus None status = (status ≡ pos 0) ⊎ (status ≡ status_of NoMemory)
 
--- the status tells of one of the positions
+-- the status is that of a position that is refused
 abbrev pub IsOfPosition : ℤ → Type 0
 IsOfPosition status = (status ≡ status_of SharedSquare) ⊎ (status ≡ status_of TooManyEmpties)
 

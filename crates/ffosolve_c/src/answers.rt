@@ -6,8 +6,10 @@ ghost use Rattle.ffosolve_c.specs.Exports.{kind_of, moves_in, c_answer};
 use endgame_search::Claim;
 use othello_rules::{Answer, Best};
 
-/// The score of a position, and what attains it: moves (kind 0, all of them in `best`), a pass (1)
-/// or the end of the game (2).
+/// The score of a position as the mover sees it, and what attains it. `score` is in discs from -64
+/// to 64, or 1, 0 or -1 under `Sign`. `kind` is 0 for moves, 1 for a pass and 2 for the end of the
+/// game. With kind 0 `best` is the mask of all best moves: square n is bit n, so A1 is bit 0 and H8
+/// bit 63. With kinds 1 and 2 `best` is 0 in an answer, and is not read in a claim.
 #[repr(C)]
 #[derive(Clone, Copy, PartialEq, Eq)]
 pub struct FfosolveAnswer {
@@ -35,7 +37,7 @@ fn moves_in(best: Best) -> u64
     }
 }
 
-/// An answer as C reads it.
+/// An answer as C reads it: the score, the kind, and the mask of the best moves or 0.
 pub fn c_answer(answer: Answer) -> FfosolveAnswer
     ensures { result ≡ c_answer answer }
 {
@@ -46,7 +48,7 @@ pub fn c_answer(answer: Answer) -> FfosolveAnswer
     }
 }
 
-// What attains a claimed score; None where the kind is unknown.
+// The best moves, the pass or the end of the game of a claim. None where its kind is not 0, 1 or 2.
 fn claimed_best(claim: FfosolveAnswer) -> Option<Best> {
     match claim.kind {
         0 => Some(Best::Moves(claim.best)),
@@ -56,7 +58,8 @@ fn claimed_best(claim: FfosolveAnswer) -> Option<Best> {
     }
 }
 
-/// The claim; None where it can't be right, by its kind or by a score that is none.
+/// The claim as a search reads it. None where its kind is not 0, 1 or 2, or its score is not from
+/// -64 to 64: such a claim can't be right.
 pub fn possible_claim(claim: FfosolveAnswer) -> Option<Claim> {
     if claim.score < -64 || claim.score > 64 {
         return None;

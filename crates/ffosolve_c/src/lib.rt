@@ -37,8 +37,10 @@ pub use positions::FfosolvePosition;
 pub use refusals::Refusal;
 use std::alloc::Global;
 
-/// The answer of a position, by a search over a table with so many entries. The status is 0 where
-/// `answer` was written; else it is as it was, and the status tells why.
+/// Writes the answer of a position, by a search over a new table of `entries` entries, 0 to
+/// 4,194,304. `scoring` is 0 for `Winner`, 1 for `Discs` and 2 for `Sign`. The status is 0 where
+/// `answer` was written. Else `answer` is as it was, and the status is that of a `Refusal`: 1, 2,
+/// 4, 5 or 7. It is never 7, want of memory, with 0 entries.
 #[unsafe(no_mangle)]
 pub extern "C" fn ffosolve_solve(
     alloc: Global,
@@ -61,7 +63,9 @@ pub extern "C" fn ffosolve_solve(
     }
 }
 
-/// What `ffosolve_solve` gives, sooner where the claim is right. Any claim may be made.
+/// Writes the answer of a position as `ffosolve_solve` does, with its statuses, by a search that
+/// tests `claim` first unless its kind or score is none. Any claim may be made: it changes how long
+/// the search takes, and never the answer.
 #[unsafe(no_mangle)]
 pub extern "C" fn ffosolve_confirm(
     alloc: Global,
@@ -85,9 +89,12 @@ pub extern "C" fn ffosolve_confirm(
     }
 }
 
-/// The answers of positions, in their order, by searches over one table. The status is 0 where all
-/// of `answers` was written; else it is as it was, and the status tells why. Where that is a
-/// position, `at` is the index of the first one that is refused; else `at` is as it was.
+/// Writes the answer of each position at its index in `answers`, by searches over one new table of
+/// `entries` entries, 0 to 4,194,304. `scoring` is 0 for `Winner`, 1 for `Discs` and 2 for `Sign`.
+/// The status is 0 where all of `answers` was written. Else `answers` is as it was, and the status
+/// is that of a `Refusal`: 1, 2, 3, 4, 5 or 7; 3 where there are not as many answers as positions.
+/// It is never 7, want of memory, with 0 entries. With 4 and 5 `at` is the index, from 0, of the
+/// first position that is refused; else `at` is as it was.
 #[unsafe(no_mangle)]
 pub extern "C" fn ffosolve_solve_all(
     alloc: Global,
@@ -111,9 +118,12 @@ pub extern "C" fn ffosolve_solve_all(
     }
 }
 
-/// The moves of a position, and the score of each as the mover sees it, at its square's number; at
-/// the other squares 127. All by searches over one table. The status is 0 where `scores` and
-/// `moves` were written; else they are as they were, and the status tells why.
+/// Writes the mask of the mover's moves, with square n as bit n, and the score of each move at its
+/// square's number, with 127 at the other squares. A score is as the mover sees it: in discs from
+/// -64 to 64, or 1, 0 or -1 under `Sign`. All searches use one new table of `entries` entries, 0 to
+/// 4,194,304. `scoring` is 0 for `Winner`, 1 for `Discs` and 2 for `Sign`. The status is 0 where
+/// `scores` and `moves` were written. Else they are as they were, and the status is that of a
+/// `Refusal`: 1, 2, 4, 5 or 7. It is never 7, want of memory, with 0 entries.
 #[unsafe(no_mangle)]
 pub extern "C" fn ffosolve_move_scores(
     alloc: Global,
@@ -139,7 +149,8 @@ pub extern "C" fn ffosolve_move_scores(
     }
 }
 
-/// The squares on which the mover may move. The status is 0, or `SharedSquare`.
+/// Writes the mask of the mover's moves: square n is bit n, so A1 is bit 0 and H8 bit 63. The
+/// status is 0; or 4, `SharedSquare`, and then `moves` is as it was.
 #[unsafe(no_mangle)]
 pub extern "C" fn ffosolve_moves(position: FfosolvePosition, moves: &mut u64) -> i32
     ensures done { (result ≡ pos 0) ↔ (bit_and position.own position.opp ≡ 0) }
@@ -156,8 +167,9 @@ pub extern "C" fn ffosolve_moves(position: FfosolvePosition, moves: &mut u64) ->
     }
 }
 
-/// The position after a move. The status is 0; `SharedSquare`; or `NoMove` where the square is no
-/// move.
+/// Writes the position after the mover's move to `square`, from 0 for A1 to 63 for H8; the other
+/// side is the mover of that position. The status is 0; 4, `SharedSquare`; or 6, `NoMove`, where
+/// the mover can't move to the square. With 4 and 6 `after` is as it was.
 #[unsafe(no_mangle)]
 pub extern "C" fn ffosolve_play(
     position: FfosolvePosition,
@@ -182,7 +194,8 @@ pub extern "C" fn ffosolve_play(
     }
 }
 
-/// The version of the library: 10000 times its first part, 100 times the second, and the third.
+/// The version of the library: 10000 times the first part, plus 100 times the second, plus the
+/// third.
 #[unsafe(no_mangle)]
 pub extern "C" fn ffosolve_version() -> u32
     ensures { result ≡ version }

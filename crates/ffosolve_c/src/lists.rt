@@ -16,7 +16,7 @@ use endgame_search::solve;
 use othello_rules::Scoring;
 use std::alloc::Global;
 
-// The index of the first position that is refused, and why it is.
+// The index of the first position that is refused, and its refusal. None where none is refused.
 fn first_refused(positions: &[FfosolvePosition]) -> Option<(usize, Refusal)>
     ensures good { IsNone result → AreSolvable positions.now }
     ensures none { IsNone result → first_refusal positions.now ≡ None }
@@ -43,7 +43,7 @@ fn answer_at(table: &BoundTable, position: FfosolvePosition) -> FfosolveAnswer
     }
 }
 
-// The answers of positions, in their order.
+// Writes the answer of each position at its index.
 fn fill_answers(table: &BoundTable, positions: &[FfosolvePosition], answers: &mut [FfosolveAnswer])
     requires good { AreSolvable positions.now }
     requires lengths { length answers.old ≡ length positions.now }
@@ -54,8 +54,9 @@ fn fill_answers(table: &BoundTable, positions: &[FfosolvePosition], answers: &mu
     }
 }
 
-/// Writes the answers of all positions; or nothing but, where a position is refused, its index into
-/// `at`.
+/// Writes the answer of each position at its index in `answers`. `Err` leaves `answers` as it was.
+/// With `SharedSquare` and `TooManyEmpties` the index of the first refused position, from 0, is
+/// written to `at`; else `at` is as it was.
 pub fn answer_all(
     alloc: Global,
     positions: &[FfosolvePosition],

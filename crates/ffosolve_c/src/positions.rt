@@ -1,4 +1,4 @@
-//! Positions as C hands them in, and what can be played on them.
+//! Positions as C passes them, their tasks, and the positions after their moves.
 
 ghost use Rattle.std.specs.Prelude.{◌≡◌, ◌≢◌, ◌↔◌, bit_and, Some, None, Err, IfOk, IfErr};
 ghost use Rattle.othello_bits.specs.Pos.{play_of, IsMove};
@@ -11,8 +11,8 @@ use endgame_search::Task;
 use othello_bits::Pos;
 use othello_rules::{Scoring, Square};
 
-/// The discs of the side to move, and of the other side: square n is bit n, so A1 is bit 0 and H8
-/// bit 63.
+/// `own` is the mask of the mover's discs, and `opp` that of the other side's. Square n is bit n,
+/// so A1 is bit 0 and H8 bit 63.
 #[repr(C)]
 #[derive(Clone, Copy, PartialEq, Eq)]
 pub struct FfosolvePosition {
@@ -20,7 +20,7 @@ pub struct FfosolvePosition {
     pub opp: u64,
 }
 
-/// The position of the masks; `SharedSquare` where they share one.
+/// The position of the two masks. `SharedSquare` where they share a square.
 pub fn position_of(position: FfosolvePosition) -> Result<Pos, Refusal>
     ensures apart { IfOk result (λ p. bit_and position.own position.opp ≡ 0) }
     ensures value { IfOk result (λ p. p ≡ discs_at position) }
@@ -33,7 +33,8 @@ pub fn position_of(position: FfosolvePosition) -> Result<Pos, Refusal>
     }
 }
 
-/// The task of the position under a scoring, or why it is not solved.
+/// The task of the position under a scoring. `SharedSquare` where the masks share a square;
+/// `TooManyEmpties` where more than 60 squares are empty.
 #[tactic(auto, unfolding(crate::specs::Exports::position_refusal))]
 pub fn task_of(position: FfosolvePosition, scoring: Scoring) -> Result<Task, Refusal>
     ensures good { IfOk result (λ task. position_refusal position ≡ None) }
@@ -50,7 +51,8 @@ pub fn task_of(position: FfosolvePosition, scoring: Scoring) -> Result<Task, Ref
     }
 }
 
-/// The position after a move: `SharedSquare`, or `NoMove` where the square is none.
+/// The position after the mover's move to `square`, 0 to 63. `SharedSquare` where the masks share a
+/// square; `NoMove` where the mover can't move to the square.
 pub fn play_move(position: FfosolvePosition, square: u8) -> Result<FfosolvePosition, Refusal>
     ensures apart { IfOk result (λ after. bit_and position.own position.opp ≡ 0) }
     ensures legal { IfOk result (λ after. IsMove (discs_at position) square) }

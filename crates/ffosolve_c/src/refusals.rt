@@ -3,10 +3,11 @@
 ghost use Rattle.std.specs.Prelude.{◌≡◌, ◌≢◌, pos};
 ghost use Rattle.ffosolve_c.specs.Exports.{status_of};
 
-/// Why a request is refused, in the order in which it is tested.
+/// Why a request is refused. A request is tested for the refusals in this order, and the first that
+/// fits is returned.
 #[derive(Clone, Copy)]
 pub enum Refusal {
-    /// No scoring has the number.
+    /// The number of the scoring is not 0, 1 or 2.
     UnknownScoring,
     /// The table has more than 4,194,304 entries.
     TooManyEntries,
@@ -16,14 +17,14 @@ pub enum Refusal {
     SharedSquare,
     /// A position has more than 60 empty squares.
     TooManyEmpties,
-    /// The square is no move.
+    /// The mover can't move to the square, or the square's number is above 63.
     NoMove,
     /// There was no memory for the table.
     NoMemory,
 }
 
 impl Refusal {
-    /// The number by which C is told.
+    /// The status that C reads, from 1 to 7.
     pub fn status(self) -> i32
         ensures number { result ≡ status_of self }
         ensures not_done { result ≢ pos 0 }

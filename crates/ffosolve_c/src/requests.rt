@@ -1,4 +1,4 @@
-//! Requests for an answer.
+//! Requests for the answer of one position.
 
 ghost use Rattle.std.specs.Prelude.{◌≡◌, ◌≢◌, ◌≤◌, Some, None, IfOk, IfErr};
 ghost use Rattle.othello_bits.specs.Pos.{answer_of};
@@ -26,7 +26,8 @@ fn scoring_of(number: u32) -> Option<Scoring>
     }
 }
 
-/// The scoring of the table that a request asks for, or why none is made.
+/// The scoring with the number `number`, for a table of `entries` entries. `UnknownScoring` where
+/// the number is above 2; `TooManyEntries` above 4,194,304 entries.
 #[tactic(auto, unfolding(crate::specs::Exports::table_refusal, crate::specs::Exports::scoring_of))]
 pub fn table_scoring(number: u32, entries: usize) -> Result<Scoring, Refusal>
     ensures good { IfOk result (λ g. table_refusal number entries ≡ None) }
@@ -45,7 +46,7 @@ pub fn table_scoring(number: u32, entries: usize) -> Result<Scoring, Refusal>
     Ok(scoring)
 }
 
-/// A new table, of a number of entries that is allowed.
+/// A new table of `entries` entries. `NoMemory` where memory was refused, and never with 0 entries.
 pub fn table_of(alloc: Global, entries: usize, scoring: Scoring) -> Result<BoundTable, Refusal>
     requires { entries ≤ 4194304 }
     ensures made { IfOk result (λ table. table.scoring ≡ scoring) }
@@ -58,7 +59,7 @@ pub fn table_of(alloc: Global, entries: usize, scoring: Scoring) -> Result<Bound
     }
 }
 
-// The answer of a task by a search, or by a claim where there is one.
+// The answer of a task, by a search that tests the claim first where there is one.
 fn find_answer(table: &BoundTable, task: Task, claim: Option<Claim>) -> Answer
     requires { task.scoring ≡ table.now.scoring }
     ensures { result ≡ answer_of task.scoring task.position }
@@ -70,7 +71,8 @@ fn find_answer(table: &BoundTable, task: Task, claim: Option<Claim>) -> Answer
     solved.answer()
 }
 
-/// The answer of a position, by a claim where there is one; or why there is none.
+/// The answer of a position, by a search over a new table of `entries` entries that tests the claim
+/// first where there is one. `Err` is the first refusal of the request.
 pub fn answer_one(
     alloc: Global,
     position: FfosolvePosition,

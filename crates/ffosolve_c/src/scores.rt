@@ -1,4 +1,4 @@
-//! Every move's score, by its square.
+//! The score of every move, at its square's number.
 
 ghost use Rattle.std.specs.Prelude.{◌≡◌, ◌≢◌, Some, None, length, map, IfOk, IfErr, OnErr};
 ghost use Rattle.othello_rules.specs.Board.{squares};
@@ -15,7 +15,7 @@ use othello_bits::Pos;
 use othello_rules::{Square, has_square};
 use std::alloc::Global;
 
-// The score of a move to the square, and 127 where it is none.
+// The score of the move to the square as the mover sees it, and 127 where it is no move.
 fn score_at(table: &BoundTable, position: Pos, square: Square) -> i8
     ensures { result ≡ score_at table.now.scoring position square }
 {
@@ -26,7 +26,7 @@ fn score_at(table: &BoundTable, position: Pos, square: Square) -> i8
     }
 }
 
-// Writes at each square's number what a move there is worth.
+// Writes at each square's number the score of the move there, and 127 where it is no move.
 fn fill_scores(table: &BoundTable, position: Pos, scores: &mut [i8])
     requires { length scores.old ≡ 64 }
     ensures { scores.new ≡ map (score_at table.now.scoring position) squares }
@@ -37,7 +37,9 @@ fn fill_scores(table: &BoundTable, position: Pos, scores: &mut [i8])
     }
 }
 
-/// The moves of a position, and their scores, each at its square's number; or why there are none.
+/// Returns the mask of the mover's moves, and writes the score of each move, as the mover sees it,
+/// at its square's number, with 127 at the other squares. `Err` is the first refusal of the request
+/// and leaves `scores` as it was.
 pub fn score_all(
     alloc: Global,
     position: FfosolvePosition,

@@ -1,4 +1,4 @@
-//! That calls succeed where memory is at hand.
+//! Calls succeed where there is memory.
 
 use crate::{
     FfosolveAnswer, FfosolvePosition, ffosolve_confirm, ffosolve_move_scores, ffosolve_solve,
@@ -20,7 +20,7 @@ const UNEQUAL_CORNERS: FfosolvePosition = FfosolvePosition {
     opp: 0x8_0000_8002,
 };
 
-// its answer: +62 by H1
+// The answer of UNEQUAL_CORNERS: +62 by H1.
 const FOUND: FfosolveAnswer = FfosolveAnswer {
     score: 62,
     kind: 0,
