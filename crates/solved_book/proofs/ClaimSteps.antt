@@ -36,7 +36,7 @@ claim_kept_at k (e ∷ es) = ap (λ o. cond (is_eq (masks_cmp k e.0)) (Some e.1)
 pub claim_kept : (p : PosView) (k : Masks) (es : List (Masks × Claim)) → position_at k ≡ p → claim_at p (map position_claim es) ≡ lookup (λ q. is_eq (masks_cmp k q)) es
 claim_kept p k es e = ap (λ q. claim_at q (map position_claim es)) (sym e) ∙ claim_kept_at k es
 
--- what a look-up of the canonical position gives, on the image that was asked
+-- the claim that is found for the canonical position, mapped back, is the claim of the position
 pub found_claim : (a : ClaimsView) (g : Scoring) (p : PosView) (k : Masks) (s : Sym) (es : List (Masks × Claim)) (found : Option Claim) → record { scoring = g; claims = map position_claim es } ≡ a
     → position_at k ≡ canonical_of p → s ≡ first_symmetry (position_of Black p) → found ≡ lookup (λ q. is_eq (masks_cmp k q)) es → option_map (image_claim (inverse s)) found ≡ claim_for a p
 found_claim a g p k s es found ea ek same e =
@@ -45,7 +45,7 @@ found_claim a g p k s es found ea ek same e =
 
 -- ---- the loop that reads
 
--- the masks stand behind all that are kept
+-- the masks are greater than all that are stored
 abbrev pub AreBelow : Masks → List (Masks × Claim) → Type 0
 AreBelow k es = AllByRecursion (λ e. masks_cmp k e.0 ≡ Greater) es
 
@@ -69,7 +69,7 @@ gt_is Less e = absurd (false≢true e)
 gt_is Equal e = absurd (false≢true e)
 gt_is Greater e = refl
 
--- what stands behind the last position stands behind all
+-- a position that is greater than the last one is greater than all that are stored
 pub record IsAhead (before : Option Masks) (es : List (Masks × Claim)) : Type 0 where
   pub each : (k : Masks) → is_behind (option_map position_at before) (position_at k) ≡ true → AreBelow k es
 
@@ -82,7 +82,7 @@ ahead_more before m v es new h e a = record {
   each = λ k t. rw (e, insert_last m v es (a.each m h)) (below_more k m v es (gt_is (masks_cmp k m) t) (a.each m h));
 }
 
--- the claim of a line stands behind the one before it
+-- the position of a line's claim is greater than the one before it
 checked_behind : (n : ℕ) (nothing behind canonical : Bool) (claim c : PositionClaim) → claim_or_fault n nothing behind canonical claim ≡ Ok (Some c) → (behind ≡ true) × (claim ≡ c)
 checked_behind n true behind canonical claim c h = cc
 checked_behind n false false canonical claim c h = cc
@@ -96,7 +96,7 @@ line_behind n before (Holds entry) c h =
     let told = checked_behind n (lists_nothing entry) (is_behind before (discs_of entry.position)) (is_canonical_entry entry.position) (discs_of entry.position, claim_of entry.listed) c h in
     ap (λ (x : PositionClaim). is_behind before x.0) (sym told.1) ∙ told.0
 
--- one line
+-- the claims of lines by those of the first line and of the lines behind it
 pub from_none : (n : ℕ) (before : Option PosView) (line : List ℕ) (lines : List (List ℕ)) → claim_in_line n before (item_of line) ≡ Ok None → claims_from n before (line ∷ lines) ≡ claims_from (n + 1) before lines
 unfolding claims_from
 from_none n before line lines e = ap (λ r. claims_with before r (λ last. claims_from (n + 1) last lines)) e
@@ -126,7 +126,7 @@ map_last : (es : List (Masks × Claim)) (m : Masks) (v : Claim) → map position
 map_last [] m v = refl
 map_last (e ∷ es) m v = ap (λ cs. position_claim e ∷ cs) (map_last es m v)
 
--- the claims so far, and what the lines that are left give
+-- the claims so far, and then those of the lines that are left, are those of all lines
 pub record ReadsOn (n : ℕ) (before : Option Masks) (es : List (Masks × Claim)) (left : List (List ℕ)) (all : Result (List PositionClaim) BookFault) : Type 0 where
   pub whole : claims_after (map position_claim es) (claims_from n (option_map position_at before) left) ≡ all
 
@@ -178,7 +178,7 @@ reads_end n before es left all cut h =
     ∙ ap (claims_after (map position_claim es)) (ap (claims_from n (option_map position_at before)) cut ∙ from_end n (option_map position_at before))
     ∙ ap Ok (append-nil (map position_claim es))
 
--- the room of a line is no longer left
+-- one more line leaves enough room for the lines behind it
 pub room_more : (n most : ℕ) (line : List ℕ) (left lines : List (List ℕ)) → left ≡ line ∷ lines → n + room_of left ≤ most
     → (n + 1 ≤ most) × (n + 1 + room_of lines ≤ most)
 room_more n most line left lines cut h = let k = rw cut at h in (omega arith, omega arith)

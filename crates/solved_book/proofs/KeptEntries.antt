@@ -41,7 +41,7 @@ book_positions_from g es kept = record {
   canonical = All-map IsCanonical (λ (e : Masks × AnswerView). position_at e.0) es (All-weaker (IsSolvedEntry g) (λ e. IsCanonical (position_at e.0)) (λ e s. s.canonical) es kept.solved);
 }
 
--- an entry that is put in
+-- what holds of each entry and of one more holds of each after that one is put in
 insert_all : (P : Masks × AnswerView → Type 0) (k : Masks) (v : AnswerView) → P (k, v) → (es : List (Masks × AnswerView)) → AllByRecursion P es → AllByRecursion P (insert_entry masks_cmp es k v)
 insert_all P k v h [] a = (h, tt)
 insert_all P k v h (e ∷ es) a = by (masks_cmp k e.0) refl (insert_all P k v h es a.1)
@@ -97,7 +97,7 @@ book_insert g k v es new h kept e = record {
   rising = rw e (rising_insert k v es kept.rising);
 }
 
--- positions and keys
+-- a position is in the list exactly where its masks are among the keys
 key_from_position : {X : Type 0} (es : List (Masks × X)) (p : PosView) → Contains (positions_in es) p → Contains (keys_of es) (masks_at p)
 key_from_position {X} es p h =
     let found = Contains-from_map (λ (e : Masks × X). position_at e.0) es p h in
@@ -117,7 +117,7 @@ none_when : {X : Type 0} (o : Option X) (none : Bool) (P : Type 0) → is_some o
 none_when o true P e h = (λ t p. absurd (false≢true (sym e ∙ h.1 p)), λ n. refl)
 none_when o false P e h = (λ t p. absurd (false≢true t), λ n. absurd (n (h.0 e)))
 
--- a position is new where nothing is kept under its masks
+-- a position is new where nothing is stored under its masks
 pub new_when : {X : Type 0} (m : BTreeMap Masks X) (p : PosView) (k : Masks) (old : Option X) (none : Bool) → is_some old ≡ not none → position_at k ≡ p → old ≡ tree.get masks_cmp m k
     → (IsTrue none → Contains (positions_in m.entries) p → ⊥) × ((Contains (positions_in m.entries) p → ⊥) → IsTrue none)
 new_when {X} m p k old none e ek eo =
@@ -129,7 +129,7 @@ none_held {X} m p k ek none h =
     let same : tree.get masks_cmp m (masks_at p) ≡ None = ap (λ q. tree.get masks_cmp m (masks_at q)) (sym ek) ∙ none in
     false≢true (sym (ap is_some same) ∙ (holds_iff m p).1 h)
 
--- what is held then
+-- after an entry is put in, the positions are that entry's and those before
 pub held_then : {X : Type 0} (m n : BTreeMap Masks X) (c : PosView) (k : Masks) (v : X) → position_at k ≡ c → Updates masks_cmp m n k (Some v)
     → (p : PosView) → Contains (positions_in n.entries) p ↔ ((p ≡ c) ⊎ Contains (positions_in m.entries) p)
 held_then {X} m n c k v ek u p = by (masks_cmp k (masks_at p)) refl

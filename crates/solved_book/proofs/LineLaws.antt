@@ -1,4 +1,4 @@
--- What a text claims, line by line.
+-- The claims of a text are those of its lines.
 use Rattle.std.proofs.Common.{◌≡◌, ℕ, ◌+◌, List, [], ◌∷◌, ◌++◌, length, refl, ap, ap₂, sym, ◌∙◌, true, false, Bool, Option, Some, None, arith}
 use Rattle.std.specs.Prelude.{Result, Ok, Err}
 use Rattle.std.specs.List.{filter_map}
@@ -14,13 +14,13 @@ use Rattle.solved_book.proofs.ClaimSteps.{from_end, from_err, from_none, from_so
 abbrev Given : Type 0
 Given = Result (List PositionClaim) BookFault
 
--- ---- what is in front
+-- ---- the lines in front
 
 onto_ok : (c : PositionClaim) (r : Given) (cs : List PositionClaim) → claims_after (c ∷ []) r ≡ Ok cs → (more : List PositionClaim) × (r ≡ Ok more) × (cs ≡ c ∷ more)
 onto_ok c (Ok more) cs h = (more, refl, cc)
 onto_ok c (Err f) cs h = cc
 
--- what stands before a faulty line without a fault leaves its fault to be told
+-- where the lines before a faulty line have no fault, its fault is that of all lines
 pub fault_after : (front rest : List (List ℕ)) (line : List ℕ) (n : ℕ) (before : Option PosView) (cs : List PositionClaim) (f : BookFault)
     → claims_from n before front ≡ Ok cs → claim_in_line (n + length front) (last_position before cs) (item_of line) ≡ Err f → claims_from n before (front ++ line ∷ rest) ≡ Err f
 fault_after [] rest line n before cs f h e =
@@ -48,7 +48,7 @@ fault_after (l ∷ front) rest line n before cs f h e =
 
 -- ---- the entries
 
--- what a line that is no fault adds
+-- the claim of a line without a fault is that of its entry
 entry_given : (n : ℕ) (before : Option PosView) (m : Meaning) (given : Option PositionClaim) → claim_in_line n before m ≡ Ok given → entry_claim m ≡ given
 entry_given n before Skipped given h = cc
 entry_given n before (Faulty f) given h = cc

@@ -85,7 +85,7 @@ line_back g n before p own behind =
 
 -- ---- all lines
 
--- the first of some positions stands behind the one before them
+-- the first of some positions is greater than the one before them
 abbrev IsNext : Option PosView → List PosView → Type 0
 IsNext before [] = Unit {0}
 IsNext before (p ∷ ps) = is_behind before p ≡ true

@@ -36,11 +36,11 @@ Masks = ℕ × ℕ
 abbrev pub position_at : Masks → bits.PosView
 position_at masks = discs masks.0 masks.1
 
--- the positions of the pairs that are kept with something
+-- the positions of the masks of some entries
 abbrev pub positions_in : {X : Type 0} → List (Masks × X) → List bits.PosView
 positions_in {X} kept = map (λ (e : Masks × X). position_at e.0) kept
 
--- a canonical position is kept with its answer
+-- an entry of a book: a canonical position with its answer
 pub record IsSolvedEntry (g : Scoring) (e : Masks × AnswerView) : Type 0 where
   pub canonical : IsCanonical (position_at e.0)
   pub exact : e.1 ≡ answer_of g (position_at e.0)

@@ -1,4 +1,4 @@
--- What a text of a book claims, and how a claim is found.
+-- The claims of a book's text, and the claim that is found for a position.
 use Rattle.std.specs.Prelude.{◌≡◌, ◌≢◌, ℕ, ◌+◌, ◌&&◌, Bool, true, false, nat_eq, List, [], ◌∷◌, ◌++◌, length, codes}
 use Rattle.std.specs.Prelude.{Option, Some, None, option_map, Result, Ok, Err, if◌then◌else◌}
 use Rattle.std.specs.List.{starts_with}
@@ -24,7 +24,7 @@ use Rattle.solved_book.specs.Listing.{claim_of}
 use Rattle.solved_book.specs.declared.faults.BookFault.{BookFault}
 use Rattle.solved_book.specs.declared.faults.BookFault.TheVariants as fault
 
--- a position with what is claimed of it
+-- a position with its claim
 abbrev pub PositionClaim : Type 0
 PositionClaim = bits.PosView × Claim
 
@@ -35,7 +35,8 @@ pub record ClaimsView : Type 0 where
 
 -- ---- the first line
 
--- a header names the scoring; another line that begins as one is unknown; without a header it is `Winner`
+-- the scoring of a first line: that of a header; None where the line begins as a header and is
+-- none; else `Winner`
 abbrev pub scoring_in : List ℕ → Option Scoring
 scoring_in line =
     if bytes_eq line (header Winner) then Some Winner
@@ -49,7 +50,7 @@ scoring_of_lines (line ∷ lines) = scoring_in line
 
 -- ---- one line
 
--- a position stands behind the one before it, if there is one
+-- a position is greater than the one before it, if there is one
 abbrev pub is_behind : Option bits.PosView → bits.PosView → Bool
 is_behind None p = true
 is_behind (Some q) p = is_gt (by_masks p q)
@@ -68,25 +69,26 @@ is_canonical_entry P = is_black_side P.mover && same_discs (canonical_of (discs_
 abbrev pub lists_nothing : Entry → Bool
 lists_nothing entry = nat_eq (length entry.listed) 0
 
--- what a line gives: a claim, unless it is skipped, or its fault
+-- the claim of a line, None where it is skipped; or its fault
 abbrev pub LineOutcome : Type 0
 LineOutcome = Result (Option PositionClaim) BookFault
 
--- the claim of line n, or the first of its faults: it lists nothing, it is not behind, it is not canonical
+-- the claim c of line n, or the first of its faults: the line lists nothing; its position is not
+-- greater than the one before it; its position is not canonical
 abbrev pub claim_or_fault : ℕ → Bool → Bool → Bool → PositionClaim → LineOutcome
 claim_or_fault n nothing behind canonical c =
     if nothing then Err (fault.NoMoves n)
     else (if behind then (if canonical then Ok (Some c) else Err (fault.NotCanonical n))
     else Err (fault.Unsorted n))
 
--- what an entry gives that stands in line n behind a position
+-- the claim or the fault of an entry in line n; `before` is the position of the claim before it
 abbrev pub claim_in_entry : ℕ → Option bits.PosView → Entry → LineOutcome
 claim_in_entry n before e =
     claim_or_fault n (lists_nothing e) (is_behind before (discs_of e.position))
     (is_canonical_entry e.position)
     (discs_of e.position, claim_of e.listed)
 
--- a line gives nothing where it is skipped
+-- the claim or the fault of line n; a skipped line has neither
 abbrev pub claim_in_line : ℕ → Option bits.PosView → Meaning → LineOutcome
 claim_in_line n before Skipped = Ok None
 claim_in_line n before (Faulty f) = Err (fault.Line n f)
@@ -100,23 +102,24 @@ entry_claim (Holds entry) = Some (discs_of entry.position, claim_of entry.listed
 
 -- ---- all lines
 
--- what lines give: their claims, or the fault of the first faulty one
+-- the claims of lines, or the fault of the first faulty line
 abbrev pub LinesOutcome : Type 0
 LinesOutcome = Result (List PositionClaim) BookFault
 
--- claims, and those of the lines behind them
+-- the claims in front, and then those of the lines behind them
 abbrev pub claims_after : List PositionClaim → LinesOutcome → LinesOutcome
 claims_after front (Ok claims) = Ok (front ++ claims)
 claims_after front (Err f) = Err f
 
--- what a line gives, and the lines behind it by the position of the last claim
+-- the claim of a line, and then those of the lines behind it, by the position of the last claim
 abbrev pub claims_with : Option bits.PosView → LineOutcome → (Option bits.PosView → LinesOutcome)
     → LinesOutcome
 claims_with before (Err f) behind = Err f
 claims_with before (Ok None) behind = behind before
 claims_with before (Ok (Some c)) behind = claims_after (c ∷ []) (behind (Some c.0))
 
--- what lines give, the first of which is line n, behind a position
+-- the claims or the fault of lines from line n on; `before` is the position of the last claim
+-- before them
 unfoldable pub claims_from : ℕ → Option bits.PosView → List (List ℕ) → LinesOutcome
 claims_from n before [] = Ok []
 claims_from n before (line ∷ lines) =
@@ -140,9 +143,9 @@ advice_under (Some g) lines = advice g (claims_from 1 None lines)
 abbrev pub claims_of : List ℕ → Result ClaimsView BookFault
 claims_of text = advice_under (scoring_of_lines (lines_of text)) (lines_of text)
 
--- ---- what calls give
+-- ---- what calls return
 
--- a call gives these claims or this fault; else it wants memory, but never in place of an unknown header
+-- a call returns the claims or the fault of a text, or `Memory`, but never `Memory` for `Header`
 abbrev pub GivesAdvice : Result ClaimsView BookFault → Result ClaimsView BookFault → Type 0
 GivesAdvice (Ok a) meaning = meaning ≡ Ok a
 GivesAdvice (Err fault.Memory) meaning = meaning ≢ Err fault.Header
@@ -154,7 +157,7 @@ claim_at p claims = lookup (λ q. is_eq (by_masks p q)) claims
 abbrev pub image_claim : Sym → Claim → Claim
 image_claim s c = record { score = c.score; best = best_image s c.best }
 
--- the claim of the canonical position, its squares moved by the inverse of the symmetry that leads to it
+-- the claim of the canonical position, mapped by the inverse of the symmetry that leads to it
 abbrev pub claim_for : ClaimsView → bits.PosView → Option Claim
 claim_for a p =
     option_map (image_claim (inverse (first_symmetry (position_of Black p))))

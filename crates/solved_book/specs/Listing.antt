@@ -24,7 +24,8 @@ lists_pass score (Over, listed) = false
 unfoldable pub listed_squares : ℤ → List Field → ℕ
 listed_squares score fields = mask_where (λ q. list_any (lists_square score q) fields)
 
--- what is listed with this score: the squares; where there is none a pass, or else the end of the game
+-- the squares that are listed with this score; where there is none, a pass if one is listed with
+-- this score, else the end of the game
 abbrev pub best_by : ℕ → Bool → Best
 best_by squares pass =
     if squares == 0 then (if pass then best.Pass else best.Over) else best.Moves squares
@@ -33,7 +34,7 @@ abbrev pub listed_best : ℤ → List Field → Best
 listed_best score fields =
     best_by (listed_squares score fields) (list_any (lists_pass score) fields)
 
--- the greatest listed score, and what is listed with it
+-- the greatest listed score, and the best moves that are listed with it
 abbrev pub claim_of : List Field → Claim
 claim_of fields =
     record { score = greatest_listed fields; best = listed_best (greatest_listed fields) fields }

@@ -10,7 +10,7 @@ use Rattle.othello_bits.specs.Symmetries.{canonical_of}
 abbrev pub by_masks : PosView → PosView → Ordering
 by_masks p q = ordering_then (nat_cmp p.own q.own) (nat_cmp p.opp q.opp)
 
--- each position stands before all that follow it
+-- each position is less than all that follow it
 abbrev pub AreRising : List PosView → Type 0
 AreRising positions = IsStrictlySortedBy by_masks positions
 

@@ -1,4 +1,4 @@
--- What the calls that read the lines of a book give.
+-- What the calls return that read the lines of a book.
 use Rattle.std.specs.Prelude.{◌≡◌, List, map, Option, option_map, Result, Ok, Err}
 use Rattle.std.specs.BTreeMap.{BTreeMap}
 use Rattle.othello_bits.specs.Pos.{PosView}
@@ -8,7 +8,7 @@ use Rattle.solved_book.specs.Claims.{PositionClaim}
 use Rattle.solved_book.specs.declared.faults.BookFault.{BookFault}
 use Rattle.solved_book.specs.declared.faults.BookFault.TheVariants.{Memory}
 
--- a claim that is kept under the masks of its position
+-- a claim that is stored under the masks of its position
 abbrev pub position_claim : Masks × Claim → PositionClaim
 position_claim (masks, claim) = (position_at masks, claim)
 

@@ -19,8 +19,9 @@ use std::alloc::Global;
 use std::collections::BTreeMap;
 use std::marker::Model;
 
-/// What a book claims of positions under its scoring. A claim is advice and need not be true.
-/// Contracts see the scoring and the claimed positions with their claims, in rising order.
+/// The claims of a book under its scoring: a score and the best moves for each of its positions. A
+/// claim is advice for a search, and need not be true. Contracts see the scoring and the claimed
+/// positions with their claims, in rising order.
 #[derive(Drop)]
 pub struct Claims {
     scoring: Scoring,
@@ -64,7 +65,7 @@ fn read_claims(alloc: Global, text: &[u8]) -> Result<BTreeMap<Masks, Claim>, Boo
 }
 
 impl Claims {
-    /// No claims, under a scoring. They take no memory.
+    /// An empty list of claims under a scoring. It takes no memory.
     pub fn new(alloc: Global, scoring: Scoring) -> Claims
         ensures { result ≡ record { scoring = scoring; claims = [] } }
     {
@@ -76,14 +77,17 @@ impl Claims {
 
     /// Reads the text of a book.
     ///
-    /// If the first line is a header, it names the scoring; a first line that begins as a header
-    /// and is none is refused; without a header the scoring is `Winner`. Each line that is not
-    /// skipped is a line of OBF text with Black to move in a canonical position, which stands
-    /// behind the one before it, and with a listed move. The greatest listed score is claimed of
-    /// the position, with the squares that are listed with it as the best moves; where there is
-    /// none, a pass if one is listed with it, else that the game is over.
+    /// A header in the first line names the scoring. Without a header the scoring is `Winner`. A
+    /// first line that begins with `% ffobook ` and is no header has the fault `Header`.
     ///
-    /// The first faulty line is told, with the first of its faults in the order of `BookFault`.
+    /// Each line that is not skipped has to be a line of OBF text with at least one listed move.
+    /// Its position has to be canonical, with Black to move, and greater than the position before
+    /// it. The claimed score is the greatest listed score. The claimed best moves are the squares
+    /// that are listed with this score; where there is none, the claim is a pass if one is listed
+    /// with this score, else the end of the game.
+    ///
+    /// `Err` is the fault of the first faulty line; where this line has several, the first of them
+    /// in the order of `BookFault`. It is `Memory` where memory is refused before a fault is found.
     pub fn read(alloc: Global, text: &[u8]) -> Result<Claims, BookFault>
         ensures { GivesAdvice result (claims_of text.now) }
     {
@@ -109,8 +113,8 @@ impl Claims {
         self.claims.len()
     }
 
-    /// The claim of a position, if there is one: that of its canonical position, with the squares
-    /// moved back.
+    /// The claim of a position: the claim of its canonical position, with the best moves mapped
+    /// back to the position. None where the canonical position has no claim.
     pub fn find(&self, position: &Pos) -> Option<Claim>
         ensures { result ≡ claim_for self.now position.now }
     {

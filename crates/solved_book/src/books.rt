@@ -22,9 +22,9 @@ use std::io;
 use std::io::Write;
 use std::marker::Model;
 
-/// Positions with their answers under one scoring. Of the eight images of a position it holds the
-/// canonical one, once. Contracts see the scoring and the canonical positions, in rising order: by
-/// this type their answers are those of the definitions.
+/// Solved positions with their answers under one scoring. Of the eight images of a position a book
+/// holds the canonical one, once. Contracts see the scoring and the canonical positions, in rising
+/// order. The answers in the book are those of the definitions.
 #[derive(Debug, Drop)]
 pub struct Book {
     scoring: Scoring,
@@ -42,7 +42,7 @@ impl Model for Book {
     ghost invariant = { λ b. IsBook b.scoring b.answers.entries };
 }
 
-// The answer of the canonical position, to which the symmetry leads.
+// The answer of the canonical position of a solved one. `sym` leads to the canonical position.
 fn canonical_answer(solved: Solved, sym: Sym) -> Answer
     requires { sym ≡ first_symmetry (position_of Black solved.position) }
     ensures { result ≡ answer_of solved.scoring (canonical_of solved.position) }
@@ -54,7 +54,7 @@ fn canonical_answer(solved: Solved, sym: Sym) -> Answer
     }
 }
 
-// The line of a position that is kept with its answer.
+// Writes the line of a position of a book, with Black as the mover.
 #[tactic(auto, unfolding(crate::specs::Books::entry_text))]
 fn write_entry<W: Write>(
     writer: &mut W,
@@ -74,7 +74,7 @@ fn write_entry<W: Write>(
     write_line(writer, &position.to_grid(Side::Black), answer)
 }
 
-// The header and its end.
+// Writes the header and a line feed.
 fn write_header<W: Write>(writer: &mut W, scoring: Scoring) -> io::Result<()>
     ensures { OnOk result
         (Appends (W.contents writer.old) (W.contents writer.new) (header scoring ++ 10 ∷ [])) }
@@ -94,14 +94,14 @@ impl Book {
         }
     }
 
-    /// The scoring of its answers.
+    /// The scoring of the book's answers.
     pub fn scoring(&self) -> Scoring
         ensures { result ≡ self.now.scoring }
     {
         self.scoring
     }
 
-    /// How many positions it holds.
+    /// How many positions the book holds.
     pub fn len(&self) -> usize
         ensures count { result ≡ length self.now.positions }
         ensures positions { AreBookPositions self.now.positions }
@@ -109,8 +109,8 @@ impl Book {
         self.answers.len()
     }
 
-    /// Adds the canonical position of a solved one. True where it is new. Want of memory leaves the
-    /// book as it was.
+    /// Adds the canonical position of a solved position, with its answer. True where the book did
+    /// not hold it before. `Err` where memory was refused: the book is as it was.
     pub fn add(&mut self, solved: &Solved) -> Result<bool, AllocError>
         requires { solved.now.scoring ≡ self.old.scoring }
         ensures new { IfOk result (λ added. IsTrue added
@@ -129,9 +129,9 @@ impl Book {
         Ok(known.is_none())
     }
 
-    /// Writes the header of the scoring and the line of each position, with Black as the mover, in
-    /// rising order. It takes no memory of its own. After a fault nothing is said of how much went
-    /// out.
+    /// Writes the header of the scoring, and then the line of each position, with Black as the
+    /// mover, in rising order. It takes no memory of its own. After `Err` any part of the text may
+    /// have been written.
     pub fn write<W: Write>(&self, writer: &mut W) -> io::Result<()>
         ensures text { OnOk result
             (Appends (W.contents writer.old) (W.contents writer.new)

@@ -17,7 +17,7 @@ use othello_bits::Pos;
 use othello_rules::{Grid, Side};
 use std::alloc::Global;
 
-// Whether a position stands behind the one before it, if there is one.
+// Whether a position is greater than the one before it. True where there is none before it.
 fn is_behind(before: Option<Masks>, masks: Masks) -> bool
     ensures { result ≡ is_behind (option_map position_at before) (position_at masks) }
 {
@@ -27,7 +27,7 @@ fn is_behind(before: Option<Masks>, masks: Masks) -> bool
     }
 }
 
-// Whether Black is to move in a position that is the least of its images.
+// Whether Black is to move, and the position is the least of its eight images.
 fn is_canonical(grid: &Grid, position: Pos) -> bool
     requires { position ≡ discs_of grid.now }
     ensures { result ≡ is_canonical_entry grid.now }
@@ -35,7 +35,8 @@ fn is_canonical(grid: &Grid, position: Pos) -> bool
     grid.side() == Side::Black && position.least_image() == position
 }
 
-// The claim of an entry in line `number`, with the masks of its position.
+// The claim of an entry in line `number`, with the masks of its position. `before` has the masks of
+// the last claim's position.
 fn read_entry(
     number: usize,
     before: Option<Masks>,
@@ -59,7 +60,8 @@ fn read_entry(
     }
 }
 
-/// The claim of line `number`, with the masks of its position, unless the line is skipped.
+/// The claim of line `number`, from 1, with the masks of its position. None where the line is
+/// skipped. `before` has the masks of the last claim's position.
 pub(crate) fn read_claim(
     alloc: Global,
     number: usize,

@@ -9,20 +9,21 @@ use std::alloc::{AllocError, AllocFailed};
 use std::error::Error;
 use std::fmt;
 
-/// Why a text is no book. Lines are numbered from 1, skipped ones counted; the first faulty line
-/// decides.
+/// Why a text is no book. The numbers are those of lines, from 1, and skipped lines are counted.
+/// The fault is that of the first faulty line.
 #[derive(Clone, Copy, PartialEq, Eq, Debug, Drop)]
 pub enum BookFault {
-    /// The line is no line of OBF text. The fault is never `LineFault::Memory`.
+    /// The line is no line of OBF text, and why. This is never `LineFault::Memory`.
     Line(usize, LineFault),
     /// The line lists no move.
     NoMoves(usize),
-    /// The position does not stand behind the one before it.
+    /// The position is not greater than the one before it.
     Unsorted(usize),
     /// White is to move, or the position is not the canonical one of its images.
     NotCanonical(usize),
+    /// Memory was refused.
     Memory,
-    /// The first line begins as a header and is none that is known.
+    /// The first line begins with `% ffobook ` and is not the header of a scoring.
     Header,
 }
 

@@ -8,7 +8,7 @@ ghost use Rattle.obf_text.specs.LineText.{lines_of};
 use obf_text::split_lines;
 use othello_rules::Scoring;
 
-/// The line that names a scoring.
+/// The header of a scoring: the first line of a book, without its line feed.
 #[tactic(auto, unfolding(crate::specs::Books::header))]
 pub(crate) fn header(scoring: Scoring) -> &'static [u8]
     ensures { result.now ≡ header scoring }
@@ -40,7 +40,8 @@ fn scoring_in(line: &[u8]) -> Option<Scoring>
     Some(Scoring::Winner)
 }
 
-/// The scoring of a book by the first line of its text.
+/// The scoring of a book by the first line of its text: `Winner` where it is no header, None where
+/// it begins as a header and is none.
 pub(crate) fn scoring_of(text: &[u8]) -> Option<Scoring>
     ensures { result ≡ scoring_of_lines (lines_of text.now) }
 {

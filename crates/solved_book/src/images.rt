@@ -1,4 +1,4 @@
-//! Positions as pairs of masks, and what attains a score on an image.
+//! Positions as pairs of masks, and the best moves on an image of a position.
 
 ghost use Rattle.std.specs.Prelude.{◌≡◌};
 ghost use Rattle.othello_bits.specs.Symmetries.{best_image};
@@ -7,7 +7,8 @@ ghost use Rattle.solved_book.specs.Books.{position_at};
 use othello_bits::{Pos, Sym};
 use othello_rules::Best;
 
-/// The masks of a position, the mover's first. Positions are in order as these pairs are.
+/// The masks of a position: the mover's discs, then the other side's. The order of positions is
+/// that of these pairs of numbers.
 pub(crate) type Masks = (u64, u64);
 
 pub(crate) fn masks_of(position: Pos) -> Masks
@@ -16,7 +17,8 @@ pub(crate) fn masks_of(position: Pos) -> Masks
     (position.own(), position.opp())
 }
 
-/// What attains the score on the image of a position.
+/// The best moves on the image of a position under `sym`. A pass and the end of the game stay what
+/// they are.
 pub(crate) fn best_on_image(best: Best, sym: Sym) -> Best
     ensures { result ≡ best_image sym best }
 {

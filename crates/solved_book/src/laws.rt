@@ -1,5 +1,5 @@
-//! What holds of books and of what is read from them. Each function's body is empty: its contract
-//! is the law.
+//! What holds of books and of the claims that are read from them. Each function's body is empty:
+//! its contract is the law.
 
 ghost use Rattle.std.specs.Prelude.{◌≡◌, ◌↔◌, ℕ, ◌+◌, List, ◌∷◌, ◌++◌, length, Contains, map, Ok};
 ghost use Rattle.std.specs.Prelude.{Err, Some, None};
@@ -42,7 +42,7 @@ pub fn claims_are_of_entries()
         → a.claims ≡ filter_map (λ line. entry_claim (item_of line)) (lines_of text) }
 {}
 
-/// The first faulty line decides: where the lines before it have no fault, and whatever follows it.
+/// The fault of the first faulty line is that of all lines, whatever follows it.
 pub fn first_fault_decides()
     ensures { (front rest : List (List ℕ)) (line : List ℕ) (claims : List PositionClaim)
         → (f : BookFault)
@@ -51,7 +51,8 @@ pub fn first_fault_decides()
         → claims_from 1 None (front ++ line ∷ rest) ≡ Err f }
 {}
 
-/// Positions have one rising order: what a book holds determines its text.
+/// Two rising lists of equal sets of positions are equal. So the scoring and the positions of a
+/// book determine its text.
 pub fn order_is_one()
     ensures { (xs ys : List PosView) → AreRising xs → AreRising ys
         → ((p : PosView) → Contains xs p ↔ Contains ys p)

@@ -1,5 +1,5 @@
-//! A book of solved positions: written as OBF text with the canonical form of each position once,
-//! in rising order, and read again as claims, which are advice for a search and nothing more. The
+//! Books of solved positions. A book is written as OBF text, with the canonical image of each
+//! position once, in rising order. It is read again as claims, which a search uses as advice. The
 //! header and the order are this project's own format.
 //!
 //! ```rust

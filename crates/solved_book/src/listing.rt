@@ -10,14 +10,14 @@ use endgame_search::Claim;
 use obf_text::{ListedMove, greatest_score};
 use othello_rules::{Best, Square};
 
-// The mask with a square.
+// The mask `mask` with the bit of a square.
 fn with_square(mask: u64, square: Square) -> u64
     ensures { (q : ℕ) → q < 64 → in_mask result q ≡ ((square == q) || in_mask mask q) }
 {
     mask | (1u64 << square.number())
 }
 
-// The mask with the square of a field, if the field lists one with the score.
+// The mask `squares`, with the bit of the field's square where the field lists one with `score`.
 fn with_listed(squares: u64, field: &(ListedMove, i8), score: i8) -> u64
     ensures { (q : ℕ) → q < 64
         → in_mask result q ≡ (lists_square score q field.now || in_mask squares q) }
@@ -35,7 +35,7 @@ fn with_listed(squares: u64, field: &(ListedMove, i8), score: i8) -> u64
     }
 }
 
-// The squares that are listed with a score.
+// The mask of the squares that are listed with a score.
 fn listed_squares(listed: &[(ListedMove, i8)], score: i8) -> u64
     ensures { result ≡ listed_squares score listed.now }
 {
@@ -62,7 +62,8 @@ fn is_pass_listed(listed: &[(ListedMove, i8)], score: i8) -> bool
     listed.iter().any(|(listed_move, listed_score)| lists_pass(*listed_move, *listed_score, score))
 }
 
-// What is listed with a score.
+// The squares that are listed with a score; where there is none, a pass if one is listed with it,
+// else the end of the game.
 fn listed_best(listed: &[(ListedMove, i8)], score: i8) -> Best
     ensures { result ≡ listed_best score listed.now }
 {
@@ -77,7 +78,8 @@ fn listed_best(listed: &[(ListedMove, i8)], score: i8) -> Best
     }
 }
 
-/// The greatest listed score and what is listed with it; None where nothing is listed.
+/// The greatest listed score, and the moves, the pass or the end of the game that is claimed with
+/// it. None where nothing is listed.
 pub(crate) fn claim_of(listed: &[(ListedMove, i8)]) -> Option<Claim>
     ensures none { IsNone result ↔ (listed.now ≡ []) }
     ensures claim { IfSome result (λ claim. claim ≡ claim_of listed.now) }

@@ -86,7 +86,8 @@ fn solved_of(position: Pos, scoring: Scoring) -> Option<Solved>
     Some(solve(&NoTable::new(task.scoring()), task))
 }
 
-// Adds a solved position; where memory is refused the book is as it was, and it is added again.
+// Adds a solved position. Where memory is refused, the book has as many positions as before, and
+// the position is added again.
 fn add_to(book: &mut Book, solved: &Solved) -> Option<bool>
     requires { solved.now.scoring ≡ book.old.scoring }
 {
@@ -101,7 +102,7 @@ fn add_to(book: &mut Book, solved: &Solved) -> Option<bool>
     }
 }
 
-// The claims of a text, read again where memory is refused.
+// The claims of a text. The text is read again where memory is refused.
 fn read_again(alloc: Global, text: &[u8]) -> Result<Claims, BookFault> {
     match Claims::read(alloc, text) {
         Err(BookFault::Memory) => Claims::read(alloc, text),

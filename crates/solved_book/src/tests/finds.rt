@@ -68,7 +68,8 @@ fn finds_all_images(rt: HostRuntime) {
     assert!(rt; finds_three_in(rt.alloc(), &join(THREE_LINES)));
 }
 
-// A position, a line that claims less or something false of it, the claimed moves, and its answer.
+// A position, a line with a claim that is not its answer, the claimed best moves, and the score and
+// the best moves of the answer.
 type Row = (Discs, [&'static [u8]; 2], u64, i8, u64);
 
 const LIES: &[Row] = &[
@@ -89,7 +90,7 @@ const LIES: &[Row] = &[
     ),
 ];
 
-// Whether a search that has the claim as advice finds the score and the best moves.
+// Whether a search that tests the claim finds the score and the best moves.
 fn is_answered(discs: Discs, claim: Claim, score: i8, mask: u64) -> Option<bool> {
     let task = Task::new(pos_of(discs, Side::Black)?, 20, Scoring::Winner).ok()?;
     let answer = confirm(&NoTable::new(task.scoring()), task, claim).answer();

@@ -17,7 +17,8 @@ fn has_fault(alloc: Global, pieces: &[&[u8]], fault: BookFault) -> bool {
     read_again(alloc, &join(pieces)).err() == Some(fault)
 }
 
-// The lines of the book with the first two exchanged, without its header and with it, and a line twice.
+// Texts with the first two lines of the book exchanged, without its header and with it, and a text
+// with one line twice.
 fn tells_wrong_order(alloc: Global) -> bool {
     let (rows, last, left) = (SEVEN_ROWS, LAST_CORNER_LINE, CORNER_LEFT_OVER_LINE);
     let third = EQUAL_CORNERS_LINE;
@@ -32,7 +33,7 @@ fn tells_wrong_order(alloc: Global) -> bool {
     ) && has_fault(alloc, &[rows, last, rows, last], BookFault::Unsorted(2))
 }
 
-// A line of a position that is not the least of its images, and one with White to move.
+// A line of a position that is not the least of its images, and a line with White to move.
 fn tells_other_images(alloc: Global) -> bool {
     let unequal: &[u8] = b"-OXXXXX-XXXXXXXOXXXXXXXXXXXXXXXXXXXOXXXXXXXXXXXXXXXXXXXXXXXXXXXX";
     let white: &[u8] = b"XOOOOO-- O; G8:+64;\n";
@@ -109,7 +110,7 @@ fn reads_the_first_line(rt: HostRuntime) {
     }
 }
 
-// How many bytes of the three lines are left, and how many claims or which fault they give.
+// How many bytes of the three lines are read, and the number of claims or the fault in them.
 const CUTS: &[(usize, Result<usize, BookFault>)] = &[
     (0, Ok(0)),
     (1, Err(BookFault::Line(1, LineFault::Short(1)))),
@@ -132,7 +133,8 @@ const CUTS: &[(usize, Result<usize, BookFault>)] = &[
     (236, Ok(3)),
 ];
 
-// How many bytes are left, a position, and the score and the moves that they claim of it.
+// How many bytes of the three lines are read, a position, and the score and the best moves that
+// they claim of it.
 const CUT_CLAIMS: &[(usize, Discs, i8, u64)] = &[
     (73, CORNER_LEFT_OVER, 6, B1),
     (74, CORNER_LEFT_OVER, 64, B1),
@@ -180,7 +182,7 @@ fn reads_what_is_cut_off(rt: HostRuntime) {
     );
 }
 
-// What is listed for a position, and what that claims.
+// The listed fields of a position, and the score and the best moves that they claim.
 const LISTED: &[(&[u8], i8, Best)] = &[
     (b"H8:+3; PS:+3; G8:+2; --:+3;", 3, Best::Moves(A1)),
     (b"H8:-3; G8:-3; H8:-3;", -3, Best::Moves(A1 | B1)),
@@ -204,7 +206,7 @@ fn claims_by_the_greatest_score(rt: HostRuntime) {
     }
 }
 
-// Whether a line is read that lists just this pass.
+// Whether a line lists a pass with this score and nothing else. True where memory is refused.
 fn lists_a_pass(alloc: Global, line: &[u8], score: i8) -> bool {
     match read_line(alloc, line) {
         Ok(Item::Entry(line)) => {

@@ -12,7 +12,8 @@ use othello_rules::{Answer, Scoring, Side};
 use std::alloc::Global;
 use std::io;
 
-// Whether the text is whole in so much room, or the fault the writer's where the room is too small.
+// Whether the book writes the text `whole` into `room` bytes, or returns the writer's fault where
+// these are too few.
 fn is_written_in(room: usize, book: &Book, whole: &[u8]) -> bool {
     let mut bytes = [0; 512];
     let Some(mut left) = bytes.get_mut(..room) else {
@@ -68,7 +69,8 @@ fn are_images_known(book: &mut Book, discs: Discs) -> bool {
     true
 }
 
-// A book of three positions, to which no image of one of them is new.
+// Whether an empty book holds three positions after they are added, and then no image of the third
+// is new.
 fn holds_three(book: &mut Book) -> bool {
     book.len() == 0
         && is_new(book, LAST_CORNER)
@@ -78,8 +80,8 @@ fn holds_three(book: &mut Book) -> bool {
         && book.len() == 3
 }
 
-// A scoring, the text of its empty book, and that of its book of three positions, one of which has
-// another score under each.
+// A scoring, the text of its empty book, and the text of its book of three positions. One of these
+// has another score under each scoring.
 type Three = (Scoring, &'static [u8], &'static [&'static [u8]]);
 
 const BOOKS_OF_THREE: &[Three] = &[
@@ -128,7 +130,7 @@ fn holds_one_of_all_images(rt: HostRuntime) {
     }
 }
 
-// A position, a scoring, and the text of its book.
+// A position, a scoring, and the text of the book of this position under the scoring.
 type Row = (Discs, Side, Scoring, [&'static [u8]; 3]);
 
 const ANSWERS: &[Row] = &[
@@ -207,7 +209,7 @@ fn writes_each_kind_of_answer(rt: HostRuntime) {
     }
 }
 
-// After a fault at each place of the text the book can be written still.
+// A book can be written after a fault of the writer at any place of the text.
 #[test]
 fn can_be_written_again_after_a_fault(rt: HostRuntime) {
     let mut book = Book::new(rt.alloc(), Scoring::Winner);

@@ -6,7 +6,7 @@ use Rattle.solved_book.specs.Order.{AreRising}
 use Rattle.solved_book.proofs.ClaimSteps.{IsAhead, ReadsOn}
 use Rattle.solved_book.proofs.advice.read_claims.Given as goal
 
--- the claims so far, and what the lines that are left give, are what all lines give
+-- the claims so far, and then those of the lines that are left, are those of all lines
 abbrev pub invariant-loop-line : goal.invariant-loop-line
 invariant-loop-line l = record {
   reads : ReadsOn l.number l.before l.claims.entries l.line-iterator (claims_from 1 None (lines_of l.fn.text));
