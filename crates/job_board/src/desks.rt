@@ -98,7 +98,8 @@ impl Desk {
     /// sender is closed and all answers came back; else a job, which the client has now taken.
     /// While there is none of these, the calling thread waits. `Mixed` where the board delivers an
     /// answer that is not the client's next, where the board replies `Drained` before the client
-    /// has all answers, and where the board has no such sender. `Err` leaves the client as it was.
+    /// has all answers, and where the board has no such sender. `Err` leaves the client as it was;
+    /// an answer that is not the client's next counts as delivered at the board.
     pub fn turn<R: Wait>(&self, rt: &R, client: &mut Client) -> Result<Turn, Mixed>
         ensures ok { IfOk result (TurnGives client.old client.new) }
         ensures err { OnErr result (client.new ≡ client.old) }

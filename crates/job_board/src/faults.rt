@@ -48,8 +48,8 @@ pub enum JobFault {
 pub struct NoSender;
 
 /// The board's reply does not fit the client. It is an answer that is not the client's next; or
-/// `Drained` while a task that the client sent has no answer; or the board has no such sender. This
-/// happens where two clients have one sender.
+/// `Drained` before the client has all answers; or the board has no such sender. This can happen
+/// where two clients have one sender.
 #[derive(Clone, Copy, PartialEq, Eq, Debug, Error)]
 #[error("answers mixed")]
 pub struct Mixed;

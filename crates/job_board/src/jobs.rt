@@ -18,7 +18,7 @@ pub struct Job {
     pub task: Task,
 }
 
-/// How far a job has come.
+/// The stage of a job.
 #[derive(Clone, Copy, PartialEq, Eq, Debug)]
 pub enum Stage {
     /// It waits to be taken.
