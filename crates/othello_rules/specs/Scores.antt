@@ -1,5 +1,5 @@
 -- The scorings: the score of a position by its discs, as the mover sees it, under each, and their names.
-use Rattle.std.specs.Prelude.{ℕ, nat_lt, if◌then◌else◌, ℤ, pos, ◌+ℤ◌, ◌-ℤ◌, List, codes}
+use Rattle.std.specs.Prelude.{ℕ, nat_lt, if◌then◌else◌, ℤ, pos, ◌+ℤ◌, ◌-ℤ◌, List, [], ◌∷◌, codes}
 use Rattle.std.specs.Int.{int_signum}
 use Rattle.othello_rules.specs.declared.scorings.Scoring.{Scoring}
 use Rattle.othello_rules.specs.declared.scorings.Scoring.TheVariants.{Winner, Discs, Sign}
@@ -24,3 +24,7 @@ abbrev pub scoring_name : Scoring → List ℕ
 scoring_name Winner = codes "winner"
 scoring_name Discs = codes "discs"
 scoring_name Sign = codes "sign"
+
+-- all scorings, in the order of their numbers in C
+abbrev pub all_scorings : List Scoring
+all_scorings = Winner ∷ Discs ∷ Sign ∷ []

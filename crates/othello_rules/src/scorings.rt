@@ -1,7 +1,9 @@
 //! How a position is scored.
 
-ghost use Rattle.std.specs.Prelude.{◌≡◌, ◌≤◌, ◌+◌, IfSome, Some};
-ghost use Rattle.othello_rules.specs.Scores.{scoring_name, score_of};
+ghost use Rattle.std.specs.Prelude.{◌≡◌, ◌≤◌, ◌+◌, IfSome, Some, map, option_map};
+ghost use Rattle.std.specs.List.{find};
+ghost use Rattle.std.specs.Str.{bytes_eq};
+ghost use Rattle.othello_rules.specs.Scores.{all_scorings, scoring_name, score_of};
 ghost use Rattle.othello_rules.specs.Answer.{IsScore};
 ghost use Rattle.othello_rules.specs.declared.scorings.Scoring.{Scoring};
 ghost use Rattle.othello_rules.specs.declared.scorings.Scoring.TheVariants.{Winner};
@@ -22,6 +24,9 @@ pub enum Scoring {
 }
 
 impl Scoring {
+    /// All scorings, in the order of their numbers in C, from 0.
+    pub const ALL: [Scoring; 3] = [Scoring::Winner, Scoring::Discs, Scoring::Sign];
+
     /// The name by which options and texts call the scoring: `winner`, `discs` or `sign`.
     pub fn name(self) -> &'static str
         ensures { result.now ≡ scoring_name self }
@@ -33,21 +38,19 @@ impl Scoring {
         }
     }
 
+    /// The names of all scorings, in the order of `ALL`.
+    pub fn names() -> [&'static str; 3]
+        ensures { map (λ name. name.now) result ≡ map scoring_name all_scorings }
+    {
+        Scoring::ALL.map(|scoring| scoring.name())
+    }
+
     /// The scoring of a name: `winner`, `discs` or `sign`. None for any other bytes.
     pub fn from_name(name: &[u8]) -> Option<Scoring>
         ensures named { IfSome result (λ scoring. name.now ≡ scoring_name scoring) }
         ensures all { (g : Scoring) → name.now ≡ scoring_name g → result ≡ Some g }
     {
-        if name == Scoring::Winner.name().as_bytes() {
-            return Some(Scoring::Winner);
-        }
-        if name == Scoring::Discs.name().as_bytes() {
-            return Some(Scoring::Discs);
-        }
-        if name == Scoring::Sign.name().as_bytes() {
-            return Some(Scoring::Sign);
-        }
-        None
+        find_named(Scoring::ALL.as_slice(), name).copied()
     }
 
     /// The score of a position with `own` discs of the mover, `opposing` discs of the opponent and
@@ -65,6 +68,16 @@ impl Scoring {
             Scoring::Sign => difference.signum(),
         }
     }
+}
+
+// The first of the scorings that has the name.
+fn find_named<'a>(scorings: &'a [Scoring], name: &[u8]) -> Option<&'a Scoring>
+    ensures { option_map (λ g. g.now) result
+        ≡ find (λ g. bytes_eq (scoring_name g) name.now) scorings.now }
+{
+    scorings
+        .iter()
+        .find(|scoring| scoring.name().as_bytes() == name)
 }
 
 // The disc difference, with the empty squares for the side that has more discs.
