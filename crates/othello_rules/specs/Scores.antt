@@ -1,6 +1,8 @@
 -- The scorings: the score of a position by its discs, as the mover sees it, under each, and their names.
-use Rattle.std.specs.Prelude.{ℕ, nat_lt, if◌then◌else◌, ℤ, pos, ◌+ℤ◌, ◌-ℤ◌, List, [], ◌∷◌, codes}
+use Rattle.std.specs.Prelude.{ℕ, nat_lt, if◌then◌else◌, ℤ, pos, ◌+ℤ◌, ◌-ℤ◌, List, [], ◌∷◌, Option, codes}
 use Rattle.std.specs.Int.{int_signum}
+use Rattle.std.specs.List.{find}
+use Rattle.std.specs.Str.{bytes_eq}
 use Rattle.othello_rules.specs.declared.scorings.Scoring.{Scoring}
 use Rattle.othello_rules.specs.declared.scorings.Scoring.TheVariants.{Winner, Discs, Sign}
 use Rattle.othello_rules.specs.declared.discs.Cell.TheVariants.{Empty}
@@ -28,3 +30,7 @@ scoring_name Sign = codes "sign"
 -- all scorings, in the order of their numbers in C
 abbrev pub all_scorings : List Scoring
 all_scorings = Winner ∷ Discs ∷ Sign ∷ []
+
+-- the scoring of a name, if it is one's name
+abbrev pub scoring_named : List ℕ → Option Scoring
+scoring_named name = find (λ g. bytes_eq (scoring_name g) name) all_scorings

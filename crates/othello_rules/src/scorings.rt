@@ -3,7 +3,7 @@
 ghost use Rattle.std.specs.Prelude.{◌≡◌, ◌≤◌, ◌+◌, IfSome, Some, map, option_map};
 ghost use Rattle.std.specs.List.{find};
 ghost use Rattle.std.specs.Str.{bytes_eq};
-ghost use Rattle.othello_rules.specs.Scores.{all_scorings, scoring_name, score_of};
+ghost use Rattle.othello_rules.specs.Scores.{all_scorings, score_of, scoring_name, scoring_named};
 ghost use Rattle.othello_rules.specs.Answer.{IsScore};
 ghost use Rattle.othello_rules.specs.declared.scorings.Scoring.{Scoring};
 ghost use Rattle.othello_rules.specs.declared.scorings.Scoring.TheVariants.{Winner};
@@ -47,6 +47,7 @@ impl Scoring {
 
     /// The scoring of a name: `winner`, `discs` or `sign`. None for any other bytes.
     pub fn from_name(name: &[u8]) -> Option<Scoring>
+        ensures value { result ≡ scoring_named name.now }
         ensures named { IfSome result (λ scoring. name.now ≡ scoring_name scoring) }
         ensures all { (g : Scoring) → name.now ≡ scoring_name g → result ≡ Some g }
     {

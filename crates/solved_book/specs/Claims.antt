@@ -1,15 +1,15 @@
 -- The claims of a book's text, and the claim that is found for a position.
-use Rattle.std.specs.Prelude.{◌≡◌, ◌≢◌, ℕ, ◌+◌, ◌&&◌, Bool, true, false, nat_eq, List, [], ◌∷◌, ◌++◌, length, codes}
+use Rattle.std.specs.Prelude.{◌≡◌, ◌≢◌, ℕ, ◌+◌, ◌&&◌, Bool, true, false, nat_eq, List, [], ◌∷◌, ◌++◌, length, codes, drop}
 use Rattle.std.specs.Prelude.{Option, Some, None, option_map, Result, Ok, Err, if◌then◌else◌}
 use Rattle.std.specs.List.{starts_with}
 use Rattle.std.specs.Map.{lookup}
 use Rattle.std.specs.Ordering.{is_gt, is_eq}
-use Rattle.std.specs.Str.{bytes_eq}
 use Rattle.othello_rules.specs.declared.discs.Side.{Side}
 use Rattle.othello_rules.specs.declared.discs.Side.TheVariants.{Black, White}
 use Rattle.othello_rules.specs.declared.scorings.Scoring.{Scoring}
-use Rattle.othello_rules.specs.declared.scorings.Scoring.TheVariants.{Winner, Discs, Sign}
+use Rattle.othello_rules.specs.declared.scorings.Scoring.TheVariants.{Winner}
 use Rattle.othello_rules.specs.Rules.{GridView}
+use Rattle.othello_rules.specs.Scores.{scoring_named}
 use Rattle.othello_rules.specs.Answer.{AnswerView}
 use Rattle.othello_bits.specs.Pos as bits
 use Rattle.othello_bits.specs.Pos.{discs_of, position_of}
@@ -19,7 +19,6 @@ use Rattle.obf_text.specs.LineText.{lines_of}
 use Rattle.obf_text.specs.Obf.{Entry, Meaning, Skipped, Holds, Faulty, item_of}
 use Rattle.endgame_search.specs.declared.solutions.Claim.{Claim}
 use Rattle.solved_book.specs.Order.{by_masks}
-use Rattle.solved_book.specs.Books.{header}
 use Rattle.solved_book.specs.Listing.{claim_of}
 use Rattle.solved_book.specs.declared.faults.BookFault.{BookFault}
 use Rattle.solved_book.specs.declared.faults.BookFault.TheVariants as fault
@@ -39,10 +38,8 @@ pub record ClaimsView : Type 0 where
 -- none; else `Winner`
 abbrev pub scoring_in : List ℕ → Option Scoring
 scoring_in line =
-    if bytes_eq line (header Winner) then Some Winner
-    else (if bytes_eq line (header Discs) then Some Discs
-    else (if bytes_eq line (header Sign) then Some Sign
-    else (if starts_with nat_eq line (codes "% ffobook ") then None else Some Winner)))
+    if starts_with nat_eq line (codes "% ffobook 2 ") then scoring_named (drop 12 line)
+    else (if starts_with nat_eq line (codes "% ffobook ") then None else Some Winner)
 
 abbrev pub scoring_of_lines : List (List ℕ) → Option Scoring
 scoring_of_lines [] = Some Winner

@@ -10,7 +10,7 @@ ghost use Rattle.solved_book.specs.Books.{book_text, entry_text, header, positio
 ghost use Rattle.solved_book.specs.Books.{IsSolvedEntry};
 ghost use Rattle.solved_book.specs.Order.{AreBookPositions};
 
-use crate::headers::header;
+use crate::headers::write_header;
 use crate::images::{Masks, best_on_image, masks_of};
 use endgame_search::Solved;
 use obf_text::write_line;
@@ -75,11 +75,11 @@ fn write_entry<W: Write>(
 }
 
 // Writes the header and a line feed.
-fn write_header<W: Write>(writer: &mut W, scoring: Scoring) -> io::Result<()>
+fn write_first_line<W: Write>(writer: &mut W, scoring: Scoring) -> io::Result<()>
     ensures { OnOk result
         (Appends (W.contents writer.old) (W.contents writer.new) (header scoring ++ 10 ∷ [])) }
 {
-    writer.write_all(header(scoring))?;
+    write_header(writer, scoring)?;
     writer.write_all(b"\n")
 }
 
@@ -138,7 +138,7 @@ impl Book {
             (book_text self.now.scoring self.now.positions)) }
         ensures positions { OnOk result (AreBookPositions self.now.positions) }
     {
-        write_header(writer, self.scoring)?;
+        write_first_line(writer, self.scoring)?;
         for (masks, answer) in &self.answers {
             write_entry(writer, self.scoring, *masks, answer)?;
         }

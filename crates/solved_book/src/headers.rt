@@ -1,23 +1,24 @@
 //! The first line of a book.
 
 ghost use Rattle.std.specs.Prelude.{◌≡◌, OnOk, codes};
+ghost use Rattle.std.specs.Io.KnownBytes.{Appends};
 ghost use Rattle.solved_book.specs.Claims.{scoring_in, scoring_of_lines};
 ghost use Rattle.solved_book.specs.Books.{header};
 ghost use Rattle.obf_text.specs.LineText.{lines_of};
 
 use obf_text::split_lines;
 use othello_rules::Scoring;
+use std::io;
+use std::io::Write;
 
-/// The header of a scoring: the first line of a book, without its line feed.
+/// Writes the line that names a scoring, without its end.
 #[tactic(auto, unfolding(crate::specs::Books::header))]
-pub(crate) fn header(scoring: Scoring) -> &'static [u8]
-    ensures { result.now ≡ header scoring }
+pub(crate) fn write_header<W: Write>(writer: &mut W, scoring: Scoring) -> io::Result<()>
+    ensures { OnOk result
+        (Appends (W.contents writer.old) (W.contents writer.new) (header scoring)) }
 {
-    match scoring {
-        Scoring::Winner => b"% ffobook 2 winner",
-        Scoring::Discs => b"% ffobook 2 discs",
-        Scoring::Sign => b"% ffobook 2 sign",
-    }
+    writer.write_all(b"% ffobook 2 ")?;
+    writer.write_all(scoring.name().as_bytes())
 }
 
 // The scoring that a first line names: `Winner` where it is no header, None where it is an unknown
@@ -25,14 +26,8 @@ pub(crate) fn header(scoring: Scoring) -> &'static [u8]
 fn scoring_in(line: &[u8]) -> Option<Scoring>
     ensures { result ≡ scoring_in line.now }
 {
-    if line == header(Scoring::Winner) {
-        return Some(Scoring::Winner);
-    }
-    if line == header(Scoring::Discs) {
-        return Some(Scoring::Discs);
-    }
-    if line == header(Scoring::Sign) {
-        return Some(Scoring::Sign);
+    if line.starts_with(b"% ffobook 2 ") {
+        return Scoring::from_name(&line[12..]);
     }
     if line.starts_with(b"% ffobook ") {
         return None;
@@ -40,8 +35,7 @@ fn scoring_in(line: &[u8]) -> Option<Scoring>
     Some(Scoring::Winner)
 }
 
-/// The scoring of a book by the first line of its text: `Winner` where it is no header, None where
-/// it begins as a header and is none.
+/// The scoring of a book by the first line of its text.
 pub(crate) fn scoring_of(text: &[u8]) -> Option<Scoring>
     ensures { result ≡ scoring_of_lines (lines_of text.now) }
 {

@@ -16,7 +16,7 @@ loop-masks-init g c =
     let same : c.into_iter-masks-iterator.result ≡ kept = search rules in
     record {
       text = rw same (completes_more _ _ _ (header r ++ 10 ∷ []) (flat_map (entry_text r) (positions_in kept)) _
-          (completes_start _ _) c.in_ok-write_header.ensures);
+          (completes_start _ _) c.in_ok-write_first_line.ensures);
       solved = rw same (recursion_from_All (IsSolvedEntry r) kept c.self.invariant.solved);
     }
 
