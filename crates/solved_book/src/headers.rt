@@ -17,8 +17,8 @@ pub(crate) fn write_header<W: Write>(writer: &mut W, scoring: Scoring) -> io::Re
     ensures { OnOk result
         (Appends (W.contents writer.old) (W.contents writer.new) (header scoring)) }
 {
-    writer.write_all(b"% ffobook 2 ")?;
-    writer.write_all(scoring.name().as_bytes())
+    let name = scoring.name();
+    write!(writer, "% ffobook 2 {name}")
 }
 
 // The scoring that a first line names: `Winner` where it is no header, None where it is an unknown
