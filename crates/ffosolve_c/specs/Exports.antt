@@ -8,7 +8,7 @@ use Rattle.othello_rules.specs.Answer.{AnswerView}
 use Rattle.othello_rules.specs.declared.answers.Best.{Best}
 use Rattle.othello_rules.specs.declared.answers.Best.TheVariants.{Moves, Pass, Over}
 use Rattle.othello_rules.specs.declared.scorings.Scoring.{Scoring}
-use Rattle.othello_rules.specs.declared.scorings.Scoring.TheVariants as scoring
+use Rattle.othello_rules.specs.Scores.{all_scorings}
 use Rattle.othello_bits.specs.Pos.{PosView, discs, empties_of, moves_of, play_of, value_of}
 use Rattle.othello_bits.specs.Pos.{answer_of}
 use Rattle.ffosolve_c.specs.declared.answers.FfosolveAnswer.{FfosolveAnswer}
@@ -20,10 +20,7 @@ use Rattle.ffosolve_c.specs.declared.refusals.Refusal.TheVariants.{TooManyEmptie
 
 -- the scoring that a number names
 unfoldable pub scoring_of : ℕ → Option Scoring
-scoring_of n =
-    if nat_eq n 0 then Some scoring.Winner
-    else (if nat_eq n 1 then Some scoring.Discs
-    else (if nat_eq n 2 then Some scoring.Sign else None))
+scoring_of n = slice_get all_scorings n
 
 -- the position of the masks
 abbrev pub discs_at : FfosolvePosition → PosView

@@ -18,12 +18,7 @@ use std::alloc::Global;
 fn scoring_of(number: u32) -> Option<Scoring>
     ensures { result ≡ scoring_of number }
 {
-    match number {
-        0 => Some(Scoring::Winner),
-        1 => Some(Scoring::Discs),
-        2 => Some(Scoring::Sign),
-        _ => None,
-    }
+    Scoring::ALL.get(number as usize).copied()
 }
 
 /// The scoring with the number `number`, for a table of `entries` entries. `UnknownScoring` where

@@ -13,8 +13,8 @@ use Rattle.clap.specs.declared.builder.value_parser.ValueParser.TheVariants as p
 use Rattle.clap.specs.declared.error.Error.{Error}
 use Rattle.clap.specs.declared.error.kind.ErrorKind.{ErrorKind}
 use Rattle.clap.specs.declared.error.kind.ErrorKind.TheVariants.{DisplayHelp, DisplayVersion, OutOfMemory}
-use Rattle.othello_rules.specs.Scores.{scoring_name}
-use Rattle.othello_rules.specs.declared.scorings.Scoring.TheVariants.{Winner, Discs, Sign}
+use Rattle.othello_rules.specs.Scores.{all_scorings, scoring_name}
+use Rattle.othello_rules.specs.declared.scorings.Scoring.TheVariants.{Winner}
 use Rattle.suite_solver.specs.Settings.{SettingsView}
 use Rattle.suite_solver.specs.declared.requests.ListOptions.{ListOptions}
 use Rattle.suite_solver.specs.declared.requests.Options.{Options}
@@ -39,7 +39,7 @@ NameList = Bor (List (Bor Text))
 abbrev pub NamesScorings : NameList → Type 0
 NamesScorings names =
     map (λ name. name.now) names.now
-    ≡ scoring_name Winner ∷ scoring_name Discs ∷ scoring_name Sign ∷ []
+    ≡ map scoring_name all_scorings
 
 -- an option with one of these names
 abbrev pub scoring_rule : NameList → Rule

@@ -13,8 +13,6 @@ use clap::{Arg, ArgAction, ArgMatches, Command};
 use othello_rules::Scoring;
 use std::alloc::{AllocError, Global};
 
-static SCORINGS: [&str; 3] = ["winner", "discs", "sign"];
-
 const ABOUT: &str = "\
 Solves Othello endgames exactly. For each position of OBF files it prints the score in discs, as
 the side to move sees it, every best move, and how the scores that the line lists compare.";
@@ -269,7 +267,8 @@ pub fn options(alloc: Global, words: &[&str]) -> Result<Options, OptionFault>
     ensures asked { IfOk result
         (λ found. Asks (map (λ word. word.now) words.now) (request_of found)) }
 {
-    let command = command(alloc, SCORINGS.as_slice())?;
+    let names = Scoring::names();
+    let command = command(alloc, names.as_slice())?;
     let matches = command.try_get_matches_from(words)?;
     let Some(settings) = settings_of(&matches) else {
         return Err(OptionFault::Memory);
@@ -297,7 +296,8 @@ pub fn list_options(alloc: Global, words: &[&str]) -> Result<ListOptions, Option
     ensures asked { IfOk result
         (λ found. AsksLists (map (λ word. word.now) words.now) (list_request_of found)) }
 {
-    let command = list_command(alloc, SCORINGS.as_slice())?;
+    let names = Scoring::names();
+    let command = list_command(alloc, names.as_slice())?;
     let matches = command.try_get_matches_from(words)?;
     let Some(settings) = list_settings_of(&matches) else {
         return Err(OptionFault::Memory);

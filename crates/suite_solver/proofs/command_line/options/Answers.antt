@@ -28,7 +28,7 @@ returns-clause-asked c =
     (c.in_ok-matches.ensures.matches (ap is_simple app ∙ simple names)).0 ∙ ap (λ (a : App). matches_of a words) app in
     record {
       names = names;
-      named = ap (map (λ (name : Bor Text). name.now)) c.as_slice.ensures;
+      named = ap (map (λ (name : Bor Text). name.now)) c.as_slice.ensures ∙ c.names-names.ensures;
       faultless = ap (λ (a : App). fault_of a words) (sym app) ∙ c.in_ok-matches.ensures.kinds (ap is_simple_and_free app ∙ free names);
       settings = subst (λ (r : List Row). HasSettings c.in-Some.settings r) rows c.in-Some.ensures;
       book_in = c.in_ok-book_in.ensures ∙ first_value-rows found (codes "book-in") ∙ ap (first_of (codes "book-in")) rows;
@@ -40,7 +40,7 @@ pub returns-in_err-matches-clause-taken : goal.returns-in_err-matches-clause-tak
 returns-in_err-matches-clause-taken c = λ h.
     let words : List Text = map (λ w. w.now) c.args.words.now in
     let names = c.as_slice.result in
-    let named : NamesScorings names = ap (map (λ (name : Bor Text). name.now)) c.as_slice.ensures in
+    let named : NamesScorings names = ap (map (λ (name : Bor Text). name.now)) c.as_slice.ensures ∙ c.names-names.ensures in
     let p = err_from_is_err_and c.from_residual-in_err-matches.result c.from_residual-in_err-matches.ensures.1 in
     let same = ap (λ (a : App). takes a words) c.in_ok-command.ensures in
     let wanting = c.in_err-matches.ensures.passes (same ∙ h names named) in
@@ -53,7 +53,7 @@ pub returns-in_err-matches-clause-refused : goal.returns-in_err-matches-clause-r
 returns-in_err-matches-clause-refused c =
     let words : List Text = map (λ w. w.now) c.args.words.now in
     let names = c.as_slice.result in
-    let named : NamesScorings names = search rules in
+    let named : NamesScorings names = ap (map (λ (name : Bor Text). name.now)) c.as_slice.ensures ∙ c.names-names.ensures in
     let app = c.in_ok-command.ensures in
     let p = err_from_is_err_and c.from_residual-in_err-matches.result c.from_residual-in_err-matches.ensures.1 in
     let found = subst (λ (a : App). HasKind (fault_of a words) c.in_err-matches.field-0.0) app
