@@ -2,9 +2,9 @@
 #![tactic(auto)]
 
 mod endings;
+mod errors;
 mod inputs;
 mod programs;
-mod errors;
 #[cfg(test)]
 mod tests;
 

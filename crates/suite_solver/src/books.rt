@@ -4,8 +4,8 @@ ghost use Rattle.std.specs.Prelude.{◌≡◌, ◌⊎◌, IfOk, IfErr};
 ghost use Rattle.solved_book.specs.Books.{book_text};
 ghost use Rattle.suite_solver.specs.Programs.{IsSilent, status_of};
 
-use crate::places::name_beside;
 use crate::errors::{ProgramError, read_error};
+use crate::places::name_beside;
 use solved_book::{Book, Claims};
 use std::alloc::{AllocError, Global};
 use std::fs::{OpenFile, OpenOptions};
@@ -21,7 +21,11 @@ fn read_whole<R: Read>(alloc: Global, reader: &mut R) -> io::Result<Vec<u8>> {
 }
 
 // The text of a book's file.
-fn read_text<'a, T: Files>(rt: &T, alloc: Global, name: &'a str) -> Result<Vec<u8>, ProgramError<'a>>
+fn read_text<'a, T: Files>(
+    rt: &T,
+    alloc: Global,
+    name: &'a str,
+) -> Result<Vec<u8>, ProgramError<'a>>
     ensures silent { IfErr result IsSilent }
     ensures status { IfErr result (λ error. (status_of error ≡ 1) ⊎ (status_of error ≡ 3)) }
 {

@@ -7,9 +7,9 @@ ghost use Rattle.suite_solver.specs.declared.faults.RunFault.TheVariants.{Memory
 
 use crate::faults::{RunFault, worse_fault};
 use crate::gates::Gate;
+use crate::lines::{NumberedReading, readings_of, rows_of};
 use crate::parts::Part;
 use crate::solvers::Solver;
-use crate::lines::{NumberedReading, readings_of, rows_of};
 use bound_table::Bounds;
 use endgame_search::Solved;
 use job_board::{Client, Desk, Job, Turn};

@@ -138,7 +138,10 @@ impl ProgramError<'_> {
         match self {
             ProgramError::Run(_) => 1,
             ProgramError::BadWords => 2,
-            ProgramError::BadBook(_) | ProgramError::CannotRead(_) | ProgramError::NoPlace(_) | ProgramError::CannotWrite(_) => 3,
+            ProgramError::BadBook(_)
+            | ProgramError::CannotRead(_)
+            | ProgramError::NoPlace(_)
+            | ProgramError::CannotWrite(_) => 3,
         }
     }
 }

@@ -42,7 +42,11 @@ fn read_input<R: Read>(alloc: Global, input: &mut R) -> Result<Vec<Vec<u8>>, Pro
 }
 
 // The file of a name.
-fn read_file<'a, T: Files>(rt: &T, alloc: Global, name: &'a str) -> Result<Vec<u8>, ProgramError<'a>>
+fn read_file<'a, T: Files>(
+    rt: &T,
+    alloc: Global,
+    name: &'a str,
+) -> Result<Vec<u8>, ProgramError<'a>>
     ensures { IfErr result (λ error. (status_of error ≡ 1) ⊎ (status_of error ≡ 3)) }
 {
     let opened = fs::open(rt, name);
