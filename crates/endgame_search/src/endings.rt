@@ -82,7 +82,8 @@ fn search_last_move<T: Bounds>(table: &T, ending: Ending, bound: i8) -> i8
     requires ending { IsEnding ending }
     requires some { 0 < ending.turned }
     requires bound { IsBound bound }
-    ensures { Places bound (bound +ℤ pos 1) (value_of (T.scoring table.now) ending.position) result }
+    ensures { Places bound (bound +ℤ pos 1)
+        (value_of (T.scoring table.now) ending.position) result }
 {
     if let Some(score) = decide(table, ending.position, bound, bound + 1) {
         return score;
@@ -97,7 +98,8 @@ fn search_last_pass<T: Bounds>(table: &T, ending: Ending, bound: i8) -> i8
     requires ending { IsEnding ending }
     requires none { ending.turned ≡ 0 }
     requires bound { IsBound bound }
-    ensures { Places bound (bound +ℤ pos 1) (value_of (T.scoring table.now) ending.position) result }
+    ensures { Places bound (bound +ℤ pos 1)
+        (value_of (T.scoring table.now) ending.position) result }
 {
     let passed = Ending::new(ending.position.pass(), ending.square);
     if passed.turned == 0 {
@@ -115,7 +117,8 @@ fn search_last_pass<T: Bounds>(table: &T, ending: Ending, bound: i8) -> i8
 fn search_last<T: Bounds>(table: &T, ending: Ending, bound: i8) -> i8
     requires ending { IsEnding ending }
     requires bound { IsBound bound }
-    ensures { Places bound (bound +ℤ pos 1) (value_of (T.scoring table.now) ending.position) result }
+    ensures { Places bound (bound +ℤ pos 1)
+        (value_of (T.scoring table.now) ending.position) result }
 {
     if ending.turned == 0 {
         search_last_pass(table, ending, bound)

@@ -13,7 +13,8 @@ use std::process::{ExitCode, Termination};
 use std::rt::Files;
 use suite_solver::Errors;
 
-/// How the program ended. `program_at` alone makes one, so that a `main` which gives it ends with the program's status.
+/// How the program ended. `program_at` alone makes one, so that a `main` which gives it ends with
+/// the program's status.
 #[derive(Drop)]
 pub(crate) struct Ended {
     status: u8,

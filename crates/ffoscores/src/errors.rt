@@ -51,7 +51,8 @@ impl From<ListFault> for ProgramError<'_> {
     }
 }
 
-// Why standard input, or a file of this name, can't be read: it has failed, or there was no memory for its bytes.
+// Why standard input, or a file of this name, can't be read: it has failed, or there was no memory
+// for its bytes.
 pub(crate) fn read_error<'a>(fault: &io::Error, name: &'a str) -> ProgramError<'a>
     ensures { status_of result ≡ 3 }
 {

@@ -84,7 +84,8 @@ fn read_named<'a, T: Files>(
 ) -> Result<Vec<Vec<u8>>, ProgramError<'a>>
     requires { length names.now ≤ 64 }
     ensures len { IfOk result (λ texts. length texts.items ≡ length names.now) }
-    ensures small { IfOk result (λ texts. All (λ text. length text ≤ 1048576) (texts_of texts.items)) }
+    ensures small { IfOk result
+        (λ texts. All (λ text. length text ≤ 1048576) (texts_of texts.items)) }
     ensures err { IfErr result (λ error. status_of error ≡ 3) }
 {
     let mut texts = Vec::new(alloc);

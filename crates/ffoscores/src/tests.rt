@@ -7,8 +7,8 @@ use std::rt::Files;
 use std::test::Fail;
 use std::{fs, io};
 
-// The words of a command line with spaces between, standard input, and the status, standard output and standard error
-// that the program ends with.
+// The words of a command line with spaces between, standard input, and the status, standard output
+// and standard error that the program ends with.
 type Run<'a> = (&'a str, &'a [u8], u8, &'a [u8], &'a [u8]);
 
 // How a program ended.
@@ -202,7 +202,8 @@ fn reads_files(rt: HostRuntime) -> Result<(), Fail> {
     Ok(())
 }
 
-// Whether a line as long as a file may be is printed behind these bytes with this status, and one byte more refused.
+// Whether a line as long as a file may be is printed behind these bytes with this status, and a line
+// of one byte more is refused.
 fn is_measured<T: Files>(
     rt: &T,
     alloc: Global,
@@ -235,7 +236,7 @@ fn measures_input(rt: HostRuntime) -> Result<(), Fail> {
     Ok(())
 }
 
-// A reader that gives blanks without end, and counts them; or, where calls are left, fails after so many.
+// A reader that gives blanks, and counts them, and fails after `calls_left` calls.
 #[derive(Drop)]
 struct BlankReader {
     given: u64,
@@ -273,7 +274,8 @@ fn tells_what_it_cannot_read(rt: HostRuntime) -> Result<(), Fail> {
     Ok(())
 }
 
-// A writer that takes at most so many bytes, and then fails; where it takes all, it can't pass them on.
+// A writer that takes at most `room` bytes, and then fails; where it takes all, it can't pass them
+// on.
 #[derive(Drop)]
 struct FullWriter {
     room: usize,

@@ -106,8 +106,8 @@ fn behind_side(rest: &[u8]) -> &[u8]
     behind(rest, blank_count(rest) + 1)
 }
 
-/// The pieces of a line that holds a position, whether or not they list a move, in their order: what
-/// stands behind the side to move, up to the first `%`, cut at each `;`.
+/// The pieces of a line that holds a position, whether or not they list a move, in their order:
+/// what stands behind the side to move, up to the first `%`, cut at each `;`.
 #[tactic(auto, unfolding(crate::specs::Pieces::line_pieces))]
 pub fn line_pieces(line: &[u8]) -> Pieces<'_>
     ensures { result ≡ line_pieces line.now }

@@ -159,8 +159,8 @@ fn write_fields<W: Write>(writer: &mut W, fields: &[(ListedMove, i8)]) -> io::Re
     Ok(())
 }
 
-/// Writes the line of a position with moves listed for it, without an end, so that a comment may follow: as `write_line`
-/// does, but for any fields, in their order.
+/// Writes the line of a position with any fields, in their order. It has no end, so that a comment
+/// may follow.
 #[tactic(auto, unfolding(crate::specs::Written::entry_text))]
 pub fn write_entry<W: Write>(
     writer: &mut W,

@@ -1,6 +1,6 @@
 //! Claims of positions, read from the text of a book.
 
-ghost use Rattle.std.specs.Prelude.{◌≡◌, [], IfOk, None, length};
+ghost use Rattle.std.specs.Prelude.{◌≡◌, ◌↔◌, [], IfOk, IsTrue, None, length};
 ghost use Rattle.obf_text.specs.LineText.{lines_of};
 ghost use Rattle.solved_book.specs.Claims.{GivesAdvice, claims_from, claims_of, claim_for};
 ghost use Rattle.solved_book.specs.Books.{positions_in};
@@ -111,6 +111,13 @@ impl Claims {
         ensures rising { AreRising (claimed_positions self.now.claims) }
     {
         self.claims.len()
+    }
+
+    /// Whether no position has a claim.
+    pub fn is_empty(&self) -> bool
+        ensures { IsTrue result ↔ length self.now.claims ≡ 0 }
+    {
+        self.len() == 0
     }
 
     /// The claim of a position: the claim of its canonical position, with the best moves mapped

@@ -109,6 +109,13 @@ impl Book {
         self.answers.len()
     }
 
+    /// Whether the book holds no position.
+    pub fn is_empty(&self) -> bool
+        ensures { IsTrue result ↔ length self.now.positions ≡ 0 }
+    {
+        self.len() == 0
+    }
+
     /// Adds the canonical position of a solved position, with its answer. True where the book did
     /// not hold it before. `Err` where memory was refused: the book is as it was.
     pub fn add(&mut self, solved: &Solved) -> Result<bool, AllocError>

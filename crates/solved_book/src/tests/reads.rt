@@ -99,7 +99,7 @@ fn has_scoring(alloc: Global, text: &[u8], scoring: Scoring) -> bool {
     let Ok(claims) = read_again(alloc, text) else {
         return false;
     };
-    claims.len() == 0 && claims.scoring() == scoring
+    claims.is_empty() && claims.scoring() == scoring
 }
 
 #[test]

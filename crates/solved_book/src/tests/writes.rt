@@ -72,7 +72,7 @@ fn are_images_known(book: &mut Book, discs: Discs) -> bool {
 // Whether an empty book holds three positions after they are added, and then no image of the third
 // is new.
 fn holds_three(book: &mut Book) -> bool {
-    book.len() == 0
+    book.is_empty()
         && is_new(book, LAST_CORNER)
         && is_new(book, CORNER_LEFT_OVER)
         && is_new(book, EQUAL_CORNERS)
