@@ -10,9 +10,9 @@ use Rattle.suite_solver.specs.declared.faults.RunFault.{RunFault}
 use Rattle.suite_solver.specs.declared.faults.RunFault.TheVariants.{Memory, Mixed, TooManyFiles, FileTooLarge}
 use Rattle.suite_solver.specs.declared.parts.Part.{Part}
 
-pub assigned_yields : (g : Scoring) (limit : ℕ) (texts : List (List ℕ)) → map part_view_at (map (started_view g limit) texts) ≡ map (part_view g limit) texts
-assigned_yields g limit [] = refl
-assigned_yields g limit (text ∷ texts) = ap (λ l. part_view g limit text ∷ l) (assigned_yields g limit texts)
+pub started_views : (g : Scoring) (limit : ℕ) (texts : List (List ℕ)) → map part_view_at (map (started_view g limit) texts) ≡ map (part_view g limit) texts
+started_views g limit [] = refl
+started_views g limit (text ∷ texts) = ap (λ l. part_view g limit text ∷ l) (started_views g limit texts)
 
 worse_kept : (before : Option RunFault) (fault : RunFault) → IsPartFault fault → IsPartFault (worse_fault before fault)
 worse_kept None fault h = h
@@ -42,7 +42,7 @@ all_joined done clients left parts fault none whole h =
 -- the parts that were joined are those of the texts
 pub joined_parts : (g : Scoring) (limit : ℕ) (texts : List (List ℕ)) (parts : List Part) (fault : Option RunFault) → AreJoined (map (started_view g limit) texts) parts fault
     → fault ≡ None → map part_view_of parts ≡ map (part_view g limit) texts
-joined_parts g limit texts parts None h e = h ∙ assigned_yields g limit texts
+joined_parts g limit texts parts None h e = h ∙ started_views g limit texts
 joined_parts g limit texts parts (Some fault) h e = cc
 
 pub joined_fault : (clients : List StartedClientView) (parts : List Part) (fault : Option RunFault) (f : RunFault) → AreJoined clients parts fault → fault ≡ Some f → IsPartFault f

@@ -24,32 +24,32 @@ File = Vec ℕ Global
 
 -- ---- reports
 
-pub yields_more : (n : ℕ) (y : PartView) (ys : List PartView) → reports_of_views n (y ∷ ys) ≡ report_of_view (n, y) ∷ reports_of_views (n + 1) ys
+pub views_more : (n : ℕ) (y : PartView) (ys : List PartView) → reports_of_views n (y ∷ ys) ≡ report_of_view (n, y) ∷ reports_of_views (n + 1) ys
 unfolding reports_of_views
-yields_more n y ys = refl
+views_more n y ys = refl
 
-pub yields_none : (n : ℕ) → reports_of_views n [] ≡ []
+pub views_none : (n : ℕ) → reports_of_views n [] ≡ []
 unfolding reports_of_views
-yields_none n = refl
+views_none n = refl
 
--- what texts part_view has their reports
-pub yields_reported : (g : Scoring) (limit n : ℕ) (texts : List (List ℕ)) → reports_of_views n (map (part_view g limit) texts) ≡ reports_from g limit n texts
+-- the reports of the parts of texts
+pub views_reported : (g : Scoring) (limit n : ℕ) (texts : List (List ℕ)) → reports_of_views n (map (part_view g limit) texts) ≡ reports_from g limit n texts
 unfolding reports_of_views reports_from
-yields_reported g limit n [] = refl
-yields_reported g limit n (text ∷ texts) = ap (λ l. report g limit (n, text) ∷ l) (yields_reported g limit (n + 1) texts)
+views_reported g limit n [] = refl
+views_reported g limit n (text ∷ texts) = ap (λ l. report g limit (n, text) ∷ l) (views_reported g limit (n + 1) texts)
 
 -- ---- tasks
 
-pub yields_tasks : (g : Scoring) (limit : ℕ) (texts : List (List ℕ)) → tasks_of_views (map (part_view g limit) texts) ≡ all_tasks g limit texts
-yields_tasks g limit [] = refl
-yields_tasks g limit (text ∷ texts) = ap (λ l. tasks g limit text ++ l) (yields_tasks g limit texts)
+pub views_tasks : (g : Scoring) (limit : ℕ) (texts : List (List ℕ)) → tasks_of_views (map (part_view g limit) texts) ≡ all_tasks g limit texts
+views_tasks g limit [] = refl
+views_tasks g limit (text ∷ texts) = ap (λ l. tasks g limit text ++ l) (views_tasks g limit texts)
 
 abbrev pub AreScored : Scoring → PartView → Type 0
 AreScored g y = All (HasScoring g) y.1
 
-pub yields_scored : (g : Scoring) (limit : ℕ) (texts : List (List ℕ)) → All (AreScored g) (map (part_view g limit) texts)
-yields_scored g limit [] = All-nil (AreScored g)
-yields_scored g limit (text ∷ texts) = All-cons (AreScored g) (part_view g limit text) (map (part_view g limit) texts) (tasks_scored g limit text) (yields_scored g limit texts)
+pub views_scored : (g : Scoring) (limit : ℕ) (texts : List (List ℕ)) → All (AreScored g) (map (part_view g limit) texts)
+views_scored g limit [] = All-nil (AreScored g)
+views_scored g limit (text ∷ texts) = All-cons (AreScored g) (part_view g limit text) (map (part_view g limit) texts) (tasks_scored g limit text) (views_scored g limit texts)
 
 -- each part of scored ones is scored
 pub scored_at : (g : Scoring) (parts : List Part) (i : ℕ) (d : Part) → i < length parts → All (AreScored g) (map part_view_of parts) → All (HasScoring g) (get_or parts i d).solved.items
@@ -94,9 +94,9 @@ book_step old now new done t before added p =
 pub texts_step : (files : List File) (i : ℕ) (d : File) → i < length files → texts_of (take (i + 1) files) ≡ texts_of (take i files) ++ (get_or files i d).items ∷ []
 texts_step files i d lt = map_more (λ (f : File). f.items) files i d lt
 
-pub yields_step : {X : Type 0} (f : List ℕ → X) (files : List File) (i : ℕ) (d : File) (made : List X) (x : X) → i < length files
+pub views_step : {X : Type 0} (f : List ℕ → X) (files : List File) (i : ℕ) (d : File) (made : List X) (x : X) → i < length files
     → made ≡ map f (texts_of (take i files)) → x ≡ f (get_or files i d).items → made ++ x ∷ [] ≡ map f (texts_of (take (i + 1) files))
-yields_step f files i d made x lt h e =
+views_step f files i d made x lt h e =
     ap₂ (λ l y. l ++ y ∷ []) h e ∙ sym (ap (map f) (texts_step files i d lt) ∙ map-append f (texts_of (take i files)) ((get_or files i d).items ∷ []))
 
 -- a part adds its report
@@ -104,11 +104,11 @@ pub part_reported : (i : ℕ) (parts : List Part) (d : Part) (made : List File) 
     → next.items ≡ report_of_view (i, part_view_of (get_or parts i d)) → texts_of made ++ reports_of_views i (map part_view_of (drop i parts)) ≡ all
     → texts_of (made ++ next ∷ []) ++ reports_of_views (i + 1) (map part_view_of (drop (i + 1) parts)) ≡ all
 part_reported i parts d made next all lt e h =
-    let k = rw (drop_more parts i d lt, yields_more i (part_view_of (get_or parts i d)) (map part_view_of (drop (i + 1) parts))) at h in
+    let k = rw (drop_more parts i d lt, views_more i (part_view_of (get_or parts i d)) (map part_view_of (drop (i + 1) parts))) at h in
     rw (map-append, e, append_assoc) k
 
 pub all_reported : (made : List File) (n : ℕ) (all : List (List ℕ)) (left : List Part) → left ≡ [] → texts_of made ++ reports_of_views n (map part_view_of left) ≡ all → texts_of made ≡ all
-all_reported made n all left none h = let k = rw (none, yields_none n) at h in sym (append-nil (texts_of made)) ∙ k
+all_reported made n all left none h = let k = rw (none, views_none n) at h in sym (append-nil (texts_of made)) ∙ k
 
 -- a part adds its positions to the book
 pub book_more : (old new : List PosView) (parts : List Part) (i : ℕ) (d : Part) (solved : List TaskView) → i < length parts → solved ≡ (get_or parts i d).solved.items
@@ -137,13 +137,13 @@ parts_few parts g limit files e =
     sym (length-map parts part_view_of) ∙ ap length e ∙ length-map (texts_of files) (part_view g limit) ∙ length-map files (λ (f : File). f.items)
 
 pub parts_scored : (ys : List PartView) (g : Scoring) (limit : ℕ) (texts : List (List ℕ)) → ys ≡ map (part_view g limit) texts → All (AreScored g) ys
-parts_scored ys g limit texts e = All-same (AreScored g) ys (map (part_view g limit) texts) e (yields_scored g limit texts)
+parts_scored ys g limit texts e = All-same (AreScored g) ys (map (part_view g limit) texts) e (views_scored g limit texts)
 
 pub outcome_reports : (ys : List PartView) (g : Scoring) (limit : ℕ) (texts : List (List ℕ)) → ys ≡ map (part_view g limit) texts → reports_of_views 0 ys ≡ reports_from g limit 0 texts
-outcome_reports ys g limit texts e = ap (reports_of_views 0) e ∙ yields_reported g limit 0 texts
+outcome_reports ys g limit texts e = ap (reports_of_views 0) e ∙ views_reported g limit 0 texts
 
 pub outcome_tasks : (ys : List PartView) (g : Scoring) (limit : ℕ) (texts : List (List ℕ)) → ys ≡ map (part_view g limit) texts → tasks_of_views ys ≡ all_tasks g limit texts
-outcome_tasks ys g limit texts e = ap tasks_of_views e ∙ yields_tasks g limit texts
+outcome_tasks ys g limit texts e = ap tasks_of_views e ∙ views_tasks g limit texts
 
 -- ---- two runs
 

@@ -23,30 +23,30 @@ PartView = List ReportRow × List TaskView
 abbrev pub part_view_of : Part → PartView
 part_view_of part = (part.rows.items, part.solved.items)
 
--- what a text yields
+-- the part of a text
 abbrev pub part_view : Scoring → ℕ → List ℕ → PartView
 part_view g limit text = (rows g limit text, tasks g limit text)
 
--- what a text yields, or that memory or a desk refused it
+-- the part of a text, or that memory or a desk refused it
 abbrev pub GivesPart : Scoring → ℕ → List ℕ → Result Part RunFault → Type 0
 GivesPart g limit text (Ok part) = part_view_of part ≡ part_view g limit text
 GivesPart g limit text (Err fault) = (fault ≡ Memory) ⊎ (fault ≡ Mixed)
 
--- all texts part_view their parts, or memory or a desk refused one
+-- each part is the part of its text, or memory or a desk refused one
 abbrev pub GivesParts : Scoring → ℕ → List (List ℕ) → Result (Vec Part Global) RunFault → Type 0
 GivesParts g limit texts (Ok parts) = map part_view_of parts.items ≡ map (part_view g limit) texts
 GivesParts g limit texts (Err fault) = (fault ≡ Memory) ⊎ (fault ≡ Mixed)
 
--- the reports of what texts part_view, the first of which is that of sender n
+-- the reports of parts, the first of which is the report of sender n
 abbrev pub report_of_view : ℕ × PartView → List ℕ
 report_of_view (sender, y) = report_text sender y.0
 
 unfoldable pub reports_of_views : ℕ → List PartView → List (List ℕ)
-reports_of_views n yields = map report_of_view (enumerate_from n yields)
+reports_of_views n views = map report_of_view (enumerate_from n views)
 
 -- the solved positions
 abbrev pub tasks_of_views : List PartView → List TaskView
-tasks_of_views yields = flat_map (λ (y : PartView). y.1) yields
+tasks_of_views views = flat_map (λ (y : PartView). y.1) views
 
 abbrev pub canonicals : List TaskView → List PosView
 canonicals tasks = map (λ (t : TaskView). canonical_of t.position) tasks

@@ -25,7 +25,7 @@ abbrev pub IsProgressOf : StartedClientView → Progress → Type 0
 IsProgressOf a (Spawned handle) = started_view_of handle.promise ≡ a
 IsProgressOf a (Done part) = GivesPart a.scoring a.limit a.text part
 
--- what a client's text yields
+-- the part of a client's text
 abbrev pub part_view_at : StartedClientView → PartView
 part_view_at a = part_view a.scoring a.limit a.text
 

@@ -149,7 +149,8 @@ fn start<'a, E, R: Threads + Wait + Sync, G: Gate>(
     text: &'a [u8],
 ) -> StartedClient<'a>
     requires { length text.now ≤ 1048576 }
-    ensures { result ≡ started_view shared.now.table.scoring shared.now.settings.max_empties text.now }
+    ensures { result ≡ started_view shared.now.table.scoring
+        shared.now.settings.max_empties text.now }
 {
     let promise = PartPromise {
         scoring: shared.table.scoring(),
@@ -186,7 +187,8 @@ fn start_all<'a, E, R: Threads + Wait + Sync, G: Gate>(
     requires none { clients.old.items ≡ [] }
     requires room { length files.now ≤ vec_capacity clients.old }
     ensures { clients.new.items ≡ map
-        (started_view shared.now.table.scoring shared.now.settings.max_empties) (texts_of files.now) }
+        (started_view shared.now.table.scoring shared.now.settings.max_empties)
+        (texts_of files.now) }
 {
     let mut sender: u32 = 0;
     for file in files {
@@ -304,8 +306,8 @@ pub(crate) fn solve_texts_on_threads<R: Threads + Wait + Sync, G: Gate>(
         rt,
         |scope| -> Result<Vec<Part>, RunFault>
             requires { (length files.now ≤ 64) × (first_large (texts_of files.now) ≡ None) }
-            ensures { GivesParts shared.entry.now.table.scoring shared.entry.now.settings.max_empties
-                (texts_of files.entry.now) result }
+            ensures { GivesParts shared.entry.now.table.scoring
+                shared.entry.now.settings.max_empties (texts_of files.entry.now) result }
         { solve_in_scope(scope, rt, shared, claims, gate, files) },
     )
 }

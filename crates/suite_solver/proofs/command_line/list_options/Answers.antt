@@ -1,4 +1,4 @@
-use Rattle.std.proofs.Common.{rules, ◌≡◌, ◌∙◌, List, [], Option, ap, inl, inr, map, refl, subst, sym, true, codes}
+use Rattle.std.proofs.Common.{◌≡◌, ◌∙◌, List, [], Option, ap, inl, inr, map, refl, subst, sym, true, codes}
 use Rattle.std.specs.Prelude.{unwrap_or}
 use Rattle.std.specs.Borrow.{Bor}
 use Rattle.std.proofs.lemmas.Result.{err_from_is_err_and}

@@ -1,7 +1,7 @@
 use Rattle.std.proofs.Common.{◌∷◌, [], ◌∙◌, length, map, ap, ap₂, arith}
 use Rattle.std.proofs.lemmas.List.{map-append}
 use Rattle.suite_solver.specs.Parts.{part_view, part_view_of}
-use Rattle.suite_solver.proofs.PartLemmas.{yields_step}
+use Rattle.suite_solver.proofs.PartLemmas.{views_step}
 use Rattle.suite_solver.proofs.RunLemmas.{small_at}
 use Rattle.suite_solver.proofs.parts.solve_texts.Goals as goal
 
@@ -19,5 +19,5 @@ loop-file-preserved c =
     ∙ ap₂ (λ g limit. part_view g limit c.deref.result.now) (ap (λ t. t.scoring) c.new-solver.ensures ∙ c.in_ok-table.ensures) c.max_empties.ensures.value
     ∙ ap f (c.deref.ensures.value ∙ ap (λ v. v.items) c.file-item.is) in
     rw c.in_ok-push.ensures.items (map-append part_view_of c.loop-file.parts.items (c.in_ok-solve_text.field-0 ∷ [])
-    ∙ yields_step f c.args.files.now c.loop-file.file-index c.file-item.result (map part_view_of c.loop-file.parts.items) (part_view_of c.in_ok-solve_text.field-0)
+    ∙ views_step f c.args.files.now c.loop-file.file-index c.file-item.result (map part_view_of c.loop-file.parts.items) (part_view_of c.in_ok-solve_text.field-0)
     c.loop-file-test.true c.loop-file.invariant made)
