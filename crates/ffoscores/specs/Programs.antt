@@ -1,5 +1,5 @@
 -- What the program prints, and the status it ends with.
-use Rattle.std.specs.Prelude.{◌≡◌, ◌⊎◌, ℕ, ◌≤◌, Bool, All, List, [], ◌∷◌, length, Option}
+use Rattle.std.specs.Prelude.{◌≡◌, ◌⊎◌, ℕ, ◌≤◌, Bool, All, List, length, Option}
 use Rattle.std.specs.Io.KnownBytes.{Appends}
 use Rattle.score_lists.specs.Lines.{AppendsFront, lists_right, lists_text}
 use Rattle.suite_solver.specs.CommandLine.{AsksLists, ListRequest}

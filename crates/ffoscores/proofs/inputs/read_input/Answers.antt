@@ -1,4 +1,4 @@
-use Rattle.std.proofs.Common.{◌≡◌, ◌≤◌, ◌∷◌, [], length, refl, rules, arith}
+use Rattle.std.proofs.Common.{◌≡◌, ◌∷◌, [], rules}
 use Rattle.score_lists.specs.Lines.{texts_of}
 use Rattle.ffoscores.proofs.ListTexts.{one_list}
 use Rattle.ffoscores.proofs.inputs.read_input.Goals as goal

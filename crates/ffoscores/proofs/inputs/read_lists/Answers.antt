@@ -1,4 +1,3 @@
-use Rattle.std.proofs.Common.{◌≡◌, []}
 use Rattle.ffoscores.proofs.ListTexts.{named_read, no_names, some_names}
 use Rattle.ffoscores.proofs.inputs.read_lists.Goals as goal
 
