@@ -1,5 +1,5 @@
 -- The steps of the loops that print lines and texts.
-use Rattle.std.proofs.Common.{◌≡◌, ℕ, Bool, true, false, ◌&&◌, List, [], ◌∷◌, ◌++◌, map, drop}
+use Rattle.std.proofs.Common.{◌≡◌, ℕ, Bool, true, false, ◌&&◌, List, [], ◌∷◌, ◌++◌, drop}
 use Rattle.std.proofs.Common.{length, get_or, ◌+◌, ◌<◌, ◌≤◌, refl, sym, ap, ◌∙◌, subst, Option}
 use Rattle.std.specs.Prelude.{Ok, Err, Vec, ◌≢◌}
 use Rattle.std.specs.declared.alloc.Global.{Global}

@@ -1,7 +1,7 @@
 -- Scores that a line lists have two digits at most.
-use Rattle.std.proofs.Common.{◌≡◌, ℕ, Bool, ℤ, pos, neg_ℤ, ◌<◌, ◌≤◌, ◌+◌, List, [], ◌∷◌, refl, sym}
+use Rattle.std.proofs.Common.{◌≡◌, ℕ, Bool, ℤ, pos, neg_ℤ, ◌<◌, List, [], ◌∷◌, refl}
 use Rattle.std.proofs.Common.{ap, ◌∙◌, subst, inl, inr, arith, Option, Some, None, All}
-use Rattle.std.specs.Prelude.{nat_abs, IfSome, option_map, ◌⊎◌}
+use Rattle.std.specs.Prelude.{nat_abs, IfSome, option_map}
 use Rattle.std.specs.List.{find}
 use Rattle.obf_text.proofs.FieldLemmas.{field_from}
 use Rattle.std.specs.Ordering.{int_eq}

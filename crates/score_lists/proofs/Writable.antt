@@ -1,6 +1,6 @@
 -- The scores of a position can be written, so that the line that is written for it is read back.
-use Rattle.std.proofs.Common.{◌≡◌, ℕ, zero, suc, ◌+◌, ◌<◌, ◌≤◌, ℤ, neg_ℤ, true, false, cond, Bool}
-use Rattle.std.proofs.Common.{List, [], ◌∷◌, length, map, refl, sym, ap, ◌∙◌, subst, inl, inr}
+use Rattle.std.proofs.Common.{◌≡◌, ℕ, zero, suc, ◌+◌, ◌<◌, ◌≤◌, neg_ℤ, true, false, cond, Bool}
+use Rattle.std.proofs.Common.{List, [], ◌∷◌, length, map, sym, subst, inl, inr}
 use Rattle.std.proofs.Common.{arith}
 use Rattle.std.specs.Prelude.{nat_abs}
 use Rattle.std.specs.List.{AllByRecursion, filter, fold, range_with_len}
@@ -9,11 +9,9 @@ use Rattle.othello_rules.specs.Board.{squares}
 use Rattle.othello_rules.specs.declared.scorings.Scoring.{Scoring}
 use Rattle.othello_rules.specs.Rules.{GridView, is_move, moves, pass, play}
 use Rattle.othello_rules.specs.Value.{can_move, value}
-use Rattle.othello_rules.specs.Answer.{IsScore}
 use Rattle.othello_rules.proofs.CountLaws.{length-play}
 use Rattle.othello_rules.proofs.RangeLaws.{value-IsScore}
 use Rattle.obf_text.specs.Fields.{Field}
-use Rattle.obf_text.specs.declared.entries.ListedMove.TheVariants.{At, Pass, Over}
 use Rattle.obf_text.proofs.WrittenFields.{score_size}
 use Rattle.obf_text.specs.Written.{AreWritable, IsWritable}
 use Rattle.move_scores.specs.Scores.{move_scores, put_in, score_fields, scored}

@@ -1,5 +1,4 @@
-use Rattle.std.proofs.Common.{◌≡◌, ◌∷◌, [], ◌∙◌, ap, sym, ◌+◌, arith, rules, drop, length}
-use Rattle.std.specs.Prelude.{map}
+use Rattle.std.proofs.Common.{◌+◌, rules, drop}
 use Rattle.score_lists.specs.Lines.{texts_of}
 use Rattle.score_lists.proofs.LineSteps.{all_end, all_more, list_end, list_more, list_stop}
 use Rattle.score_lists.proofs.LineSteps.{texts_cut, texts_end}
