@@ -68,14 +68,14 @@ fn proved_range(low: i8, high: i8, score: i8) -> Range
     Range::new(score, score).unwrap()
 }
 
-// The fewest empty squares of a position that `store` stores. To search a position with fewer again
-// takes less time than to find it in the table.
+// The fewest empty squares of a position that `store_if_deep` stores. To search a position with
+// fewer again takes less time than to find it in the table.
 const FEWEST_STORED: u8 = 9;
 
 // Stores the range that a search of the window proves by its score, unless too few squares are
 // empty. Returns the score.
 #[inline(always)]
-pub(crate) fn store<T: Bounds>(table: &T, position: Pos, low: i8, high: i8, score: i8) -> i8
+pub(crate) fn store_if_deep<T: Bounds>(table: &T, position: Pos, low: i8, high: i8, score: i8) -> i8
     requires window { IsWindow low high }
     requires places { Places low high (value_of (T.scoring table.now) position) score }
     ensures { result ≡ score }
@@ -103,7 +103,7 @@ const FEWEST_LOOKED_AHEAD: u8 = 10;
 // the table's range of its child. Returns a lower bound of the move's worth, and stores it as one
 // of the position's value. None where no child gives a cut-off, or too few squares are empty.
 #[inline(always)]
-pub(crate) fn foresee<T: Bounds>(
+pub(crate) fn probe_children<T: Bounds>(
     table: &T,
     position: Pos,
     children: &[Child],
@@ -121,7 +121,7 @@ pub(crate) fn foresee<T: Bounds>(
 }
 
 // Probes the children for a cut-off, however many squares are empty. Returns a lower bound of the
-// worth of the move found, and passes it to `store`. None where no child gives a cut-off.
+// worth of the move found, and passes it to `store_if_deep`. None where no child gives a cut-off.
 #[inline(never)]
 fn look_ahead<T: Bounds>(
     table: &T,
@@ -138,7 +138,7 @@ fn look_ahead<T: Bounds>(
         if let Some(range) = table.probe(&child.position) {
             let worth = -range.high();
             if worth >= high {
-                return Some(store(table, position, low, high, worth));
+                return Some(store_if_deep(table, position, low, high, worth));
             }
         }
     }

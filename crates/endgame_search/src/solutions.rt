@@ -8,7 +8,7 @@ ghost use Rattle.endgame_search.specs.Task.{TaskView};
 ghost use Rattle.othello_bits.specs.Pos.{moves_of, play_of, value_of, answer_of, best_answer};
 ghost use Rattle.othello_bits.specs.Pos.{is_best_move, mask_where, IsMove};
 
-use crate::cutoffs::{decide, score_limit, store};
+use crate::cutoffs::{decide, score_limit, store_if_deep};
 use crate::roots::leading_moves;
 use crate::searches::search_scores;
 use crate::tasks::Task;
@@ -124,7 +124,7 @@ fn solve_moves<T: Bounds>(table: &T, task: Task, moves: u64) -> Solved
         return solved_at(table, task, score);
     }
     let leaders = leading_moves(table, position, moves);
-    let score = store(table, position, -65, 65, leaders.score);
+    let score = store_if_deep(table, position, -65, 65, leaders.score);
     solved_as(task, score, Best::Moves(leaders.moves))
 }
 

@@ -18,7 +18,7 @@ ghost use Rattle.othello_bits.specs.Symmetries.{first_symmetry, canonical, canon
 use crate::cells::{cells_of_masks, mask_of_cell};
 use crate::images::Image;
 use crate::symmetries::Sym;
-use crate::{lasts, lines};
+use crate::{lasts, moves};
 use othello_rules::{Grid, Scoring, Side, Square};
 use std::marker::Model;
 
@@ -100,7 +100,7 @@ impl Pos {
             → in_mask result q ≡ rules.is_move (position_of s self) q }
         ensures value { result ≡ moves_of self }
     {
-        lines::moves(self.own, self.opp)
+        moves::moves(self.own, self.opp)
     }
 
     /// The mask of the discs that a move on the square turns: A1 is bit 0. The mask is 0 where the
@@ -113,7 +113,7 @@ impl Pos {
         ensures occupied { (in_mask self.own square || in_mask self.opp square) ≡ true
             → result ≡ 0 }
     {
-        lines::flips(self.own, self.opp, square.number())
+        moves::flips(self.own, self.opp, square.number())
     }
 
     /// The number of discs that a move on the square turns, where no other square is empty. It is 0

@@ -13,8 +13,8 @@
 //! ```
 #![tactic(auto)]
 
-mod advice;
 mod books;
+mod claims;
 mod entries;
 mod faults;
 mod headers;
@@ -24,6 +24,6 @@ mod listing;
 #[cfg(test)]
 mod tests;
 
-pub use advice::Claims;
 pub use books::Book;
+pub use claims::Claims;
 pub use faults::BookFault;

@@ -3,17 +3,17 @@ use Rattle.std.proofs.lemmas.Int.{ints}
 use Rattle.othello_bits.specs.Pos.{value_of}
 use Rattle.endgame_search.specs.Children.{IsChildOf}
 use Rattle.endgame_search.proofs.Moves.{child_worth, at_index}
-use Rattle.endgame_search.proofs.Windows.{given_back, foreseen_places}
+use Rattle.endgame_search.proofs.Windows.{given_back, cut_off_places}
 use Rattle.endgame_search.proofs.cutoffs.look_ahead.Goals as goal
 
-pub store-requires-clause-places : goal.store-requires-clause-places
-store-requires-clause-places g c =
+pub store_if_deep-requires-clause-places : goal.store_if_deep-requires-clause-places
+store_if_deep-requires-clause-places g c =
     let r = g.T.Bounds.scoring c.args.table.now in
     let x = c.child-item.result in
     let child = at_index (IsChildOf c.args.position) c.args.children.now c.loop-child.child-index x c.loop-child-test.true c.child-item.is c.requires.children in
     let o = c.high-worth.ensures.ordered in
     let e = c.high-worth.ensures.value in
-    foreseen_places c.args.low c.args.high (value_of r c.args.position) (value_of r x.position) c.high-worth.result c.requires.window (child_worth r c.args.position x child) (rw (← e) at c.in-Some.ensures.1) (omega (arith, ints, e, o.least, o.ordered)) (omega (arith, ints, e, o.most)) c.if-worth-high.true
+    cut_off_places c.args.low c.args.high (value_of r c.args.position) (value_of r x.position) c.high-worth.result c.requires.window (child_worth r c.args.position x child) (rw (← e) at c.in-Some.ensures.1) (omega (arith, ints, e, o.least, o.ordered)) (omega (arith, ints, e, o.most)) c.if-worth-high.true
 
 pub returns-then-worth-high : goal.returns-then-worth-high
 returns-then-worth-high g c =
@@ -23,5 +23,5 @@ returns-then-worth-high g c =
     let o = c.high-worth.ensures.ordered in
     let e = c.high-worth.ensures.value in
     given_back c.args.low c.args.high _ _ _ c.requires.window
-    (foreseen_places c.args.low c.args.high (value_of r c.args.position) (value_of r x.position) c.high-worth.result c.requires.window (child_worth r c.args.position x child) (rw (← e) at c.in-Some.ensures.1) (omega (arith, ints, e, o.least, o.ordered)) (omega (arith, ints, e, o.most)) c.if-worth-high.true)
-    c.store.ensures
+    (cut_off_places c.args.low c.args.high (value_of r c.args.position) (value_of r x.position) c.high-worth.result c.requires.window (child_worth r c.args.position x child) (rw (← e) at c.in-Some.ensures.1) (omega (arith, ints, e, o.least, o.ordered)) (omega (arith, ints, e, o.most)) c.if-worth-high.true)
+    c.store_if_deep.ensures

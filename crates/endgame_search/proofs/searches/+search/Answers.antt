@@ -55,11 +55,11 @@ search_pass-search_moves-score-requires g t c κs within =
     let w : 8 * empties_of c.pass-passed.result + 5 < t = omega (arith, d, passed_empties c.args.position c.pass-passed.result c.pass-passed.ensures.value) in
     (w, (within, (c.moves-replies.ensures.value, (c.if-replies-eq0.false, turned_window c.args.low c.args.high (pos 0) (pos 0) c.requires.window))))
 
-pub search_pass-store-requires-clause-window : goal.search_pass-store-requires-clause-window
-search_pass-store-requires-clause-window g t c = shown_window c.args.low c.args.high c.requires.window
+pub search_pass-store_if_deep-requires-clause-window : goal.search_pass-store_if_deep-requires-clause-window
+search_pass-store_if_deep-requires-clause-window g t c = shown_window c.args.low c.args.high c.requires.window
 
-pub search_pass-store-requires-clause-places : goal.search_pass-store-requires-clause-places
-search_pass-store-requires-clause-places g t c =
+pub search_pass-store_if_deep-requires-clause-places : goal.search_pass-store_if_deep-requires-clause-places
+search_pass-store_if_deep-requires-clause-places g t c =
     turned_shown c.args.low c.args.high _ _ _ c.requires.window
     (passed_worth (g.T.Bounds.scoring c.args.table.now) c.args.position c.pass-passed.result c.moves-replies.result c.requires.none c.pass-passed.ensures.value c.moves-replies.ensures.value c.if-replies-eq0.false)
     c.search_moves-score.ensures
@@ -70,7 +70,7 @@ search_pass-returns g t c =
     (turned_shown c.args.low c.args.high _ _ _ c.requires.window
     (passed_worth (g.T.Bounds.scoring c.args.table.now) c.args.position c.pass-passed.result c.moves-replies.result c.requires.none c.pass-passed.ensures.value c.moves-replies.ensures.value c.if-replies-eq0.false)
     c.search_moves-score.ensures)
-    c.store.ensures
+    c.store_if_deep.ensures
 
 pub search_moves-decide-requires : goal.search_moves-decide-requires
 search_moves-decide-requires g t c = shown_window c.args.low c.args.high c.requires.window
@@ -128,11 +128,11 @@ search_some-search_after-score-requires g t c κs within =
     let w : 8 * empties_of c.in-Some.stuck.child.position + 8 < t = omega (arith, d, child_empties c.args.position c.in-Some.stuck.child up.child) in
     (w, (within, (up.child.replies, shown_window c.args.low c.args.high c.requires.window)))
 
-pub search_some-store-requires-clause-window : goal.search_some-store-requires-clause-window
-search_some-store-requires-clause-window g t c = shown_window c.args.low c.args.high c.requires.window
+pub search_some-store_if_deep-requires-clause-window : goal.search_some-store_if_deep-requires-clause-window
+search_some-store_if_deep-requires-clause-window g t c = shown_window c.args.low c.args.high c.requires.window
 
-pub search_some-store-requires-clause-places : goal.search_some-store-requires-clause-places
-search_some-store-requires-clause-places g t c =
+pub search_some-store_if_deep-requires-clause-places : goal.search_some-store_if_deep-requires-clause-places
+search_some-store_if_deep-requires-clause-places g t c =
     let above = child_worth (g.T.Bounds.scoring c.args.table.now) c.args.position c.in-Some.stuck.child c.in-Some.ensures.stuck.child in
     first_cut c.args.low c.args.high _ _ _ c.requires.window c.search_after-score.ensures above c.if-score-high.true
 
@@ -141,7 +141,7 @@ search_some-returns-then-score-high g t c =
     let above = child_worth (g.T.Bounds.scoring c.args.table.now) c.args.position c.in-Some.stuck.child c.in-Some.ensures.stuck.child in
     given_back c.args.low c.args.high _ _ _ c.requires.window
     (first_cut c.args.low c.args.high _ _ _ c.requires.window c.search_after-score.ensures above c.if-score-high.true)
-    c.store.ensures
+    c.store_if_deep.ensures
 
 pub search_some-order_children-requires : goal.search_some-order_children-requires
 search_some-order_children-requires g t c = (search rules, (c.in-Some.ensures.stuck.rest, (c.in-Some.ensures.left, c.in-Some.ensures.stuck.each)))
@@ -203,11 +203,11 @@ search_many-search_after-score-requires g t c κs within =
     let w : 8 * empties_of c.in-Some.stuck.child.position + 8 < t = omega (arith, d, child_empties c.args.position c.in-Some.stuck.child up.child) in
     (w, (within, (up.child.replies, shown_window c.args.low c.args.high c.requires.window)))
 
-pub search_many-store-requires-clause-window : goal.search_many-store-requires-clause-window
-search_many-store-requires-clause-window g t c = shown_window c.args.low c.args.high c.requires.window
+pub search_many-store_if_deep-requires-clause-window : goal.search_many-store_if_deep-requires-clause-window
+search_many-store_if_deep-requires-clause-window g t c = shown_window c.args.low c.args.high c.requires.window
 
-pub search_many-store-requires-clause-places : goal.search_many-store-requires-clause-places
-search_many-store-requires-clause-places g t c =
+pub search_many-store_if_deep-requires-clause-places : goal.search_many-store_if_deep-requires-clause-places
+search_many-store_if_deep-requires-clause-places g t c =
     let above = child_worth (g.T.Bounds.scoring c.args.table.now) c.args.position c.in-Some.stuck.child c.in-Some.ensures.stuck.child in
     first_cut c.args.low c.args.high _ _ _ c.requires.window c.search_after-score.ensures above c.if-score-high.true
 
@@ -216,7 +216,7 @@ search_many-returns-then-score-high g t c =
     let above = child_worth (g.T.Bounds.scoring c.args.table.now) c.args.position c.in-Some.stuck.child c.in-Some.ensures.stuck.child in
     given_back c.args.low c.args.high _ _ _ c.requires.window
     (first_cut c.args.low c.args.high _ _ _ c.requires.window c.search_after-score.ensures above c.if-score-high.true)
-    c.store.ensures
+    c.store_if_deep.ensures
 
 pub search_many-order_children-requires : goal.search_many-order_children-requires
 search_many-order_children-requires g t c = (search rules, (c.in-Some.ensures.stuck.rest, (c.in-Some.ensures.left, c.in-Some.ensures.stuck.each)))
@@ -246,11 +246,11 @@ search_many-search_children-requires-2 g t c κs within =
 pub search_many-returns : goal.search_many-returns
 search_many-returns g t c = same_window c.args.low c.args.high _ _ c.requires.window c.search_children-2.ensures
 
-pub search_children-foresee-requires-clause-children : goal.search_children-foresee-requires-clause-children
-search_children-foresee-requires-clause-children g t c = c.requires.others.each
+pub search_children-probe_children-requires-clause-children : goal.search_children-probe_children-requires-clause-children
+search_children-probe_children-requires-clause-children g t c = c.requires.others.each
 
-pub search_children-foresee-requires-clause-window : goal.search_children-foresee-requires-clause-window
-search_children-foresee-requires-clause-window g t c = shown_window c.args.low c.args.high c.requires.window
+pub search_children-probe_children-requires-clause-window : goal.search_children-probe_children-requires-clause-window
+search_children-probe_children-requires-clause-window g t c = shown_window c.args.low c.args.high c.requires.window
 
 pub search_children-returns-in-Some : goal.search_children-returns-in-Some
 search_children-returns-in-Some g t c = same_window c.args.low c.args.high _ _ c.requires.window c.in-Some.ensures
@@ -267,11 +267,11 @@ search_children-search_after-score-requires g t c κs within =
     let o : IsWindow c.max-floor.result c.args.high = floor_window c.args.low c.args.high _ _ _ c.requires.window kept.best c.max-floor.ensures.value in
     (w, (within, (child.replies, shown_window c.max-floor.result c.args.high o)))
 
-pub search_children-store-requires-clause-window : goal.search_children-store-requires-clause-window
-search_children-store-requires-clause-window g t c = shown_window c.args.low c.args.high c.requires.window
+pub search_children-store_if_deep-requires-clause-window : goal.search_children-store_if_deep-requires-clause-window
+search_children-store_if_deep-requires-clause-window g t c = shown_window c.args.low c.args.high c.requires.window
 
-pub search_children-store-requires-clause-places : goal.search_children-store-requires-clause-places
-search_children-store-requires-clause-places g t c =
+pub search_children-store_if_deep-requires-clause-places : goal.search_children-store_if_deep-requires-clause-places
+search_children-store_if_deep-requires-clause-places g t c =
     let kept = c.loop-child.invariant in
     let child = at_index (IsChildOf c.args.position) c.args.children.now c.loop-child.child-index c.child-item.result c.loop-child-test.true c.child-item.is c.requires.others.each in
     let above = child_worth (g.T.Bounds.scoring c.args.table.now) c.args.position c.child-item.result child in
@@ -284,7 +284,7 @@ search_children-returns-then-score-high g t c =
     let above = child_worth (g.T.Bounds.scoring c.args.table.now) c.args.position c.child-item.result child in
     given_back c.args.low c.args.high _ _ _ c.requires.window
     (cut_step c.args.low c.args.high _ _ _ _ _ c.requires.window kept.best c.max-floor.ensures.value c.search_after-score.ensures above c.if-score-high.true)
-    c.store.ensures
+    c.store_if_deep.ensures
 
 pub search_children-loop-child-smaller : goal.search_children-loop-child-smaller
 search_children-loop-child-smaller g t c = falls _ _ c.loop-child-test.true
@@ -305,11 +305,11 @@ search_children-loop-child-preserved g t c =
       grown = at_least_as _ _ _ kept.grown more;
     }
 
-pub search_children-store-requires-2-clause-window : goal.search_children-store-requires-2-clause-window
-search_children-store-requires-2-clause-window g t c = shown_window c.args.low c.args.high c.requires.window
+pub search_children-store_if_deep-requires-2-clause-window : goal.search_children-store_if_deep-requires-2-clause-window
+search_children-store_if_deep-requires-2-clause-window g t c = shown_window c.args.low c.args.high c.requires.window
 
-pub search_children-store-requires-2-clause-places : goal.search_children-store-requires-2-clause-places
-search_children-store-requires-2-clause-places g t c =
+pub search_children-store_if_deep-requires-2-clause-places : goal.search_children-store_if_deep-requires-2-clause-places
+search_children-store_if_deep-requires-2-clause-places g t c =
     let kept = c.loop-child.invariant in
     let items = c.args.children.now in
     let r = g.T.Bounds.scoring c.args.table.now in
@@ -326,7 +326,7 @@ search_children-returns g t c =
     let all = All-same (λ (x : Child). neg_ℤ (value_of r x.position) ≤ℤ to_z w8 c.loop-child.best-bits) items _ (sym e) kept.searched in
     given_back c.args.low c.args.high _ _ _ c.requires.window
     (all_searched _ _ _ _ (value_score r c.args.position) kept.best (best_of_others r c.args.position items _ _ c.requires.some c.requires.others (unshown _ _ c.requires.best.least c.requires.best.most kept.grown) all))
-    c.store-2.ensures
+    c.store_if_deep-2.ensures
 
 pub search_after-search-requires : goal.search_after-search-requires
 search_after-search-requires g t c κs within =

@@ -7,8 +7,8 @@ use Rattle.endgame_search.proofs.Windows.{exact, limit_window}
 use Rattle.endgame_search.proofs.BestOf.{best_of-moves}
 use Rattle.endgame_search.proofs.solutions.solve_moves.Goals as goal
 
-pub store-score-requires-clause-places : goal.store-score-requires-clause-places
-store-score-requires-clause-places g c =
+pub store_if_deep-score-requires-clause-places : goal.store_if_deep-score-requires-clause-places
+store_if_deep-score-requires-clause-places g c =
     let v = value_score (g.T.Bounds.scoring c.args.table.now) c.pos-position.result in
     let l = v.low in
     let h = v.high in

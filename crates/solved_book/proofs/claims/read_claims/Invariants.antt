@@ -1,0 +1,16 @@
+use Rattle.std.proofs.Common.{◌+◌, ◌≤◌, None, length}
+use Rattle.obf_text.specs.LineText.{lines_of, room_of}
+use Rattle.solved_book.specs.Claims.{claims_from}
+use Rattle.solved_book.specs.Books.{positions_in}
+use Rattle.solved_book.specs.Order.{AreRising}
+use Rattle.solved_book.proofs.ClaimSteps.{IsAhead, ReadsOn}
+use Rattle.solved_book.proofs.claims.read_claims.Given as goal
+
+-- the claims so far, and then those of the lines that are left, are those of all lines
+abbrev pub invariant-loop-line : goal.invariant-loop-line
+invariant-loop-line l = record {
+  reads : ReadsOn l.number l.before l.claims.entries l.line-iterator (claims_from 1 None (lines_of l.fn.text));
+  ahead : IsAhead l.before l.claims.entries;
+  rising : AreRising (positions_in l.claims.entries);
+  room : l.number + room_of l.line-iterator ≤ length l.fn.text + 2;
+}
