@@ -3,9 +3,9 @@ use Rattle.std.proofs.Common.{◌≡◌, ℕ, List, inr}
 use Rattle.std.specs.Prelude.{Bool, Option, Result, Ok, Err, IfOk, OnErr, OnOk}
 use Rattle.std.specs.Io.KnownBytes.{Appends}
 use Rattle.score_lists.specs.Lines.{AppendsFront, lists_right, lists_text}
-use Rattle.suite_solver.specs.Settings.{SettingsView}
+use Rattle.suite_runs.specs.Settings.{SettingsView}
 use Rattle.ffoscores.specs.Programs.{AreLists, Prints, Stops}
-use Rattle.ffoscores.specs.declared.errors.ProgramError.{ProgramError}
+use Rattle.suite_solver.specs.declared.errors.ProgramError.{ProgramError}
 
 pub printed : (r : Result Bool ProgramError) (c : SettingsView) (names : List (List ℕ)) (given old new : Option (List ℕ)) (texts : List (List ℕ))
     → AreLists names given texts → OnOk r (Appends old new (lists_text c.scoring c.max_empties texts))

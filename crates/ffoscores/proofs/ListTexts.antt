@@ -10,7 +10,7 @@ use Rattle.score_lists.specs.Lines.{texts_of}
 use Rattle.suite_solver.specs.CommandLine.{names_of}
 use Rattle.suite_solver.specs.Programs.{AreTextsOf}
 use Rattle.ffoscores.specs.Programs.{AreLists}
-use Rattle.ffoscores.specs.declared.errors.ProgramError.{ProgramError}
+use Rattle.suite_solver.specs.declared.errors.ProgramError.{ProgramError}
 
 -- a front that is no longer than n is the whole, where one element more was asked for
 whole_front : {X : Type 0} (n m : ℕ) (all : List X) → m ≡ n + 1 → length (take m all) ≤ n → take m all ≡ all

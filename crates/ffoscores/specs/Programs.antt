@@ -3,7 +3,7 @@ use Rattle.std.specs.Prelude.{◌≡◌, ◌⊎◌, ℕ, ◌≤◌, Bool, All, L
 use Rattle.std.specs.Io.KnownBytes.{Appends}
 use Rattle.score_lists.specs.Lines.{AppendsFront, lists_right, lists_text}
 use Rattle.suite_solver.specs.CommandLine.{AsksLists, ListRequest}
-use Rattle.suite_solver.specs.Settings.{SettingsView}
+use Rattle.suite_runs.specs.Settings.{SettingsView}
 use Rattle.suite_solver.specs.Programs.{AreTextsOf}
 
 -- These are the texts of the names, or of standard input, and within the limits: no more than 64, each of no more than

@@ -1,29 +1,16 @@
 //! Reads the lists.
 
-ghost use Rattle.std.specs.Prelude.{◌≡◌, ◌≤◌, [], All, IfErr, IfOk, IfSome, length, take};
+ghost use Rattle.std.specs.Prelude.{◌≡◌, ◌≤◌, [], All, IfErr, IfOk, IfSome, length};
 ghost use Rattle.suite_solver.specs.CommandLine.{names_of};
 ghost use Rattle.score_lists.specs.Lines.{texts_of};
 ghost use Rattle.ffoscores.specs.Programs.{AreLists};
 ghost use Rattle.ffoscores.specs.Errors.{status_of};
 
-use crate::errors::{ProgramError, read_error};
 use std::alloc::Global;
+use std::fs;
 use std::io::Read;
 use std::rt::Files;
-use std::{fs, io};
-use suite_solver::{MOST_BYTES, MOST_FILES, RunFault};
-
-// The first bytes of a reader: one more than a file may have, by which a file that is too large is
-// known. They are cut once more, for a reader of which no contract says what bytes it gives.
-fn read_front<R: Read>(alloc: Global, reader: &mut R) -> io::Result<Vec<u8>>
-    ensures { IfOk result
-        (λ bytes. IfSome (R.remaining reader.old) (λ all. bytes.items ≡ take 1048577 all)) }
-{
-    let mut bytes = Vec::new(alloc);
-    reader.take(MOST_BYTES as u64 + 1).read_to_end(&mut bytes)?;
-    bytes.truncate(MOST_BYTES + 1);
-    Ok(bytes)
-}
+use suite_solver::{MOST_BYTES, MOST_FILES, ProgramError, RunFault, read_error, read_front};
 
 // All that a reader gives: the file of this sender, counted from 0, and of this name.
 fn read_whole<'a, R: Read>(

@@ -1,14 +1,14 @@
 //! The program `ffoscores`: hands arguments, streams and allocator to `program_at`.
 #![tactic(auto)]
 
-mod endings;
 mod errors;
+mod exits;
 mod inputs;
 mod programs;
 #[cfg(test)]
 mod tests;
 
-use crate::endings::{Ended, program_at};
+use crate::exits::{Ended, program_at};
 use std::env::Env;
 use std::{env, io};
 

@@ -8,16 +8,18 @@ ghost use Rattle.suite_solver.specs.CommandLine.{AsksForText, IsTakenBy, IsTextK
 ghost use Rattle.ffoscores.specs.Programs.{IsAnswered, IsBegun, Prints, Stops};
 ghost use Rattle.ffoscores.specs.Errors.{status_of};
 
-use crate::errors::{ProgramError, words_error};
+use crate::errors::{list_error, print_error};
 use crate::inputs::read_lists;
 use bound_table::BoundTable;
-use clap::error::ErrorKind;
 use score_lists::write_lists;
-use std::alloc::{AllocError, Global};
+use std::alloc::Global;
 use std::io;
 use std::io::{Read, Write};
 use std::rt::Files;
-use suite_solver::{ListOptions, OptionFault, RunFault, Settings, list_options};
+use suite_solver::{
+    ListOptions, OptionFault, ProgramError, RunFault, Settings, borrow_words, explain,
+    list_options, words_error,
+};
 
 // Prints lists again with every move's score, over one table. The answer is whether nothing is
 // wrong in them.
@@ -41,7 +43,7 @@ fn print_lists<W: Write>(
     };
     match write_lists(&table, alloc, output, settings.max_empties(), texts) {
         Ok(right) => Ok(right),
-        Err(fault) => Err(ProgramError::from(fault)),
+        Err(fault) => Err(list_error(fault)),
     }
 }
 
@@ -66,37 +68,20 @@ fn carry_out<'a, T: Files, R: Read, W: Write>(
     print_lists(alloc, &asked.settings, &texts, output)
 }
 
-// Prints the error that ends the program. The answer is the exit status. A standard error that
-// fails changes nothing.
-fn print_error<E: Write>(error: &ProgramError<'_>, errors: &mut E) -> u8
-    ensures { result ≡ status_of error.now }
-{
-    let _ = error.print(errors);
-    error.status()
-}
-
-// Writes help, or the version.
-fn write_help<W: Write>(output: &mut W, help: &clap::Error) -> io::Result<()> {
-    write!(output, "{help}")?;
-    output.flush()
-}
-
-// Prints what clap says in place of options: help and the version on standard output, why the words
-// are refused on standard error.
-fn explain<W: Write, E: Write>(error: &clap::Error, output: &mut W, errors: &mut E) -> u8
+// Prints what clap says in place of options. The answer is the exit status.
+fn end_without_options<W: Write, E: Write>(
+    error: &clap::Error,
+    output: &mut W,
+    errors: &mut E,
+) -> u8
     ensures status { (result ≡ 0) ⊎ ((result ≡ 2) ⊎ (result ≡ 3)) }
     ensures helped { result ≢ 2 → IsTextKind (kind_of error.now) }
     ensures unwritten { result ≡ 2 → W.contents output.new ≡ W.contents output.old }
 {
-    match error.kind() {
-        ErrorKind::DisplayHelp | ErrorKind::DisplayVersion => match write_help(output, error) {
-            Ok(()) => 0,
-            Err(_) => print_error(&ProgramError::CannotWrite, errors),
-        },
-        _ => {
-            let _ = write!(errors, "{error}");
-            2
-        }
+    match explain(error, output, errors) {
+        Ok(true) => 0,
+        Ok(false) => 2,
+        Err(_) => print_error(&ProgramError::CannotWrite("standard output"), errors),
     }
 }
 
@@ -139,19 +124,8 @@ pub(crate) fn program<T: Files, R: Read, W: Write, E: Write>(
             Err(error) => print_error(&error, errors),
         },
         Err(OptionFault::Memory) => print_error(&ProgramError::Run(RunFault::Memory), errors),
-        Err(OptionFault::Refused(error)) => explain(&error, output, errors),
+        Err(OptionFault::Refused(error)) => end_without_options(&error, output, errors),
     }
-}
-
-// The words as slices.
-fn borrow_words(alloc: Global, words: &[String]) -> Result<Vec<&str>, AllocError>
-    ensures { IfOk result (λ all. map (λ word. word.now) all.items ≡ names_of words.now) }
-{
-    let mut borrowed = Vec::new(alloc);
-    for word in words {
-        borrowed.push(word.as_str())?;
-    }
-    Ok(borrowed)
 }
 
 /// The whole program over the words as `env::args` gives them. Where a word is no text, the status

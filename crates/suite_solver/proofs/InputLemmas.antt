@@ -12,6 +12,6 @@ known_capped : (known : Option (List ℕ)) (n : ℕ) (read bytes : List ℕ) →
 known_capped None n read bytes cut h = h
 known_capped (Some all) n read bytes cut h = rw (cut, h) (take-take n all)
 
-pub capped : (known inner : Option (List ℕ)) (n limit : ℕ) (old read bytes : List ℕ) → inner ≡ known → limit ≡ n → old ≡ []
+pub front_of : (known inner : Option (List ℕ)) (n limit : ℕ) (old read bytes : List ℕ) → inner ≡ known → limit ≡ n → old ≡ []
     → bytes ≡ take n read → IfSome (option_map (take limit) inner) (λ xs. read ≡ old ++ xs) → IfSome known (λ all. bytes ≡ take n all)
-capped known inner n limit old read bytes e l o cut h = known_capped known n read bytes cut (rw (e, l, o) at h)
+front_of known inner n limit old read bytes e l o cut h = known_capped known n read bytes cut (rw (e, l, o) at h)

@@ -7,10 +7,10 @@ use Rattle.std.proofs.Math.Nat.{min_comm, min-eq_left}
 use borrow.Author.Tests.{ltb-false}
 use Rattle.suite_solver.specs.Programs.{AreFrontsOf, AreTextsOf, IsSilent, status_of}
 use Rattle.suite_solver.specs.declared.errors.ProgramError.{ProgramError}
-use Rattle.suite_solver.specs.Runs.{first_large, is_large}
-use Rattle.suite_solver.specs.declared.faults.RunFault.{RunFault}
-use Rattle.suite_solver.specs.declared.faults.RunFault.TheVariants.{FileTooLarge, TooManyFiles}
-use Rattle.suite_solver.specs.declared.outcomes.Outcome.{Outcome}
+use Rattle.suite_runs.specs.Runs.{first_large, is_large}
+use Rattle.suite_runs.specs.declared.faults.RunFault.{RunFault}
+use Rattle.suite_runs.specs.declared.faults.RunFault.TheVariants.{FileTooLarge, TooManyFiles}
+use Rattle.suite_runs.specs.declared.outcomes.Outcome.{Outcome}
 
 -- a front that is no longer than n is the whole, where one element more was asked for
 whole_front : {X : Type 0} (n m : ℕ) (all : List X) → m ≡ n + 1 → length (take m all) ≤ n → take m all ≡ all

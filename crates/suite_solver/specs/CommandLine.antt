@@ -15,7 +15,7 @@ use Rattle.clap.specs.declared.error.kind.ErrorKind.{ErrorKind}
 use Rattle.clap.specs.declared.error.kind.ErrorKind.TheVariants.{DisplayHelp, DisplayVersion, OutOfMemory}
 use Rattle.othello_rules.specs.Scores.{all_scorings, scoring_name}
 use Rattle.othello_rules.specs.declared.scorings.Scoring.TheVariants.{Winner}
-use Rattle.suite_solver.specs.Settings.{SettingsView}
+use Rattle.suite_runs.specs.Settings.{SettingsView}
 use Rattle.suite_solver.specs.declared.requests.ListOptions.{ListOptions}
 use Rattle.suite_solver.specs.declared.requests.Options.{Options}
 use Rattle.suite_solver.specs.declared.requests.OptionFault.{OptionFault}

@@ -6,11 +6,11 @@ use Rattle.solved_book.specs.Faults.{book_fault_text}
 use Rattle.solved_book.specs.declared.faults.BookFault.{BookFault}
 use Rattle.solved_book.specs.declared.faults.BookFault.TheVariants as book
 use Rattle.suite_solver.specs.CommandLine.{Asks, Request}
-use Rattle.suite_solver.specs.Faults.{run_fault_text}
-use Rattle.suite_solver.specs.Settings.{SettingsView}
-use Rattle.suite_solver.specs.Reports.{reports}
-use Rattle.suite_solver.specs.Runs.{first_large}
-use Rattle.suite_solver.specs.declared.faults.RunFault.TheVariants.{Memory}
+use Rattle.suite_runs.specs.Faults.{run_fault_text}
+use Rattle.suite_runs.specs.Settings.{SettingsView}
+use Rattle.suite_runs.specs.Reports.{reports}
+use Rattle.suite_runs.specs.Runs.{first_large}
+use Rattle.suite_runs.specs.declared.faults.RunFault.TheVariants.{Memory}
 use Rattle.suite_solver.specs.declared.errors.ProgramError.{ProgramError}
 use Rattle.suite_solver.specs.declared.errors.ProgramError.TheVariants.{Run, BadWords, BadBook, CannotRead, NoPlace, CannotWrite}
 
@@ -52,7 +52,6 @@ abbrev pub book_error : BookFault → ProgramError
 book_error book.Memory = Run Memory
 book_error fault = BadBook fault
 
--- one line for standard error
 unfoldable pub error_reason : ProgramError → List ℕ
 error_reason (Run fault) = run_fault_text fault
 error_reason (BadBook fault) = book_fault_text fault
@@ -61,8 +60,9 @@ error_reason (CannotRead name) = codes "cannot read " ++ name.now
 error_reason (NoPlace name) = codes "cannot write " ++ name.now
 error_reason (CannotWrite name) = codes "cannot write " ++ name.now
 
-unfoldable pub error_text : ProgramError → List ℕ
-error_text error = codes "ffosolve: " ++ (error_reason error ++ 10 ∷ [])
+-- one line for standard error, which begins with the name of the program
+unfoldable pub error_text : List ℕ → ProgramError → List ℕ
+error_text program error = program ++ (codes ": " ++ (error_reason error ++ 10 ∷ []))
 
 abbrev pub status_of : ProgramError → ℕ
 status_of (Run fault) = 1

@@ -6,12 +6,12 @@ ghost use Rattle.suite_solver.specs.CommandLine.{Asks, AsksLists, HasListSetting
 ghost use Rattle.suite_solver.specs.CommandLine.{book_rule, ffoscores, ffosolve, files_rule, list_request_of, names_of, number_rule, request_of, run_options, scoring_rule, versioned};
 ghost use Rattle.suite_solver.specs.declared.requests.OptionFault.TheVariants.{Memory};
 
-use crate::limits::{Settings, VERSION};
 use crate::requests::{ListOptions, OptionFault, Options};
 use clap::builder::ValueParser;
 use clap::{Arg, ArgAction, ArgMatches, Command};
 use othello_rules::Scoring;
 use std::alloc::{AllocError, Global};
+use suite_runs::{Settings, VERSION};
 
 const ABOUT: &str = "\
 Solves Othello endgames exactly. For each position of OBF files it prints the score in discs, as

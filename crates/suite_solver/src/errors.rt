@@ -4,19 +4,19 @@ ghost use Rattle.std.specs.Prelude.{◌≡◌, ◌⊎◌, OnOk, Some};
 ghost use Rattle.std.specs.IoError.{error_kind};
 ghost use Rattle.std.specs.Io.KnownBytes.{Appends};
 ghost use Rattle.suite_solver.specs.Programs.{IsSilent, book_error, error_reason, error_text, status_of};
-ghost use Rattle.suite_solver.specs.declared.faults.RunFault.TheVariants.{Memory};
+ghost use Rattle.suite_runs.specs.declared.faults.RunFault.TheVariants.{Memory};
 ghost use Rattle.suite_solver.specs.declared.errors.ProgramError.TheVariants.{CannotRead, NoPlace, Run};
 
-use crate::faults::RunFault;
 use solved_book::BookFault;
 use std::alloc::{AllocError, AllocFailed};
 use std::io::{ErrorKind, Write};
 use std::{fmt, io};
+use suite_runs::RunFault;
 
 /// An error that ends the program early. Names are those of files as the words have them, or of a
 /// standard stream.
 #[derive(Drop)]
-pub(crate) enum ProgramError<'a> {
+pub enum ProgramError<'a> {
     Run(RunFault),
     /// A word of the command line is no text.
     BadWords,
@@ -80,9 +80,9 @@ impl fmt::Display for ProgramError<'_> {
     }
 }
 
-// Why standard input, or a file of this name, can't be read: it has failed, or there was no memory
-// for its bytes.
-pub(crate) fn read_error<'a>(fault: &io::Error, name: &'a str) -> ProgramError<'a>
+/// Why standard input, or a file of this name, can't be read: it has failed, or there was no memory
+/// for its bytes.
+pub fn read_error<'a>(fault: &io::Error, name: &'a str) -> ProgramError<'a>
     ensures memory { error_kind fault.now ≡ ErrorKind.OutOfMemory → result ≡ Run Memory }
     ensures name { (error_kind fault.now ≡ ErrorKind.OutOfMemory → ⊥)
         → result ≡ CannotRead name.entry }
@@ -110,8 +110,8 @@ pub(crate) fn place_error<'a>(fault: &io::Error, name: &'a str) -> ProgramError<
     }
 }
 
-// Why the command line can't be read: a word is no text, or there was no memory for it.
-pub(crate) fn words_error(fault: &io::Error) -> ProgramError<'static>
+/// Why the command line can't be read: a word is no text, or there was no memory for it.
+pub fn words_error(fault: &io::Error) -> ProgramError<'static>
     ensures { (status_of result ≡ 1) ⊎ (status_of result ≡ 2) }
 {
     match fault.kind() {
@@ -121,14 +121,14 @@ pub(crate) fn words_error(fault: &io::Error) -> ProgramError<'static>
 }
 
 impl ProgramError<'_> {
-    // Writes the line of standard error.
+    /// Writes the line of standard error, which begins with the program's name.
     #[tactic(auto, unfolding(crate::specs::Programs::error_text))]
-    pub(crate) fn print<E: Write>(&self, errors: &mut E) -> io::Result<()>
-        ensures { OnOk result
-            (Appends (E.contents errors.old) (E.contents errors.new) (error_text self.now)) }
+    pub fn print<E: Write>(&self, program: &str, errors: &mut E) -> io::Result<()>
+        ensures { OnOk result (Appends
+            (E.contents errors.old) (E.contents errors.new) (error_text program.now self.now)) }
     {
         let error = self;
-        write!(errors, "ffosolve: {error}\n")
+        write!(errors, "{program}: {error}\n")
     }
 
     // The exit status.

@@ -3,27 +3,15 @@
 ghost use Rattle.std.specs.Prelude.{◌≡◌, ◌≤◌, ◌⊎◌, [], ◌∷◌, IfOk, IfErr, IfSome, length, min, take, vec_len};
 ghost use Rattle.suite_solver.specs.CommandLine.{names_of};
 ghost use Rattle.suite_solver.specs.Programs.{AreFrontsOf, status_of};
-ghost use Rattle.suite_solver.specs.Runs.{texts_of};
+ghost use Rattle.suite_runs.specs.Runs.{texts_of};
 
 use crate::errors::{ProgramError, read_error};
-use crate::limits::{MOST_BYTES, MOST_FILES};
+use crate::streams::read_front;
 use std::alloc::Global;
+use std::fs;
 use std::io::Read;
 use std::rt::Files;
-use std::{fs, io};
-
-// The first bytes of a reader: one more than a file may have, by which a file that is too large is
-// known. They are cut once more, for a reader of which no contract says what bytes it gives.
-fn read_capped<R: Read>(alloc: Global, reader: &mut R) -> io::Result<Vec<u8>>
-    ensures most { IfOk result (λ bytes. vec_len bytes ≤ 1048577) }
-    ensures front { IfOk result
-        (λ bytes. IfSome (R.remaining reader.old) (λ all. bytes.items ≡ take 1048577 all)) }
-{
-    let mut bytes = Vec::new(alloc);
-    reader.take(MOST_BYTES as u64 + 1).read_to_end(&mut bytes)?;
-    bytes.truncate(MOST_BYTES + 1);
-    Ok(bytes)
-}
+use suite_runs::MOST_FILES;
 
 // Standard input as the one file.
 fn read_input<R: Read>(alloc: Global, input: &mut R) -> Result<Vec<Vec<u8>>, ProgramError<'static>>
@@ -31,7 +19,7 @@ fn read_input<R: Read>(alloc: Global, input: &mut R) -> Result<Vec<Vec<u8>>, Pro
         (R.remaining input.old) (λ all. texts_of files.items ≡ take 1048577 all ∷ [])) }
     ensures err { IfErr result (λ error. (status_of error ≡ 1) ⊎ (status_of error ≡ 3)) }
 {
-    match read_capped(alloc, input) {
+    match read_front(alloc, input) {
         Ok(text) => {
             let mut files = Vec::new(alloc);
             files.push(text)?;
@@ -51,7 +39,7 @@ fn read_file<'a, T: Files>(
 {
     let opened = fs::open(rt, name);
     let read = match opened {
-        Ok(mut file) => read_capped(alloc, &mut file),
+        Ok(mut file) => read_front(alloc, &mut file),
         Err(fault) => Err(fault),
     };
     match read {

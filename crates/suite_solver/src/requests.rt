@@ -4,9 +4,9 @@ ghost use Rattle.std.specs.Prelude.{◌≡◌};
 ghost use Rattle.suite_solver.specs.CommandLine.{IsFaultBy};
 ghost use Rattle.suite_solver.specs.declared.requests.OptionFault.TheVariants.{Memory};
 
-use crate::limits::Settings;
 use clap::error::ErrorKind;
 use std::alloc::{AllocError, AllocFailed};
+use suite_runs::Settings;
 use thiserror::Error;
 
 /// What a command line asks for.

@@ -3,8 +3,6 @@
 
 use super::FIRST_POSITION;
 use crate::NoGate;
-use crate::clients::work;
-use crate::solvers::Solver;
 use bound_table::NoTable;
 use endgame_search::Task;
 use job_board::{Client, Desk, Turn};
@@ -16,6 +14,8 @@ use std::sync::atomic::{AtomicBool, Ordering};
 use std::test::Fail;
 use std::thread;
 use std::time::{Clock, Duration};
+use suite_runs::clients::work;
+use suite_runs::solvers::Solver;
 
 // What the worker and its watcher share.
 #[derive(Drop)]

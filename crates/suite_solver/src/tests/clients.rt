@@ -3,7 +3,6 @@
 ghost use Rattle.std.specs.Prelude.{◌≤◌, length};
 
 use super::{BOTH, CountingGate, ONE, TWO, TWO_JOBS};
-use crate::clients::send_and_close;
 use crate::laws::client_part;
 use crate::{Gate, NoGate, RunFault, write_report};
 use arrayvec::ArrayVec;
@@ -15,6 +14,7 @@ use othello_rules::Scoring;
 use std::alloc::{AllocError, Global};
 use std::sync::{Mutex, Wait};
 use std::test::Fail;
+use suite_runs::clients::send_and_close;
 
 // Writes the report of one client's part, and tells whether its answers are as many as its rows.
 fn report_part<R: Wait, G: Gate>(

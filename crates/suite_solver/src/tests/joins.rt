@@ -1,14 +1,14 @@
 //! Clients that are joined.
 
 ghost use Rattle.std.specs.Prelude.{◌≡◌, ◌≤◌, [], ◌⊎◌, IfOk, vec_len, vec_capacity};
-ghost use Rattle.suite_solver.specs.declared.faults.RunFault.TheVariants.{Memory, Mixed};
+ghost use Rattle.suite_runs.specs.declared.faults.RunFault.TheVariants.{Memory, Mixed};
 
 use crate::RunFault;
-use crate::threads::{Joined, PartPromise, Progress, StartedClient, join_all};
 use othello_rules::Scoring;
 use std::alloc::{AllocError, Global};
 use std::test::Fail;
 use std::thread::Threads;
+use suite_runs::threads::{Joined, PartPromise, Progress, StartedClient, join_all};
 
 // A client that has ended with a fault.
 fn ended_with(fault: RunFault) -> StartedClient<'static>

@@ -4,7 +4,7 @@ use Rattle.clap.specs.Words.{first_of, found_of, rows_of}
 use Rattle.clap.proofs.WalkLemmas.{first_value-rows}
 use Rattle.othello_rules.specs.Scores.{scoring_name}
 use Rattle.suite_solver.specs.CommandLine.{HasSettings}
-use Rattle.suite_solver.specs.Settings.{SettingsView}
+use Rattle.suite_runs.specs.Settings.{SettingsView}
 use Rattle.suite_solver.proofs.command_line.settings_of.Goals as goal
 
 pub returns : goal.returns

@@ -1,0 +1,12 @@
+use Rattle.std.proofs.Common.{◌≡◌, ◌≤◌, length, map, take, vec_len, vec_capacity}
+use Rattle.suite_runs.specs.Threads.{started_view}
+use Rattle.suite_runs.specs.Runs.{texts_of}
+use Rattle.suite_runs.proofs.threads.start_all.Given as goal
+
+abbrev pub invariant-loop-file : goal.invariant-loop-file
+invariant-loop-file g l = record {
+  sender : l.sender ≡ l.file-index;
+  room : length l.files ≤ vec_capacity l.clients;
+  count : vec_len l.clients ≡ l.file-index;
+  started : l.clients.items ≡ map (started_view l.shared.table.scoring l.shared.settings.max_empties) (texts_of (take l.file-index l.files));
+}

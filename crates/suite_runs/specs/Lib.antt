@@ -1,0 +1,11 @@
+pub mod Settings
+pub mod Checks
+pub mod Text
+pub mod Rows
+pub mod Readings
+pub mod Reports
+pub mod Solvers
+pub mod Parts
+pub mod Threads
+pub mod Runs
+pub mod Faults

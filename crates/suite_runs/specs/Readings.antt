@@ -1,0 +1,31 @@
+-- What the lines of a text ask, and their results.
+use Rattle.std.specs.Prelude.{List, Option, Some, None}
+use Rattle.std.specs.List.{filter_map}
+use Rattle.endgame_search.specs.Task.{TaskView}
+use Rattle.othello_bits.specs.Pos.{answer_of}
+use Rattle.suite_runs.specs.Checks.{check}
+use Rattle.suite_runs.specs.declared.readings.Reading.{Reading}
+use Rattle.suite_runs.specs.declared.readings.Reading.TheVariants as reading
+use Rattle.suite_runs.specs.declared.rows.ReportRow.{ReportRow}
+use Rattle.suite_runs.specs.declared.rows.RowResult.{RowResult}
+use Rattle.suite_runs.specs.declared.rows.RowResult.TheVariants.{Solved, Refused}
+use Rattle.suite_runs.specs.declared.lines.NumberedReading.{NumberedReading}
+
+abbrev pub task_in : Reading → Option TaskView
+task_in (reading.Position task listed) = Some task
+task_in (reading.Refused refusal) = None
+
+-- the answer of the task with its check, or the refusal
+abbrev pub result_in : Reading → RowResult
+result_in (reading.Position task listed) =
+    Solved (answer_of task.scoring task.position)
+    (check listed.items (answer_of task.scoring task.position))
+result_in (reading.Refused refusal) = Refused refusal
+
+-- the row of a line
+abbrev pub row_in : NumberedReading → ReportRow
+row_in numbered = record { line = numbered.line; result = result_in numbered.reading }
+
+-- the tasks of lines, in their order
+abbrev pub tasks_in : List NumberedReading → List TaskView
+tasks_in readings = filter_map (λ (n : NumberedReading). task_in n.reading) readings

@@ -1,0 +1,66 @@
+-- The rows that a text defines.
+use Rattle.std.specs.Prelude.{ℕ, nat_lt, List, option_map, Option, Some, None, if◌then◌else◌}
+use Rattle.std.specs.List.{enumerate_from, filter_map}
+use Rattle.othello_rules.specs.Value.{answer, empties}
+use Rattle.othello_rules.specs.declared.scorings.Scoring.{Scoring}
+use Rattle.othello_bits.specs.Pos.{discs_of}
+use Rattle.endgame_search.specs.Task.{TaskView}
+use Rattle.obf_text.specs.LineText.{lines_of}
+use Rattle.obf_text.specs.Obf.{Entry, Faulty, Holds, Meaning, Skipped, item_of}
+use Rattle.obf_text.specs.declared.faults.LineFault.{LineFault}
+use Rattle.obf_text.specs.declared.faults.LineFault.TheVariants as fault
+use Rattle.suite_runs.specs.Checks.{check}
+use Rattle.suite_runs.specs.declared.rows.Refusal.TheVariants as refusal
+use Rattle.suite_runs.specs.declared.rows.RowResult.{RowResult}
+use Rattle.suite_runs.specs.declared.rows.RowResult.TheVariants.{Solved, Refused}
+use Rattle.suite_runs.specs.declared.rows.ReportRow.{ReportRow}
+
+-- a position is solved, and its answer checked, unless it has more empty squares than the limit
+abbrev pub entry_result : Scoring → ℕ → Entry → RowResult
+entry_result g limit entry =
+    if nat_lt limit (empties entry.position)
+    then Refused (refusal.Empties (empties entry.position) limit)
+    else Solved (answer g entry.position) (check entry.listed (answer g entry.position))
+
+-- a line's fault; want of memory is said of no line
+abbrev pub fault_result : LineFault → Option RowResult
+fault_result (fault.Short found) = Some (Refused (refusal.Short found))
+fault_result (fault.BadCell column) = Some (Refused (refusal.BadCell column))
+fault_result (fault.BadSide column) = Some (Refused (refusal.BadSide column))
+fault_result fault.Memory = None
+
+-- the task of a line: a position that is solved
+abbrev pub task_of : Scoring → ℕ → Meaning → Option TaskView
+task_of g limit (Holds entry) =
+    if nat_lt limit (empties entry.position)
+    then None
+    else Some (record { position = discs_of entry.position; scoring = g })
+task_of g limit _ = None
+
+-- the tasks of lines, and of a text, in their order
+unfoldable pub tasks_from : Scoring → ℕ → List (List ℕ) → List TaskView
+tasks_from g limit lines = filter_map (λ line. task_of g limit (item_of line)) lines
+
+abbrev pub tasks : Scoring → ℕ → List ℕ → List TaskView
+tasks g limit text = tasks_from g limit (lines_of text)
+
+-- a line that is skipped has no result
+abbrev pub result_of : Scoring → ℕ → Meaning → Option RowResult
+result_of g limit Skipped = None
+result_of g limit (Holds entry) = Some (entry_result g limit entry)
+result_of g limit (Faulty fault) = fault_result fault
+
+abbrev pub report_row : ℕ → RowResult → ReportRow
+report_row n result = record { line = n; result = result }
+
+-- the row of a line with its number
+abbrev pub row_of : Scoring → ℕ → ℕ × List ℕ → Option ReportRow
+row_of g limit (n, line) = option_map (report_row n) (result_of g limit (item_of line))
+
+-- the rows of lines, the first of which has the number n
+unfoldable pub rows_from : Scoring → ℕ → ℕ → List (List ℕ) → List ReportRow
+rows_from g limit n lines = filter_map (row_of g limit) (enumerate_from n lines)
+
+-- a text's lines are numbered from 1, skipped ones counted
+unfoldable pub rows : Scoring → ℕ → List ℕ → List ReportRow
+rows g limit text = rows_from g limit 1 (lines_of text)

@@ -1,0 +1,35 @@
+-- What the threads of a run are started for.
+use Rattle.std.specs.Prelude.{◌≡◌, ℕ, List, map, Option, Some, None}
+use Rattle.othello_rules.specs.declared.scorings.Scoring.{Scoring}
+use Rattle.suite_runs.specs.Parts.{GivesPart, IsPartFault, PartView, part_view, part_view_of}
+use Rattle.suite_runs.specs.declared.faults.RunFault.{RunFault}
+use Rattle.suite_runs.specs.declared.parts.Part.{Part}
+use Rattle.suite_runs.specs.declared.threads.PartPromise.{PartPromise}
+use Rattle.suite_runs.specs.declared.threads.Progress.{Progress}
+use Rattle.suite_runs.specs.declared.threads.Progress.TheVariants.{Spawned, Done}
+
+-- the text of a client, with what its lines are read by
+pub record StartedClientView : Type 0 where
+  pub scoring : Scoring
+  pub limit : ℕ
+  pub text : List ℕ
+
+abbrev pub started_view : Scoring → ℕ → List ℕ → StartedClientView
+started_view g limit text = record { scoring = g; limit = limit; text = text }
+
+abbrev pub started_view_of : PartPromise → StartedClientView
+started_view_of promise = started_view promise.scoring promise.limit promise.text.now
+
+-- the client's thread gives the part of its text, or the calling thread made it
+abbrev pub IsProgressOf : StartedClientView → Progress → Type 0
+IsProgressOf a (Spawned handle) = started_view_of handle.promise ≡ a
+IsProgressOf a (Done part) = GivesPart a.scoring a.limit a.text part
+
+-- the part of a client's text
+abbrev pub part_view_at : StartedClientView → PartView
+part_view_at a = part_view a.scoring a.limit a.text
+
+-- what was joined: the parts of all clients, unless there was a fault
+abbrev pub AreJoined : List StartedClientView → List Part → Option RunFault → Type 0
+AreJoined clients parts None = map part_view_of parts ≡ map part_view_at clients
+AreJoined clients parts (Some fault) = IsPartFault fault

@@ -1,0 +1,80 @@
+//! Why a run gives no reports.
+
+ghost use Rattle.std.specs.Prelude.{◌≡◌, Some};
+ghost use Rattle.suite_runs.specs.Faults.{run_fault_text};
+ghost use Rattle.suite_runs.specs.Parts.{fault_of_submit, worse_fault};
+ghost use Rattle.suite_runs.specs.declared.faults.RunFault.TheVariants.{Memory};
+
+use job_board::SubmitFault;
+use std::alloc::{AllocError, AllocFailed};
+use std::error::Error;
+use std::fmt;
+
+/// Why a run gives no reports. Senders count from 0.
+#[derive(Clone, Copy, PartialEq, Eq, Debug, Drop)]
+pub enum RunFault {
+    Memory,
+    /// A step of the job board was refused, as where an answer came back that belongs to another
+    /// position.
+    Mixed,
+    /// There are more than 64 files.
+    TooManyFiles,
+    /// The first file of more than 1,048,576 bytes, by its sender.
+    FileTooLarge(u32),
+}
+
+impl fmt::Display for RunFault {
+    ghost output = { λ fault. Some (run_fault_text fault) };
+
+    #[tactic(auto, unfolding(crate::specs::Faults::run_fault_text))]
+    fn fmt<W: fmt::Write>(&self, f: &mut fmt::Formatter<W>) -> fmt::Result {
+        match self {
+            RunFault::Memory => f.write_str("out of memory"),
+            RunFault::Mixed => f.write_str("answers mixed"),
+            RunFault::TooManyFiles => f.write_str("more than 64 files"),
+            RunFault::FileTooLarge(sender) => {
+                let number = u64::from(*sender) + 1;
+                write!(f, "file {number} is larger than 1048576 bytes")
+            }
+        }
+    }
+}
+
+impl Error for RunFault {}
+
+impl From<AllocError> for RunFault {
+    ghost from_gives = { λ _ fault. fault ≡ Memory };
+
+    fn from(_error: AllocError) -> RunFault {
+        RunFault::Memory
+    }
+}
+
+impl<T: Drop> From<AllocFailed<T>> for RunFault {
+    ghost from_gives = { λ _ fault. fault ≡ Memory };
+
+    fn from(_error: AllocFailed<T>) -> RunFault {
+        RunFault::Memory
+    }
+}
+
+impl From<SubmitFault> for RunFault {
+    ghost from_gives = { λ refused fault. fault ≡ fault_of_submit refused };
+
+    fn from(refused: SubmitFault) -> RunFault {
+        match refused {
+            SubmitFault::Memory => RunFault::Memory,
+            _ => RunFault::Mixed,
+        }
+    }
+}
+
+/// The worse of two faults: want of memory comes before any other.
+pub(crate) fn worse_fault(before: Option<RunFault>, fault: RunFault) -> RunFault
+    ensures { result ≡ worse_fault before fault }
+{
+    match before {
+        Some(RunFault::Memory) => RunFault::Memory,
+        _ => fault,
+    }
+}

@@ -1,0 +1,93 @@
+//! What a run gives.
+
+ghost use Rattle.std.specs.Prelude.{◌≡◌, ◌⊎◌, ◌↔◌, ◌++◌, ◌≤◌, ℕ, List, length, map, All, Contains, IfOk, OnOk};
+ghost use Rattle.othello_bits.specs.Pos.{PosView};
+ghost use Rattle.endgame_search.specs.Task.{TaskView};
+ghost use Rattle.suite_runs.specs.Parts.{IsBookOf, PartView, canonicals, part_view_of, report_of_view, reports_of_views, tasks_of_views};
+ghost use Rattle.suite_runs.specs.Runs.{ArePartsOf, Solves, texts_of};
+
+use crate::parts::Part;
+use crate::report::write_report;
+use crate::rows::ReportRow;
+use crate::settings::Settings;
+use endgame_search::Solved;
+use othello_rules::Scoring;
+use solved_book::Book;
+use std::alloc::{AllocError, Global};
+
+/// What a run gives.
+#[derive(Debug, Drop)]
+pub struct Outcome {
+    /// The report of each file, in the order of the files.
+    pub reports: Vec<Vec<u8>>,
+    /// Every solved position of the run.
+    pub book: Book,
+}
+
+// The report of a sender's rows.
+fn report_of(alloc: Global, sender: u32, part: &Part) -> Result<Vec<u8>, AllocError>
+    ensures { IfOk result (λ made. made.items ≡ report_of_view (sender, part_view_of part.now)) }
+{
+    let mut report = Vec::new(alloc);
+    match write_report(&mut report, sender, &part.rows) {
+        Ok(()) => Ok(report),
+        Err(_) => Err(AllocError),
+    }
+}
+
+// The report of each part, in their order.
+fn reports_of(alloc: Global, parts: &[Part]) -> Result<Vec<Vec<u8>>, AllocError>
+    requires few { length parts.now ≤ 64 }
+    ensures { IfOk result (λ made. texts_of made.items
+        ≡ reports_of_views 0 (map part_view_of parts.now)) }
+{
+    let mut reports = Vec::new(alloc);
+    let mut sender: u32 = 0;
+    for part in parts {
+        reports.push(report_of(alloc, sender, part)?)?;
+        sender += 1;
+    }
+    Ok(reports)
+}
+
+// Adds solved positions to a book.
+fn add_all(book: &mut Book, solved: &[Solved]) -> Result<(), AllocError>
+    requires { All (λ (t : TaskView). t.scoring ≡ book.old.scoring) solved.now }
+    ensures scoring { OnOk result (book.new.scoring ≡ book.old.scoring) }
+    ensures holds { OnOk result ((p : PosView) → Contains book.new.positions p
+        ↔ (Contains book.old.positions p ⊎ Contains (canonicals solved.now) p)) }
+{
+    for one in solved {
+        book.add(one)?;
+    }
+    Ok(())
+}
+
+// The book of all solved positions.
+fn book_of(alloc: Global, scoring: Scoring, parts: &[Part]) -> Result<Book, AllocError>
+    requires { All (λ (y : PartView). All (λ (t : TaskView). t.scoring ≡ scoring) y.1)
+        (map part_view_of parts.now) }
+    ensures { IfOk result (IsBookOf scoring (tasks_of_views (map part_view_of parts.now))) }
+{
+    let mut book = Book::new(alloc, scoring);
+    for part in parts {
+        add_all(&mut book, &part.solved)?;
+    }
+    Ok(book)
+}
+
+/// The reports and the book of the parts of a run.
+pub(crate) fn outcome_of(
+    alloc: Global,
+    settings: &Settings,
+    parts: &[Part],
+) -> Result<Outcome, AllocError>
+    requires { (texts : List (List ℕ)) × (length texts ≤ 64)
+        × ArePartsOf settings.now texts parts.now }
+    ensures { IfOk result (λ outcome. (texts : List (List ℕ))
+        → ArePartsOf settings.now texts parts.now → Solves settings.now texts outcome) }
+{
+    let reports = reports_of(alloc, parts)?;
+    let book = book_of(alloc, settings.scoring(), parts)?;
+    Ok(Outcome { reports, book })
+}

@@ -1,0 +1,79 @@
+//! The part of one file in a run.
+
+ghost use Rattle.std.specs.Prelude.{◌≡◌, ◌≤◌, length, All, IfOk, None};
+ghost use Rattle.endgame_search.specs.Task.{TaskView};
+ghost use Rattle.suite_runs.specs.Parts.{part_view, part_view_of};
+ghost use Rattle.suite_runs.specs.Readings.{tasks_in};
+ghost use Rattle.suite_runs.specs.Runs.{ArePartsOf, first_large, texts_of};
+
+use crate::lines::{NumberedReading, readings_of, rows_of};
+use crate::rows::ReportRow;
+use crate::settings::Settings;
+use crate::solvers::{Solver, new_table};
+use bound_table::Bounds;
+use endgame_search::Solved;
+use solved_book::Claims;
+use std::alloc::{AllocError, Global};
+
+/// The part of one file in a run: its rows, and its solved positions in the order of their lines.
+#[derive(Debug, Drop)]
+pub struct Part {
+    pub rows: Vec<ReportRow>,
+    pub solved: Vec<Solved>,
+}
+
+// The answers of all tasks, in their order.
+fn solve_all<T: Bounds>(
+    alloc: Global,
+    solver: &Solver<'_, T>,
+    readings: &[NumberedReading],
+) -> Result<Vec<Solved>, AllocError>
+    requires { All (λ (task : TaskView). task.scoring ≡ T.scoring solver.now.table.now)
+        (tasks_in readings.now) }
+    ensures { IfOk result (λ solved. solved.items ≡ tasks_in readings.now) }
+{
+    let mut solved = Vec::new(alloc);
+    for reading in readings {
+        if let Some(task) = reading.task() {
+            solved.push(solver.answer(task))?;
+        }
+    }
+    Ok(solved)
+}
+
+// Solves the positions of a text, one after the other.
+fn solve_text<T: Bounds>(
+    alloc: Global,
+    text: &[u8],
+    limit: u8,
+    solver: &Solver<'_, T>,
+) -> Result<Part, AllocError>
+    requires few_empties { limit ≤ 60 }
+    requires short { length text.now ≤ 1048576 }
+    ensures { IfOk result
+        (λ part. part_view_of part ≡ part_view (T.scoring solver.now.table.now) limit text.now) }
+{
+    let readings = readings_of(alloc, limit, solver.scoring(), text)?;
+    let solved = solve_all(alloc, solver, &readings)?;
+    let rows = rows_of(alloc, &readings, &solved)?;
+    Ok(Part { rows, solved })
+}
+
+/// Solves the positions of texts on the calling thread, one text after the other, over one table.
+pub(crate) fn solve_texts(
+    alloc: Global,
+    files: &[Vec<u8>],
+    settings: &Settings,
+    claims: Option<&Claims>,
+) -> Result<Vec<Part>, AllocError>
+    requires { first_large (texts_of files.now) ≡ None }
+    ensures { IfOk result (λ parts. ArePartsOf settings.now (texts_of files.now) parts.items) }
+{
+    let table = new_table(alloc, settings)?;
+    let solver = Solver::new(&table, claims);
+    let mut parts = Vec::new(alloc);
+    for file in files {
+        parts.push(solve_text(alloc, file, settings.max_empties(), &solver)?)?;
+    }
+    Ok(parts)
+}

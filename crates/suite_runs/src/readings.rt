@@ -1,0 +1,96 @@
+//! What a line asks.
+
+ghost use Rattle.std.specs.Prelude.{◌≡◌, ◌≤◌, length, option_map, IfOk, Some, slice_get};
+ghost use Rattle.std.specs.List.{cons_option};
+ghost use Rattle.std.specs.Option.{option_and_then};
+ghost use Rattle.std.specs.Slice.Iter.{iter_rest};
+ghost use Rattle.endgame_search.specs.Task.{TaskView};
+ghost use Rattle.obf_text.specs.Obf.{Holds, entry_of, item_of};
+ghost use Rattle.suite_runs.specs.Readings.{result_in, task_in};
+ghost use Rattle.suite_runs.specs.Rows.{entry_result, result_of, task_of};
+
+use crate::checks::check_of;
+use crate::rows::{Refusal, RowResult};
+use endgame_search::{Solved, Task, TooMany};
+use obf_text::{Item, Line, LineFault, ListedMove, read_line};
+use othello_bits::Pos;
+use othello_rules::Scoring;
+use std::alloc::{AllocError, Global};
+use std::slice::Iter;
+
+/// What a line asks that is not skipped.
+#[derive(Drop)]
+pub(crate) enum Reading {
+    /// A position to solve, and the moves that are listed for it.
+    Position(Task, Vec<(ListedMove, i8)>),
+    Refused(Refusal),
+}
+
+impl Reading {
+    // What a position asks: it is solved unless it has more empty squares than the limit.
+    fn of_entry(limit: u8, scoring: Scoring, entry: Line) -> Reading
+        requires { limit ≤ 60 }
+        ensures result { result_in result ≡ entry_result scoring limit (entry_of entry) }
+        ensures task { task_in result ≡ task_of scoring limit (Holds (entry_of entry)) }
+    {
+        match Task::new(Pos::of_grid(&entry.grid), limit, scoring) {
+            Ok(task) => Reading::Position(task, entry.listed),
+            Err(TooMany(found)) => Reading::Refused(Refusal::Empties(found, limit)),
+        }
+    }
+
+    /// The task, where a position is to be solved.
+    pub(crate) fn task(&self) -> Option<Task>
+        ensures { result ≡ task_in self.now }
+    {
+        match self {
+            Reading::Position(task, _) => Some(*task),
+            Reading::Refused(_) => None,
+        }
+    }
+
+    /// The result of the line in its row. A position takes the next of the answers.
+    pub(crate) fn result(&self, answers: &mut Iter<'_, Solved>) -> RowResult
+        requires { (task : TaskView) → task_in self.now ≡ Some task
+            → slice_get (iter_rest answers.old) 0 ≡ Some task }
+        ensures result { result ≡ result_in self.now }
+        ensures left { iter_rest answers.old
+            ≡ cons_option (task_in self.now) (iter_rest answers.new) }
+    {
+        match self {
+            Reading::Position(_, listed) => {
+                let Some(solved) = answers.next() else {
+                    unreachable!()
+                };
+                let answer = solved.answer();
+                RowResult::Solved(answer, check_of(listed, &answer))
+            }
+            Reading::Refused(refusal) => RowResult::Refused(*refusal),
+        }
+    }
+}
+
+// What a line asks, unless it is skipped.
+pub(crate) fn reading_of(
+    alloc: Global,
+    limit: u8,
+    scoring: Scoring,
+    line: &[u8],
+) -> Result<Option<Reading>, AllocError>
+    requires few_empties { limit ≤ 60 }
+    requires short { length line.now ≤ 1048576 }
+    ensures result { IfOk result
+        (λ found. option_map result_in found ≡ result_of scoring limit (item_of line.now)) }
+    ensures task { IfOk result
+        (λ found. option_and_then task_in found ≡ task_of scoring limit (item_of line.now)) }
+{
+    let refusal = match read_line(alloc, line) {
+        Ok(Item::Skip) => return Ok(None),
+        Ok(Item::Entry(entry)) => return Ok(Some(Reading::of_entry(limit, scoring, entry))),
+        Err(LineFault::Short(found)) => Refusal::Short(found as u32),
+        Err(LineFault::BadCell(column)) => Refusal::BadCell(column as u32),
+        Err(LineFault::BadSide(column)) => Refusal::BadSide(column as u32),
+        Err(LineFault::Memory) => return Err(AllocError),
+    };
+    Ok(Some(Reading::Refused(refusal)))
+}

@@ -1,0 +1,173 @@
+//! Writes reports.
+
+ghost use Rattle.std.specs.Prelude.{◌≡◌, ◌<◌, ◌≤◌, length, OnOk};
+ghost use Rattle.std.specs.Io.KnownBytes.{Appends};
+ghost use Rattle.othello_rules.specs.Masks.{squares_of};
+ghost use Rattle.obf_text.specs.Faults.{line_fault_text};
+ghost use Rattle.suite_runs.specs.Text.{answer_text, best_text, check_text, comma_name, head_text, last_text};
+ghost use Rattle.suite_runs.specs.Text.{names_text, refusal_text, report_text, result_text};
+ghost use Rattle.suite_runs.specs.Text.{row_text, solved_count};
+
+use crate::checks::Check;
+use crate::rows::{Refusal, ReportRow, RowResult};
+use obf_text::{LineFault, score_bytes};
+use othello_rules::{Answer, Best, Square, squares_in};
+use std::io;
+use std::io::Write;
+
+// A square's name behind a comma.
+#[tactic(auto, unfolding(crate::specs::Text::comma_name))]
+fn write_next_name<W: Write>(writer: &mut W, square: Square) -> io::Result<()>
+    ensures { OnOk result
+        (Appends (W.contents writer.old) (W.contents writer.new) (comma_name square)) }
+{
+    writer.write_all(b",")?;
+    writer.write_all(&square.name())
+}
+
+fn write_names<W: Write>(writer: &mut W, squares: &[Square]) -> io::Result<()>
+    ensures { OnOk result
+        (Appends (W.contents writer.old) (W.contents writer.new) (names_text squares.now)) }
+{
+    let [first, rest @ ..] = squares else {
+        return Ok(());
+    };
+    writer.write_all(&first.name())?;
+    for square in rest {
+        write_next_name(writer, *square)?;
+    }
+    Ok(())
+}
+
+#[tactic(auto, unfolding(crate::specs::Text::best_text))]
+fn write_best<W: Write>(writer: &mut W, best: Best) -> io::Result<()>
+    ensures { OnOk result
+        (Appends (W.contents writer.old) (W.contents writer.new) (best_text best)) }
+{
+    match best {
+        Best::Moves(mask) => write_names(writer, squares_in(mask).as_slice()),
+        Best::Pass => writer.write_all(b"PS"),
+        Best::Over => writer.write_all(b"--"),
+    }
+}
+
+#[tactic(auto, unfolding(crate::specs::Text::check_text))]
+fn write_check<W: Write>(writer: &mut W, check: Check) -> io::Result<()>
+    ensures { OnOk result
+        (Appends (W.contents writer.old) (W.contents writer.new) (check_text check)) }
+{
+    match check {
+        Check::Agree => writer.write_all(b"agree"),
+        Check::Differ => writer.write_all(b"differ"),
+        Check::Unlisted => writer.write_all(b"unlisted"),
+    }
+}
+
+fn write_fault<W: Write>(writer: &mut W, fault: LineFault) -> io::Result<()>
+    ensures { OnOk result
+        (Appends (W.contents writer.old) (W.contents writer.new) (line_fault_text fault)) }
+{
+    write!(writer, "{fault}")
+}
+
+#[tactic(auto, unfolding(crate::specs::Text::refusal_text))]
+fn write_refusal<W: Write>(writer: &mut W, refusal: Refusal) -> io::Result<()>
+    ensures { OnOk result
+        (Appends (W.contents writer.old) (W.contents writer.new) (refusal_text refusal)) }
+{
+    match refusal {
+        Refusal::Short(found) => write_fault(writer, LineFault::Short(found as usize)),
+        Refusal::BadCell(column) => write_fault(writer, LineFault::BadCell(column as usize)),
+        Refusal::BadSide(column) => write_fault(writer, LineFault::BadSide(column as usize)),
+        Refusal::Empties(found, limit) => write!(writer, "{found} empties, limit {limit}"),
+    }
+}
+
+#[tactic(auto, unfolding(crate::specs::Text::answer_text))]
+fn write_answer<W: Write>(writer: &mut W, answer: &Answer) -> io::Result<()>
+    ensures { OnOk result
+        (Appends (W.contents writer.old) (W.contents writer.new) (answer_text answer.now)) }
+{
+    writer.write_all(&score_bytes(answer.score))?;
+    writer.write_all(b" ")?;
+    write_best(writer, answer.best)
+}
+
+#[tactic(auto, unfolding(crate::specs::Text::result_text))]
+fn write_solved<W: Write>(writer: &mut W, answer: &Answer, check: Check) -> io::Result<()>
+    ensures { OnOk result (Appends (W.contents writer.old)
+        (W.contents writer.new) (result_text (RowResult.Solved answer.now check))) }
+{
+    write_answer(writer, answer)?;
+    writer.write_all(b" ")?;
+    write_check(writer, check)
+}
+
+#[tactic(auto, unfolding(crate::specs::Text::result_text))]
+fn write_result<W: Write>(writer: &mut W, row_result: &RowResult) -> io::Result<()>
+    ensures { OnOk result
+        (Appends (W.contents writer.old) (W.contents writer.new) (result_text row_result.now)) }
+{
+    match row_result {
+        RowResult::Solved(answer, check) => write_solved(writer, answer, *check),
+        RowResult::Refused(refusal) => {
+            writer.write_all(b"refused: ")?;
+            write_refusal(writer, *refusal)
+        }
+    }
+}
+
+#[tactic(auto, unfolding(crate::specs::Text::row_text))]
+fn write_row<W: Write>(writer: &mut W, row: &ReportRow) -> io::Result<()>
+    ensures { OnOk result
+        (Appends (W.contents writer.old) (W.contents writer.new) (row_text row.now)) }
+{
+    let line = row.line;
+    write!(writer, "{line} ")?;
+    write_result(writer, &row.result)?;
+    writer.write_all(b"\n")
+}
+
+// How many rows are solved.
+#[tactic(auto, unfolding(crate::specs::Text::solved_count))]
+fn solved_count(rows: &[ReportRow]) -> usize
+    ensures count { result ≡ solved_count rows.now }
+    ensures within { result ≤ length rows.now }
+{
+    rows.iter()
+        .filter(|row| matches!(row.result, RowResult::Solved(_, _)))
+        .count()
+}
+
+#[tactic(auto, unfolding(crate::specs::Text::head_text))]
+fn write_head<W: Write>(writer: &mut W, sender: u32) -> io::Result<()>
+    ensures { OnOk result
+        (Appends (W.contents writer.old) (W.contents writer.new) (head_text sender)) }
+{
+    let number = u64::from(sender) + 1;
+    write!(writer, "[{number}]\n")
+}
+
+#[tactic(auto, unfolding(crate::specs::Text::last_text))]
+fn write_last<W: Write>(writer: &mut W, rows: &[ReportRow]) -> io::Result<()>
+    ensures { OnOk result
+        (Appends (W.contents writer.old) (W.contents writer.new) (last_text rows.now)) }
+{
+    let solved = solved_count(rows);
+    let refused = rows.len() - solved;
+    write!(writer, "solved {solved} refused {refused}\n")
+}
+
+/// Writes the report of a sender's rows: its number plus 1, a line for each row, and the two sums.
+/// Each line ends with LF. After a fault nothing is said of how much went out. It takes no memory
+/// of its own.
+pub fn write_report<W: Write>(writer: &mut W, sender: u32, rows: &[ReportRow]) -> io::Result<()>
+    ensures { OnOk result
+        (Appends (W.contents writer.old) (W.contents writer.new) (report_text sender rows.now)) }
+{
+    write_head(writer, sender)?;
+    for row in rows {
+        write_row(writer, row)?;
+    }
+    write_last(writer, rows)
+}

@@ -1,0 +1,143 @@
+//! Runs on files.
+
+ghost use Rattle.std.specs.Prelude.{◌≡◌, ◌≢◌, ◌<◌, ◌≤◌, ◌↔◌, ℕ, length, Some, None, Err, IfOk, IfSome, IsErrOf, IsOk};
+ghost use Rattle.std.specs.List.{position};
+ghost use Rattle.suite_runs.specs.Parts.{IsBookOf};
+ghost use Rattle.suite_runs.specs.Reports.{reports};
+ghost use Rattle.suite_runs.specs.Runs.{Answers, Refuses, all_tasks, first_large, is_large, refusal_of, texts_of};
+ghost use Rattle.suite_runs.specs.declared.faults.RunFault.TheVariants.{Mixed, TooManyFiles, FileTooLarge};
+
+use crate::faults::RunFault;
+use crate::gates::Gate;
+use crate::outcomes::{Outcome, outcome_of};
+use crate::parts::solve_texts;
+use crate::settings::{MOST_BYTES, MOST_FILES, Settings};
+use crate::threads::solve_texts_on_threads;
+use solved_book::Claims;
+use std::alloc::Global;
+use std::sync::Wait;
+use std::thread::Threads;
+
+// The place of the first file that is too large. `first_large` says it of the texts, of which the
+// definitions speak.
+fn large_file(files: &[Vec<u8>]) -> Option<usize>
+    ensures { result ≡ position (λ file. is_large file.items) files.now }
+{
+    files.iter().position(|file| file.len() > MOST_BYTES)
+}
+
+// The first file that is too large.
+fn first_large(files: &[Vec<u8>]) -> Option<usize>
+    ensures first { result ≡ first_large (texts_of files.now) }
+    ensures within { IfSome result (λ sender. sender < length files.now) }
+{
+    large_file(files)
+}
+
+// Refuses more than 64 files, and then the first file that is too large.
+#[tactic(auto, unfolding(crate::specs::Runs::refusal_of))]
+fn check_files(files: &[Vec<u8>]) -> Result<(), RunFault>
+    ensures refuses { Refuses result (texts_of files.now) }
+    ensures few { IsOk result → length files.now ≤ 64 }
+    ensures small { IsOk result → first_large (texts_of files.now) ≡ None }
+{
+    if files.len() > MOST_FILES {
+        return Err(RunFault::TooManyFiles);
+    }
+    if let Some(sender) = first_large(files) {
+        return Err(RunFault::FileTooLarge(sender as u32));
+    }
+    Ok(())
+}
+
+// `run_serial`, with all that it answers in one clause, case by case.
+fn run_files(
+    alloc: Global,
+    files: &[Vec<u8>],
+    settings: &Settings,
+    claims: Option<&Claims>,
+) -> Result<Outcome, RunFault>
+    ensures answers { Answers result settings.now (texts_of files.now) }
+    ensures unmixed { result ≢ Err Mixed }
+{
+    if let Err(fault) = check_files(files) {
+        return Err(fault);
+    }
+    let parts = solve_texts(alloc, files, settings, claims)?;
+    let outcome = outcome_of(alloc, settings, &parts)?;
+    Ok(outcome)
+}
+
+/// Solves the positions of files on the calling thread, over one table of bounds. The workers of
+/// the settings are not used. A position that is claimed under the scoring of the settings is
+/// confirmed, and any other solved.
+///
+/// The reports are those of the files, in their order. The book holds the canonical form of each
+/// solved position, and nothing else. Neither depends on the table's size or on what is claimed.
+///
+/// More than 64 files are `TooManyFiles`, else the first of more than 1,048,576 bytes is
+/// `FileTooLarge`, before anything is solved; `Memory` comes where a growth was refused. It is
+/// never `Mixed`.
+pub fn run_serial(
+    alloc: Global,
+    files: &[Vec<u8>],
+    settings: &Settings,
+    claims: Option<&Claims>,
+) -> Result<Outcome, RunFault>
+    ensures too_many { IsErrOf result TooManyFiles ↔ 64 < length files.now }
+    ensures too_large { (sender : ℕ) → IsErrOf result (FileTooLarge sender) ↔
+        ((length files.now ≤ 64) × (first_large (texts_of files.now) ≡ Some sender)) }
+    ensures unmixed { result ≢ Err Mixed }
+    ensures reports { IfOk result (λ outcome. texts_of outcome.reports.items
+        ≡ reports settings.now.scoring settings.now.max_empties (texts_of files.now)) }
+    ensures book { IfOk result (λ outcome. IsBookOf settings.now.scoring (all_tasks
+        settings.now.scoring settings.now.max_empties (texts_of files.now)) outcome.book) }
+{
+    run_files(alloc, files, settings, claims)
+}
+
+// `run`, with all that it answers in one clause, case by case.
+fn run_threads<R: Threads + Wait + Sync, G: Gate>(
+    rt: &R,
+    alloc: Global,
+    files: &[Vec<u8>],
+    settings: &Settings,
+    claims: Option<&Claims>,
+    gate: &G,
+) -> Result<Outcome, RunFault>
+    ensures { Answers result settings.now (texts_of files.now) }
+{
+    if let Err(fault) = check_files(files) {
+        return Err(fault);
+    }
+    let parts = solve_texts_on_threads(rt, alloc, files, settings, claims, gate)?;
+    let outcome = outcome_of(alloc, settings, &parts)?;
+    Ok(outcome)
+}
+
+/// Solves the positions of files on threads: a client for each file, and the workers of the
+/// settings, at one board of jobs and over one table of bounds. Where a worker can't be started
+/// there are fewer; where a client can't, the calling thread does its part. The gate is called
+/// before and after each job. It returns when all threads have ended, and may wait for them.
+///
+/// Reports and book are those of `run_serial`, for every number of workers and every gate, and so
+/// are the refusals of limits, which come before a thread is started or the gate is called.
+/// `Memory` of any part comes before `Mixed`, which says that a step of the board was refused.
+pub fn run<R: Threads + Wait + Sync, G: Gate>(
+    rt: &R,
+    alloc: Global,
+    files: &[Vec<u8>],
+    settings: &Settings,
+    claims: Option<&Claims>,
+    gate: &G,
+) -> Result<Outcome, RunFault>
+    ensures too_many { IsErrOf result TooManyFiles ↔ 64 < length files.now }
+    ensures too_large { (sender : ℕ) → IsErrOf result (FileTooLarge sender) ↔
+        ((length files.now ≤ 64) × (first_large (texts_of files.now) ≡ Some sender)) }
+    ensures reports { IfOk result (λ outcome. texts_of outcome.reports.items
+        ≡ reports settings.now.scoring settings.now.max_empties (texts_of files.now)) }
+    ensures book { IfOk result (λ outcome. IsBookOf settings.now.scoring (all_tasks
+        settings.now.scoring settings.now.max_empties (texts_of files.now)) outcome.book) }
+{
+    run_threads(rt, alloc, files, settings, claims, gate)
+}

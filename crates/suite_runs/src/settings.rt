@@ -1,0 +1,121 @@
+//! The limits of a run, and its settings.
+
+ghost use Rattle.std.specs.Prelude.{◌≡◌, ◌≤◌, ◌↔◌, IsSome, IfSome};
+ghost use Rattle.suite_runs.specs.Settings.{SettingsView, IsWithinLimits, defaults};
+
+use bound_table::BoundTable;
+use othello_rules::Scoring;
+use std::marker::Model;
+
+/// The version of the programs, as `--version` prints it.
+pub const VERSION: &str = "1.0.0";
+/// The most empty squares that a setting may allow.
+pub const MOST_EMPTIES: u8 = 60;
+/// The most workers.
+pub const MOST_WORKERS: u8 = 64;
+/// The most entries of a table.
+pub const MOST_ENTRIES: u32 = BoundTable::MOST_ENTRIES as u32;
+/// The most files of a run.
+pub const MOST_FILES: usize = 64;
+/// The most bytes of a file.
+pub const MOST_BYTES: usize = 1_048_576;
+
+/// The numbers of a run, none above its limit, and its scoring.
+#[derive(Clone, Copy, PartialEq, Eq, Debug)]
+pub struct Settings {
+    max_empties: u8,
+    workers: u8,
+    table: u32,
+    scoring: Scoring,
+}
+
+impl Model for Settings {
+    ghost use Rattle.suite_runs.specs.Settings.{SettingsView, IsWithinLimits};
+
+    ghost Value = { SettingsView };
+
+    ghost view = { λ s. record {
+      max_empties = s.max_empties;
+      workers = s.workers;
+      table = s.table;
+      scoring = s.scoring;
+    } };
+
+    ghost invariant = { λ s. IsWithinLimits (record {
+      max_empties = s.max_empties;
+      workers = s.workers;
+      table = s.table;
+      scoring = s.scoring;
+    }) };
+
+    ghost inverse = { λ c. record {
+      max_empties = c.max_empties;
+      workers = c.workers;
+      table = c.table;
+      scoring = c.scoring;
+    } };
+}
+
+impl Settings {
+    /// Positions of at most `max_empties` empty squares, `workers` threads beside the clients, a
+    /// table of `table` entries. None where a number is above its limit.
+    pub fn new(max_empties: u8, workers: u8, table: u32, scoring: Scoring) -> Option<Settings>
+        ensures within { IsSome result ↔ IsWithinLimits (record
+            { max_empties = max_empties; workers = workers; table = table; scoring = scoring }) }
+        ensures value { IfSome result (λ s. s ≡ record
+            { max_empties = max_empties; workers = workers; table = table; scoring = scoring }) }
+    {
+        if max_empties > MOST_EMPTIES || workers > MOST_WORKERS || table > MOST_ENTRIES {
+            return None;
+        }
+        Some(Settings {
+            max_empties,
+            workers,
+            table,
+            scoring,
+        })
+    }
+
+    /// The most empty squares that are solved.
+    pub fn max_empties(&self) -> u8
+        ensures value { result ≡ self.now.max_empties }
+        ensures within { result ≤ 60 }
+    {
+        self.max_empties
+    }
+
+    /// The number of worker threads.
+    pub fn workers(&self) -> u8
+        ensures { result ≡ self.now.workers }
+    {
+        self.workers
+    }
+
+    /// The number of entries of the table.
+    pub fn table(&self) -> u32
+        ensures value { result ≡ self.now.table }
+        ensures within { result ≤ 4194304 }
+    {
+        self.table
+    }
+
+    pub fn scoring(&self) -> Scoring
+        ensures { result ≡ self.now.scoring }
+    {
+        self.scoring
+    }
+}
+
+impl Default for Settings {
+    /// At most 20 empty squares, 2 workers, 65,536 entries, and empty squares for the winner.
+    fn default() -> Settings
+        ensures { result ≡ defaults }
+    {
+        Settings {
+            max_empties: 20,
+            workers: 2,
+            table: 65_536,
+            scoring: Scoring::Winner,
+        }
+    }
+}

@@ -1,0 +1,313 @@
+//! A run's threads: a client for each file, and workers.
+
+ghost use Rattle.std.specs.Prelude.{◌≡◌, ◌<◌, ◌≤◌, ◌+◌, ◌++◌, ◌∷◌, length, map, IfOk, IfErr, Some, None, [], vec_len, vec_capacity};
+ghost use Rattle.suite_runs.specs.Parts.{GivesPart, GivesParts, worse_fault};
+ghost use Rattle.suite_runs.specs.Runs.{first_large, texts_of};
+ghost use Rattle.suite_runs.specs.Threads.{AreJoined, started_view};
+
+use crate::clients::{client_part, work};
+use crate::faults::{RunFault, worse_fault};
+use crate::gates::Gate;
+use crate::parts::Part;
+use crate::settings::Settings;
+use crate::solvers::{Solver, new_table};
+use bound_table::{BoundTable, Bounds};
+use job_board::{BoardFault, Desk};
+use othello_rules::Scoring;
+use solved_book::Claims;
+use std::alloc::{AllocError, Global};
+use std::marker::Model;
+use std::sync::Wait;
+use std::thread;
+use std::thread::{Promise, PromisedHandle, Scope, Threads};
+
+/// What all threads of a run share. It has no type parameter and no lifetime: of a closure that
+/// captures a type with one, its caller would know nothing.
+#[derive(Drop)]
+pub(crate) struct Shared {
+    pub(crate) alloc: Global,
+    pub(crate) settings: Settings,
+    pub(crate) desk: Desk,
+    pub(crate) table: BoundTable,
+}
+
+impl Shared {
+    fn new(alloc: Global, files: &[Vec<u8>], settings: &Settings) -> Result<Shared, AllocError>
+        requires { length files.now ≤ 64 }
+        ensures scoring { IfOk result (λ shared. shared.table.scoring ≡ settings.now.scoring) }
+        ensures settings { IfOk result (λ shared. shared.settings ≡ settings.now) }
+    {
+        let table = new_table(alloc, settings)?;
+        match Desk::new(alloc, files.len() as u32) {
+            Ok(desk) => Ok(Shared {
+                alloc,
+                settings: *settings,
+                desk,
+                table,
+            }),
+            Err(BoardFault::Memory) => Err(AllocError),
+            Err(BoardFault::TooManySenders) => unreachable!(),
+        }
+    }
+
+    // The part of one client.
+    fn part<R: Wait, G: Gate>(
+        &self,
+        rt: &R,
+        claims: &Claims,
+        gate: &G,
+        sender: u32,
+        text: &[u8],
+    ) -> Result<Part, RunFault>
+        requires { length text.now ≤ 1048576 }
+        ensures { GivesPart self.now.table.scoring self.now.settings.max_empties text.now result }
+    {
+        client_part(
+            rt,
+            self.alloc,
+            text,
+            sender,
+            self.settings.max_empties(),
+            &self.desk,
+            &self.table,
+            Some(claims),
+            gate,
+        )
+    }
+
+    // The part of one worker.
+    fn work<R: Wait, G: Gate>(&self, rt: &R, claims: &Claims, gate: &G) {
+        work(
+            rt,
+            &self.desk,
+            &Solver::new(&self.table, Some(claims)),
+            gate,
+        );
+    }
+}
+
+// That a thread gives the part of a text.
+#[derive(Clone, Copy)]
+pub struct PartPromise<'a> {
+    pub scoring: Scoring,
+    pub limit: u8,
+    pub text: &'a [u8],
+}
+
+impl<'a> Promise<Result<Part, RunFault>> for PartPromise<'a> {
+    ghost kept_by = { λ promise result.
+        GivesPart promise.scoring promise.limit promise.text.now result };
+}
+
+// A client in a thread, or what came of it where no thread could be started.
+#[derive(Drop)]
+pub enum Progress<'a> {
+    Spawned(PromisedHandle<Result<Part, RunFault>, PartPromise<'a>>),
+    Done(Result<Part, RunFault>),
+}
+
+// A client that was started.
+#[derive(Drop)]
+pub struct StartedClient<'a> {
+    pub promise: PartPromise<'a>,
+    pub progress: Progress<'a>,
+}
+
+impl<'a> Model for StartedClient<'a> {
+    ghost use Rattle.suite_runs.specs.Threads.{StartedClientView, IsProgressOf, started_view_of};
+
+    ghost Value = { StartedClientView };
+
+    ghost view = { λ s. started_view_of s.promise };
+
+    ghost invariant = { λ s. IsProgressOf (started_view_of s.promise) s.progress };
+}
+
+impl<'a> StartedClient<'a> {
+    fn join<R: Threads>(self, rt: &R) -> Result<Part, RunFault>
+        ensures { GivesPart self.entry.scoring self.entry.limit self.entry.text result }
+    {
+        let StartedClient {
+            promise: _,
+            progress,
+        } = self;
+        match progress {
+            Progress::Spawned(handle) => handle.join(rt),
+            Progress::Done(part) => part,
+        }
+    }
+}
+
+// Starts a client. Where no thread can be started, this one does its part.
+fn start<'a, E, R: Threads + Wait + Sync, G: Gate>(
+    scope: &Scope<'a, E>,
+    rt: &'a R,
+    shared: &'a Shared,
+    claims: &'a Claims,
+    gate: &'a G,
+    sender: u32,
+    text: &'a [u8],
+) -> StartedClient<'a>
+    requires { length text.now ≤ 1048576 }
+    ensures { result ≡ started_view shared.now.table.scoring
+        shared.now.settings.max_empties text.now }
+{
+    let promise = PartPromise {
+        scoring: shared.table.scoring(),
+        limit: shared.settings.max_empties(),
+        text,
+    };
+    let spawned = scope.spawn_with(
+        promise,
+        move || -> Result<Part, RunFault>
+            requires { length text.now ≤ 1048576 }
+            ensures { GivesPart shared.entry.now.table.scoring shared.entry.now.settings.max_empties
+                text.entry.now result }
+        { shared.part(rt, claims, gate, sender, text) },
+    );
+    let progress = match spawned {
+        Ok(handle) => Progress::Spawned(handle),
+        Err(refused) => Progress::Done((refused.value)()),
+    };
+    StartedClient { promise, progress }
+}
+
+// Starts a client for each file, in their order.
+fn start_all<'a, E, R: Threads + Wait + Sync, G: Gate>(
+    scope: &Scope<'a, E>,
+    rt: &'a R,
+    shared: &'a Shared,
+    claims: &'a Claims,
+    gate: &'a G,
+    files: &'a [Vec<u8>],
+    clients: &mut Vec<StartedClient<'a>>,
+)
+    requires few { length files.now ≤ 64 }
+    requires small { first_large (texts_of files.now) ≡ None }
+    requires none { clients.old.items ≡ [] }
+    requires room { length files.now ≤ vec_capacity clients.old }
+    ensures { clients.new.items ≡ map
+        (started_view shared.now.table.scoring shared.now.settings.max_empties)
+        (texts_of files.now) }
+{
+    let mut sender: u32 = 0;
+    for file in files {
+        clients.push_reserved(start(scope, rt, shared, claims, gate, sender, file));
+        sender += 1;
+    }
+}
+
+// Starts workers. Where a thread can't be started there are fewer.
+fn start_workers<'a, E, R: Threads + Wait + Sync, G: Gate>(
+    scope: &Scope<'a, E>,
+    rt: &'a R,
+    shared: &'a Shared,
+    claims: &'a Claims,
+    gate: &'a G,
+) {
+    for _ in 0..shared.settings.workers() {
+        let _ = scope.spawn(move || shared.work(rt, claims, gate));
+    }
+}
+
+// What came of the clients that were joined.
+#[derive(Drop)]
+pub struct Joined {
+    pub parts: Vec<Part>,
+    pub fault: Option<RunFault>,
+}
+
+impl Joined {
+    // Keeps a part, or the worse of the faults.
+    fn take(&mut self, given: Result<Part, RunFault>)
+        requires { vec_len self.old.parts < vec_capacity self.old.parts }
+        ensures part { IfOk given (λ part.
+            (self.new.parts.items ≡ self.old.parts.items ++ part ∷ [])
+            × (self.new.fault ≡ self.old.fault)) }
+        ensures fault { IfErr given (λ fault.
+            self.new.fault ≡ Some (worse_fault self.old.fault fault)) }
+        ensures room { vec_capacity self.new.parts ≡ vec_capacity self.old.parts }
+        ensures len { vec_len self.new.parts ≤ vec_len self.old.parts + 1 }
+    {
+        match given {
+            Ok(part) => self.parts.push_reserved(part),
+            Err(fault) => self.fault = Some(worse_fault(self.fault, fault)),
+        }
+    }
+
+    // The parts, unless there was a fault.
+    fn into_parts(self) -> Result<Vec<Part>, RunFault>
+        ensures ok { IfOk result (λ parts. (parts ≡ self.parts) × (self.fault ≡ None)) }
+        ensures err { IfErr result (λ fault. self.fault ≡ Some fault) }
+    {
+        let Joined { parts, fault } = self;
+        match fault {
+            None => Ok(parts),
+            Some(fault) => Err(fault),
+        }
+    }
+}
+
+// Joins all clients.
+pub fn join_all<R: Threads>(rt: &R, clients: Vec<StartedClient<'_>>, joined: &mut Joined)
+    requires none { (joined.old.parts.items ≡ []) × (joined.old.fault ≡ None) }
+    requires room { vec_len clients ≤ vec_capacity joined.old.parts }
+    ensures { AreJoined clients.entry.items joined.new.parts.items joined.new.fault }
+{
+    for client in clients {
+        joined.take(client.join(rt));
+    }
+}
+
+// Solves the positions of all texts. All lists are made before the first thread is started, so that
+// nothing can fail between the starts and the joins.
+fn solve_in_scope<'a, E, R: Threads + Wait + Sync, G: Gate>(
+    scope: &Scope<'a, E>,
+    rt: &'a R,
+    shared: &'a Shared,
+    claims: &'a Claims,
+    gate: &'a G,
+    files: &'a [Vec<u8>],
+) -> Result<Vec<Part>, RunFault>
+    requires few { length files.now ≤ 64 }
+    requires small { first_large (texts_of files.now) ≡ None }
+    ensures { GivesParts shared.now.table.scoring shared.now.settings.max_empties
+        (texts_of files.now) result }
+{
+    let mut clients = Vec::with_capacity(shared.alloc, files.len())?;
+    let parts = Vec::with_capacity(shared.alloc, files.len())?;
+    let mut joined = Joined { parts, fault: None };
+    start_workers(scope, rt, shared, claims, gate);
+    start_all(scope, rt, shared, claims, gate, files, &mut clients);
+    join_all(rt, clients, &mut joined);
+    joined.into_parts()
+}
+
+/// Solves the positions of texts, by a client for each text and the workers of the settings, at one
+/// desk and over one table.
+pub(crate) fn solve_texts_on_threads<R: Threads + Wait + Sync, G: Gate>(
+    rt: &R,
+    alloc: Global,
+    files: &[Vec<u8>],
+    settings: &Settings,
+    claims: Option<&Claims>,
+    gate: &G,
+) -> Result<Vec<Part>, RunFault>
+    requires few { length files.now ≤ 64 }
+    requires small { first_large (texts_of files.now) ≡ None }
+    ensures { GivesParts settings.now.scoring settings.now.max_empties (texts_of files.now) result }
+{
+    let shared = Shared::new(alloc, files, settings)?;
+    let none = Claims::new(alloc, settings.scoring());
+    let claims = claims.unwrap_or(&none);
+    let shared = &shared;
+    thread::scope(
+        thread::scope_env(),
+        rt,
+        |scope| -> Result<Vec<Part>, RunFault>
+            requires { (length files.now ≤ 64) × (first_large (texts_of files.now) ≡ None) }
+            ensures { GivesParts shared.entry.now.table.scoring
+                shared.entry.now.settings.max_empties (texts_of files.entry.now) result }
+        { solve_in_scope(scope, rt, shared, claims, gate, files) },
+    )
+}

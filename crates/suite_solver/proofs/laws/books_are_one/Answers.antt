@@ -1,5 +1,0 @@
-use Rattle.suite_solver.proofs.PartLemmas.{one_book}
-use Rattle.suite_solver.proofs.laws.books_are_one.Goals as goal
-
-pub returns : goal.returns
-returns c = one_book

@@ -1,0 +1,60 @@
+//! How the program ends in its `main`.
+
+ghost use Rattle.std.specs.Prelude.{◌≡◌, ◌≢◌, ◌⊎◌, IsOkAnd};
+ghost use Rattle.std.specs.Process.{exit_status};
+ghost use Rattle.suite_solver.specs.CommandLine.{AsksForText, IsTaken, ffosolve, names_of};
+ghost use Rattle.suite_solver.specs.Programs.{IsAnswered};
+
+use crate::programs::program_of;
+use std::alloc::Global;
+use std::io;
+use std::io::{Eprint, Read, Stderr, Write};
+use std::marker::Sync;
+use std::process::{ExitCode, Termination};
+use std::rt::Files;
+use std::sync::Wait;
+use std::thread::Threads;
+
+/// How the program ended. `program_at` alone makes one, and it is no value that may be let go: so a
+/// `main` that calls it gives it, and ends with the program's status.
+pub struct Ended {
+    status: u8,
+}
+
+impl Termination for Ended {
+    fn report<R: Eprint>(self, _rt: &R) -> ExitCode
+        ensures { exit_status result ≡ self.status }
+    {
+        let Ended { status } = self;
+        ExitCode::from(status)
+    }
+}
+
+/// A stream for what ends the program early. Standard output is none, and can't be handed over as
+/// one.
+pub trait ErrorStream: Write {}
+
+impl ErrorStream for Stderr {}
+
+/// `program_of`, for a `main`: its result ends the process with the status.
+pub fn program_at<T: Files + Threads + Wait + Sync, R: Read, W: Write, E: ErrorStream>(
+    rt: &T,
+    alloc: Global,
+    words: io::Result<Vec<String>>,
+    input: &mut R,
+    output: &mut W,
+    errors: &mut E,
+) -> Ended
+    ensures status { (result.status ≡ 0)
+        ⊎ ((result.status ≡ 1) ⊎ ((result.status ≡ 2) ⊎ (result.status ≡ 3))) }
+    ensures answered { result.status ≡ 0 → IsOkAnd words (λ all.
+        AsksForText ffosolve (names_of all.items) ⊎ IsAnswered (names_of all.items)
+        (R.remaining input.old) (W.contents output.old) (W.contents output.new)) }
+    ensures taken { IsOkAnd words (λ all. IsTaken (names_of all.items)) → result.status ≢ 2 }
+    ensures unwritten { (result.status ≡ 1) ⊎
+        (result.status ≡ 2) → W.contents output.new ≡ W.contents output.old }
+{
+    Ended {
+        status: program_of(rt, alloc, words, input, output, errors),
+    }
+}

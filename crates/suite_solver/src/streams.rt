@@ -1,0 +1,66 @@
+//! The words and streams of a program: what `ffosolve` and `ffoscores` have in common.
+
+ghost use Rattle.std.specs.Prelude.{◌≡◌, ◌≤◌, true, false, map, take, vec_len, IfOk, IfSome, IsErr};
+ghost use Rattle.clap.specs.Words.{kind_of};
+ghost use Rattle.suite_solver.specs.CommandLine.{IsTextKind, names_of};
+
+use clap::error::ErrorKind;
+use std::alloc::{AllocError, Global};
+use std::io;
+use std::io::{Read, Write};
+use suite_runs::MOST_BYTES;
+
+/// The first bytes of a reader, `MOST_BYTES` and one more, by which a file that is too large is
+/// known. They are cut once more, for a reader of which no contract says what bytes it gives.
+pub fn read_front<R: Read>(alloc: Global, reader: &mut R) -> io::Result<Vec<u8>>
+    ensures most { IfOk result (λ bytes. vec_len bytes ≤ 1048577) }
+    ensures front { IfOk result
+        (λ bytes. IfSome (R.remaining reader.old) (λ all. bytes.items ≡ take 1048577 all)) }
+{
+    let mut bytes = Vec::new(alloc);
+    reader.take(MOST_BYTES as u64 + 1).read_to_end(&mut bytes)?;
+    bytes.truncate(MOST_BYTES + 1);
+    Ok(bytes)
+}
+
+/// The words as slices.
+pub fn borrow_words(alloc: Global, words: &[String]) -> Result<Vec<&str>, AllocError>
+    ensures { IfOk result (λ all. map (λ word. word.now) all.items ≡ names_of words.now) }
+{
+    let mut borrowed = Vec::new(alloc);
+    for word in words {
+        borrowed.push(word.as_str())?;
+    }
+    Ok(borrowed)
+}
+
+// Writes help, or the version.
+fn write_help<W: Write>(output: &mut W, help: &clap::Error) -> io::Result<()> {
+    write!(output, "{help}")?;
+    output.flush()
+}
+
+/// Prints what clap says in place of options: help and the version on standard output, why the
+/// words are refused on standard error, where a failure changes nothing. The answer is whether they
+/// ask for help or the version. The error is that of standard output.
+pub fn explain<W: Write, E: Write>(
+    error: &clap::Error,
+    output: &mut W,
+    errors: &mut E,
+) -> io::Result<bool>
+    ensures helped { IfOk result (λ helped. helped ≡ true → IsTextKind (kind_of error.now)) }
+    ensures failed { IsErr result → IsTextKind (kind_of error.now) }
+    ensures unwritten { IfOk result
+        (λ helped. helped ≡ false → W.contents output.new ≡ W.contents output.old) }
+{
+    match error.kind() {
+        ErrorKind::DisplayHelp | ErrorKind::DisplayVersion => {
+            write_help(output, error)?;
+            Ok(true)
+        }
+        _ => {
+            let _ = write!(errors, "{error}");
+            Ok(false)
+        }
+    }
+}
