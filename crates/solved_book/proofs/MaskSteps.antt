@@ -1,23 +1,18 @@
 -- The mask of the squares that are listed with a score.
-use Rattle.std.proofs.Common.{◌≡◌, ℕ, ℤ, ◌^◌, ◌*◌, ◌%◌, ◌<◌, ◌≤◌, ◌+◌, ◌||◌, eqb, bit_or, Bool, true, false, List, [], length, take, take_all, get_or, refl, ap, sym, ◌∙◌, arith}
+use Rattle.std.proofs.Common.{◌≡◌, ℕ, ℤ, ◌^◌, ◌<◌, ◌≤◌, ◌+◌, ◌||◌, Bool, true, false, List, [], length, take, take_all, get_or, refl, ap, sym, ◌∙◌, arith}
 use Rattle.std.specs.List.{list_any}
-use Rattle.std.proofs.lemmas.Nat.{one_shl}
 use Rattle.std.proofs.lemmas.List.Folds.{list_any_more}
 use Rattle.othello_rules.specs.Masks.{in_mask}
-use Rattle.othello_bits.proofs.Bits.{in_mask-or, in_mask-pow, in_mask-zero}
+use Rattle.othello_bits.proofs.Bits.{in_mask-zero}
 use Rattle.othello_bits.proofs.TestMasks.{is_where}
 use Rattle.obf_text.specs.Fields.{Field}
 use Rattle.solved_book.specs.Listing.{lists_square, listed_squares}
 
-or_swap : (a b : Bool) → (a || b) ≡ (b || a)
+pub or_swap : (a b : Bool) → (a || b) ≡ (b || a)
 or_swap true true = refl
 or_swap true false = refl
 or_swap false true = refl
 or_swap false false = refl
-
-pub mask_with : (mask n square q : ℕ) → n ≡ square → n < 64 → in_mask (bit_or mask (1 * 2 ^ n % 2 ^ 64)) q ≡ (eqb square q || in_mask mask q)
-mask_with mask n square q e h =
-    rw (one_shl n 64 h, in_mask-or mask (2 ^ n) q, in_mask-pow n q, e) (or_swap (in_mask mask q) (eqb square q))
 
 -- the squares that the fields so far list with the score
 pub record HasListed (score : ℤ) (fields : List Field) (mask : ℕ) : Type 0 where

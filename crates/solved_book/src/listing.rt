@@ -1,6 +1,6 @@
 //! What the listed fields of a line claim.
 
-ghost use Rattle.std.specs.Prelude.{◌≡◌, ◌↔◌, ◌==◌, ◌||◌, ◌<◌, ℕ, [], IsNone, IfSome};
+ghost use Rattle.std.specs.Prelude.{◌≡◌, ◌↔◌, ◌||◌, ◌<◌, ℕ, [], IsNone, IfSome};
 ghost use Rattle.std.specs.List.{list_any};
 ghost use Rattle.othello_rules.specs.Masks.{in_mask};
 ghost use Rattle.solved_book.specs.Listing.{best_by, listed_best, claim_of, lists_pass};
@@ -8,14 +8,8 @@ ghost use Rattle.solved_book.specs.Listing.{lists_square, listed_squares};
 
 use endgame_search::Claim;
 use obf_text::{ListedMove, greatest_score};
-use othello_rules::{Best, Square};
-
-// The mask `mask` with the bit of a square.
-fn with_square(mask: u64, square: Square) -> u64
-    ensures { (q : ℕ) → q < 64 → in_mask result q ≡ ((square == q) || in_mask mask q) }
-{
-    mask | (1u64 << square.number())
-}
+use othello_bits::including;
+use othello_rules::Best;
 
 // The mask `squares`, with the bit of the field's square where the field lists one with `score`.
 fn with_listed(squares: u64, field: &(ListedMove, i8), score: i8) -> u64
@@ -26,7 +20,7 @@ fn with_listed(squares: u64, field: &(ListedMove, i8), score: i8) -> u64
     match listed_move {
         ListedMove::At(square) => {
             if listed_score == score {
-                with_square(squares, square)
+                including(squares, square)
             } else {
                 squares
             }
