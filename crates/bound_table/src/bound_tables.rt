@@ -14,6 +14,9 @@ use std::alloc::Global;
 use std::marker::Model;
 use std::sync::atomic::{AtomicU8, Ordering};
 
+// One more than the greatest number of empty squares.
+const ABOVE_ALL_EMPTIES: u8 = 65;
+
 /// A table with a fixed number of entries, which threads share by reference. No call waits, and
 /// only `new` takes memory. An entry holds a canonical position and a range that is true of it. A
 /// store replaces what its entry holds. It is skipped where another thread reads or writes the
@@ -22,7 +25,8 @@ use std::sync::atomic::{AtomicU8, Ordering};
 #[derive(Drop)]
 pub struct BoundTable {
     scoring: Scoring,
-    // The fewest empty squares of a position that was stored; 65 before the first store.
+    // The fewest empty squares of a position that was stored. `ABOVE_ALL_EMPTIES` before the first
+    // store.
     fewest_empties: AtomicU8,
     slots: Vec<Slot>,
 }
@@ -82,7 +86,7 @@ impl BoundTable {
         }
         Ok(BoundTable {
             scoring,
-            fewest_empties: AtomicU8::new(65),
+            fewest_empties: AtomicU8::new(ABOVE_ALL_EMPTIES),
             slots,
         })
     }

@@ -3,6 +3,7 @@
 ghost use Rattle.std.specs.Prelude.{◌≡◌, ◌↔◌, negsuc, pos, IsSome, IfSome};
 ghost use Rattle.bound_table.specs.Range.{range_view, IsRange};
 
+use othello_rules::GREATEST_SCORE;
 use std::marker::Model;
 
 /// The scores from `low` to `high`, both ends included: `-64 <= low <= high <= 64`. They are in
@@ -32,7 +33,7 @@ impl Range {
         ensures ordered { IsSome result ↔ IsRange (range_view low high) }
         ensures value { IfSome result (λ r. r ≡ range_view low high) }
     {
-        if -64 <= low && low <= high && high <= 64 {
+        if -GREATEST_SCORE <= low && low <= high && high <= GREATEST_SCORE {
             Some(Range { low, high })
         } else {
             None
@@ -44,7 +45,10 @@ impl Range {
     pub(crate) fn of_all_scores() -> Range
         ensures { result ≡ range_view (negsuc 63) (pos 64) }
     {
-        Range { low: -64, high: 64 }
+        Range {
+            low: -GREATEST_SCORE,
+            high: GREATEST_SCORE,
+        }
     }
 
     /// The least score of the range.

@@ -10,7 +10,13 @@ ghost use Rattle.endgame_search.specs.Windows.{IsWindow, IsWithin, Places};
 use crate::children::Child;
 use bound_table::{Bounds, Range};
 use othello_bits::Pos;
-use othello_rules::Scoring;
+use othello_rules::{GREATEST_SCORE, Scoring};
+
+// One more than the greatest score.
+pub(crate) const ABOVE_ALL_SCORES: i8 = GREATEST_SCORE + 1;
+
+// One less than the least score. As a best score it says that no move is searched yet.
+pub(crate) const BELOW_ALL_SCORES: i8 = -GREATEST_SCORE - 1;
 
 // The greatest score under a scoring. The least score is minus it. No window needs to reach beyond
 // the two.
@@ -21,8 +27,8 @@ pub(crate) fn score_limit(scoring: Scoring) -> i8
     ensures bounds { (p : PosView) → IsWithin result (value_of scoring p) }
 {
     match scoring {
-        Scoring::Winner => 64,
-        Scoring::Discs => 64,
+        Scoring::Winner => GREATEST_SCORE,
+        Scoring::Discs => GREATEST_SCORE,
         Scoring::Sign => 1,
     }
 }
@@ -60,10 +66,10 @@ fn proved_range(low: i8, high: i8, score: i8) -> Range
     ensures exact { low <ℤ score → score <ℤ high → result ≡ range_view score score }
 {
     if score <= low {
-        return Range::new(-64, score).unwrap();
+        return Range::new(-GREATEST_SCORE, score).unwrap();
     }
     if score >= high {
-        return Range::new(score, 64).unwrap();
+        return Range::new(score, GREATEST_SCORE).unwrap();
     }
     Range::new(score, score).unwrap()
 }

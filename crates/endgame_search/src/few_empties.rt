@@ -8,11 +8,17 @@ ghost use Rattle.endgame_search.specs.Windows.{IsBound, IsWindow, Places};
 ghost use Rattle.endgame_search.specs.Children.{AreOthersOf};
 
 use crate::children::{Child, order_children, order_until_stuck};
-use crate::cutoffs::decide;
+use crate::cutoffs::{BELOW_ALL_SCORES, decide};
 use crate::endings::search_two;
 use arrayvec::ArrayVec;
 use bound_table::Bounds;
 use othello_bits::Pos;
+
+// The most empty squares of a position that this module searches.
+const MOST_FEW_EMPTIES: u8 = 7;
+
+// The room of a list of children: one for each empty square.
+const FEW_ROOM: usize = MOST_FEW_EMPTIES as usize;
 
 // Whether this module searches a window of a position with `empties` empty squares: the window is
 // null, and at most 7 squares are empty.
@@ -21,7 +27,7 @@ pub(crate) fn is_null_of_few(empties: u8, low: i8, high: i8) -> bool
     requires { IsWindow low high }
     ensures { IsTrue result → (empties ≤ 7) × (high ≡ low +ℤ pos 1) }
 {
-    empties <= 7 && high == low + 1
+    empties <= MOST_FEW_EMPTIES && high == low + 1
 }
 
 // Searches a position with at most 7 empty squares. Returns a score that places its value in the
@@ -101,12 +107,12 @@ fn search_listed<T: Bounds>(table: &T, position: Pos, moves: u64, bound: i8) -> 
     requires bound { IsBound bound }
     ensures { Places bound (bound +ℤ pos 1) (value_of (T.scoring table.now) position) result }
 {
-    let mut children = ArrayVec::<Child, 7>::new();
+    let mut children = ArrayVec::<Child, FEW_ROOM>::new();
     if let Some(score) = decide(table, position, bound, bound + 1) {
         return score;
     }
     let Some(stuck) = order_until_stuck(position, moves, &mut children) else {
-        return search_few_children(table, position, &children, -65, bound);
+        return search_few_children(table, position, &children, BELOW_ALL_SCORES, bound);
     };
     let first = stuck.child;
     let score = -search_few_pass(table, first.position, -1 - bound);
@@ -117,9 +123,9 @@ fn search_listed<T: Bounds>(table: &T, position: Pos, moves: u64, bound: i8) -> 
     search_few_children(table, position, &children, score, bound)
 }
 
-// Searches the remaining children. `searched` is the best score so far, or -65 before the first
-// move. Returns a score that places the position's value in the window from the bound to one above
-// it.
+// Searches the remaining children. `searched` is the best score so far, or `BELOW_ALL_SCORES`
+// before the first move. Returns a score that places the position's value in the window from the
+// bound to one above it.
 #[cycle(few)]
 #[inline(always)]
 fn search_few_children<T: Bounds>(

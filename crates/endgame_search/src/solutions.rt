@@ -8,13 +8,13 @@ ghost use Rattle.endgame_search.specs.Task.{TaskView};
 ghost use Rattle.othello_bits.specs.Pos.{moves_of, play_of, value_of, answer_of, best_answer};
 ghost use Rattle.othello_bits.specs.Pos.{is_best_move, mask_where, IsMove};
 
-use crate::cutoffs::{decide, score_limit, store_if_deep};
+use crate::cutoffs::{ABOVE_ALL_SCORES, BELOW_ALL_SCORES, decide, score_limit, store_if_deep};
 use crate::roots::leading_moves;
 use crate::searches::search_scores;
 use crate::tasks::Task;
 use bound_table::Bounds;
 use othello_bits::{Pos, without};
-use othello_rules::{Answer, Best, Scoring, Square, squares_in};
+use othello_rules::{Answer, Best, GREATEST_SCORE, Scoring, Square, squares_in};
 use std::marker::Model;
 
 /// A position with its answer under a scoring. Only `solve` and `confirm` make one. Its answer is
@@ -93,7 +93,7 @@ pub fn exact_value<T: Bounds>(table: &T, position: Pos) -> i8
     ensures value { result ≡ value_of (T.scoring table.now) position }
     ensures in_range { IsScore result }
 {
-    search_scores(table, position, -65, 65)
+    search_scores(table, position, BELOW_ALL_SCORES, ABOVE_ALL_SCORES)
 }
 
 /// Solves a task: its position with the exact value and all moves that attain it. The table has the
@@ -124,7 +124,13 @@ fn solve_moves<T: Bounds>(table: &T, task: Task, moves: u64) -> Solved
         return solved_at(table, task, score);
     }
     let leaders = leading_moves(table, position, moves);
-    let score = store_if_deep(table, position, -65, 65, leaders.score);
+    let score = store_if_deep(
+        table,
+        position,
+        BELOW_ALL_SCORES,
+        ABOVE_ALL_SCORES,
+        leaders.score,
+    );
     solved_as(task, score, Best::Moves(leaders.moves))
 }
 
@@ -148,10 +154,10 @@ pub fn confirm<T: Bounds>(table: &T, task: Task, claim: Claim) -> Solved
 fn is_value<T: Bounds>(table: &T, position: Pos, score: i8) -> bool
     ensures { IsTrue result ↔ (score ≡ value_of (T.scoring table.now) position) }
 {
-    if score < -64 {
+    if score < -GREATEST_SCORE {
         return false;
     }
-    if score > 64 {
+    if score > GREATEST_SCORE {
         return false;
     }
     if search_scores(table, position, score - 1, score) < score {

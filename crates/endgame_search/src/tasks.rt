@@ -35,6 +35,9 @@ impl Model for Task {
 pub struct TooMany(pub u8);
 
 impl Task {
+    /// The greatest number of empty squares of a task.
+    pub const MOST_EMPTIES: u8 = 60;
+
     /// The task of a position under a scoring. The limit is the greatest number of empty squares
     /// that is accepted. A limit above 60 counts as 60. `TooMany` where the position has more.
     pub fn new(position: Pos, limit: u8, scoring: Scoring) -> Result<Task, TooMany>
@@ -44,7 +47,7 @@ impl Task {
         ensures refused { IfErr result (λ many. many.0 ≡ empties_of position) }
     {
         let empties = position.empties();
-        if empties <= limit.min(60) {
+        if empties <= limit.min(Self::MOST_EMPTIES) {
             Ok(Task { position, scoring })
         } else {
             Err(TooMany(empties))

@@ -4,7 +4,7 @@ ghost use Rattle.std.specs.Prelude.{◌≡◌};
 ghost use Rattle.ffosolve_c.specs.Exports.{kind_of, moves_in, c_answer};
 
 use endgame_search::Claim;
-use othello_rules::{Answer, Best};
+use othello_rules::{Answer, Best, GREATEST_SCORE};
 
 /// The score of a position as the mover sees it, and what attains it. `score` is in discs from -64
 /// to 64, or 1, 0 or -1 under `Sign`. `kind` is 0 for moves, 1 for a pass and 2 for the end of the
@@ -61,7 +61,8 @@ fn claimed_best(claim: FfosolveAnswer) -> Option<Best> {
 /// The claim as a search reads it. None where its kind is not 0, 1 or 2, or its score is not from
 /// -64 to 64: such a claim can't be right.
 pub fn possible_claim(claim: FfosolveAnswer) -> Option<Claim> {
-    if claim.score < -64 || claim.score > 64 {
+    let greatest = i32::from(GREATEST_SCORE);
+    if claim.score < -greatest || claim.score > greatest {
         return None;
     }
     let best = claimed_best(claim)?;

@@ -45,7 +45,7 @@ pub fn task_of(position: FfosolvePosition, scoring: Scoring) -> Result<Task, Ref
     ensures not_memory { IfErr result (λ r. r ≢ refusal.NoMemory) }
 {
     let position = position_of(position)?;
-    match Task::new(position, 60, scoring) {
+    match Task::new(position, Task::MOST_EMPTIES, scoring) {
         Ok(task) => Ok(task),
         Err(_) => Err(Refusal::TooManyEmpties),
     }

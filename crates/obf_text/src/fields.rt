@@ -9,11 +9,11 @@ ghost use Rattle.obf_text.specs.Fields.{square_in};
 use crate::bytes::{blank_count, is_blank};
 use crate::entries::ListedMove;
 use crate::splits::pieces_of;
-use othello_rules::Square;
+use othello_rules::{GREATEST_SCORE, Square};
 use std::alloc::{AllocError, Global};
 
-// The greatest size of a score.
-const GREATEST_SIZE: u8 = 64;
+// The greatest size of a score: of its digits, without a sign.
+const GREATEST_SIZE: u8 = GREATEST_SCORE as u8;
 
 fn digit_of(byte: u8) -> Option<u8>
     ensures value { result ≡ digit_of byte }

@@ -29,5 +29,5 @@ pub use discs::{Cell, Side};
 pub use faults::RuleFault;
 pub use grids::Grid;
 pub use masks::{has_square, squares_in};
-pub use scorings::Scoring;
+pub use scorings::{GREATEST_SCORE, Scoring};
 pub use squares::Square;

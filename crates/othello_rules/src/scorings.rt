@@ -10,6 +10,9 @@ ghost use Rattle.othello_rules.specs.declared.scorings.Scoring.TheVariants.{Winn
 
 use std::cmp::Ordering;
 
+/// The greatest score of a position under any scoring, in discs. The least score is minus it.
+pub const GREATEST_SCORE: i8 = 64;
+
 /// What the score of a position counts, as the side to move sees it: discs, or under `Sign` the
 /// outcome alone.
 #[derive(Clone, Copy, PartialEq, Eq, Debug)]

@@ -7,14 +7,14 @@ use Rattle.endgame_search.proofs.Windows.{shown}
 use Rattle.endgame_search.proofs.BestMoves.{value_told, le_in, le_out}
 use Rattle.endgame_search.proofs.solutions.is_value.Goals as goal
 
-pub returns-then-score-ltminus64 : goal.returns-then-score-ltminus64
-returns-then-score-ltminus64 g c =
+pub returns-then-score : goal.returns-then-score
+returns-then-score g c =
     let v = value_score (g.T.Bounds.scoring c.args.table.now) c.args.position in
     let l = v.low in
     (λ f. absurd (false≢true f), λ e. absurd (omega (arith, ints, l, e)))
 
-pub returns-then-score-gt64 : goal.returns-then-score-gt64
-returns-then-score-gt64 g c =
+pub returns-then-score-gt-GREATEST_SCORE : goal.returns-then-score-gt-GREATEST_SCORE
+returns-then-score-gt-GREATEST_SCORE g c =
     let v = value_score (g.T.Bounds.scoring c.args.table.now) c.args.position in
     let h = v.high in
     (λ f. absurd (false≢true f), λ e. absurd (omega (arith, ints, h, e)))

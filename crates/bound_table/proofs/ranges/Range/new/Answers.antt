@@ -6,5 +6,5 @@ pub invariant_of-result : goal.invariant_of-result
 invariant_of-result c = record {
   least = search rules;
   ordered = omega (arith, ints, c.if-low-high.true);
-  most = omega (arith, ints, c.if-high-le64.true);
+  most = omega (arith, ints, c.if-high-le-GREATEST_SCORE.true);
 }
