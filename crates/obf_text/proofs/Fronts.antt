@@ -5,7 +5,7 @@ use Rattle.std.proofs.lemmas.Grind.{common_steps}
 use Rattle.std.proofs.lemmas.List.Sums.{position_or_len_is}
 use Rattle.obf_text.specs.Bytes.{is_blank, is_cell, is_content, is_no_cell}
 
--- the rest is nothing, or begins with an element that passes
+-- the rest is empty, or begins with an element that passes
 abbrev pub Stops : (ℕ → Bool) → List ℕ → Type 0
 Stops p [] = Unit {0}
 Stops p (b ∷ more) = p b ≡ true
@@ -43,7 +43,7 @@ run_len stop front rest h s =
     (λ k lt. let e : get_or (front ++ rest) k 0 ≡ get_or front k 0 = grind (arith, common_steps) in rw e (h k lt))
     (stops_at stop front rest s)
 
--- how many blanks, and how many cells, stand in front
+-- the number of blanks, and the number of cells, at the front
 pub blanks_len : (blanks rest : List ℕ) → AllPass is_blank blanks → Stops is_content rest → position_or_len is_content (blanks ++ rest) ≡ length blanks
 blanks_len blanks rest h s = run_len is_content blanks rest (λ k lt. rw (h k 0 lt) refl) s
 

@@ -98,7 +98,7 @@ move_by a b m false false p o h = square_from a b (column_of_letter a) (row_of_d
 pub move_from : (a b : ℕ) (m : ListedMove) → move_of a b ≡ Some m → IsMoveText (a ∷ b ∷ []) m
 move_from a b m h = move_by a b m (is_pass a b) ((a == 45) && (b == 45)) refl refl h
 
--- what the rules read as a square's name
+-- the rules read two bytes as the name of this square
 pub square_read : (a b : ℕ) (q : ℕ) → q < 64 → IsNameOf (a ∷ b ∷ []) q → Some (At q) ≡ square_in (column_of_letter a) (row_of_digit b)
 unfolding name_of
 square_read a b q h (inl e) = sym (square_bytes a b q h (inl (ap (λ t. get_or t 0 0) e)) (ap (λ t. get_or t 1 0) e))
@@ -113,6 +113,6 @@ no_square a b (Some column) (Some row) d e h =
     let named = named_from a b column row c.1 r.1 c.0 r.0 in
     absurd (h (column + 8 * row) named.0 named.1)
 
--- and what they don't
+-- the rules read two bytes as no square's name
 pub square_unread : (a b : ℕ) → ((q : ℕ) → q < 64 → IsNameOf (a ∷ b ∷ []) q → ⊥) → None ≡ square_in (column_of_letter a) (row_of_digit b)
 square_unread a b h = no_square a b (column_of_letter a) (row_of_digit b) refl refl h

@@ -1,4 +1,4 @@
--- Each line says no second thing, but what the reader finds.
+-- A line has no other meaning than the one that the reader finds.
 use Rattle.std.proofs.Common.{◌≡◌, ◌≢◌, ℕ, ◌+◌, ◌<◌, ◌≤◌, ◌==◌, true, false, List, [], ◌∷◌, ◌++◌, length, map, take, drop, refl, sym, inl, inr, ◌∙◌, ap, arith, get_or, Some}
 use Rattle.std.specs.List.{position_or_len, AllPass}
 use Rattle.std.proofs.lemmas.List.{append-nil}
@@ -17,7 +17,7 @@ use Rattle.obf_text.proofs.Fronts.{Stops, blanks_len, cells_len}
 use Rattle.obf_text.proofs.ListedLemmas.{lists_only}
 use Rattle.obf_text.specs.declared.faults.LineFault.TheVariants.{Short, BadCell, BadSide, Memory}
 
--- behind blanks
+-- the meaning of a line, by the bytes behind its blanks
 item_start : (blanks rest : List ℕ) → AllPass is_blank blanks → Stops is_content rest → item_of (blanks ++ rest) ≡ content_item (length blanks) rest
 item_start blanks rest h s = rw (blanks_len blanks rest h s, drop-append_seam blanks rest) refl
 
@@ -32,7 +32,7 @@ cell_starts b h = (grind (arith, nat_tests), grind (arith, nat_tests))
 side_starts : (b : ℕ) (s : Side) → side_of b ≡ Some s → is_content b ≡ true
 side_starts b s h = grind (arith, nat_tests)
 
--- the board
+-- the meaning of the bytes behind the blanks, by the number of their cells
 board_start : (start : ℕ) (b : ℕ) (rest : List ℕ) → (b == 37) ≡ false → content_item start (b ∷ rest) ≡ board_item start (position_or_len is_no_cell (b ∷ rest)) (b ∷ rest)
 board_start start b rest h = rw h refl
 
@@ -49,7 +49,7 @@ board_bad start count rest few lt = grind (arith, nat_tests)
 board_full : (start count : ℕ) (rest : List ℕ) → 64 ≤ count → board_item start count rest ≡ gap_item (start + 64) (map cell_of (take 64 rest)) (drop 64 rest)
 board_full start count rest many = grind (arith, nat_tests)
 
--- ---- a line says no second thing
+-- ---- a line has only one meaning
 
 ends_stop : (rest : List ℕ) → IsEndOrComment rest → Stops is_content rest
 ends_stop [] e = tt
@@ -103,7 +103,7 @@ only_bad_cell line column s =
     rw (s.whole, item_start s.blanks (s.cells ++ s.byte ∷ s.more) s.blank (bad_stop s.cells s.byte s.more s.spelled s.starts), s.place)
     (sym (bad_item (length s.blanks) s.cells s.byte s.more s.spelled s.few s.bad s.starts))
 
--- a whole board in front
+-- 64 cells at the front
 full_count : (cells rest : List ℕ) → AllPass is_cell cells → length cells ≡ 64 → 64 ≤ position_or_len is_no_cell (cells ++ rest)
 full_count cells rest h all =
     let stop = position_or_len is_no_cell (cells ++ rest) in

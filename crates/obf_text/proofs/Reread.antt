@@ -57,7 +57,7 @@ blank_lacks (f ∷ fields) h =
     subst (Lacks 37) (sym (ap (λ t. t ++ 32 ∷ []) (fields_cons f fields) ∙ append_assoc (piece_text f) (59 ∷ fields_text fields) (32 ∷ [])))
     (piece_onto 37 f (59 ∷ (fields_text fields ++ 32 ∷ [])) h.0 (inr (inl refl)) (lacks_cons 37 59 (fields_text fields ++ 32 ∷ []) (omega arith) (blank_lacks fields h.1)))
 
--- what stands before the first `%`
+-- the bytes before the first `%`
 before_percent : (xs more : List ℕ) → Lacks 37 xs → before_first (λ b. b == 37) (xs ++ 37 ∷ more) ≡ xs
 before_percent [] more h = refl
 before_percent (x ∷ xs) more h =
@@ -82,7 +82,7 @@ entry_parts P fields tail =
     append_assoc (map cell_byte P.cells ++ (32 ∷ side_byte P.mover ∷ 59 ∷ [])) (fields_text fields) tail
     ∙ append_assoc (map cell_byte P.cells) (32 ∷ side_byte P.mover ∷ 59 ∷ []) (fields_text fields ++ tail)
 
--- with a comment behind it the line says the position and the fields
+-- a line with a comment says the position and the fields
 pub commented_says : (P : GridView) (fields : List Field) (more : List ℕ) → length P.cells ≡ 64 → AreWritable fields
     → Says (entry_text P fields ++ 32 ∷ 37 ∷ more) (Holds (record { position = P; listed = fields }))
 commented_says P fields more all h = record {
@@ -127,6 +127,6 @@ bare_says P fields all h = record {
   fields = all_back fields h;
 }
 
--- and so it does without one
+-- a line without a comment says the position and the fields
 pub bare_item : (P : GridView) (fields : List Field) → length P.cells ≡ 64 → AreWritable fields → item_of (entry_text P fields) ≡ Holds (record { position = P; listed = fields })
 bare_item P fields all h = sym (says_only (entry_text P fields) (Holds (record { position = P; listed = fields })) (bare_says P fields all h))

@@ -1,4 +1,4 @@
--- Each line says something.
+-- Each line has a meaning.
 use Rattle.std.proofs.Common.{◌≡◌, ◌≢◌, ℕ, ◌+◌, ◌<◌, ◌≤◌, ◌==◌, suc, Bool, true, false, List, [], ◌∷◌, ◌++◌, length, map, take, drop, refl, inl, inr, ◌∙◌, ap, arith, get_or, Option, Some, None, subst}
 use Rattle.std.specs.List.{All, AllPass}
 use Rattle.std.proofs.lemmas.List.{append-nil, get_or-take, length-take-le}
@@ -24,7 +24,7 @@ cells_from bs h k d lt = not_false _ (h k d lt)
 abbrev Something : List ℕ → Type 0
 Something line = (meaning : Meaning) × Says line meaning
 
--- fewer cells than 64
+-- a line with fewer than 64 cells
 part_says : (line blanks front rest : List ℕ) → line ≡ blanks ++ (front ++ rest) → AllPass is_blank blanks → AllPass is_cell front → Stops is_no_cell rest
     → 0 < length (front ++ rest) → is_blank (get_or (front ++ rest) 0 0) ≡ false → get_or (front ++ rest) 0 0 ≢ 37 → length front < 64 → Something line
 part_says line blanks [] [] w h c s some nb nc few = absurd (omega arith)
@@ -35,7 +35,7 @@ part_says line blanks [] (b ∷ more) w h c s some nb nc few =
 part_says line blanks (x ∷ front) (b ∷ more) w h c s some nb nc few =
     (Faulty (BadCell (length blanks + (length (x ∷ front) + 1))), record { blanks = blanks; cells = x ∷ front; byte = b; more = more; whole = w; blank = h; spelled = c; few = few; bad = not_true _ s; starts = λ z. absurd (let e : suc (length front) ≡ 0 = z in omega arith); place = refl })
 
--- the side's place
+-- the bytes from the side's place on
 side_says : (line blanks cells gap : List ℕ) (byte : ℕ) (rest : List ℕ) (mover : Option Side) → side_of byte ≡ mover → line ≡ blanks ++ (cells ++ (gap ++ byte ∷ rest)) → AllPass is_blank blanks
     → AllPass is_cell cells → length cells ≡ 64 → AllPass is_blank gap → is_content byte ≡ true → Something line
 side_says line blanks cells gap byte rest None e w h c all g s =
@@ -52,7 +52,7 @@ gap_says line blanks cells gap (b ∷ more) w h c all g s = side_says line blank
 whole_from : (n : ℕ) (xs : List ℕ) → xs ≡ take n xs ++ drop n xs
 whole_from n xs = grind (arith, common_steps)
 
--- at least 64 cells
+-- a line with 64 cells
 full_says : (line blanks rest front more : List ℕ) → line ≡ blanks ++ rest → rest ≡ front ++ more → AllPass is_blank blanks → AllPass is_cell front → 64 ≤ length front → Something line
 full_says line blanks rest front more w e h c many =
     let long : length rest ≡ length front + length more = ap length e ∙ grind (arith, common_steps) in

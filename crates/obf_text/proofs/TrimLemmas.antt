@@ -25,7 +25,7 @@ trimmed_is before text after b a first some last =
     let kept : length (text ++ after) - suffix_len is_blank (text ++ after) ≡ length text = omega arith in
     ap without_last_blanks front ∙ ap (λ n. take n (text ++ after)) kept ∙ take-append_seam text after
 
--- what is dropped in front is blank
+-- the bytes that are dropped at the front are blanks
 pub front_blank : (piece : List ℕ) → AllPass is_blank (take (position_or_len is_content piece) piece)
 front_blank piece k d lt =
     let n = position_or_len is_content piece in
@@ -34,7 +34,7 @@ front_blank piece k d lt =
     let at : get_or (take n piece) k d ≡ get_or piece k d = get_or-take n piece k d (omega arith) in
     rw at (not_false _ (fails_before_first is_content piece k d (omega arith)))
 
--- and so is what is dropped at the end
+-- the bytes that are dropped at the end are blanks
 end_blank : (piece : List ℕ) → AllPass is_blank (drop (length piece - suffix_len is_blank piece) piece)
 end_blank piece k d lt =
     let m = suffix_len is_blank piece in

@@ -1,4 +1,4 @@
--- What a writer holds after one write and then another.
+-- The bytes of a writer after two writes.
 use Rattle.std.proofs.Common.{ℕ, List, [], ◌++◌, Option, Some, None, sym}
 use Rattle.std.proofs.lemmas.List.{append_assoc, append-nil}
 use Rattle.std.specs.Io.KnownBytes.{Appends}
@@ -13,7 +13,7 @@ pub appends_none : (a : Option (List ℕ)) → Appends a a []
 appends_none None = search
 appends_none (Some us) = sym (append-nil us)
 
--- whatever is appended next completes what was to be written
+-- the next bytes complete the bytes that were to be written
 pub record Completes (old now : Option (List ℕ)) (rest all : List ℕ) : Type 0 where
   pub whole : (end : Option (List ℕ)) → Appends now end rest → Appends old end all
 

@@ -1,4 +1,4 @@
--- Bytes that do not stand in what is written.
+-- Bytes that never stand in a written line.
 use Rattle.std.proofs.Common.{◌≡◌, ◌≢◌, ℕ, ◌==◌, zero, suc, false, List, [], ◌∷◌, inl, inr, arith}
 use Rattle.std.specs.Prelude.{◌⊎◌}
 use Rattle.std.specs.List.{All}
@@ -17,11 +17,11 @@ lacks_cons c x xs apart h = record { each = each_cons c x xs (grind (arith, nat_
 pub lacks_nil : (c : ℕ) → Lacks c []
 lacks_nil c = record { each = λ k d lt. absurd (omega arith) }
 
--- neither LF nor `%` nor `;`
+-- a mark: LF, `%` or `;`
 abbrev pub IsMark : ℕ → Type 0
 IsMark c = (c ≡ 10) ⊎ ((c ≡ 37) ⊎ (c ≡ 59))
 
--- bytes that are no such mark
+-- a byte that is no mark
 abbrev IsPlain : ℕ → Type 0
 IsPlain b = (b ≢ 10) × (b ≢ 37) × (b ≢ 59)
 

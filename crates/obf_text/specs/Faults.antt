@@ -1,4 +1,4 @@
--- What is printed of a line that can't be read.
+-- The text of a fault of a line.
 use Rattle.std.specs.Prelude.{ℕ, List, ◌++◌, codes}
 use Rattle.std.specs.Fmt.{decimal}
 use Rattle.obf_text.specs.declared.faults.LineFault.{LineFault}

@@ -1,5 +1,5 @@
--- The fields of a line: what stands behind the side, up to the first `%`, is cut at each `;`; a piece
--- that is a move, a colon and a score lists that move, and any other piece lists nothing.
+-- The fields of a line. The bytes behind the side to move, up to the first `%`, are cut at each
+-- `;`. A piece that is a move, a colon and a score lists that move. Any other piece lists nothing.
 use Rattle.std.specs.Prelude.{◌≡◌, ◌⊎◌, ℕ, ℤ, pos, neg_ℤ, ◌+◌, ◌-◌, ◌*◌, ◌<◌, ◌≤◌, ◌==◌, ◌&&◌, ◌||◌, Bool, nat_le, List}
 use Rattle.std.specs.Prelude.{[], ◌∷◌, ◌++◌, length, map, take, drop, Option, Some, None, if◌then◌else◌}
 use Rattle.std.specs.List.{AllPass, slice_split, before_first, position_or_len, suffix_len, filter_map}
@@ -14,11 +14,11 @@ use Rattle.obf_text.specs.declared.entries.ListedMove.TheVariants.{At, Pass, Ove
 abbrev pub Field : Type 0
 Field = ListedMove × ℤ
 
--- the greatest of the listed scores
+-- the greatest listed score
 abbrev pub greatest_listed : List Field → ℤ
 greatest_listed fields = greatest (map (λ f. f.1) fields)
 
--- the pieces behind the side
+-- the pieces of the bytes behind the side to move
 abbrev pub pieces_of : List ℕ → List (List ℕ)
 pieces_of rest = slice_split (λ b. b == 59) (before_first (λ b. b == 37) rest)
 
@@ -54,13 +54,13 @@ IsNumber (only ∷ []) n = IsDigit only n
 IsNumber (first ∷ second ∷ []) n = IsTwoDigits first second n
 IsNumber _ n = ⊥
 
--- a sign may stand first; a minus turns the sign of the score
+-- the score of a size behind a sign: minus with `-`, plus with `+` or no sign
 abbrev pub IsSigned : List ℕ → ℕ → ℤ → Type 0
 IsSigned sign size score =
     ((sign ≡ 45 ∷ []) × (score ≡ neg_ℤ (pos size)))
     ⊎ (((sign ≡ 43 ∷ []) ⊎ (sign ≡ [])) × (score ≡ pos size))
 
--- a score, at most 64 in size
+-- a text that is a score, at most 64 in size
 pub record IsScoreText (text : List ℕ) (score : ℤ) : Type 0 where
   pub sign : List ℕ
   pub digits : List ℕ
@@ -70,7 +70,7 @@ pub record IsScoreText (text : List ℕ) (score : ℤ) : Type 0 where
   pub within : size ≤ 64
   pub signed : IsSigned sign size score
 
--- a move, a colon and a score, with blanks round them and none inside
+-- a piece that is a field: a move, a colon and a score, with blanks only at the ends
 pub record IsField (piece : List ℕ) (field : Field) : Type 0 where
   pub before : List ℕ
   pub move : List ℕ
@@ -85,7 +85,7 @@ pub record IsField (piece : List ℕ) (field : Field) : Type 0 where
 abbrev pub IsNoField : List ℕ → Type 0
 IsNoField piece = (field : Field) → IsField piece field → ⊥
 
--- some pieces list some fields, in their order: each piece is one of the fields or none
+-- pieces list fields in their order: each piece is the next field, or no field
 abbrev pub Lists : List (List ℕ) → List Field → Type 0
 Lists [] [] = Unit {0}
 Lists [] (field ∷ fields) = ⊥
@@ -93,9 +93,9 @@ Lists (piece ∷ pieces) [] = IsNoField piece × Lists pieces []
 Lists (piece ∷ pieces) (field ∷ fields) =
     (IsField piece field × Lists pieces fields) ⊎ (IsNoField piece × Lists pieces (field ∷ fields))
 
--- ---- the same, computed
+-- ---- what the reader computes
 
--- a byte as a number from 0 to last, where the digits, or letters, begin at first
+-- the number of a byte among the bytes from first to first + last, counted from 0
 abbrev pub offset_of : ℕ → ℕ → ℕ → Option ℕ
 offset_of first last b =
     if nat_le first b && nat_le b (first + last) then Some (b - first) else None
@@ -103,7 +103,7 @@ offset_of first last b =
 abbrev pub digit_of : ℕ → Option ℕ
 digit_of b = offset_of 48 9 b
 
--- A to H, or a to h
+-- the column of a letter: A to H, or a to h
 abbrev pub column_of_letter : ℕ → Option ℕ
 column_of_letter b = if nat_le b 72 then offset_of 65 7 b else offset_of 97 7 b
 
@@ -166,7 +166,7 @@ field_of piece = field_of_text (without_blanks piece)
 abbrev pub fields_of : List ℕ → List Field
 fields_of rest = filter_map field_of (pieces_of rest)
 
--- the pieces of what is left, where something is left
+-- the pieces of the text that is left, or none where no text is left
 abbrev pub pieces_left : Option (List ℕ) → List (List ℕ)
 pieces_left None = []
 pieces_left (Some text) = slice_split (λ b. b == 59) text

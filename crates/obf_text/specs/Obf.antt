@@ -1,4 +1,4 @@
--- What a line of OBF text is.
+-- The grammar of a line of OBF text, and the meaning of a line.
 use Rattle.std.specs.Prelude.{◌≡◌, ◌≢◌, ℕ, ◌+◌, ◌<◌, ◌==◌, false, nat_lt, List, [], ◌∷◌, ◌++◌, length, map, take, drop}
 use Rattle.std.specs.Prelude.{Option, Some, None, Result, Ok, Err, if◌then◌else◌}
 use Rattle.std.specs.List.{position_or_len, AllPass}
@@ -18,7 +18,7 @@ pub record Entry : Type 0 where
   pub position : GridView
   pub listed : List Field
 
--- what a line says
+-- the meaning of a line: it is skipped, holds a position, or has a fault
 pub data Meaning : Type 0 where
   Skipped : Meaning
   Holds : Entry → Meaning
@@ -38,7 +38,7 @@ pub record Skips (line : List ℕ) : Type 0 where
   pub blank : AllPass is_blank blanks
   pub ends : IsEndOrComment rest
 
--- the end comes after fewer cells than 64, but after some
+-- blanks, from 1 to 63 cells, and then the end
 pub record EndsShort (line : List ℕ) (found : ℕ) : Type 0 where
   pub blanks : List ℕ
   pub cells : List ℕ
@@ -49,7 +49,7 @@ pub record EndsShort (line : List ℕ) (found : ℕ) : Type 0 where
   pub few : length cells < 64
   pub count : found ≡ length cells
 
--- a byte that is no cell stands in a cell's place
+-- blanks, fewer than 64 cells, and then a byte that is no cell
 pub record HasBadCell (line : List ℕ) (column : ℕ) : Type 0 where
   pub blanks : List ℕ
   pub cells : List ℕ
@@ -60,7 +60,7 @@ pub record HasBadCell (line : List ℕ) (column : ℕ) : Type 0 where
   pub spelled : AllPass is_cell cells
   pub few : length cells < 64
   pub bad : is_cell byte ≡ false
-  -- in the first cell's place a blank would be one more blank, and a `%` a comment
+  -- the first byte behind the blanks is no blank, and a `%` there would begin a comment
   pub starts : length cells ≡ 0 → (is_blank byte ≡ false) × (byte ≢ 37)
   pub place : column ≡ length blanks + (length cells + 1)
 
@@ -68,7 +68,7 @@ abbrev pub IsNoSide : List ℕ → Type 0
 IsNoSide [] = Unit {0}
 IsNoSide (b ∷ more) = (is_blank b ≡ false) × (side_of b ≡ None)
 
--- the end, or a byte that is no disc, stands in the side's place
+-- blanks, 64 cells, blanks, and then the end or a byte that is no disc's letter
 pub record HasBadSide (line : List ℕ) (column : ℕ) : Type 0 where
   pub blanks : List ℕ
   pub cells : List ℕ
@@ -82,7 +82,7 @@ pub record HasBadSide (line : List ℕ) (column : ℕ) : Type 0 where
   pub bad : IsNoSide rest
   pub place : column ≡ length blanks + (64 + (length gap + 1))
 
--- blanks, the cells, blanks, the side, and the fields
+-- blanks, 64 cells, blanks, the side to move, and the fields
 pub record Spells (line : List ℕ) (entry : Entry) : Type 0 where
   pub blanks : List ℕ
   pub cells : List ℕ
@@ -98,7 +98,7 @@ pub record Spells (line : List ℕ) (entry : Entry) : Type 0 where
   pub mover : side_of byte ≡ Some entry.position.mover
   pub fields : Lists (pieces_of rest) entry.listed
 
--- the relation between a line and what it says
+-- whether a line has a meaning
 abbrev pub Says : List ℕ → Meaning → Type 0
 Says line Skipped = Skips line
 Says line (Holds entry) = Spells line entry
@@ -107,31 +107,32 @@ Says line (Faulty (BadCell column)) = HasBadCell line column
 Says line (Faulty (BadSide column)) = HasBadSide line column
 Says line (Faulty Memory) = ⊥
 
--- ---- the same, computed
+-- ---- the meaning of a line, as the reader computes it
 
 abbrev pub side_item_at : ℕ → List Cell → Option Side → List ℕ → Meaning
 side_item_at place cells None more = Faulty (BadSide (place + 1))
 side_item_at place cells (Some mover) more =
     Holds (record { position = record { cells = cells; mover = mover }; listed = fields_of more })
 
--- from the side's place on, which is after `place` bytes
+-- the meaning by the bytes from the side's place on, which stands behind `place` bytes
 abbrev pub side_item : ℕ → List Cell → List ℕ → Meaning
 side_item place cells [] = Faulty (BadSide (place + 1))
 side_item place cells (b ∷ more) = side_item_at place cells (side_of b) more
 
--- behind the cells
+-- the meaning by the bytes behind the cells, which end after `place` bytes
 abbrev pub gap_item : ℕ → List Cell → List ℕ → Meaning
 gap_item place cells rest =
     side_item (place + position_or_len is_content rest) cells
     (drop (position_or_len is_content rest) rest)
 
--- from the first cell on, with n cells in front
+-- the meaning by the bytes from the first cell on, which begin with n cells
 abbrev pub board_item : ℕ → ℕ → List ℕ → Meaning
 board_item start n rest =
     if nat_lt n 64
     then (if n == length rest then Faulty (Short n) else Faulty (BadCell (start + (n + 1))))
     else gap_item (start + 64) (map cell_of (take 64 rest)) (drop 64 rest)
 
+-- the meaning by the bytes behind the blanks, of which there are `start`
 abbrev pub content_item : ℕ → List ℕ → Meaning
 content_item start [] = Skipped
 content_item start (b ∷ rest) =
@@ -142,7 +143,7 @@ abbrev pub item_of : List ℕ → Meaning
 item_of line =
     content_item (position_or_len is_content line) (drop (position_or_len is_content line) line)
 
--- ---- what a call gives
+-- ---- the result of a call
 
 abbrev pub entry_of : Line → Entry
 entry_of line = record { position = line.grid; listed = line.listed.items }
@@ -151,14 +152,14 @@ abbrev pub HasListed : Meaning → Type 0
 HasListed (Holds entry) = 0 < length entry.listed
 HasListed _ = ⊥
 
--- the meaning is this one; want of memory comes only where fields are listed
+-- the result says this meaning; it is `Memory` only where fields are listed
 abbrev pub Gives : Result Item LineFault → Meaning → Type 0
 Gives (Ok item.Skip) meaning = meaning ≡ Skipped
 Gives (Ok (item.Entry line)) meaning = meaning ≡ Holds (entry_of line)
 Gives (Err Memory) meaning = HasListed meaning
 Gives (Err fault) meaning = meaning ≡ Faulty fault
 
--- the number that a fault tells
+-- the number in a fault: a number of squares, or a column
 abbrev pub place_of : LineFault → ℕ
 place_of (Short found) = found
 place_of (BadCell column) = column

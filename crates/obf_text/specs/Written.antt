@@ -1,4 +1,5 @@
--- The written form of a position with its answer: the squares, the side to move, and each best move with the score.
+-- The written form of a position with its answer: the squares, the side to move, and each best move
+-- with the score.
 use Rattle.std.specs.Prelude.{ℕ, ℤ, pos, negsuc, nat_abs, ◌<◌, ◌≤◌, ◌+◌, ◌/◌, ◌%◌, List, [], ◌∷◌, ◌++◌, map, codes}
 use Rattle.std.specs.List.{flat_map}
 use Rattle.othello_rules.specs.declared.answers.Best.{Best}
@@ -16,13 +17,13 @@ use Rattle.obf_text.specs.Obf.{Entry}
 use Rattle.obf_text.specs.declared.entries.ListedMove.{ListedMove}
 use Rattle.obf_text.specs.declared.entries.ListedMove.TheVariants.{At, Pass, Over}
 
--- - X O
+-- the byte of a cell: - X O
 abbrev pub cell_byte : Cell → ℕ
 cell_byte cell.Empty = 45
 cell_byte cell.Black = 88
 cell_byte cell.White = 79
 
--- X O
+-- the byte of a side: X O
 abbrev pub side_byte : Side → ℕ
 side_byte side.Black = 88
 side_byte side.White = 79
@@ -39,7 +40,7 @@ move_text Over = codes "--"
 abbrev pub two_digits : ℕ → List ℕ
 two_digits n = (48 + n / 10) ∷ (48 + n % 10) ∷ []
 
--- a sign and two digits
+-- a score as text: a sign and two digits
 unfoldable pub score_text : ℤ → List ℕ
 score_text (pos n) = 43 ∷ two_digits n
 score_text (negsuc n) = 45 ∷ two_digits (n + 1)
@@ -54,7 +55,8 @@ field_text field = codes " " ++ (move_text field.0 ++ score_part field.1)
 unfoldable pub fields_text : List Field → List ℕ
 fields_text fields = flat_map field_text fields
 
--- each best move in square order, or the pass, or that the game is over, with the score
+-- the fields of an answer: one with the score for each best move in the order of the squares, or
+-- one for the pass or the end of the game
 abbrev pub best_fields : ℤ → Best → List Field
 best_fields score (best.Moves mask) = map (λ square. (At square, score)) (squares_of mask)
 best_fields score best.Pass = (Pass, score) ∷ []
@@ -75,7 +77,7 @@ line_text P A = board_text P ++ answer_text A.score A.best
 abbrev pub line_with_end : GridView → AnswerView → List ℕ
 line_with_end P A = line_text P A ++ 10 ∷ []
 
--- what is read back: the position, with each best move listed with the score
+-- the entry that is read back: the position with the fields of its answer
 abbrev pub answer_entry : GridView → AnswerView → Entry
 answer_entry P A = record { position = P; listed = answer_fields A }
 
@@ -88,7 +90,7 @@ IsWritableMove (At square) = square < 64
 IsWritableMove Pass = Unit {0}
 IsWritableMove Over = Unit {0}
 
--- a field that reads as it is written
+-- a field that is read back as it is written
 abbrev pub IsWritable : Field → Type 0
 IsWritable field = IsWritableMove field.0 × (nat_abs field.1 ≤ 64)
 

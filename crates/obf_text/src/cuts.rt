@@ -8,7 +8,8 @@ ghost use Rattle.obf_text.specs.LineText.{lines_of, room_of};
 
 use std::marker::Model;
 
-/// The lines of a text, without their ends. Contracts see the lines that are left.
+/// An iterator over the lines of a text, each without its end. Contracts see the list of the lines
+/// that are left.
 #[derive(Clone, Debug, Drop)]
 pub struct Lines<'a> {
     text: &'a [u8],
@@ -23,17 +24,17 @@ impl<'a> Model for Lines<'a> {
     ghost view = { λ l. lines_of l.text.now };
 }
 
-/// Cuts a text into its lines. A line ends with LF; one CR before it, or at the text's end, is
-/// dropped.
+/// Cuts a text into its lines. A line ends at an LF, or at the end of the text. An LF at the end of
+/// the text begins no further line. A line is shown without its LF, and without one CR at its end.
 pub fn split_lines(text: &[u8]) -> Lines<'_>
     ensures lines { result ≡ lines_of text.now }
-    // The lines are no longer than the text.
+    // The lines, each with one byte for its end, are at most one byte longer than the text.
     ensures room { room_of (lines_of text.now) ≤ length text.now + 1 }
 {
     Lines { text }
 }
 
-// A line without one carriage return at its end.
+// The line without one CR at its end.
 fn without_return(line: &[u8]) -> &[u8]
     ensures { result.now ≡ strip_carriage_return line.now }
 {
@@ -43,7 +44,7 @@ fn without_return(line: &[u8]) -> &[u8]
     }
 }
 
-// Where the first line ends: at its line feed, or at the text's end.
+// The index at which the first line ends: that of its LF, or the length of the text.
 #[tactic(auto, using(crate::proofs::LineLemmas::place_steps))]
 fn line_end(text: &[u8]) -> usize
     ensures { result ≡ position_or_len (λ b. b == 10) text.now }
@@ -51,14 +52,14 @@ fn line_end(text: &[u8]) -> usize
     first_line_feed(text).unwrap_or(text.len())
 }
 
-// Where the first line feed stands. Apart, so that a contract states what is found.
+// The index of the first LF. It is a function of its own so that a contract states what is found.
 fn first_line_feed(text: &[u8]) -> Option<usize>
     ensures { result ≡ position (λ b. b == 10) text.now }
 {
     text.iter().position(|b| *b == b'\n')
 }
 
-// The first line of a text that is not empty, and the text after it.
+// The first line of a text that is not empty, without its end, and the text behind that end.
 #[tactic(auto, using(crate::proofs::LineLemmas::line_steps))]
 fn first_line(text: &[u8]) -> (&[u8], &[u8])
     requires { 0 < length text.now }

@@ -1,4 +1,4 @@
-//! What a line holds.
+//! A position with its listed moves, as a line holds it.
 
 ghost use Rattle.std.specs.Prelude.{◌≡◌, ◌↔◌, [], map, IsNone, IfSome};
 ghost use Rattle.std.specs.Int.{int_max};
@@ -7,14 +7,14 @@ ghost use Rattle.obf_text.specs.Fields.{greatest_listed};
 
 use othello_rules::{Grid, Square};
 
-/// A move that a line lists.
+/// A move that a line lists: a square, a pass or the end of the game.
 #[derive(Clone, Copy, PartialEq, Eq, Debug)]
 pub enum ListedMove {
-    /// A disc on this square.
+    /// The side to move puts a disc on this square.
     At(Square),
-    /// The side to move passes; written `PS`.
+    /// The side to move passes. It is written `PS`.
     Pass,
-    /// The game is over; written `--`.
+    /// The game is over. It is written `--`.
     Over,
 }
 
@@ -24,24 +24,26 @@ impl Default for ListedMove {
     }
 }
 
-/// A position, with the moves that are listed for it.
+/// A position, and the moves that its line lists.
 #[derive(Debug, Drop)]
 pub struct Line {
+    /// The position, with the side to move.
     pub grid: Grid,
-    /// The listed moves in their order, each with its score as the side to move sees it.
+    /// The listed moves in their order, each with its score as the side to move sees it, from -64
+    /// to 64. Any move and any such score may be listed.
     pub listed: Vec<(ListedMove, i8)>,
 }
 
 /// What a line without a fault says.
 #[derive(Debug, Drop)]
 pub enum Item {
-    /// Nothing: the line is blank or a comment.
+    /// No position: the line is blank or a comment.
     Skip,
-    /// A position.
+    /// A position with its listed moves.
     Entry(Line),
 }
 
-// The greatest of the scores of a field and others.
+// The greatest score of one field and the other fields.
 fn greatest_of(first: &(ListedMove, i8), others: &[(ListedMove, i8)]) -> i8
     ensures { result ≡ fold int_max first.now.1 (map (λ f. f.1) others.now) }
 {
@@ -52,7 +54,7 @@ fn greatest_of(first: &(ListedMove, i8), others: &[(ListedMove, i8)]) -> i8
     greatest
 }
 
-/// The greatest of the listed scores, where there is one.
+/// The greatest listed score. None where no move is listed.
 #[tactic(auto, unfolding(othello_rules::specs::Value::greatest))]
 pub fn greatest_score(listed: &[(ListedMove, i8)]) -> Option<i8>
     ensures none { IsNone result ↔ (listed.now ≡ []) }

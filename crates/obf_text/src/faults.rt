@@ -8,18 +8,18 @@ use std::alloc::AllocError;
 use std::error::Error;
 use std::fmt;
 
-/// Why a line can't be read. Columns are bytes of the line, counted from 1. What is printed of a
-/// fault is a reason in a report.
+/// Why a line can't be read. A column is the place of a byte in the line, counted from 1. A report
+/// prints the text of a fault as its reason.
 #[derive(Clone, Copy, PartialEq, Eq, Debug, Drop)]
 pub enum LineFault {
-    /// The line ends after this number of board bytes, fewer than 64.
+    /// The line ends behind this number of squares, from 1 to 63.
     Short(usize),
-    /// A byte that is no square stands in a square's place, at this column.
+    /// The byte at this column stands in a square's place and is no square.
     BadCell(usize),
     /// The side to move is missing at this column: another byte stands there, or the line ends
     /// before it.
     BadSide(usize),
-    /// The listed fields found no memory.
+    /// Memory for the listed moves was refused.
     Memory,
 }
 

@@ -1,4 +1,4 @@
-//! The fields of a line: what stands behind the side, up to the first `%`.
+//! The fields of a line. A field is a piece of the line that lists a move with its score.
 
 ghost use Rattle.std.specs.Prelude.{◌≡◌, ◌<◌, ◌≤◌, IfOk, OnErr, IfSome, length};
 ghost use Rattle.obf_text.specs.Fields.{column_of_letter, digit_of, field_of, field_of_text};
@@ -15,6 +15,7 @@ use std::alloc::{AllocError, Global};
 // The greatest size of a score: of its digits, without a sign.
 const GREATEST_SIZE: u8 = GREATEST_SCORE as u8;
 
+// The number of a digit. None where the byte is no digit.
 fn digit_of(byte: u8) -> Option<u8>
     ensures value { result ≡ digit_of byte }
     ensures small { IfSome result (λ d. d ≤ 9) }
@@ -25,7 +26,7 @@ fn digit_of(byte: u8) -> Option<u8>
     }
 }
 
-// The square of a name, its letter in either case.
+// The square that two bytes name, the letter in either case. None where they name no square.
 fn square_of(first: u8, second: u8) -> Option<ListedMove>
     ensures { result ≡ square_in (column_of_letter first) (row_of_digit second) }
 {
@@ -33,7 +34,8 @@ fn square_of(first: u8, second: u8) -> Option<ListedMove>
     Some(ListedMove::At(square))
 }
 
-// A pass, the end of the game, or a square.
+// The move that two bytes name: a pass, the end of the game or a square. None where they name no
+// move.
 fn move_of(first: u8, second: u8) -> Option<ListedMove>
     ensures { result ≡ move_of first second }
 {
@@ -44,7 +46,7 @@ fn move_of(first: u8, second: u8) -> Option<ListedMove>
     }
 }
 
-// One or two digits, at most 64.
+// The number of one or two digits. None for any other text, and for a number above 64.
 fn size_of(digits: &[u8]) -> Option<u8>
     ensures value { result ≡ size_of digits.now }
     ensures small { IfSome result (λ n. n ≤ 64) }
@@ -65,7 +67,7 @@ fn size_of(digits: &[u8]) -> Option<u8>
     }
 }
 
-// A size behind a sign, if there is one.
+// The score of a text: a number behind `+`, `-` or no sign. None where the text is no score.
 fn score_of_text(text: &[u8]) -> Option<i8>
     ensures { result ≡ score_of_text text.now }
 {
@@ -85,7 +87,8 @@ fn score_of_text(text: &[u8]) -> Option<i8>
     }
 }
 
-// A move, a colon and a score.
+// The field of a text without blanks at its ends: a move, a colon and a score. None where the text
+// is no field.
 fn field_of_text(text: &[u8]) -> Option<(ListedMove, i8)>
     ensures { result ≡ field_of_text text.now }
 {
@@ -99,6 +102,7 @@ fn field_of_text(text: &[u8]) -> Option<(ListedMove, i8)>
     }
 }
 
+// A piece without the blanks at its front.
 fn without_first_blanks(piece: &[u8]) -> &[u8]
     ensures { result.now ≡ without_first_blanks piece.now }
 {
@@ -106,6 +110,7 @@ fn without_first_blanks(piece: &[u8]) -> &[u8]
     &piece[start..]
 }
 
+// A piece without the blanks at its end.
 fn without_last_blanks(piece: &[u8]) -> &[u8]
     ensures { result.now ≡ without_last_blanks piece.now }
 {
@@ -116,21 +121,23 @@ fn without_last_blanks(piece: &[u8]) -> &[u8]
     &piece[..end]
 }
 
-/// A piece without the blanks round it.
+/// A piece without the blanks, spaces and tabs, at its two ends.
 pub fn without_blanks(piece: &[u8]) -> &[u8]
     ensures { result.now ≡ without_blanks piece.now }
 {
     without_last_blanks(without_first_blanks(piece))
 }
 
-/// The move that a piece of a line lists, with its score, if it lists one.
+/// The move that a piece of a line lists, with its score from -64 to 64. None where the piece is no
+/// field.
 pub fn field_of(piece: &[u8]) -> Option<(ListedMove, i8)>
     ensures { result ≡ field_of piece.now }
 {
     field_of_text(without_blanks(piece))
 }
 
-// The listed fields, in their order. Memory is taken only for them.
+// The fields among the pieces of the bytes behind the side to move, in their order. Memory is taken
+// only for fields. `Err` where it is refused.
 pub(crate) fn read_fields(alloc: Global, rest: &[u8]) -> Result<Vec<(ListedMove, i8)>, AllocError>
     ensures ok { IfOk result (λ listed. listed.items ≡ fields_of rest.now) }
     ensures err { OnErr result (0 < length (fields_of rest.now)) }

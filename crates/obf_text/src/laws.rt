@@ -1,4 +1,5 @@
-//! What holds of the grammar of lines, and of what is written.
+//! Laws of the grammar of lines and of written lines. Each function's body is empty: its contract
+//! is the law.
 
 ghost use Rattle.std.specs.Prelude.{◌≡◌, ◌≢◌, ◌≤ℤ◌, ◌↔◌, [], ◌∷◌, ◌++◌, ℕ, List, Some, None};
 ghost use Rattle.std.specs.Prelude.{length};
@@ -11,7 +12,7 @@ ghost use Rattle.obf_text.specs.Obf.{Entry, Holds, Meaning, Says, item_of};
 ghost use Rattle.obf_text.specs.Pieces.{line_pieces};
 ghost use Rattle.obf_text.specs.Written.{AreWritable, answer_entry, entry_text, line_text, line_with_end};
 
-/// Each piece is one field, or none.
+/// Each piece is exactly one field or no field, and `field_of` says which.
 pub fn one_field()
     ensures only { (piece : List ℕ) (f g : Field) → IsField piece f → IsField piece g
         → f ≡ g }
@@ -19,8 +20,7 @@ pub fn one_field()
     ensures none { (piece : List ℕ) → (field_of piece ≡ None) ↔ IsNoField piece }
 {}
 
-/// The greatest of the listed scores is the score of a listed move, and no listed move has a
-/// greater one.
+/// The greatest listed score is the score of a listed move, and no listed move has a greater one.
 pub fn greatest_is_listed()
     ensures listed { (fields : List Field) → fields ≢ []
         → (f : Field) × Contains fields f × (f.1 ≡ greatest_listed fields) }
@@ -28,14 +28,15 @@ pub fn greatest_is_listed()
         → f.1 ≤ℤ greatest_listed fields }
 {}
 
-/// Each list of bytes says exactly one thing.
+/// Each list of bytes has exactly one meaning as a line.
 pub fn one_meaning()
     ensures says { (line : List ℕ) → Says line (item_of line) }
     ensures only { (line : List ℕ) (meaning : Meaning) → Says line meaning
         → meaning ≡ item_of line }
 {}
 
-/// A position that is written with an answer is one line, and that line says just what was written.
+/// A position is written with its answer as one line. That line says the position with the fields
+/// of its answer, and nothing else.
 pub fn written_is_read()
     ensures line { (P : GridView) (A : AnswerView) (rest : List ℕ) → IsScore A.score
         → lines_of (line_with_end P A ++ rest) ≡ line_text P A ∷ lines_of rest }
@@ -45,8 +46,8 @@ pub fn written_is_read()
         → item_of (line_text P A) ≡ Holds (answer_entry P A) }
 {}
 
-/// A line that is written for a position with any fields, with a comment behind it or with none, is
-/// read back as the position with these fields.
+/// The line that is written for a position with any fields is read back as the position with these
+/// fields, whether or not a comment stands behind them.
 pub fn entry_is_read()
     ensures bare { (P : GridView) (fields : List Field) → length P.cells ≡ 64 → AreWritable fields
         → item_of (entry_text P fields) ≡ Holds (record { position = P; listed = fields }) }

@@ -1,4 +1,4 @@
-//! Reads a line.
+//! Reads one line.
 
 ghost use Rattle.std.specs.Prelude.{◌≡◌, ◌+◌, ◌<◌, ◌≤◌, ◌^◌, IfErr, length, map};
 ghost use Rattle.std.specs.List.{position_or_len};
@@ -24,7 +24,8 @@ fn board_of(bytes: &[u8]) -> [Cell; 64]
     cells
 }
 
-// What stands behind the cells, which end after `place` bytes.
+// Reads the side to move and the fields. `rest` is the bytes behind the cells, which end after
+// `place` bytes of the line.
 fn read_side(alloc: Global, place: usize, cells: [Cell; 64], rest: &[u8]) -> Result<Item, LineFault>
     requires { place + length rest.now < 2 ^ 63 }
     ensures { Gives result (gap_item place cells rest.now) }
@@ -44,7 +45,8 @@ fn read_side(alloc: Global, place: usize, cells: [Cell; 64], rest: &[u8]) -> Res
     }
 }
 
-// From the first cell on, which stands behind `start` blanks.
+// Reads the cells, the side to move and the fields. `rest` begins with the first cell, which stands
+// behind `start` blanks.
 fn read_board(alloc: Global, start: usize, rest: &[u8]) -> Result<Item, LineFault>
     requires { start + length rest.now < 2 ^ 63 }
     ensures { Gives result (board_item start (position_or_len is_no_cell rest.now) rest.now) }
@@ -60,6 +62,7 @@ fn read_board(alloc: Global, start: usize, rest: &[u8]) -> Result<Item, LineFaul
     read_side(alloc, start + 64, board_of(board), rest)
 }
 
+// Reads a line. A blank line and a comment are skipped, any other line is read as a position.
 fn read_item(alloc: Global, line: &[u8]) -> Result<Item, LineFault>
     ensures { Gives result (item_of line.now) }
 {
@@ -71,19 +74,23 @@ fn read_item(alloc: Global, line: &[u8]) -> Result<Item, LineFault>
     }
 }
 
-/// Reads a line without its end.
+/// Reads the bytes of one line, without the line's end.
 ///
-/// A line is blanks, 64 squares in the order A1, B1, .. H8 (`X x * B b` are Black, `O o W w` White,
-/// `-` and `.` empty), blanks, a disc's letter for the side to move, and what is cut at each `;` up
-/// to a `%`: a piece as `H1:+62`, `ps:-4` or `--:0` lists a move with its score, and any other
-/// piece is skipped. A line that is blank, or whose first byte after blanks is `%`, is skipped.
+/// A line is skipped where it is blank, or where its first byte after blanks is `%`. Any other line
+/// is blanks, 64 squares in the order A1, B1, .. H8, blanks, the side to move, and pieces. Blanks
+/// are spaces and tabs. A square is a letter of a black disc (`X x * B b`) or of a white disc
+/// (`O o W w`), or an empty square (`-` or `.`). The side to move is a letter of its discs. The
+/// pieces are the bytes behind it up to the first `%`, cut at each `;`. A piece such as `H1:+62`,
+/// `ps:-4` or `--:0` lists a move with its score. Any other piece is skipped.
 ///
-/// The first fault from the left is answered. Memory is taken only for listed moves.
+/// `Err` is the first fault from the left, with its column where it has one, or `Memory` where
+/// memory was refused. Memory is taken only for listed moves.
 pub fn read_line(alloc: Global, line: &[u8]) -> Result<Item, LineFault>
-    // What the line says is given.
+    // The result is what the line says by the grammar.
     ensures says { (meaning : Meaning) → Says line.now meaning → Gives result meaning }
     ensures exact { Gives result (item_of line.now) }
-    // A fault's number is no larger than the line, but for a side that is missing behind it.
+    // The number in a fault is at most the length of the line, and 1 more where the line ends
+    // before its side.
     ensures place { IfErr result (λ fault. place_of fault ≤ length line.now + 1) }
 {
     read_item(alloc, line)

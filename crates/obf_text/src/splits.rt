@@ -1,4 +1,5 @@
-//! The pieces of a line: what stands behind the side, up to the first `%`, cut at each `;`.
+//! The pieces of a line, and its comment. The pieces are the bytes behind the side to move, up to
+//! the first `%`, cut at each `;`.
 
 ghost use Rattle.std.specs.Prelude.{◌≡◌, ◌==◌, ◌∷◌, Some, drop, option_map};
 ghost use Rattle.std.specs.Iterator.{YieldsFirstRef, item_count};
@@ -9,14 +10,14 @@ ghost use Rattle.obf_text.specs.Pieces.{behind_side, comment_of, line_pieces};
 use crate::bytes::blank_count;
 use std::marker::Model;
 
-// Where the first `%` stands. Apart, so that a contract states what is found.
+// The index of the first `%`. It is a function of its own so that a contract states what is found.
 fn first_percent(rest: &[u8]) -> Option<usize>
     ensures { result ≡ position (λ b. b == 37) rest.now }
 {
     rest.iter().position(|b| *b == b'%')
 }
 
-// What stands before the first `%`.
+// The bytes before the first `%`: all bytes where no `%` is among them.
 fn before_comment(rest: &[u8]) -> &[u8]
     ensures { result.now ≡ before_first (λ b. b == 37) rest.now }
 {
@@ -26,7 +27,7 @@ fn before_comment(rest: &[u8]) -> &[u8]
     }
 }
 
-/// The comment of a line, from its first `%` on: empty, where there is none.
+/// The comment of a line: its bytes from the first `%` on. It is empty where the line has no `%`.
 pub fn comment_of(line: &[u8]) -> &[u8]
     ensures { result.now ≡ comment_of line.now }
 {
@@ -36,7 +37,7 @@ pub fn comment_of(line: &[u8]) -> &[u8]
     }
 }
 
-/// The pieces between semicolons that are left. Contracts see the list of them.
+/// An iterator over the pieces of a line. Contracts see the list of the pieces that are left.
 #[derive(Clone, Debug, Drop)]
 pub struct Pieces<'a> {
     left: Option<&'a [u8]>,
@@ -51,13 +52,14 @@ impl<'a> Model for Pieces<'a> {
     ghost view = { λ p. pieces_left (option_map (λ t. t.now) p.left) };
 }
 
+// The index of the first `;`. It is a function of its own so that a contract states what is found.
 fn first_semicolon(text: &[u8]) -> Option<usize>
     ensures { result ≡ position (λ b. b == 59) text.now }
 {
     text.iter().position(|b| *b == b';')
 }
 
-// The first piece, and what is left after its semicolon, if it has one.
+// The first piece, and the text behind the semicolon that ends it. None where the text ends it.
 fn first_piece(text: &[u8]) -> (&[u8], Option<&[u8]>)
     ensures { pieces_left (Some text.now)
         ≡ result.0.now ∷ pieces_left (option_map (λ t. t.now) result.1) }
@@ -83,7 +85,7 @@ impl<'a> Iterator for Pieces<'a> {
     }
 }
 
-// The pieces of what stands behind the side.
+// The pieces of the bytes behind the side to move.
 pub(crate) fn pieces_of(rest: &[u8]) -> Pieces<'_>
     ensures { result ≡ pieces_of rest.now }
 {
@@ -92,22 +94,23 @@ pub(crate) fn pieces_of(rest: &[u8]) -> Pieces<'_>
     }
 }
 
-// What stands behind so many bytes: nothing, where there are fewer.
+// The bytes behind the first `count` bytes: none where there are no more than these.
 fn behind(bytes: &[u8], count: usize) -> &[u8]
     ensures { result.now ≡ drop count bytes.now }
 {
     &bytes[count.min(bytes.len())..]
 }
 
-// What stands behind blanks and one byte more.
+// The bytes behind blanks and the side to move.
 fn behind_side(rest: &[u8]) -> &[u8]
     ensures { result.now ≡ behind_side rest.now }
 {
     behind(rest, blank_count(rest) + 1)
 }
 
-/// The pieces of a line that holds a position, whether or not they list a move, in their order:
-/// what stands behind the side to move, up to the first `%`, cut at each `;`.
+/// The pieces of a line that holds a position, in their order: the bytes behind the side to move,
+/// up to the first `%`, cut at each `;`. A piece is shown whether or not it lists a move, and with
+/// the blanks at its ends.
 #[tactic(auto, unfolding(crate::specs::Pieces::line_pieces))]
 pub fn line_pieces(line: &[u8]) -> Pieces<'_>
     ensures { result ≡ line_pieces line.now }

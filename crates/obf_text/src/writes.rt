@@ -1,4 +1,4 @@
-//! Writes the line of a position with its answer.
+//! Writes the line of a position, with its answer or with any listed moves.
 
 ghost use Rattle.std.specs.Prelude.{◌≡◌, ◌<◌, nat_abs, length, map, All, OnOk};
 ghost use Rattle.std.specs.Io.KnownBytes.{Appends};
@@ -12,6 +12,7 @@ use othello_rules::{Answer, Best, Cell, Grid, Side, Square, squares_in};
 use std::io;
 use std::io::Write;
 
+// The byte that is written for a cell.
 fn cell_byte(cell: Cell) -> u8
     ensures { result ≡ cell_byte cell }
 {
@@ -22,6 +23,7 @@ fn cell_byte(cell: Cell) -> u8
     }
 }
 
+// The byte that is written for the side to move.
 fn side_byte(side: Side) -> u8
     ensures { result ≡ side_byte side }
 {
@@ -31,7 +33,7 @@ fn side_byte(side: Side) -> u8
     }
 }
 
-// The squares of a position, in the order of their numbers.
+// The bytes of a position's 64 squares, in the order A1, B1, .. H8.
 fn board_bytes(grid: &Grid) -> [u8; 64]
     requires { length grid.now.cells ≡ 64 }
     ensures { result ≡ map cell_byte grid.now.cells }
@@ -43,7 +45,8 @@ fn board_bytes(grid: &Grid) -> [u8; 64]
     bytes
 }
 
-/// A listed move as text: a square's name, `PS` or `--`.
+/// A listed move as two bytes: a square's name as `A1`, `PS` for a pass, `--` for the end of the
+/// game.
 #[tactic(auto, unfolding(crate::specs::Written::move_text))]
 pub fn move_bytes(listed: ListedMove) -> [u8; 2]
     ensures { result ≡ move_text listed }
@@ -55,7 +58,7 @@ pub fn move_bytes(listed: ListedMove) -> [u8; 2]
     }
 }
 
-/// A score as text: its sign, `+` from 0 up, and two digits.
+/// A score as three bytes: its sign, which is `+` from 0 up, and two digits.
 #[tactic(auto, unfolding(crate::specs::Written::score_text))]
 pub fn score_bytes(score: i8) -> [u8; 3]
     requires { nat_abs score < 100 }
@@ -66,7 +69,7 @@ pub fn score_bytes(score: i8) -> [u8; 3]
     [sign, b'0' + size / 10, b'0' + size % 10]
 }
 
-// The squares, a space, the side to move and a semicolon.
+// Writes the squares, a space, the side to move and a semicolon.
 #[tactic(auto, unfolding(crate::specs::Written::board_text))]
 fn write_board<W: Write>(writer: &mut W, grid: &Grid) -> io::Result<()>
     ensures { OnOk result
@@ -77,7 +80,7 @@ fn write_board<W: Write>(writer: &mut W, grid: &Grid) -> io::Result<()>
     writer.write_all(&[b' ', mover, b';'])
 }
 
-// A colon, the score and a semicolon.
+// Writes a colon, the score and a semicolon.
 #[tactic(auto, unfolding(crate::specs::Written::score_part))]
 fn write_score<W: Write>(writer: &mut W, score: i8) -> io::Result<()>
     requires { nat_abs score < 100 }
@@ -89,7 +92,7 @@ fn write_score<W: Write>(writer: &mut W, score: i8) -> io::Result<()>
     writer.write_all(b";")
 }
 
-// A space, the move and its score.
+// Writes a field: a space, the move, a colon, the score and a semicolon.
 #[tactic(auto, unfolding(crate::specs::Written::field_text))]
 fn write_field<W: Write>(writer: &mut W, listed: ListedMove, score: i8) -> io::Result<()>
     requires { nat_abs score < 100 }
@@ -101,7 +104,7 @@ fn write_field<W: Write>(writer: &mut W, listed: ListedMove, score: i8) -> io::R
     write_score(writer, score)
 }
 
-// A field for each square of a mask.
+// Writes a field with the score for each square of a mask, in the order of the squares.
 fn write_moves<W: Write>(writer: &mut W, score: i8, mask: u64) -> io::Result<()>
     requires { nat_abs score < 100 }
     ensures { OnOk result
@@ -114,7 +117,7 @@ fn write_moves<W: Write>(writer: &mut W, score: i8, mask: u64) -> io::Result<()>
     Ok(())
 }
 
-// A field for each best move, for the pass, or for the end of the game.
+// Writes a field with the score for each best move, or one for the pass or the end of the game.
 #[tactic(auto, unfolding(crate::specs::Written::answer_text, crate::specs::Written::fields_text))]
 fn write_best<W: Write>(writer: &mut W, score: i8, best: Best) -> io::Result<()>
     requires { nat_abs score < 100 }
@@ -128,14 +131,14 @@ fn write_best<W: Write>(writer: &mut W, score: i8, best: Best) -> io::Result<()>
     }
 }
 
-/// Writes the line of a position with its answer.
+/// Writes the line of a position with its answer, and the line's end.
 ///
 /// The line is 64 bytes of `X`, `O` and `-` in the order A1, B1, .. H8, a space, `X` or `O` for the
-/// side to move, `;`, then for each best move in the order of the squares a space, its name, `:`, a
-/// sign, two digits and `;`, and LF. A pass is written as the one move `PS`, a game that is over as
-/// the one move `--`.
+/// side to move, `;`, a field for each best move in the order of the squares, and LF. A field is a
+/// space, the move's name, `:`, the score as a sign and two digits, and `;`. A pass has one field
+/// with the name `PS`. The end of the game has one field with the name `--`.
 ///
-/// Takes no memory. After a fault nothing is said of how much went out.
+/// Takes no memory. `Err` is the writer's error: a part of the line may be written then.
 #[tactic(auto, unfolding(crate::specs::Written::line_text))]
 pub fn write_line<W: Write>(writer: &mut W, grid: &Grid, answer: &Answer) -> io::Result<()>
     ensures { OnOk result
@@ -147,7 +150,7 @@ pub fn write_line<W: Write>(writer: &mut W, grid: &Grid, answer: &Answer) -> io:
     writer.write_all(b"\n")
 }
 
-// Each field, in their order.
+// Writes the fields, in their order.
 fn write_fields<W: Write>(writer: &mut W, fields: &[(ListedMove, i8)]) -> io::Result<()>
     requires { All (λ f. nat_abs f.1 < 100) fields.now }
     ensures { OnOk result
@@ -159,8 +162,9 @@ fn write_fields<W: Write>(writer: &mut W, fields: &[(ListedMove, i8)]) -> io::Re
     Ok(())
 }
 
-/// Writes the line of a position with any fields, in their order. It has no end, so that a comment
-/// may follow.
+/// Writes the line of a position with any fields, each a listed move with its score, in their
+/// order. The line's end is not written, so that a comment may follow. Takes no memory. `Err` is
+/// the writer's error: a part of the line may be written then.
 #[tactic(auto, unfolding(crate::specs::Written::entry_text))]
 pub fn write_entry<W: Write>(
     writer: &mut W,

@@ -1,4 +1,4 @@
--- What is written for a position that was turned into two masks, and whether its line is right.
+-- The text of a position that was made two masks, and whether its line is right.
 use Rattle.std.proofs.Common.{◌≡◌, ◌≤◌, ◌<◌, ℕ, List, length, true, false}
 use Rattle.std.proofs.Common.{refl, sym, ap, ◌∙◌, arith, inl, inr}
 use Rattle.std.specs.Prelude.{nat_lt, not}

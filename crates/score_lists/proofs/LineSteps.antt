@@ -147,7 +147,7 @@ all_end g limit now left all none h =
     sym (and_true now) ∙ ap (λ b. now && b) (sym (ap (lists_right g limit) none ∙ all_none g limit))
     ∙ h
 
--- what is written for a line, and whether it is right, by what it says
+-- the text of a line, and whether the line is right, by the line's meaning
 pub out_skip : (g : Scoring) (limit : ℕ) (line : List ℕ) (m : Meaning) → m ≡ Skipped
     → kept_text line ≡ out_text g limit line m
 unfolding out_text
@@ -168,7 +168,7 @@ pub right_fault : (g : Scoring) (limit : ℕ) (line : List ℕ) (m : Meaning) (f
 unfolding is_right
 right_fault g limit line m f e = rw e refl
 
--- what reading a line gave, and what the line says
+-- the result of reading a line against the line's meaning
 pub said_skip : (i : Item) (m : Meaning) → i ≡ item.Skip → Gives (Ok i) m → m ≡ Skipped
 said_skip i m e h = subst (λ j. Gives (Ok j) m) e h
 

@@ -1,4 +1,4 @@
--- What is written in turn, of which a front stands after a fault.
+-- Bytes written by several writes, one after another: after a fault a front of them is written.
 use Rattle.std.proofs.Common.{ℕ, List, [], ◌++◌, Option, Some, None, refl, sym, ap}
 use Rattle.std.proofs.Common.{◌∙◌, subst, take, drop}
 use Rattle.std.proofs.lemmas.List.{append_assoc, append-nil, take-append-drop}
@@ -58,13 +58,13 @@ prints_front old now next rest all h k =
     prints_stop old now next rest [] all
     (subst (λ t. Prints old now t all) (sym (append-nil rest)) h) k
 
--- a write took so many bytes
+-- a write that took `count` bytes
 pub prints_some : (old now : Option (List ℕ)) (all : List ℕ) (count : ℕ)
     → Appends old now (take count all) → Prints old now (drop count all) all
 prints_some old now all count h =
     record { done = take count all; whole = sym (take-append-drop count all); written = h }
 
--- a write that failed left all as it was
+-- a write that failed wrote nothing
 keeps_none : (old now : Option (List ℕ)) → Keeps old now → Appends old now []
 keeps_none None now h = search
 keeps_none (Some xs) None h = absurd h

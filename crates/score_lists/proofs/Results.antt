@@ -1,4 +1,4 @@
--- What a result's clauses give, where more is known of a success.
+-- Clauses of a result, from clauses of its success.
 use Rattle.std.proofs.Common.{refl}
 use Rattle.std.specs.Prelude.{Result, Ok, Err, IfOk, IsOk, OnErr, OnOk}
 

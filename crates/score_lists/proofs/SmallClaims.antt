@@ -32,7 +32,7 @@ field_small piece f h =
 pub claim_small : (piece : List ℕ) (f : Field) → field_of piece ≡ Some f → IsSmall f
 claim_small piece f e = field_small piece f (field_from piece f e)
 
--- what a list of small scores finds is small
+-- a score that is found among small scores is small
 find_all : (R : Field → Type 0) (p : Field → Bool) (xs : List Field) (f : Field) → All R xs
     → find p xs ≡ Some f → R f
 find_all R p [] f all e = cc

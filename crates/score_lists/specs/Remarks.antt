@@ -1,4 +1,4 @@
--- What is remarked of the pieces of a line.
+-- The remarks on the pieces of a line.
 use Rattle.std.specs.Prelude.{ℕ, ℤ, Bool, true, false, List, [], ◌∷◌, ◌++◌, Option, Some, None}
 use Rattle.std.specs.Prelude.{option_map, codes}
 use Rattle.std.specs.List.{filter_map}
@@ -7,6 +7,7 @@ use Rattle.obf_text.specs.Written.{move_text, score_text}
 use Rattle.score_lists.specs.Checks.{wrong_in}
 use Rattle.score_lists.specs.declared.checks.Wrong.{Wrong}
 
+-- the score of a move, or that the position has no such move
 unfoldable pub verdict_text : Option ℤ → List ℕ
 verdict_text None = codes "no move"
 verdict_text (Some score) = score_text score
@@ -21,11 +22,12 @@ wrong_text w =
 unfoldable pub unread_text : List ℕ → List ℕ
 unread_text bytes = codes "not read: " ++ bytes
 
--- bytes that are no field are not read; of none there is nothing to say
+-- the remark on bytes that are no field; none where there are no bytes
 abbrev pub unread_remark : List ℕ → Option (List ℕ)
 unread_remark [] = None
 unread_remark (b ∷ bs) = Some (unread_text (b ∷ bs))
 
+-- the remark on a listed move; none where its score is right
 abbrev pub field_remark : List Field → Field → Option (List ℕ)
 field_remark scores f = option_map wrong_text (wrong_in scores f)
 
@@ -33,8 +35,8 @@ abbrev pub remark_by : List Field → List ℕ → Option Field → Option (List
 remark_by scores piece (Some f) = field_remark scores f
 remark_by scores piece None = unread_remark (without_blanks piece)
 
--- what is remarked of a piece, if anything is: it lists a move with another score, or what is no
--- move, or it is neither blank nor a field
+-- the remark on a piece: it lists a move with a wrong score, or a move that the position has not,
+-- or it is neither blank nor a field
 abbrev pub remark_of : List Field → List ℕ → Option (List ℕ)
 remark_of scores piece = remark_by scores piece (field_of piece)
 
@@ -46,17 +48,17 @@ abbrev pub has_remarks : List (List ℕ) → Bool
 has_remarks [] = false
 has_remarks (r ∷ more) = true
 
--- what stands in front of a remark, by whether another one does
+-- the bytes in front of a remark, by whether another remark stands before it
 unfoldable pub gap_text : Bool → List ℕ
 gap_text false = codes " % "
 gap_text true = codes ", "
 
--- remarks, by whether another one stands in front
+-- the text of remarks, by whether another remark stands before them
 abbrev pub remarks_text : Bool → List (List ℕ) → List ℕ
 remarks_text found [] = []
 remarks_text found (r ∷ more) = gap_text found ++ (r ++ remarks_text true more)
 
--- one remark, if there is one
+-- the text of one remark or none, by whether another remark stands before it
 abbrev pub one_text : Bool → Option (List ℕ) → List ℕ
 one_text found None = []
 one_text found (Some r) = gap_text found ++ r

@@ -1,4 +1,4 @@
-//! What is wrong with the moves that a line lists.
+//! The listed moves of a line against the scores of its position.
 
 ghost use Rattle.std.specs.Prelude.{◌≡◌, option_map};
 ghost use Rattle.std.specs.List.{find};
@@ -8,7 +8,8 @@ ghost use Rattle.score_lists.specs.Checks.{same_move, score_in, wrong_in};
 use obf_text::ListedMove;
 use othello_rules::Square;
 
-/// A listed move that has another score, or none: it is no move of the position.
+/// A listed move with a wrong score: `score` is the move's score in the position, as the side to
+/// move sees it, and `claimed` the listed one. `score` is None where the position has no such move.
 #[derive(Clone, Copy, PartialEq, Eq, Debug)]
 pub struct Wrong {
     pub listed: ListedMove,
@@ -16,6 +17,7 @@ pub struct Wrong {
     pub score: Option<i8>,
 }
 
+// Whether a listed move is a disc on the square.
 fn is_square(listed: ListedMove, square: Square) -> bool
     ensures { result ≡ same_move listed (At square) }
 {
@@ -25,6 +27,7 @@ fn is_square(listed: ListedMove, square: Square) -> bool
     }
 }
 
+// Whether two listed moves are equal.
 fn same_move(a: ListedMove, b: ListedMove) -> bool
     ensures { result ≡ same_move a b }
 {
@@ -35,14 +38,15 @@ fn same_move(a: ListedMove, b: ListedMove) -> bool
     }
 }
 
-// The field of a move. It is a function of its own so that a contract states what is found.
+// The field of a move among the scores of a position. It is a function of its own so that a
+// contract states what is found.
 fn field_in(scores: &[(ListedMove, i8)], listed: ListedMove) -> Option<&(ListedMove, i8)>
     ensures { option_map (λ f. f.now) result ≡ find (λ f. same_move f.0 listed) scores.now }
 {
     scores.iter().find(|field| same_move(field.0, listed))
 }
 
-/// The score of a move among the scores of a position, if it is one of its moves.
+/// The score of a move among the scores of a position. None where the position has no such move.
 pub fn score_in(scores: &[(ListedMove, i8)], listed: ListedMove) -> Option<i8>
     ensures { result ≡ score_in scores.now listed }
 {
@@ -50,7 +54,8 @@ pub fn score_in(scores: &[(ListedMove, i8)], listed: ListedMove) -> Option<i8>
     Some(field.1)
 }
 
-/// What is wrong with a listed move, if anything is.
+/// Compares a listed move and its score with the scores of the position's moves. None where the
+/// move has this score.
 pub fn wrong_in(scores: &[(ListedMove, i8)], field: &(ListedMove, i8)) -> Option<Wrong>
     ensures { result ≡ wrong_in scores.now field.now }
 {

@@ -1,4 +1,4 @@
-//! What holds of printed lists. Each function's body is empty: its contract is the law.
+//! Laws of printed lists. Each function's body is empty: its contract is the law.
 
 ghost use Rattle.std.specs.Prelude.{◌≡◌, ℕ, List, ◌∷◌, ◌++◌, length};
 ghost use Rattle.othello_rules.specs.declared.scorings.Scoring.{Scoring};
@@ -7,8 +7,9 @@ ghost use Rattle.obf_text.specs.Obf.{Holds, item_of};
 ghost use Rattle.obf_text.specs.Written.{entry_text};
 ghost use Rattle.move_scores.specs.Scores.{score_fields};
 
-/// What is printed of a position, with a remark or a comment behind it or with none, says the
-/// position with every move's score, or its pass or end, and nothing else.
+/// The line that is printed for a position says the position with every move's score, or with the
+/// score of its pass or end, and nothing else. This holds whether or not remarks or a comment stand
+/// behind the scores.
 pub fn scores_are_read_again()
     ensures bare { (g : Scoring) (P : GridView) → length P.cells ≡ 64
         → item_of (entry_text P (score_fields g P))

@@ -1,5 +1,5 @@
-//! Lists of positions, printed again with every move's exact score and with remarks on the moves
-//! that they list.
+//! Lists of positions in OBF text, printed again with every move's exact score, and with remarks on
+//! the moves that they list.
 #![tactic(auto)]
 
 mod checks;

@@ -1,4 +1,4 @@
-//! Lines with every move's score.
+//! The text that is printed for one line of a list.
 
 ghost use Rattle.std.specs.Prelude.{◌≡◌, ◌≢◌, ◌≤◌, ◌<◌, ◌++◌, ◌∷◌, [], All, IfOk, IsOk, OnOk};
 ghost use Rattle.std.specs.Prelude.{nat_abs, not, true, false};
@@ -22,6 +22,7 @@ use std::alloc::{AllocError, Global};
 use std::io;
 use std::io::Write;
 
+// Writes a line as it is, and its end.
 fn write_kept<W: Write>(writer: &mut W, line: &[u8]) -> io::Result<()>
     ensures { OnOk result
         (Appends (W.contents writer.old) (W.contents writer.new) (kept_text line.now)) }
@@ -30,6 +31,7 @@ fn write_kept<W: Write>(writer: &mut W, line: &[u8]) -> io::Result<()>
     writer.write_all(b"\n")
 }
 
+// Writes the text of a fault.
 fn write_fault<W: Write>(writer: &mut W, fault: LineFault) -> io::Result<()>
     ensures { OnOk result
         (Appends (W.contents writer.old) (W.contents writer.new) (line_fault_text fault)) }
@@ -37,7 +39,7 @@ fn write_fault<W: Write>(writer: &mut W, fault: LineFault) -> io::Result<()>
     write!(writer, "{fault}")
 }
 
-// A line behind a colon.
+// Writes a colon, a space and a line as it is.
 #[tactic(auto, unfolding(crate::specs::Lines::quoted_text))]
 fn write_quoted<W: Write>(writer: &mut W, line: &[u8]) -> io::Result<()>
     ensures { OnOk result
@@ -47,7 +49,7 @@ fn write_quoted<W: Write>(writer: &mut W, line: &[u8]) -> io::Result<()>
     write_kept(writer, line)
 }
 
-// A line that is refused for a fault.
+// Writes the comment for a line that is refused for a fault.
 fn write_faulty<W: Write>(writer: &mut W, fault: LineFault, line: &[u8]) -> io::Result<()>
     ensures { OnOk result (Appends (W.contents writer.old)
         (W.contents writer.new) (refused_text (line_fault_text fault) line.now)) }
@@ -57,6 +59,7 @@ fn write_faulty<W: Write>(writer: &mut W, fault: LineFault, line: &[u8]) -> io::
     write_quoted(writer, line)
 }
 
+// Writes that a position has `found` empty squares, more than the limit.
 #[tactic(auto, unfolding(crate::specs::Lines::many_text))]
 fn write_empties<W: Write>(writer: &mut W, found: u8, limit: u8) -> io::Result<()>
     ensures { OnOk result
@@ -65,7 +68,8 @@ fn write_empties<W: Write>(writer: &mut W, found: u8, limit: u8) -> io::Result<(
     write!(writer, "{found} empties, limit {limit}")
 }
 
-// A line whose position has more empty squares than the limit.
+// Writes the comment for a line that is refused because its position has `found` empty squares,
+// more than the limit.
 fn write_many<W: Write>(writer: &mut W, found: u8, limit: u8, line: &[u8]) -> io::Result<()>
     ensures { OnOk result (Appends (W.contents writer.old)
         (W.contents writer.new) (refused_text (many_text found limit) line.now)) }
@@ -75,7 +79,7 @@ fn write_many<W: Write>(writer: &mut W, found: u8, limit: u8, line: &[u8]) -> io
     write_quoted(writer, line)
 }
 
-// A comment behind a blank, and the line's end.
+// Writes a space and a line's comment, or nothing where the line has none, and the line's end.
 fn write_comment<W: Write>(writer: &mut W, comment: &[u8]) -> io::Result<()>
     ensures { OnOk result (Appends (W.contents writer.old)
         (W.contents writer.new) (comment_text comment.now ++ 10 ∷ [])) }
@@ -86,8 +90,8 @@ fn write_comment<W: Write>(writer: &mut W, comment: &[u8]) -> io::Result<()>
     write_kept(writer, comment)
 }
 
-// A position with its scores, what is remarked of its line, and the line's comment. The answer is
-// whether nothing is remarked.
+// Writes the line of a position: the position with its scores, the remarks on the pieces of its
+// line, and the line's comment. Returns whether there is no remark.
 #[tactic(auto, unfolding(crate::specs::Lines::scored_text))]
 fn write_entry_line<W: Write>(
     writer: &mut W,
@@ -107,7 +111,8 @@ fn write_entry_line<W: Write>(
     Ok(!found)
 }
 
-// Prints the line of a position, and tells whether it is right.
+// Writes the text of a line that holds a position. Returns whether the line is right: its position
+// has no more empty squares than the limit, and no remark is made.
 fn write_scored<T: Bounds, W: Write>(
     table: &T,
     writer: &mut W,
@@ -133,7 +138,7 @@ fn write_scored<T: Bounds, W: Write>(
     }
 }
 
-// A line that is skipped, which is right.
+// Writes a line that is skipped as it is. Returns true: such a line is right.
 fn write_skipped<W: Write>(writer: &mut W, line: &[u8]) -> io::Result<bool>
     ensures written { OnOk result
         (Appends (W.contents writer.old) (W.contents writer.new) (kept_text line.now)) }
@@ -143,7 +148,8 @@ fn write_skipped<W: Write>(writer: &mut W, line: &[u8]) -> io::Result<bool>
     Ok(true)
 }
 
-// A line that is refused for a fault, which is wrong. Want of memory is said of no line.
+// Writes the comment for a line that is refused for a fault. Returns false: such a line is not
+// right. `Err` where the fault is `Memory`, which is no fault of the line.
 fn write_refused<W: Write>(writer: &mut W, fault: LineFault, line: &[u8]) -> io::Result<bool>
     ensures written { OnOk result (Appends (W.contents writer.old)
         (W.contents writer.new) (refused_text (line_fault_text fault) line.now)) }
@@ -159,7 +165,8 @@ fn write_refused<W: Write>(writer: &mut W, fault: LineFault, line: &[u8]) -> io:
     }
 }
 
-// Prints a line, and tells whether it is right.
+// Writes the text of a line. Returns whether the line is right: it is not refused, and no remark is
+// made on it.
 fn write_item<T: Bounds, W: Write>(
     table: &T,
     alloc: Global,
@@ -180,15 +187,17 @@ fn write_item<T: Bounds, W: Write>(
     }
 }
 
-/// What is printed for a line, and whether nothing is wrong in it.
+/// The text that is printed for a line, and whether the line is right: it is not refused, and no
+/// remark is made on it.
 #[derive(Drop)]
 pub(crate) struct LineText {
     pub(crate) bytes: Vec<u8>,
     pub(crate) right: bool,
 }
 
-/// What is printed for a line: itself, if it is skipped; a comment with the reason and the line, if
-/// it is refused; or its position with every move's score, remarks and the line's comment.
+/// The text that is printed for a line. A line that is skipped is printed as it is. A line that is
+/// refused is printed as a comment with the reason and the line. A position is printed with every
+/// move's score, with the remarks on its line, and with the line's comment.
 pub(crate) fn line_text<T: Bounds>(
     table: &T,
     alloc: Global,

@@ -1,4 +1,4 @@
-//! Lists of positions with every move's score.
+//! Lists of positions, printed line by line with every move's score.
 
 ghost use Rattle.std.specs.Prelude.{◌≡◌, ◌≤◌, ◌∷◌, [], IfOk, OnErr, OnOk, map};
 ghost use Rattle.std.specs.Io.KnownBytes.{Appends};
@@ -19,8 +19,10 @@ use thiserror::Error;
 /// Why lists were not printed to their end.
 #[derive(Clone, Copy, PartialEq, Eq, Debug, Error)]
 pub enum ListFault {
+    /// Memory was refused.
     #[error("out of memory")]
     Memory,
+    /// The writer failed, or took no byte of what was left.
     #[error("cannot write")]
     CannotWrite,
 }
@@ -41,8 +43,8 @@ impl From<io::Error> for ListFault {
     }
 }
 
-// Writes bytes, and gives those that the writer did not take: all of them, where it was
-// interrupted.
+// Writes bytes by one call of the writer. Returns the bytes that the writer did not take: all of
+// them where it was interrupted.
 fn send_some<'a, W: Write>(writer: &mut W, bytes: &'a [u8]) -> io::Result<&'a [u8]>
     ensures taken { IfOk result (λ rest. Prints (W.contents writer.old) (W.contents writer.new)
         rest.now bytes.now) }
@@ -61,8 +63,8 @@ fn send_some<'a, W: Write>(writer: &mut W, bytes: &'a [u8]) -> io::Result<&'a [u
     }
 }
 
-// Writes all bytes and sends them on. After a fault a front of them is written, which `write_all`
-// does not promise.
+// Writes all bytes and flushes the writer. Where it fails, a front of the bytes is written, which
+// `write_all` does not promise.
 fn send<W: Write>(writer: &mut W, bytes: &[u8]) -> io::Result<()>
     ensures written { OnOk result
         (Appends (W.contents writer.old) (W.contents writer.new) bytes.now) }
@@ -79,8 +81,8 @@ fn send<W: Write>(writer: &mut W, bytes: &[u8]) -> io::Result<()>
     Err(io::Error::from(ErrorKind::WriteZero))
 }
 
-// Prints a line with its scores and remarks, and sends it on. The answer is whether the line is
-// right.
+// Prints one line with its scores and remarks, and flushes the writer. Returns whether the line is
+// right: it is not refused, and no remark is made on it.
 fn write_one<T: Bounds, W: Write>(
     table: &T,
     alloc: Global,
@@ -101,7 +103,7 @@ fn write_one<T: Bounds, W: Write>(
     Ok(text.right)
 }
 
-// Prints a text with every move's score. The answer is whether nothing is wrong in it.
+// Prints the lines of a text with every move's score. Returns whether all lines are right.
 fn write_text<T: Bounds, W: Write>(
     table: &T,
     alloc: Global,
@@ -125,14 +127,17 @@ fn write_text<T: Bounds, W: Write>(
     Ok(right)
 }
 
-/// Prints texts again, one after the other, each line as soon as it is known, written and flushed:
-/// a line that is skipped as it is; a position with every move's exact score under the table's
-/// scoring, with remarks on what its line lists and with the line's comment; a line that is
-/// refused, and a position of more than `limit` empty squares, as a comment with the reason and the
-/// line.
+/// Prints texts again, one after the other. Each line is written and flushed before the next one is
+/// read.
 ///
-/// The answer is whether no line is refused and nothing is remarked. After a fault a front of the
-/// whole was printed.
+/// A line that is skipped is printed as it is. A position is printed with every move's exact score
+/// under the table's scoring, then the remarks on the moves that its line lists, then the line's
+/// comment. Scores are in discs, or 1, 0 or -1 under `Scoring::Sign`, as the side to move sees
+/// them. A line with a fault, and one whose position has more than `limit` empty squares, is
+/// refused: it is printed as a comment with the reason and the line.
+///
+/// Returns whether no line is refused and no remark is made. Where `Err` is returned, a front of
+/// the whole output is printed.
 pub fn write_lists<T: Bounds, W: Write>(
     table: &T,
     alloc: Global,

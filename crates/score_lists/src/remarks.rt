@@ -1,4 +1,5 @@
-//! Remarks on the pieces of a line.
+//! Remarks on the pieces of a line: moves that are listed with a wrong score, and bytes that list
+//! no move.
 
 ghost use Rattle.std.specs.Prelude.{◌≡◌, ◌<◌, ◌||◌, false, All, IfOk, IfSome, OnOk, is_some};
 ghost use Rattle.std.specs.Prelude.{nat_abs};
@@ -14,6 +15,7 @@ use obf_text::{ListedMove, field_of, line_pieces, move_bytes, score_bytes, witho
 use std::io;
 use std::io::Write;
 
+// Writes the score of a move, or `no move`.
 #[tactic(auto, unfolding(crate::specs::Remarks::verdict_text))]
 fn write_verdict<W: Write>(writer: &mut W, score: Option<i8>) -> io::Result<()>
     requires { IfSome score (λ z. nat_abs z < 100) }
@@ -26,6 +28,7 @@ fn write_verdict<W: Write>(writer: &mut W, score: Option<i8>) -> io::Result<()>
     }
 }
 
+// Writes a listed move with its listed score, and the move's score in the position.
 #[tactic(auto, unfolding(crate::specs::Remarks::wrong_text))]
 fn write_wrong<W: Write>(writer: &mut W, wrong: &Wrong) -> io::Result<()>
     requires claimed { nat_abs wrong.now.claimed < 100 }
@@ -40,6 +43,7 @@ fn write_wrong<W: Write>(writer: &mut W, wrong: &Wrong) -> io::Result<()>
     write_verdict(writer, wrong.score)
 }
 
+// Writes `not read: ` and the bytes.
 #[tactic(auto, unfolding(crate::specs::Remarks::unread_text))]
 fn write_unread<W: Write>(writer: &mut W, bytes: &[u8]) -> io::Result<()>
     ensures { OnOk result
@@ -49,7 +53,8 @@ fn write_unread<W: Write>(writer: &mut W, bytes: &[u8]) -> io::Result<()>
     writer.write_all(bytes)
 }
 
-// What stands in front of a remark, by whether another one does.
+// Writes the bytes in front of a remark: a comma where `found`, which says that another remark
+// stands before it, else the `%` that begins a comment.
 #[tactic(auto, unfolding(crate::specs::Remarks::gap_text))]
 fn write_gap<W: Write>(writer: &mut W, found: bool) -> io::Result<()>
     ensures { OnOk result
@@ -62,7 +67,8 @@ fn write_gap<W: Write>(writer: &mut W, found: bool) -> io::Result<()>
     }
 }
 
-// The remark on a listed move, and whether any remark stands now.
+// Writes the remark on a listed move, if its score is wrong. `found` says whether a remark stands
+// before it. Returns whether a remark stands behind it.
 fn write_field_remark<W: Write>(
     writer: &mut W,
     scores: &[(ListedMove, i8)],
@@ -84,7 +90,8 @@ fn write_field_remark<W: Write>(
     Ok(true)
 }
 
-// The remark on bytes that are no field, and whether any remark stands now.
+// Writes the remark on bytes that are no field, if there are any. `found` says whether a remark
+// stands before it. Returns whether a remark stands behind it.
 fn write_unread_remark<W: Write>(writer: &mut W, bytes: &[u8], found: bool) -> io::Result<bool>
     ensures written { OnOk result (Appends (W.contents writer.old) (W.contents writer.new)
         (one_text found (unread_remark bytes.now))) }
@@ -98,7 +105,8 @@ fn write_unread_remark<W: Write>(writer: &mut W, bytes: &[u8], found: bool) -> i
     Ok(true)
 }
 
-// The remark on a piece, and whether any remark stands now.
+// Writes the remark on a piece, if there is one. `found` says whether a remark stands before it.
+// Returns whether a remark stands behind it.
 fn write_remark<W: Write>(
     writer: &mut W,
     scores: &[(ListedMove, i8)],
@@ -117,7 +125,7 @@ fn write_remark<W: Write>(
     }
 }
 
-// The remarks on the pieces of a line, and whether there is any.
+// Writes the remarks on the pieces of a line. Returns whether there is a remark.
 pub(crate) fn write_remarks<W: Write>(
     writer: &mut W,
     scores: &[(ListedMove, i8)],
