@@ -11,7 +11,7 @@ use clap::builder::ValueParser;
 use clap::{Arg, ArgAction, ArgMatches, Command};
 use othello_rules::Scoring;
 use std::alloc::{AllocError, Global};
-use suite_runs::{Settings, VERSION};
+use suite_runs::{MOST_EMPTIES, MOST_ENTRIES, MOST_WORKERS, Settings, VERSION};
 
 const ABOUT: &str = "\
 Solves Othello endgames exactly. For each position of OBF files it prints the score in discs, as
@@ -127,9 +127,23 @@ fn max_empties_arg<'a>(alloc: Global) -> Arg<'a>
     number_arg(
         alloc,
         "max-empties",
-        60,
+        u32::from(MOST_EMPTIES),
         "20",
         "Solve positions with at most N empty squares, 0 to 60",
+    )
+}
+
+// The worker threads.
+fn workers_arg<'a>(alloc: Global) -> Arg<'a>
+    ensures rule { rule_of result ≡ number_rule (codes "workers") 64 (codes "2") }
+    ensures local { result.global ≡ false }
+{
+    number_arg(
+        alloc,
+        "workers",
+        u32::from(MOST_WORKERS),
+        "2",
+        "Solve on N threads beside one for each file, 0 to 64; it changes no report",
     )
 }
 
@@ -141,7 +155,7 @@ fn table_arg<'a>(alloc: Global) -> Arg<'a>
     number_arg(
         alloc,
         "table",
-        4_194_304,
+        MOST_ENTRIES,
         "65536",
         "Keep the bounds of at most N positions, 0 to 4194304",
     )
@@ -153,14 +167,7 @@ fn run_options<'a>(alloc: Global, names: &'a [&'a str]) -> Result<Command<'a>, A
 {
     let bare = bare_command(alloc, "ffosolve", ABOUT, AFTER_HELP);
     let with_empties = bare.arg(max_empties_arg(alloc))?;
-    let workers = number_arg(
-        alloc,
-        "workers",
-        64,
-        "2",
-        "Solve on N threads beside one for each file, 0 to 64; it changes no report",
-    );
-    let with_workers = with_empties.arg(workers)?;
+    let with_workers = with_empties.arg(workers_arg(alloc))?;
     let with_table = with_workers.arg(table_arg(alloc))?;
     with_table.arg(scoring_arg(alloc, names))
 }
@@ -235,7 +242,11 @@ fn copy_names(alloc: Global, names: &[&str]) -> Result<Vec<String>, AllocError>
 }
 
 // The name of a book, where the words have one.
-fn book_of(alloc: Global, matches: &ArgMatches<'_>, id: &str) -> Result<Option<String>, AllocError>
+fn book_name_of(
+    alloc: Global,
+    matches: &ArgMatches<'_>,
+    id: &str,
+) -> Result<Option<String>, AllocError>
     ensures { IfOk result (λ name. option_map string_bytes name
         ≡ first_value (found_of matches.now) id.now) }
 {
@@ -273,8 +284,8 @@ pub fn options(alloc: Global, words: &[&str]) -> Result<Options, OptionFault>
     let Some(settings) = settings_of(&matches) else {
         return Err(OptionFault::Memory);
     };
-    let book_in = book_of(alloc, &matches, "book-in")?;
-    let book_out = book_of(alloc, &matches, "book-out")?;
+    let book_in = book_name_of(alloc, &matches, "book-in")?;
+    let book_out = book_name_of(alloc, &matches, "book-out")?;
     let files = files_of(alloc, &matches)?;
     Ok(Options {
         settings,

@@ -12,6 +12,6 @@ returns c =
     let s3 : App = with_rule s2 (number_rule (codes "table") 4194304 (codes "65536")) in
     let a0 : app_of c.bare_command-bare.result ≡ s0 = c.bare_command-bare.ensures in
     let a1 : app_of c.in_ok-with_empties.with_empties ≡ s1 = c.in_ok-with_empties.ensures.shape c.max_empties_arg.ensures.local ∙ ap₂ with_rule a0 c.max_empties_arg.ensures.rule in
-    let a2 : app_of c.in_ok-with_workers.with_workers ≡ s2 = c.in_ok-with_workers.ensures.shape c.number_arg-workers.ensures.local ∙ ap₂ with_rule a1 c.number_arg-workers.ensures.rule in
+    let a2 : app_of c.in_ok-with_workers.with_workers ≡ s2 = c.in_ok-with_workers.ensures.shape c.workers_arg.ensures.local ∙ ap₂ with_rule a1 c.workers_arg.ensures.rule in
     let a3 : app_of c.in_ok-with_table.with_table ≡ s3 = c.in_ok-with_table.ensures.shape c.table_arg.ensures.local ∙ ap₂ with_rule a2 c.table_arg.ensures.rule in
     IfOk-weaker c.arg-4.result _ _ (λ r h. h.shape c.scoring_arg.ensures.local ∙ ap₂ with_rule a3 c.scoring_arg.ensures.rule) c.arg-4.ensures
