@@ -22,8 +22,6 @@ mod entries;
 mod faults;
 mod ranges;
 mod tables;
-#[cfg(test)]
-mod tests;
 
 pub use bound_tables::BoundTable;
 pub use faults::TableFault;

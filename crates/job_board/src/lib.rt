@@ -25,8 +25,6 @@ pub mod laws;
 mod queues;
 mod senders;
 mod steps;
-#[cfg(test)]
-mod tests;
 
 pub use boards::Board;
 pub use clients::{Client, Turn};

@@ -17,7 +17,5 @@
 
 pub mod laws;
 mod scores;
-#[cfg(test)]
-mod tests;
 
 pub use scores::{Scored, score_move, score_moves};

@@ -21,8 +21,6 @@ mod fields;
 pub mod laws;
 mod reads;
 mod splits;
-#[cfg(test)]
-mod tests;
 mod writes;
 
 pub use cuts::{Lines, split_lines};

@@ -21,8 +21,6 @@ pub mod laws;
 mod masks;
 mod scorings;
 mod squares;
-#[cfg(test)]
-mod tests;
 
 pub use answers::{Answer, Best};
 pub use discs::{Cell, Side};

@@ -7,8 +7,6 @@ pub mod laws;
 mod lines;
 mod lists;
 mod remarks;
-#[cfg(test)]
-mod tests;
 
 pub use checks::{Wrong, wrong_in};
 pub use lists::{ListFault, write_lists};

@@ -21,8 +21,6 @@ mod headers;
 mod images;
 pub mod laws;
 mod listing;
-#[cfg(test)]
-mod tests;
 
 pub use books::Book;
 pub use claims::Claims;

@@ -1,0 +1,12 @@
+//! A module for each library: `rules` for `othello_rules`, `bits` for `othello_bits`, `texts` for
+//! `obf_text`, `tables` for `bound_table`, `scores` for `move_scores`, `lists` for `score_lists`,
+//! `books` for `solved_book`, and `boards` for `job_board`.
+
+mod bits;
+mod boards;
+mod books;
+mod lists;
+mod rules;
+mod scores;
+mod tables;
+mod texts;

@@ -1,0 +1,163 @@
+//! A thread that waits at a desk is woken. Where it doesn't go on within five seconds, other calls
+//! wake it, so that a test whose wake-up is lost ends and fails.
+
+use super::{FIRST, UNEQUAL_CORNERS, finishes, gives_back, sends, solved, task_of, turns_to};
+use endgame_search::Task;
+use job_board::{Client, Delivery, Desk, Job, Turn};
+use std::alloc::{AllocError, Global};
+use std::process::Abort;
+use std::sync::atomic::{AtomicBool, Ordering};
+use std::sync::{Mutex, Wait};
+use std::thread;
+use std::thread::Threads;
+use std::time::{Clock, Duration};
+
+// A call at a desk that lets another thread go on.
+#[derive(Clone, Copy)]
+enum Event {
+    // A worker waits for a job.
+    Submit,
+    GiveBack,
+    // A client waits for its answer.
+    Finish,
+    // A client waits for its end.
+    Close,
+}
+
+const EVENTS: &[Event] = &[Event::Submit, Event::GiveBack, Event::Finish, Event::Close];
+
+// One thread waits at the desk for the event, and says when it goes on.
+#[derive(Drop)]
+struct Scene {
+    desk: Desk,
+    // The client of the thread that waits.
+    client: Mutex<Client>,
+    // The client's first job.
+    job: Job,
+    event: Event,
+    woken: AtomicBool,
+}
+
+// A desk of two senders. Where the event is about a job, the client has sent it, and it is taken.
+fn scene_of<R: Wait>(rt: &R, alloc: Global, task: Task, event: Event) -> Result<Scene, AllocError> {
+    let Ok(desk) = Desk::new(alloc, 2) else {
+        return Err(AllocError);
+    };
+    let mut client = Client::new(alloc, 0);
+    if let Event::GiveBack | Event::Finish = event {
+        let _ = sends(rt, &desk, &mut client, task, 0) && desk.take_or_wait(rt).is_some();
+    }
+    Ok(Scene {
+        desk,
+        client: Mutex::new(client),
+        job: Job { id: FIRST, task },
+        event,
+        woken: AtomicBool::new(false),
+    })
+}
+
+// A worker that waits before the client does. It can't go on after the finish or the close, so that
+// call has to wake the client too. At last the worker takes a job of the other sender.
+fn stand_by<R: Wait>(rt: &R, scene: &Scene) -> bool {
+    match scene.event {
+        Event::Submit | Event::GiveBack => true,
+        Event::Finish | Event::Close => scene.desk.take_or_wait(rt).is_some(),
+    }
+}
+
+// Whether the turn of the waiting client returns `wanted`.
+fn is_told<R: Wait>(rt: &R, scene: &Scene, wanted: Turn) -> bool {
+    let mut client = scene.client.lock(rt);
+    turns_to(rt, &scene.desk, &mut client, wanted)
+}
+
+// Whether the call of the waiting thread returns what the event lets it return.
+fn is_given<R: Wait>(rt: &R, scene: &Scene) -> bool {
+    let next = Delivery {
+        number: 0,
+        solved: solved(scene.job.task),
+    };
+    match scene.event {
+        Event::Submit | Event::GiveBack => scene.desk.take_or_wait(rt) == Some(scene.job),
+        Event::Finish => is_told(rt, scene, Turn::Next(next)),
+        Event::Close => is_told(rt, scene, Turn::Drained),
+    }
+}
+
+fn wait<R: Wait + Clock>(rt: &R, scene: &Scene) -> bool {
+    thread::sleep(rt, Duration::from_millis(50));
+    let given = is_given(rt, scene);
+    scene.woken.store(true, Ordering::SeqCst);
+    given
+}
+
+// Whether the call of the event is accepted.
+fn call<R: Wait>(rt: &R, scene: &Scene, client: &mut Client) -> bool {
+    match scene.event {
+        Event::Submit => sends(rt, &scene.desk, client, scene.job.task, 0),
+        Event::GiveBack => gives_back(rt, &scene.desk, scene.job.id),
+        Event::Finish => finishes(rt, &scene.desk, scene.job),
+        Event::Close => scene.desk.close(rt, client) == Ok(true),
+    }
+}
+
+// Whether the waiting thread goes on within some five seconds.
+fn is_woken<R: Clock>(rt: &R, scene: &Scene) -> bool {
+    for _ in 0..50 {
+        if scene.woken.load(Ordering::SeqCst) {
+            return true;
+        }
+        thread::sleep(rt, Duration::from_millis(100));
+    }
+    false
+}
+
+// Makes the call while the other threads wait. Afterwards two submits and a close of another sender
+// let both of them go on, also where the call did not.
+fn wake<R: Wait + Clock>(rt: &R, alloc: Global, scene: &Scene) -> bool {
+    thread::sleep(rt, Duration::from_millis(150));
+    let called = call(rt, scene, &mut Client::new(alloc, 0));
+    let woken = is_woken(rt, scene);
+    let mut other = Client::new(alloc, 1);
+    let task = scene.job.task;
+    let ended = sends(rt, &scene.desk, &mut other, task, 0)
+        && sends(rt, &scene.desk, &mut other, task, 1)
+        && scene.desk.close(rt, &other) == Ok(true);
+    called && woken && ended
+}
+
+fn play<R: Wait + Clock>(rt: &R, alloc: Global, scene: &Scene, thread: usize) -> bool {
+    match thread {
+        0 => wake(rt, alloc, scene),
+        1 => wait(rt, scene),
+        _ => stand_by(rt, scene),
+    }
+}
+
+fn goes_on<R: Threads + Wait + Clock + Sync>(
+    rt: &R,
+    alloc: Global,
+    task: Task,
+    event: Event,
+) -> Result<bool, AllocError> {
+    let scene = scene_of(rt, alloc, task, event)?;
+    let passed = thread::map_indices(rt, alloc, 3, &|i| play(rt, alloc, &scene, i))?;
+    Ok(!passed.contains(&false))
+}
+
+// Whether the event wakes the thread that waits for it. Memory may be refused once.
+fn wakes<R: Threads + Wait + Clock + Abort + Sync>(rt: &R, alloc: Global, event: Event) -> bool {
+    let task = task_of(rt, UNEQUAL_CORNERS);
+    let woken = match goes_on(rt, alloc, task, event) {
+        Err(AllocError) => goes_on(rt, alloc, task, event),
+        woken => woken,
+    };
+    matches!(woken, Ok(true))
+}
+
+#[test]
+fn who_waits_is_woken(rt: HostRuntime) {
+    for event in EVENTS {
+        assert!(rt; wakes(&rt, rt.alloc(), *event));
+    }
+}

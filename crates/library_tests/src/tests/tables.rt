@@ -1,0 +1,202 @@
+//! What no contract says: that a store is shown, to every image and in every thread, and which
+//! calls succeed.
+
+ghost use Rattle.std.specs.Prelude.{◌≡◌};
+ghost use Rattle.othello_rules.specs.declared.scorings.Scoring.TheVariants.{Winner};
+ghost use Rattle.bound_table.specs.Range.{IsTrueOf};
+
+use bound_table::{BoundTable, Bounds, NoTable, Range, TableFault};
+use othello_bits::{Pos, Sym};
+use othello_rules::{Scoring, Side};
+use std::alloc::{AllocError, Global};
+use std::process::Abort;
+use std::test::Fail;
+use std::thread;
+use std::thread::Threads;
+
+// A position and the range of its value alone.
+#[derive(Clone, Copy)]
+struct Exact {
+    position: Pos,
+    range: Range,
+    ghost is_true: { IsTrueOf Winner position range },
+}
+
+impl Exact {
+    // The position where the opponent has the discs `opp`, A1 and H1 are empty, and the mover has
+    // all other squares. The range is its value by full minimax.
+    fn of(rt: &impl Abort, opp: u64) -> Exact {
+        let position = Pos::new(!(opp | 0x81), opp).expect(rt, "no square is taken twice");
+        let value = position.to_grid(Side::Black).plain_value(Scoring::Winner);
+        let range = Range::new(value, value).unwrap();
+        Exact { position, range }
+    }
+
+    // -OXXXXX- XXXXXXXO XXXXXXXX XXXXXXXX XXXOXXXX and three rows of X: 62
+    fn of_unequal_corners(rt: &impl Abort) -> Exact {
+        Exact::of(rt, 0x0000_0008_0000_8002)
+    }
+
+    // -OOXXOO- and seven rows of X: 64
+    fn of_equal_corners(rt: &impl Abort) -> Exact {
+        Exact::of(rt, 0x66)
+    }
+}
+
+// Whether the table shows that the position has this value.
+fn shows(table: &BoundTable, position: Pos, value: i8) -> bool {
+    table.probe(&position) == Range::new(value, value)
+}
+
+// Whether a store is shown to each image of the position, and nothing before it.
+fn is_shown_once_stored(table: &BoundTable, exact: &Exact, value: i8) -> bool
+    requires { table.now.scoring ≡ Winner }
+{
+    let before = table.probe(&exact.position);
+    table.store(&exact.position, exact.range);
+    for sym in Sym::all() {
+        if !shows(table, exact.position.image(sym), value) {
+            return false;
+        }
+    }
+    before.is_none()
+}
+
+#[test]
+fn a_store_is_shown_to_every_image(rt: HostRuntime) -> Result<(), Fail> {
+    let table = BoundTable::new(rt.alloc(), 1, Scoring::Winner)?;
+    let unequal = Exact::of_unequal_corners(&rt);
+    let equal = Exact::of_equal_corners(&rt);
+    assert!(rt; is_shown_once_stored(&table, &unequal, 62));
+    assert!(rt; is_shown_once_stored(&table, &equal, 64));
+    // There is one entry.
+    assert!(rt; table.probe(&unequal.position).is_none());
+    Ok(())
+}
+
+// Whether the table shows nothing after a range was offered to it.
+fn keeps_nothing<T: Bounds>(table: &T, exact: &Exact) -> bool
+    requires { T.scoring table.now ≡ Winner }
+{
+    table.store(&exact.position, exact.range);
+    table.probe(&exact.position).is_none()
+}
+
+#[test]
+fn tables_of_each_size(rt: HostRuntime) -> Result<(), Fail> {
+    let exact = Exact::of_equal_corners(&rt);
+    let no_table = NoTable::new(Scoring::Winner);
+    assert!(rt; no_table.scoring() == Scoring::Winner && keeps_nothing(&no_table, &exact));
+    let empty = BoundTable::new(rt.alloc(), 0, Scoring::Winner)?;
+    assert!(rt; keeps_nothing(&empty, &exact));
+    let table = BoundTable::new(rt.alloc(), 16, Scoring::Winner)?;
+    assert!(rt; table.scoring() == Scoring::Winner && !keeps_nothing(&table, &exact));
+    let too_many = BoundTable::new(rt.alloc(), 4_194_305, Scoring::Winner).err();
+    assert!(rt; too_many == Some(TableFault::TooMany));
+    Ok(())
+}
+
+// Stores both ranges by turns.
+fn store_by_turns(table: &BoundTable, one: &Exact, other: &Exact)
+    requires { table.now.scoring ≡ Winner }
+{
+    for _ in 0..10_000 {
+        table.store(&one.position, one.range);
+        table.store(&other.position, other.range);
+    }
+}
+
+// Whether the range that the table shows of the position, if any, holds its value.
+fn is_shown_truly(table: &BoundTable, exact: &Exact) -> bool {
+    let value = exact.range.low();
+    match table.probe(&exact.position) {
+        Some(shown) => shown.low() <= value && value <= shown.high(),
+        None => true,
+    }
+}
+
+fn are_shown_truly(table: &BoundTable, one: &Exact, other: &Exact) -> bool {
+    for _ in 0..10_000u32 {
+        if !is_shown_truly(table, one) || !is_shown_truly(table, other) {
+            return false;
+        }
+    }
+    true
+}
+
+// Stores in one thread while two others probe.
+fn run_three<R: Threads + Sync>(
+    rt: &R,
+    table: &BoundTable,
+    one: &Exact,
+    other: &Exact,
+) -> (bool, bool)
+    requires { table.now.scoring ≡ Winner }
+{
+    let (_, shown) = thread::join(
+        rt,
+        || store_by_turns(table, one, other),
+        || {
+            thread::join(
+                rt,
+                || are_shown_truly(table, one, other),
+                || are_shown_truly(table, one, other),
+            )
+        },
+    );
+    shown
+}
+
+#[test]
+fn what_threads_are_shown_is_true(rt: HostRuntime) -> Result<(), Fail> {
+    let table = BoundTable::new(rt.alloc(), 1, Scoring::Winner)?;
+    let unequal = Exact::of_unequal_corners(&rt);
+    let equal = Exact::of_equal_corners(&rt);
+    assert!(rt; unequal.range.low() == 62 && equal.range.low() == 64);
+    assert!(rt; run_three(&rt, &table, &unequal, &equal) == (true, true));
+    // The first store found the entry free, so it holds one of the two.
+    assert!(rt; table.probe(&unequal.position).is_some() || table.probe(&equal.position).is_some());
+    Ok(())
+}
+
+// The positions where the opponent has some of the squares A2 to E2, and A1 and H1 are empty.
+fn with_row_2(rt: &impl Abort, discs: u64) -> Exact {
+    Exact::of(rt, (discs & 0x1f) << 8)
+}
+
+// How many of 31 positions a table shows after all of them were stored.
+fn count_shown(rt: &impl Abort, table: &BoundTable) -> usize
+    requires { table.now.scoring ≡ Winner }
+{
+    for discs in 1..32u64 {
+        let exact = with_row_2(rt, discs);
+        table.store(&exact.position, exact.range);
+    }
+    (1..32u64)
+        .filter(|discs| table.probe(&with_row_2(rt, *discs).position).is_some())
+        .count()
+}
+
+#[test]
+fn positions_have_entries_of_their_own(rt: HostRuntime) -> Result<(), Fail> {
+    let table = BoundTable::new(rt.alloc(), 16, Scoring::Winner)?;
+    assert!(rt; count_shown(&rt, &table) >= 8);
+    Ok(())
+}
+
+fn has_text(alloc: Global, fault: TableFault, text: &str) -> Result<bool, AllocError> {
+    Ok(format!(in alloc; "{fault}")?.as_str() == text)
+}
+
+#[test]
+fn texts_of_faults(rt: HostRuntime) -> Result<(), AllocError> {
+    assert!(rt;
+        has_text(
+            rt.alloc(),
+            TableFault::TooMany,
+            "more than 4194304 table entries"
+        )?
+    );
+    assert!(rt; has_text(rt.alloc(), TableFault::Memory, "out of memory")?);
+    Ok(())
+}
