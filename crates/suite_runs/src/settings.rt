@@ -4,19 +4,21 @@ ghost use Rattle.std.specs.Prelude.{◌≡◌, ◌≤◌, ◌↔◌, IsSome, IfS
 ghost use Rattle.suite_runs.specs.Settings.{SettingsView, IsWithinLimits, defaults};
 
 use bound_table::BoundTable;
+use endgame_search::Task;
+use job_board::Board;
 use othello_rules::Scoring;
 use std::marker::Model;
 
 /// The version of the programs, as `--version` prints it.
 pub const VERSION: &str = "1.0.0";
 /// The most empty squares that a setting may allow.
-pub const MOST_EMPTIES: u8 = 60;
+pub const MOST_EMPTIES: u8 = Task::MOST_EMPTIES;
 /// The most workers.
 pub const MOST_WORKERS: u8 = 64;
 /// The most entries of a table.
 pub const MOST_ENTRIES: u32 = BoundTable::MOST_ENTRIES as u32;
-/// The most files of a run.
-pub const MOST_FILES: usize = 64;
+/// The most files of a run, each of which is a sender of the board.
+pub const MOST_FILES: usize = Board::MOST_SENDERS as usize;
 /// The most bytes of a file.
 pub const MOST_BYTES: usize = 1_048_576;
 
