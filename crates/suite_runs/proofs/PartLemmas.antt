@@ -1,4 +1,4 @@
--- What comes of files, one after the other.
+-- The reports and the book of a run, built from one part after the other.
 use Rattle.std.proofs.Common.{◌≡◌, ◌<◌, ◌+◌, ℕ, List, [], ◌∷◌, ◌++◌, length, map, take, drop, get_or, All, Contains, refl, sym, ap, ap₂, ◌∙◌, subst, inl, inr, arith, Vec, Global}
 use Rattle.std.specs.Prelude.{◌↔◌, ◌⊎◌}
 use Rattle.std.proofs.lemmas.List.{append_assoc, append-nil, drop_more, length-map, map-append, map_more}

@@ -1,4 +1,4 @@
--- The steps of the reports, and what is refused.
+-- The first file that is too large, and the refusal of a run.
 use Rattle.std.proofs.Common.{◌≡◌, ℕ, ◌+◌, ◌<◌, ◌≤◌, ◌⊎◌, inl, inr, Bool, true, false, not, cond, List, [], ◌∷◌, length, get_or, refl, sym, ◌∙◌, ap, arith, Vec, Global}
 use Rattle.std.specs.Prelude.{◌↔◌, Option, Some, None, Result, Ok, Err, IsErrOf, nat_lt, option_map}
 use Rattle.std.specs.List.{position, position_or_len}

@@ -16,8 +16,8 @@ use Rattle.suite_runs.specs.declared.checks.Check.TheVariants.{Agree, Differ, Un
 abbrev pub fields_with : ℤ → List Field → List Field
 fields_with score fields = filter (λ f. int_eq f.1 score) fields
 
--- a square is best if it is one of the best moves, a pass where the answer is a pass, and the end
--- of the game where it is over
+-- a listed move is best: a square that is one of the best moves, a pass where the answer is a pass,
+-- or the end where the game is over
 abbrev pub is_best_in : Best → ListedMove → Bool
 is_best_in (best.Moves mask) (listed.At q) = in_mask mask q
 is_best_in best.Pass listed.Pass = true
@@ -33,6 +33,7 @@ unfoldable pub agrees : List Field → AnswerView → Bool
 agrees fields answer =
     int_eq (greatest_listed fields) answer.score && are_best_in answer.best answer.score fields
 
+-- `Unlisted` where no score is listed, and else whether the fields agree with the answer
 unfoldable pub check : List Field → AnswerView → Check
 check [] answer = Unlisted
 check (f ∷ fs) answer = if agrees (f ∷ fs) answer then Agree else Differ

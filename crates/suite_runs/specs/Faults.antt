@@ -1,10 +1,10 @@
--- What is printed of a run that gives no reports.
+-- The text of a fault for which a run gives no reports.
 use Rattle.std.specs.Prelude.{ℕ, List, ◌+◌, ◌++◌, codes}
 use Rattle.std.specs.Fmt.{decimal}
 use Rattle.suite_runs.specs.declared.faults.RunFault.{RunFault}
 use Rattle.suite_runs.specs.declared.faults.RunFault.TheVariants.{Memory, Mixed, TooManyFiles, FileTooLarge}
 
--- files are numbered from 1, senders from 0
+-- a file is named by its sender plus 1, since senders count from 0
 unfoldable pub run_fault_text : RunFault → List ℕ
 run_fault_text Memory = codes "out of memory"
 run_fault_text Mixed = codes "answers mixed"

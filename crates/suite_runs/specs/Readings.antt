@@ -1,4 +1,4 @@
--- What the lines of a text ask, and their results.
+-- The lines of a text after they were read: their tasks, and their results.
 use Rattle.std.specs.Prelude.{List, Option, Some, None}
 use Rattle.std.specs.List.{filter_map}
 use Rattle.endgame_search.specs.Task.{TaskView}
@@ -11,21 +11,22 @@ use Rattle.suite_runs.specs.declared.rows.RowResult.{RowResult}
 use Rattle.suite_runs.specs.declared.rows.RowResult.TheVariants.{Solved, Refused}
 use Rattle.suite_runs.specs.declared.lines.NumberedReading.{NumberedReading}
 
+-- the task of a line; none where the line is refused
 abbrev pub task_in : Reading → Option TaskView
 task_in (reading.Position task listed) = Some task
 task_in (reading.Refused refusal) = None
 
--- the answer of the task with its check, or the refusal
+-- the result of a line: the answer of its task with the check, or its refusal
 abbrev pub result_in : Reading → RowResult
 result_in (reading.Position task listed) =
     Solved (answer_of task.scoring task.position)
     (check listed.items (answer_of task.scoring task.position))
 result_in (reading.Refused refusal) = Refused refusal
 
--- the row of a line
+-- the row of a line that was read
 abbrev pub row_in : NumberedReading → ReportRow
 row_in numbered = record { line = numbered.line; result = result_in numbered.reading }
 
--- the tasks of lines, in their order
+-- the tasks of the lines that were read, in their order
 abbrev pub tasks_in : List NumberedReading → List TaskView
 tasks_in readings = filter_map (λ (n : NumberedReading). task_in n.reading) readings

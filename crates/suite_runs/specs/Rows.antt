@@ -15,21 +15,22 @@ use Rattle.suite_runs.specs.declared.rows.RowResult.{RowResult}
 use Rattle.suite_runs.specs.declared.rows.RowResult.TheVariants.{Solved, Refused}
 use Rattle.suite_runs.specs.declared.rows.ReportRow.{ReportRow}
 
--- a position is solved, and its answer checked, unless it has more empty squares than the limit
+-- the result of a position: its answer with the check; or a refusal, where it has more empty
+-- squares than the limit
 abbrev pub entry_result : Scoring → ℕ → Entry → RowResult
 entry_result g limit entry =
     if nat_lt limit (empties entry.position)
     then Refused (refusal.Empties (empties entry.position) limit)
     else Solved (answer g entry.position) (check entry.listed (answer g entry.position))
 
--- a line's fault; want of memory is said of no line
+-- the result of a line with a fault; want of memory is the result of no line
 abbrev pub fault_result : LineFault → Option RowResult
 fault_result (fault.Short found) = Some (Refused (refusal.Short found))
 fault_result (fault.BadCell column) = Some (Refused (refusal.BadCell column))
 fault_result (fault.BadSide column) = Some (Refused (refusal.BadSide column))
 fault_result fault.Memory = None
 
--- the task of a line: a position that is solved
+-- the task of a line: its position, where that has no more empty squares than the limit
 abbrev pub task_of : Scoring → ℕ → Meaning → Option TaskView
 task_of g limit (Holds entry) =
     if nat_lt limit (empties entry.position)
@@ -37,14 +38,15 @@ task_of g limit (Holds entry) =
     else Some (record { position = discs_of entry.position; scoring = g })
 task_of g limit _ = None
 
--- the tasks of lines, and of a text, in their order
+-- the tasks of lines, in their order
 unfoldable pub tasks_from : Scoring → ℕ → List (List ℕ) → List TaskView
 tasks_from g limit lines = filter_map (λ line. task_of g limit (item_of line)) lines
 
+-- the tasks of a text, in the order of its lines
 abbrev pub tasks : Scoring → ℕ → List ℕ → List TaskView
 tasks g limit text = tasks_from g limit (lines_of text)
 
--- a line that is skipped has no result
+-- the result of a line by what the line says; a skipped line has none
 abbrev pub result_of : Scoring → ℕ → Meaning → Option RowResult
 result_of g limit Skipped = None
 result_of g limit (Holds entry) = Some (entry_result g limit entry)
@@ -61,6 +63,6 @@ row_of g limit (n, line) = option_map (report_row n) (result_of g limit (item_of
 unfoldable pub rows_from : Scoring → ℕ → ℕ → List (List ℕ) → List ReportRow
 rows_from g limit n lines = filter_map (row_of g limit) (enumerate_from n lines)
 
--- a text's lines are numbered from 1, skipped ones counted
+-- the rows of a text, whose lines are numbered from 1, skipped ones counted
 unfoldable pub rows : Scoring → ℕ → List ℕ → List ReportRow
 rows g limit text = rows_from g limit 1 (lines_of text)

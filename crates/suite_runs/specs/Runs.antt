@@ -1,4 +1,4 @@
--- What a run on files answers.
+-- The refusal and the result of a run on files.
 use Rattle.std.specs.Prelude.{◌≡◌, ℕ, nat_lt, Bool, List, length, map, option_map, Option, Some, None, Result, Ok, Err, Vec, if◌then◌else◌}
 use Rattle.std.specs.List.{flat_map, position}
 use Rattle.std.specs.declared.alloc.Global.{Global}
@@ -17,22 +17,22 @@ use Rattle.suite_runs.specs.declared.parts.Part.{Part}
 abbrev pub texts_of : List (Vec ℕ Global) → List (List ℕ)
 texts_of files = map (λ file. file.items) files
 
--- more than 1,048,576 bytes
+-- the text has more than 1,048,576 bytes
 abbrev pub is_large : List ℕ → Bool
 is_large text = nat_lt 1048576 (length text)
 
--- the sender of the first file that is too large
+-- the sender of the first text of more than 1,048,576 bytes
 abbrev pub first_large : List (List ℕ) → Option ℕ
 first_large texts = position is_large texts
 
--- what is refused before anything is solved:
--- more than 64 files, and else the first file that is too large
+-- the refusal of a run, before anything is solved: more than 64 files, and else the first file of
+-- more than 1,048,576 bytes
 unfoldable pub refusal_of : List (List ℕ) → Option RunFault
 refusal_of texts =
     if nat_lt 64 (length texts) then Some TooManyFiles
     else option_map FileTooLarge (first_large texts)
 
--- what is refused, or nothing
+-- the result is the refusal of the texts, or Ok where there is none
 abbrev pub Refuses : Result (Unit {0}) RunFault → List (List ℕ) → Type 0
 Refuses (Ok nothing) texts = refusal_of texts ≡ None
 Refuses (Err fault) texts = refusal_of texts ≡ Some fault
@@ -50,8 +50,8 @@ pub record Solves (c : SettingsView) (texts : List (List ℕ)) (outcome : Outcom
   pub reports : texts_of outcome.reports.items ≡ reports c.scoring c.max_empties texts
   pub book : IsBookOf c.scoring (all_tasks c.scoring c.max_empties texts) outcome.book
 
--- A run gives the reports of its files, or says what is refused. Else it can want memory, or its
--- answers can be mixed.
+-- The result of a run: where nothing is refused, the reports and the book of the texts, or want of
+-- memory, or mixed answers; else the refusal.
 abbrev pub Answers : Result Outcome RunFault → SettingsView → List (List ℕ) → Type 0
 Answers (Ok outcome) c texts =
     (refusal_of texts ≡ None) × Solves c texts outcome

@@ -16,6 +16,6 @@ pub record IsWithinLimits (c : SettingsView) : Type 0 where
   pub few_workers : c.workers ≤ 64
   pub few_entries : c.table ≤ 4194304
 
--- the settings that stand where no option says another
+-- the default settings
 abbrev pub defaults : SettingsView
 defaults = record { max_empties = 20; workers = 2; table = 65536; scoring = Winner }

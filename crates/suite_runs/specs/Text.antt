@@ -22,10 +22,11 @@ use Rattle.suite_runs.specs.declared.rows.ReportRow.{ReportRow}
 unfoldable pub names_text : List ℕ → List ℕ
 names_text squares = join_with_byte 44 (map name_of squares)
 
--- a name behind its comma
+-- a comma and the name of a square
 unfoldable pub comma_name : ℕ → List ℕ
 comma_name square = 44 ∷ name_of square
 
+-- the names of the best moves; `PS` for a pass, `--` where the game is over
 unfoldable pub best_text : Best → List ℕ
 best_text (Moves mask) = names_text (squares_of mask)
 best_text Pass = codes "PS"
@@ -42,15 +43,16 @@ refusal_text (BadCell column) = line_fault_text (fault.BadCell column)
 refusal_text (BadSide column) = line_fault_text (fault.BadSide column)
 refusal_text (Empties found limit) = decimal found ++ (codes " empties, limit " ++ decimal limit)
 
+-- the score, a space, and the best moves
 unfoldable pub answer_text : AnswerView → List ℕ
 answer_text answer = score_text answer.score ++ (codes " " ++ best_text answer.best)
 
--- the score, the best moves and the check; or why the line was refused
+-- the result in a row: the score, the best moves and the check; or why the line was refused
 unfoldable pub result_text : RowResult → List ℕ
 result_text (Solved answer check) = answer_text answer ++ (codes " " ++ check_text check)
 result_text (Refused refusal) = codes "refused: " ++ refusal_text refusal
 
--- the line's number and its result
+-- the line of a row: the number of the line in its file, and the result
 unfoldable pub row_text : ReportRow → List ℕ
 row_text row = decimal row.line ++ (codes " " ++ (result_text row.result ++ 10 ∷ []))
 
@@ -58,19 +60,20 @@ abbrev pub is_solved : RowResult → Bool
 is_solved (Solved answer check) = true
 is_solved (Refused refusal) = false
 
+-- the number of solved rows
 unfoldable pub solved_count : List ReportRow → ℕ
 solved_count rows = count_by (λ row. is_solved row.result) rows
 
--- senders count from 0, and are printed from 1
+-- the first line: a sender counts from 0, and is printed as its number plus 1
 unfoldable pub head_text : ℕ → List ℕ
 head_text sender = codes "[" ++ (decimal (sender + 1) ++ (codes "]" ++ 10 ∷ []))
 
--- how many rows are solved, and how many refused
+-- the last line: the number of solved rows, and the number of refused rows
 unfoldable pub last_text : List ReportRow → List ℕ
 last_text rows =
     codes "solved " ++ (decimal (solved_count rows)
     ++ (codes " refused " ++ (decimal (length rows - solved_count rows) ++ 10 ∷ [])))
 
--- the sender, a line for each row, and the two sums
+-- the first line, a line for each row, and the last line
 unfoldable pub report_text : ℕ → List ReportRow → List ℕ
 report_text sender rows = head_text sender ++ (flat_map row_text rows ++ last_text rows)

@@ -1,4 +1,4 @@
--- What the threads of a run are started for.
+-- The clients of a run that were started, and the parts that they give.
 use Rattle.std.specs.Prelude.{◌≡◌, ℕ, List, map, Option, Some, None}
 use Rattle.othello_rules.specs.declared.scorings.Scoring.{Scoring}
 use Rattle.suite_runs.specs.Parts.{GivesPart, IsPartFault, PartView, part_view, part_view_of}
@@ -8,7 +8,7 @@ use Rattle.suite_runs.specs.declared.threads.PartPromise.{PartPromise}
 use Rattle.suite_runs.specs.declared.threads.Progress.{Progress}
 use Rattle.suite_runs.specs.declared.threads.Progress.TheVariants.{Spawned, Done}
 
--- the text of a client, with what its lines are read by
+-- the text of a client, with the scoring and the limit of empty squares by which it is solved
 pub record StartedClientView : Type 0 where
   pub scoring : Scoring
   pub limit : ℕ
@@ -29,7 +29,7 @@ IsProgressOf a (Done part) = GivesPart a.scoring a.limit a.text part
 abbrev pub part_view_at : StartedClientView → PartView
 part_view_at a = part_view a.scoring a.limit a.text
 
--- what was joined: the parts of all clients, unless there was a fault
+-- the clients were joined: without a fault these are their parts, in their order
 abbrev pub AreJoined : List StartedClientView → List Part → Option RunFault → Type 0
 AreJoined clients parts None = map part_view_of parts ≡ map part_view_at clients
 AreJoined clients parts (Some fault) = IsPartFault fault

@@ -6,17 +6,20 @@ ghost use Rattle.suite_runs.specs.Checks.{check, is_best_in, are_best_in};
 use obf_text::{ListedMove, greatest_score};
 use othello_rules::{Answer, Best, has_square};
 
-/// What a line's listed scores say of the answer.
+/// How the scores that a line lists compare with the exact answer of its position.
 #[derive(Clone, Copy, PartialEq, Eq, Debug)]
 pub enum Check {
-    /// The greatest listed score is the answer's, and each move listed with it is best.
+    /// The greatest listed score is the answer's score, and each move listed with it is a best
+    /// move.
     Agree,
+    /// The greatest listed score is another one, or a move listed with it is no best move.
     Differ,
     /// The line lists no score.
     Unlisted,
 }
 
-// Whether a listed move is best.
+// Whether a listed move is best: a square that is one of the best moves, a pass where the answer is
+// a pass, or the end where the game is over.
 fn is_best_in(best: Best, listed: ListedMove) -> bool
     ensures { result ≡ is_best_in best listed }
 {
@@ -37,7 +40,8 @@ fn are_best_in(best: Best, score: i8, listed: &[(ListedMove, i8)]) -> bool
         .all(|(listed_move, _)| is_best_in(best, *listed_move))
 }
 
-/// Compares the listed scores of a line with its answer.
+/// Compares the moves and scores that a line lists with the exact answer of its position. Scores
+/// are as the side to move sees them. Scores below the greatest are not tested.
 #[tactic(auto, unfolding(crate::specs::Checks::check, crate::specs::Checks::agrees))]
 pub fn check_of(listed: &[(ListedMove, i8)], answer: &Answer) -> Check
     ensures { result ≡ check listed.now answer.now }

@@ -1,4 +1,4 @@
-//! What the threads of a run do at its desk.
+//! The clients and the workers of a run, each on a thread, all at one desk.
 
 ghost use Rattle.std.specs.Prelude.{◌≡◌, ◌⊎◌, ◌≤◌, ◌++◌, length, Ok, IfOk, IfErr, OnOk, IsErr, IsErrOf};
 ghost use Rattle.suite_runs.specs.Readings.{tasks_in};
@@ -17,7 +17,7 @@ use solved_book::Claims;
 use std::alloc::{AllocError, Global};
 use std::sync::Wait;
 
-// Submits all tasks.
+// Submits the task of each reading that has one, in the order of the readings.
 fn send_all<R: Wait>(
     rt: &R,
     desk: &Desk,
@@ -36,8 +36,9 @@ fn send_all<R: Wait>(
     Ok(())
 }
 
-// Solves a job that was taken, and finishes it. One of another scoring than the table's is given
-// back. `Mixed` then, and where the desk refuses the answer.
+// Solves a taken job and finishes it at the desk. A job under another scoring than the table's is
+// given back instead. The fault is `Mixed` where the job is given back, or where the desk refuses
+// the answer.
 fn solve_job<R: Wait, T: Bounds, G: Gate>(
     rt: &R,
     desk: &Desk,
@@ -60,8 +61,9 @@ fn solve_job<R: Wait, T: Bounds, G: Gate>(
     }
 }
 
-// Receives the answers of all that the client sent, in their order, and solves the jobs that it
-// takes meanwhile.
+// Receives the answers of all tasks that the client sent, in the order of the tasks. Between two
+// answers the thread solves the jobs that it takes. `Memory` where the list can't grow; `Mixed`
+// where the desk or a job is refused.
 fn receive_all<R: Wait, T: Bounds, G: Gate>(
     rt: &R,
     alloc: Global,
@@ -94,8 +96,9 @@ fn receive_all<R: Wait, T: Bounds, G: Gate>(
     unreachable!()
 }
 
-/// A worker's part: it takes jobs and solves them until the desk is done. It ends after a job that
-/// was refused.
+/// Does the part of a worker: it takes jobs at the desk and solves them until the desk is done. It
+/// ends early after a job under another scoring than the table's, and after an answer that the desk
+/// refuses. It may wait for other threads.
 pub fn work<R: Wait, T: Bounds, G: Gate>(rt: &R, desk: &Desk, solver: &Solver<'_, T>, gate: &G) {
     for _ in rt.forever() {
         let Some(job) = desk.take_or_wait(rt) else {
@@ -107,8 +110,9 @@ pub fn work<R: Wait, T: Bounds, G: Gate>(rt: &R, desk: &Desk, solver: &Solver<'_
     }
 }
 
-// Submits the tasks of what was read, where there was memory for that, and closes the sender in any
-// case, since others wait for the close.
+/// Submits the tasks of the readings, and then closes the client's sender in any case, since
+/// workers wait until each sender is closed. It gives the readings back. `Memory` where `read` is
+/// an error, or where a submit was refused for memory; `Mixed` for any other refusal of the desk.
 pub fn send_and_close<R: Wait>(
     rt: &R,
     desk: &Desk,
@@ -134,13 +138,16 @@ pub fn send_and_close<R: Wait>(
     }
 }
 
-/// The whole part of one client: it submits the tasks of the text's lines for its sender, closes
-/// it, and solves what jobs it is given until all of its answers came back. The tasks are under the
-/// scoring of the table. Where it is Ok, its rows are those of the text, and its solved positions
-/// are those of the text's lines, in their order, at any desk, whatever is claimed, and whatever
-/// other threads do there. `Memory` where that was refused; `Mixed` for any other refusal of the
-/// desk. After a fault the desk keeps the steps that were made, and the sender is closed. It may
-/// wait for other threads.
+/// Does the whole part of one client. It submits the tasks of the text's lines for `sender`, which
+/// counts from 0, and closes that sender. Then it solves the jobs that it takes until all of its
+/// own answers came back. A position with more than `limit` empty squares is refused; the tasks are
+/// under the scoring of the table.
+///
+/// Where the result is Ok, its rows are those of the text, and its solved positions are those of
+/// the text's lines, in their order: at any desk, for any claims, and whatever other threads do
+/// there. `Memory` comes where memory was refused; `Mixed` where the desk refused a step for
+/// another reason, or where a job under another scoring was taken. After a fault the desk keeps the
+/// steps that were made, and the sender is closed. The call may wait for other threads.
 pub fn client_part<R: Wait, T: Bounds, G: Gate>(
     rt: &R,
     alloc: Global,

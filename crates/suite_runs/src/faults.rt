@@ -10,16 +10,17 @@ use std::alloc::{AllocError, AllocFailed};
 use std::error::Error;
 use std::fmt;
 
-/// Why a run gives no reports. Senders count from 0.
+/// Why a run gives no reports. A sender is the number of a file, counted from 0.
 #[derive(Clone, Copy, PartialEq, Eq, Debug, Drop)]
 pub enum RunFault {
+    /// Memory was refused.
     Memory,
-    /// A step of the job board was refused, as where an answer came back that belongs to another
-    /// position.
+    /// The desk refused a step for another reason than memory, or a job under another scoring was
+    /// taken.
     Mixed,
     /// There are more than 64 files.
     TooManyFiles,
-    /// The first file of more than 1,048,576 bytes, by its sender.
+    /// A file has more than 1,048,576 bytes. This is the sender of the first such file.
     FileTooLarge(u32),
 }
 
@@ -69,7 +70,8 @@ impl From<SubmitFault> for RunFault {
     }
 }
 
-/// The worse of two faults: want of memory comes before any other.
+/// The fault that is kept of an earlier and a later one: `Memory` if the earlier one is `Memory`,
+/// and else the later one.
 pub(crate) fn worse_fault(before: Option<RunFault>, fault: RunFault) -> RunFault
     ensures { result ≡ worse_fault before fault }
 {

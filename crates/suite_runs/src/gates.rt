@@ -3,17 +3,17 @@
 use std::marker::Sync;
 use std::sync::Wait;
 
-/// Its calls are made when a thread of a run begins and ends a job. Senders and job numbers count
-/// from 0.
+/// Two calls that each thread of a run makes, before and after it solves a job. `sender` is the
+/// number of the job's file, and `number` the number of the job in that file; both count from 0.
 pub trait Gate: Sync {
-    /// Called after a thread took a job, and before it solves it.
+    /// Called after a thread took the job, and before it solves the job.
     fn enter<R: Wait>(&self, rt: &R, sender: u32, number: u32);
 
-    /// Called after the thread's `finish` of the job was answered.
+    /// Called after the desk accepted or refused the answer of the job.
     fn leave<R: Wait>(&self, rt: &R, sender: u32, number: u32);
 }
 
-/// Does nothing.
+/// A gate whose calls do nothing.
 #[derive(Clone, Copy, Debug)]
 pub struct NoGate;
 

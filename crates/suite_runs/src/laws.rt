@@ -1,5 +1,5 @@
-//! The part of one client of a run, and what holds of two runs. A law's body is empty: its contract
-//! is the law.
+//! The part of one client of a run, and a law about the books of two runs. The body of a law is
+//! empty: its contract is the law.
 
 ghost use Rattle.std.specs.Prelude.{◌≡◌, List};
 ghost use Rattle.othello_rules.specs.declared.scorings.Scoring.{Scoring};
@@ -10,9 +10,11 @@ ghost use Rattle.suite_runs.specs.Parts.{IsBookOf};
 
 pub use crate::clients::client_part;
 
-/// Two books of equal tasks are equal. So runs on equal files, under one scoring and limit, write
-/// equal books, whatever their workers, tables, claims and gates. That its positions stand in
-/// order, each call of `Book::len` and of `Book::write` says.
+/// Two books of the same tasks under one scoring are equal, if the positions of each are canonical
+/// and in rising order. So runs on the same files, under one scoring and one limit of empty
+/// squares, give equal books, whatever their workers, tables, claims and gates. The contracts of
+/// `Book::len` and `Book::write` say that the positions of a book are canonical and in rising
+/// order.
 pub fn books_are_one()
     ensures { (g : Scoring) (tasks : List TaskView) (a b : BookView)
         → IsBookOf g tasks a → IsBookOf g tasks b

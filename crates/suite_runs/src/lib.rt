@@ -1,5 +1,5 @@
-//! Runs over the files of a suite: each file's lines are read and solved, on one thread or on
-//! several, and a report is written of them.
+//! Runs over the files of a suite. The lines of each file are read and solved, on the calling
+//! thread or on several. A run makes a report of each file, and one book of all solved positions.
 //!
 //! ```rust
 //! use suite_runs::{NoGate, Settings, run};
@@ -9,9 +9,10 @@
 //! outcome.book.write(&mut text)?;
 //! ```
 //!
-//! `run_serial` gives reports and book on one thread. `suite_solver` hands the public names on and
-//! has the program over them. Its tests are those of this library too, so that it is not proved
-//! again with them; the modules `clients`, `solvers` and `threads` are public for that.
+//! `run` solves on threads, `run_serial` on the calling thread. The crate `suite_solver` hands the
+//! public names on, and has the program `ffosolve` and the tests of this crate, so that this crate
+//! is not proved again with tests. The modules `clients`, `solvers` and `threads` are public for
+//! those tests.
 #![tactic(auto)]
 
 mod checks;

@@ -1,4 +1,4 @@
-//! The lines of a text: read once, and made rows when their positions are solved.
+//! The lines of a text: each is read once, and is made a row when its position is solved.
 
 ghost use Rattle.std.specs.Prelude.{◌≡◌, ◌≤◌, length, map, IfOk};
 ghost use Rattle.suite_runs.specs.Readings.{row_in, task_in, tasks_in};
@@ -11,7 +11,8 @@ use obf_text::split_lines;
 use othello_rules::Scoring;
 use std::alloc::{AllocError, Global};
 
-/// A line's number in its file, counted from 1 over all lines, and what it asks.
+/// A line that is not skipped, after it was read: its number in its file, counted from 1 over all
+/// lines, with its task or its refusal.
 #[derive(Drop)]
 pub struct NumberedReading {
     line: u32,
@@ -19,7 +20,7 @@ pub struct NumberedReading {
 }
 
 impl NumberedReading {
-    /// The task, where the line asks for a position to be solved.
+    /// The task of the line; None where the line is refused.
     pub(crate) fn task(&self) -> Option<Task>
         ensures { result ≡ task_in self.now.reading }
     {
@@ -27,7 +28,8 @@ impl NumberedReading {
     }
 }
 
-/// What the lines of a text ask, in their order. Skipped lines are left out.
+/// Reads the lines of a text, in their order. Skipped lines are left out. A position with more than
+/// `limit` empty squares is refused.
 pub(crate) fn readings_of(
     alloc: Global,
     limit: u8,
@@ -50,7 +52,8 @@ pub(crate) fn readings_of(
     Ok(readings)
 }
 
-/// The rows of lines, whose tasks were solved in their order.
+/// The rows of lines that were read. `solved` has the answers of their tasks, in the order of the
+/// lines.
 pub(crate) fn rows_of(
     alloc: Global,
     readings: &[NumberedReading],

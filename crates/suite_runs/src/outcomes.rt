@@ -1,4 +1,4 @@
-//! What a run gives.
+//! The outcome of a run: the reports of its files, and the book of its positions.
 
 ghost use Rattle.std.specs.Prelude.{◌≡◌, ◌⊎◌, ◌↔◌, ◌++◌, ◌≤◌, ℕ, List, length, map, All, Contains, IfOk, OnOk};
 ghost use Rattle.othello_bits.specs.Pos.{PosView};
@@ -15,16 +15,16 @@ use othello_rules::Scoring;
 use solved_book::Book;
 use std::alloc::{AllocError, Global};
 
-/// What a run gives.
+/// The reports and the book of a run.
 #[derive(Debug, Drop)]
 pub struct Outcome {
-    /// The report of each file, in the order of the files.
+    /// The bytes of each file's report, in the order of the files.
     pub reports: Vec<Vec<u8>>,
-    /// Every solved position of the run.
+    /// The canonical form of each solved position with its answer, under the scoring of the run.
     pub book: Book,
 }
 
-// The report of a sender's rows.
+// The report of the part of one file. `sender` is the number of the file, counted from 0.
 fn report_of(alloc: Global, sender: u32, part: &Part) -> Result<Vec<u8>, AllocError>
     ensures { IfOk result (λ made. made.items ≡ report_of_view (sender, part_view_of part.now)) }
 {
@@ -35,7 +35,7 @@ fn report_of(alloc: Global, sender: u32, part: &Part) -> Result<Vec<u8>, AllocEr
     }
 }
 
-// The report of each part, in their order.
+// The reports of the parts, in their order. The first part is that of sender 0.
 fn reports_of(alloc: Global, parts: &[Part]) -> Result<Vec<Vec<u8>>, AllocError>
     requires few { length parts.now ≤ 64 }
     ensures { IfOk result (λ made. texts_of made.items
@@ -50,7 +50,7 @@ fn reports_of(alloc: Global, parts: &[Part]) -> Result<Vec<Vec<u8>>, AllocError>
     Ok(reports)
 }
 
-// Adds solved positions to a book.
+// Adds each of these positions to the book.
 fn add_all(book: &mut Book, solved: &[Solved]) -> Result<(), AllocError>
     requires { All (λ (t : TaskView). t.scoring ≡ book.old.scoring) solved.now }
     ensures scoring { OnOk result (book.new.scoring ≡ book.old.scoring) }
@@ -63,7 +63,7 @@ fn add_all(book: &mut Book, solved: &[Solved]) -> Result<(), AllocError>
     Ok(())
 }
 
-// The book of all solved positions.
+// The book of the solved positions of all parts.
 fn book_of(alloc: Global, scoring: Scoring, parts: &[Part]) -> Result<Book, AllocError>
     requires { All (λ (y : PartView). All (λ (t : TaskView). t.scoring ≡ scoring) y.1)
         (map part_view_of parts.now) }
@@ -76,7 +76,8 @@ fn book_of(alloc: Global, scoring: Scoring, parts: &[Part]) -> Result<Book, Allo
     Ok(book)
 }
 
-/// The reports and the book of the parts of a run.
+/// Makes the reports and the book of a run from the parts of its files, of which there are at most
+/// 64.
 pub(crate) fn outcome_of(
     alloc: Global,
     settings: &Settings,

@@ -15,14 +15,16 @@ use endgame_search::Solved;
 use solved_book::Claims;
 use std::alloc::{AllocError, Global};
 
-/// The part of one file in a run: its rows, and its solved positions in the order of their lines.
+/// The part of one file in a run.
 #[derive(Debug, Drop)]
 pub struct Part {
+    /// A row for each line that is not skipped, in the order of the lines.
     pub rows: Vec<ReportRow>,
+    /// The solved positions with their answers, in the order of their lines.
     pub solved: Vec<Solved>,
 }
 
-// The answers of all tasks, in their order.
+// Solves the tasks of the readings, in the order of the lines.
 fn solve_all<T: Bounds>(
     alloc: Global,
     solver: &Solver<'_, T>,
@@ -41,7 +43,7 @@ fn solve_all<T: Bounds>(
     Ok(solved)
 }
 
-// Solves the positions of a text, one after the other.
+// The part of a text, whose positions are solved one after the other.
 fn solve_text<T: Bounds>(
     alloc: Global,
     text: &[u8],
@@ -59,7 +61,8 @@ fn solve_text<T: Bounds>(
     Ok(Part { rows, solved })
 }
 
-/// Solves the positions of texts on the calling thread, one text after the other, over one table.
+/// The parts of the files, solved on the calling thread, one file after the other, over one table
+/// of bounds. No file has more than 1,048,576 bytes. The error is want of memory.
 pub(crate) fn solve_texts(
     alloc: Global,
     files: &[Vec<u8>],

@@ -1,4 +1,4 @@
-//! What a line asks.
+//! A line of a list after it was read: a task with the listed moves, or a refusal.
 
 ghost use Rattle.std.specs.Prelude.{◌≡◌, ◌≤◌, length, option_map, IfOk, Some, slice_get};
 ghost use Rattle.std.specs.List.{cons_option};
@@ -18,16 +18,17 @@ use othello_rules::Scoring;
 use std::alloc::{AllocError, Global};
 use std::slice::Iter;
 
-/// What a line asks that is not skipped.
+/// A line that is not skipped, after it was read.
 #[derive(Drop)]
 pub(crate) enum Reading {
-    /// A position to solve, and the moves that are listed for it.
+    /// A position to solve, and the moves and scores that the line lists.
     Position(Task, Vec<(ListedMove, i8)>),
+    /// Why the line is refused.
     Refused(Refusal),
 }
 
 impl Reading {
-    // What a position asks: it is solved unless it has more empty squares than the limit.
+    // The reading of a position: a task, or a refusal where it has more than `limit` empty squares.
     fn of_entry(limit: u8, scoring: Scoring, entry: Line) -> Reading
         requires { limit ≤ 60 }
         ensures result { result_in result ≡ entry_result scoring limit (entry_of entry) }
@@ -39,7 +40,7 @@ impl Reading {
         }
     }
 
-    /// The task, where a position is to be solved.
+    /// The task of the line; None where the line is refused.
     pub(crate) fn task(&self) -> Option<Task>
         ensures { result ≡ task_in self.now }
     {
@@ -49,7 +50,8 @@ impl Reading {
         }
     }
 
-    /// The result of the line in its row. A position takes the next of the answers.
+    /// The result of the line, for its row. A line with a task takes the next one of the answers,
+    /// which is the answer of that task.
     pub(crate) fn result(&self, answers: &mut Iter<'_, Solved>) -> RowResult
         requires { (task : TaskView) → task_in self.now ≡ Some task
             → slice_get (iter_rest answers.old) 0 ≡ Some task }
@@ -70,7 +72,7 @@ impl Reading {
     }
 }
 
-// What a line asks, unless it is skipped.
+// Reads a line; None where it is skipped. The error is want of memory.
 pub(crate) fn reading_of(
     alloc: Global,
     limit: u8,

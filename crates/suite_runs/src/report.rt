@@ -1,4 +1,4 @@
-//! Writes reports.
+//! Writes the report of a file.
 
 ghost use Rattle.std.specs.Prelude.{◌≡◌, ◌<◌, ◌≤◌, length, OnOk};
 ghost use Rattle.std.specs.Io.KnownBytes.{Appends};
@@ -15,7 +15,7 @@ use othello_rules::{Answer, Best, Square, squares_in};
 use std::io;
 use std::io::Write;
 
-// A square's name behind a comma.
+// Writes a comma and the name of a square.
 #[tactic(auto, unfolding(crate::specs::Text::comma_name))]
 fn write_next_name<W: Write>(writer: &mut W, square: Square) -> io::Result<()>
     ensures { OnOk result
@@ -128,7 +128,7 @@ fn write_row<W: Write>(writer: &mut W, row: &ReportRow) -> io::Result<()>
     writer.write_all(b"\n")
 }
 
-// How many rows are solved.
+// The number of solved rows.
 #[tactic(auto, unfolding(crate::specs::Text::solved_count))]
 fn solved_count(rows: &[ReportRow]) -> usize
     ensures count { result ≡ solved_count rows.now }
@@ -158,9 +158,10 @@ fn write_last<W: Write>(writer: &mut W, rows: &[ReportRow]) -> io::Result<()>
     write!(writer, "solved {solved} refused {refused}\n")
 }
 
-/// Writes the report of a sender's rows: its number plus 1, a line for each row, and the two sums.
-/// Each line ends with LF. After a fault nothing is said of how much went out. It takes no memory
-/// of its own.
+/// Writes the report of a file: the line `[N]`, where N is `sender` plus 1, a line for each row,
+/// and a line with the number of solved rows and the number of refused rows. Each line ends with
+/// LF. `sender` counts from 0. The error is that of the writer, and nothing is said of the bytes
+/// that were written before it. The call takes no memory of its own.
 pub fn write_report<W: Write>(writer: &mut W, sender: u32, rows: &[ReportRow]) -> io::Result<()>
     ensures { OnOk result
         (Appends (W.contents writer.old) (W.contents writer.new) (report_text sender rows.now)) }

@@ -1,4 +1,4 @@
-//! Runs on files.
+//! Runs over files, on the calling thread or on several threads.
 
 ghost use Rattle.std.specs.Prelude.{◌≡◌, ◌≢◌, ◌<◌, ◌≤◌, ◌↔◌, ℕ, length, Some, None, Err, IfOk, IfSome, IsErrOf, IsOk};
 ghost use Rattle.std.specs.List.{position};
@@ -18,15 +18,15 @@ use std::alloc::Global;
 use std::sync::Wait;
 use std::thread::Threads;
 
-// The place of the first file that is too large. `first_large` says it of the texts, of which the
-// definitions speak.
+// The number, from 0, of the first file of more than 1,048,576 bytes. `first_large` has the same
+// result, with a contract about the bytes of the files.
 fn large_file(files: &[Vec<u8>]) -> Option<usize>
     ensures { result ≡ position (λ file. is_large file.items) files.now }
 {
     files.iter().position(|file| file.len() > MOST_BYTES)
 }
 
-// The first file that is too large.
+// The sender of the first file of more than 1,048,576 bytes.
 fn first_large(files: &[Vec<u8>]) -> Option<usize>
     ensures first { result ≡ first_large (texts_of files.now) }
     ensures within { IfSome result (λ sender. sender < length files.now) }
@@ -34,7 +34,7 @@ fn first_large(files: &[Vec<u8>]) -> Option<usize>
     large_file(files)
 }
 
-// Refuses more than 64 files, and then the first file that is too large.
+// Refuses more than 64 files, and else the first file of more than 1,048,576 bytes.
 #[tactic(auto, unfolding(crate::specs::Runs::refusal_of))]
 fn check_files(files: &[Vec<u8>]) -> Result<(), RunFault>
     ensures refuses { Refuses result (texts_of files.now) }
@@ -50,7 +50,7 @@ fn check_files(files: &[Vec<u8>]) -> Result<(), RunFault>
     Ok(())
 }
 
-// `run_serial`, with all that it answers in one clause, case by case.
+// Does the work of `run_serial`. One clause of the contract covers all of its results.
 fn run_files(
     alloc: Global,
     files: &[Vec<u8>],
@@ -69,15 +69,16 @@ fn run_files(
 }
 
 /// Solves the positions of files on the calling thread, over one table of bounds. The workers of
-/// the settings are not used. A position that is claimed under the scoring of the settings is
-/// confirmed, and any other solved.
+/// the settings are not used. A position with a claim under the scoring of the settings is
+/// confirmed, and any other position is solved.
 ///
-/// The reports are those of the files, in their order. The book holds the canonical form of each
-/// solved position, and nothing else. Neither depends on the table's size or on what is claimed.
+/// The reports are those of the files, in the order of the files. The book holds the canonical form
+/// of each solved position, and nothing else. Reports and book depend neither on the size of the
+/// table nor on the claims.
 ///
-/// More than 64 files are `TooManyFiles`, else the first of more than 1,048,576 bytes is
-/// `FileTooLarge`, before anything is solved; `Memory` comes where a growth was refused. It is
-/// never `Mixed`.
+/// Errors: `TooManyFiles` for more than 64 files, and else `FileTooLarge` for the first file of
+/// more than 1,048,576 bytes, both before anything is solved; `Memory` where memory was refused.
+/// `Mixed` never comes.
 pub fn run_serial(
     alloc: Global,
     files: &[Vec<u8>],
@@ -96,7 +97,7 @@ pub fn run_serial(
     run_files(alloc, files, settings, claims)
 }
 
-// `run`, with all that it answers in one clause, case by case.
+// Does the work of `run`. One clause of the contract covers all of its results.
 fn run_threads<R: Threads + Wait + Sync, G: Gate>(
     rt: &R,
     alloc: Global,
@@ -115,14 +116,16 @@ fn run_threads<R: Threads + Wait + Sync, G: Gate>(
     Ok(outcome)
 }
 
-/// Solves the positions of files on threads: a client for each file, and the workers of the
-/// settings, at one board of jobs and over one table of bounds. Where a worker can't be started
-/// there are fewer; where a client can't, the calling thread does its part. The gate is called
-/// before and after each job. It returns when all threads have ended, and may wait for them.
+/// Solves the positions of files on threads: a client for each file and the workers of the
+/// settings, at one desk and over one table of bounds. A worker whose thread can't be started is
+/// left out. The calling thread does the part of a client whose thread can't be started. The gate
+/// is called before and after each job. The call returns when all threads have ended, and may wait
+/// for them.
 ///
-/// Reports and book are those of `run_serial`, for every number of workers and every gate, and so
-/// are the refusals of limits, which come before a thread is started or the gate is called.
-/// `Memory` of any part comes before `Mixed`, which says that a step of the board was refused.
+/// Reports and book are those of `run_serial`, for every number of workers and every gate. So are
+/// `TooManyFiles` and `FileTooLarge`, which come before a thread is started or the gate is called.
+/// Where a part met want of memory, the error is `Memory`; where none did, but the desk refused a
+/// step, it is `Mixed`.
 pub fn run<R: Threads + Wait + Sync, G: Gate>(
     rt: &R,
     alloc: Global,

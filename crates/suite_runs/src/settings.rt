@@ -1,4 +1,4 @@
-//! The limits of a run, and its settings.
+//! The limits of a run, its settings, and the version.
 
 ghost use Rattle.std.specs.Prelude.{◌≡◌, ◌≤◌, ◌↔◌, IsSome, IfSome};
 ghost use Rattle.suite_runs.specs.Settings.{SettingsView, IsWithinLimits, defaults};
@@ -11,18 +11,18 @@ use std::marker::Model;
 
 /// The version of the programs, as `--version` prints it.
 pub const VERSION: &str = "1.0.0";
-/// The most empty squares that a setting may allow.
+/// The greatest limit of empty squares that settings may have.
 pub const MOST_EMPTIES: u8 = Task::MOST_EMPTIES;
-/// The most workers.
+/// The most worker threads.
 pub const MOST_WORKERS: u8 = 64;
-/// The most entries of a table.
+/// The most entries of a table of bounds.
 pub const MOST_ENTRIES: u32 = BoundTable::MOST_ENTRIES as u32;
 /// The most files of a run, each of which is a sender of the board.
 pub const MOST_FILES: usize = Board::MOST_SENDERS as usize;
 /// The most bytes of a file.
 pub const MOST_BYTES: usize = 1_048_576;
 
-/// The numbers of a run, none above its limit, and its scoring.
+/// The settings of a run: three numbers, none above its limit, and the scoring.
 #[derive(Clone, Copy, PartialEq, Eq, Debug)]
 pub struct Settings {
     max_empties: u8,
@@ -59,8 +59,9 @@ impl Model for Settings {
 }
 
 impl Settings {
-    /// Positions of at most `max_empties` empty squares, `workers` threads beside the clients, a
-    /// table of `table` entries. None where a number is above its limit.
+    /// Settings by which positions of at most `max_empties` empty squares are solved, on `workers`
+    /// threads beside one for each file, over a table of `table` entries. None where a number is
+    /// above its limit: 60, 64 and 4,194,304.
     pub fn new(max_empties: u8, workers: u8, table: u32, scoring: Scoring) -> Option<Settings>
         ensures within { IsSome result ↔ IsWithinLimits (record
             { max_empties = max_empties; workers = workers; table = table; scoring = scoring }) }
@@ -78,7 +79,7 @@ impl Settings {
         })
     }
 
-    /// The most empty squares that are solved.
+    /// The most empty squares of a position that is solved. A position with more is refused.
     pub fn max_empties(&self) -> u8
         ensures value { result ≡ self.now.max_empties }
         ensures within { result ≤ 60 }
@@ -86,14 +87,14 @@ impl Settings {
         self.max_empties
     }
 
-    /// The number of worker threads.
+    /// The number of worker threads, beside one thread for each file.
     pub fn workers(&self) -> u8
         ensures { result ≡ self.now.workers }
     {
         self.workers
     }
 
-    /// The number of entries of the table.
+    /// The number of entries of the table of bounds.
     pub fn table(&self) -> u32
         ensures value { result ≡ self.now.table }
         ensures within { result ≤ 4194304 }
@@ -101,6 +102,7 @@ impl Settings {
         self.table
     }
 
+    /// The scoring of all positions of the run.
     pub fn scoring(&self) -> Scoring
         ensures { result ≡ self.now.scoring }
     {
@@ -109,7 +111,7 @@ impl Settings {
 }
 
 impl Default for Settings {
-    /// At most 20 empty squares, 2 workers, 65,536 entries, and empty squares for the winner.
+    /// At most 20 empty squares, 2 workers, a table of 65,536 entries, and the scoring `Winner`.
     fn default() -> Settings
         ensures { result ≡ defaults }
     {

@@ -1,4 +1,4 @@
-//! How jobs are solved.
+//! Solves tasks over a table of bounds, with or without the claims of a book.
 
 ghost use Rattle.std.specs.Prelude.{◌≡◌, option_map, IfOk};
 ghost use Rattle.suite_runs.specs.Solvers.{Advises};
@@ -10,7 +10,7 @@ use othello_rules::Scoring;
 use solved_book::Claims;
 use std::alloc::{AllocError, Global};
 
-/// A table of bounds, and claims where there are some: what a thread solves jobs by.
+/// A table of bounds, and the claims of a book where one was read. Tasks are solved by it.
 #[derive(Drop)]
 pub struct Solver<'a, T: Bounds> {
     table: &'a T,
@@ -18,6 +18,7 @@ pub struct Solver<'a, T: Bounds> {
 }
 
 impl<'a, T: Bounds> Solver<'a, T> {
+    /// Solves over this table, with these claims.
     pub fn new(table: &'a T, claims: Option<&'a Claims>) -> Solver<'a, T>
         ensures { result.table.now ≡ table.now }
     {
@@ -31,7 +32,7 @@ impl<'a, T: Bounds> Solver<'a, T> {
         self.table.scoring()
     }
 
-    // The claim of a task. Claims of another scoring are not looked up.
+    // The claim of the task's position. Claims under another scoring are not looked up.
     fn find_claim(&self, task: Task) -> Option<Claim>
         ensures { Advises (option_map (λ c. c.now) self.now.claims) task result }
     {
@@ -42,7 +43,8 @@ impl<'a, T: Bounds> Solver<'a, T> {
         claims.find(&task.pos())
     }
 
-    /// The task's position with its answer: confirmed where it is claimed, and else solved.
+    /// The task's position with its exact answer. `confirm` gives it where the position has a
+    /// claim, and else `solve`.
     pub fn answer(&self, task: Task) -> Solved
         requires { task.scoring ≡ T.scoring self.now.table.now }
         ensures { result ≡ task }
@@ -54,7 +56,8 @@ impl<'a, T: Bounds> Solver<'a, T> {
     }
 }
 
-/// The table that the settings ask for.
+/// A new table of bounds, with the number of entries and the scoring of the settings. The error is
+/// want of memory.
 pub(crate) fn new_table(alloc: Global, settings: &Settings) -> Result<BoundTable, AllocError>
     ensures { IfOk result (λ table. table.scoring ≡ settings.now.scoring) }
 {

@@ -1,4 +1,4 @@
-//! A run's threads: a client for each file, and workers.
+//! The threads of a run: a client for each file, and the workers.
 
 ghost use Rattle.std.specs.Prelude.{◌≡◌, ◌<◌, ◌≤◌, ◌+◌, ◌++◌, ◌∷◌, length, map, IfOk, IfErr, Some, None, [], vec_len, vec_capacity};
 ghost use Rattle.suite_runs.specs.Parts.{GivesPart, GivesParts, worse_fault};
@@ -21,8 +21,8 @@ use std::sync::Wait;
 use std::thread;
 use std::thread::{Promise, PromisedHandle, Scope, Threads};
 
-/// What all threads of a run share. It has no type parameter and no lifetime: of a closure that
-/// captures a type with one, its caller would know nothing.
+/// The values that all threads of a run share. The type has no type parameter and no lifetime,
+/// since a closure that captures a type with one promises its caller nothing.
 #[derive(Drop)]
 pub(crate) struct Shared {
     pub(crate) alloc: Global,
@@ -50,7 +50,7 @@ impl Shared {
         }
     }
 
-    // The part of one client.
+    // Does the part of the client of one file.
     fn part<R: Wait, G: Gate>(
         &self,
         rt: &R,
@@ -75,7 +75,7 @@ impl Shared {
         )
     }
 
-    // The part of one worker.
+    // Does the part of one worker.
     fn work<R: Wait, G: Gate>(&self, rt: &R, claims: &Claims, gate: &G) {
         work(
             rt,
@@ -86,7 +86,8 @@ impl Shared {
     }
 }
 
-// That a thread gives the part of a text.
+/// The promise of a client's thread: it gives the part of `text`, under `scoring` and with `limit`
+/// as the most empty squares, or `Memory` or `Mixed`.
 #[derive(Clone, Copy)]
 pub struct PartPromise<'a> {
     pub scoring: Scoring,
@@ -99,14 +100,14 @@ impl<'a> Promise<Result<Part, RunFault>> for PartPromise<'a> {
         GivesPart promise.scoring promise.limit promise.text.now result };
 }
 
-// A client in a thread, or what came of it where no thread could be started.
+/// The thread of a client; or, where no thread could be started, its result on the calling thread.
 #[derive(Drop)]
 pub enum Progress<'a> {
     Spawned(PromisedHandle<Result<Part, RunFault>, PartPromise<'a>>),
     Done(Result<Part, RunFault>),
 }
 
-// A client that was started.
+/// A client that was started, and what its thread promises.
 #[derive(Drop)]
 pub struct StartedClient<'a> {
     pub promise: PartPromise<'a>,
@@ -124,6 +125,7 @@ impl<'a> Model for StartedClient<'a> {
 }
 
 impl<'a> StartedClient<'a> {
+    // Waits for the client's thread, if it has one, and gives the client's result.
     fn join<R: Threads>(self, rt: &R) -> Result<Part, RunFault>
         ensures { GivesPart self.entry.scoring self.entry.limit self.entry.text result }
     {
@@ -138,7 +140,8 @@ impl<'a> StartedClient<'a> {
     }
 }
 
-// Starts a client. Where no thread can be started, this one does its part.
+// Starts a client on a thread of its own. Where no thread can be started, the calling thread does
+// the part of the client.
 fn start<'a, E, R: Threads + Wait + Sync, G: Gate>(
     scope: &Scope<'a, E>,
     rt: &'a R,
@@ -172,7 +175,8 @@ fn start<'a, E, R: Threads + Wait + Sync, G: Gate>(
     StartedClient { promise, progress }
 }
 
-// Starts a client for each file, in their order.
+// Starts a client for each file, in the order of the files, and adds it to `clients`, which has
+// room for all.
 fn start_all<'a, E, R: Threads + Wait + Sync, G: Gate>(
     scope: &Scope<'a, E>,
     rt: &'a R,
@@ -197,7 +201,7 @@ fn start_all<'a, E, R: Threads + Wait + Sync, G: Gate>(
     }
 }
 
-// Starts workers. Where a thread can't be started there are fewer.
+// Starts the workers of the settings. A worker whose thread can't be started is left out.
 fn start_workers<'a, E, R: Threads + Wait + Sync, G: Gate>(
     scope: &Scope<'a, E>,
     rt: &'a R,
@@ -210,7 +214,7 @@ fn start_workers<'a, E, R: Threads + Wait + Sync, G: Gate>(
     }
 }
 
-// What came of the clients that were joined.
+/// The parts of the clients that were joined, and the fault that is kept of theirs.
 #[derive(Drop)]
 pub struct Joined {
     pub parts: Vec<Part>,
@@ -218,7 +222,7 @@ pub struct Joined {
 }
 
 impl Joined {
-    // Keeps a part, or the worse of the faults.
+    // Adds the result of one more client. An earlier `Memory` is kept before a later fault.
     fn take(&mut self, given: Result<Part, RunFault>)
         requires { vec_len self.old.parts < vec_capacity self.old.parts }
         ensures part { IfOk given (λ part.
@@ -235,7 +239,7 @@ impl Joined {
         }
     }
 
-    // The parts, unless there was a fault.
+    // The parts; the error is the fault that was kept.
     fn into_parts(self) -> Result<Vec<Part>, RunFault>
         ensures ok { IfOk result (λ parts. (parts ≡ self.parts) × (self.fault ≡ None)) }
         ensures err { IfErr result (λ fault. self.fault ≡ Some fault) }
@@ -248,7 +252,8 @@ impl Joined {
     }
 }
 
-// Joins all clients.
+/// Joins all clients, in their order, and adds their results to `joined`, which is empty and has
+/// room for all.
 pub fn join_all<R: Threads>(rt: &R, clients: Vec<StartedClient<'_>>, joined: &mut Joined)
     requires none { (joined.old.parts.items ≡ []) × (joined.old.fault ≡ None) }
     requires room { vec_len clients ≤ vec_capacity joined.old.parts }
@@ -259,7 +264,7 @@ pub fn join_all<R: Threads>(rt: &R, clients: Vec<StartedClient<'_>>, joined: &mu
     }
 }
 
-// Solves the positions of all texts. All lists are made before the first thread is started, so that
+// Solves the positions of all files. All lists are made before the first thread is started, so that
 // nothing can fail between the starts and the joins.
 fn solve_in_scope<'a, E, R: Threads + Wait + Sync, G: Gate>(
     scope: &Scope<'a, E>,
@@ -283,8 +288,9 @@ fn solve_in_scope<'a, E, R: Threads + Wait + Sync, G: Gate>(
     joined.into_parts()
 }
 
-/// Solves the positions of texts, by a client for each text and the workers of the settings, at one
-/// desk and over one table.
+/// The parts of the files, solved by a client for each file and by the workers of the settings, at
+/// one desk and over one table of bounds. There are at most 64 files, none of more than 1,048,576
+/// bytes.
 pub(crate) fn solve_texts_on_threads<R: Threads + Wait + Sync, G: Gate>(
     rt: &R,
     alloc: Global,
