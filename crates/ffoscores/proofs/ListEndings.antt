@@ -1,4 +1,4 @@
--- How the printing of lists ended.
+-- The result of the printing of lists.
 use Rattle.std.proofs.Common.{◌≡◌, ℕ, List, inr}
 use Rattle.std.specs.Prelude.{Bool, Option, Result, Ok, Err, IfOk, OnErr, OnOk}
 use Rattle.std.specs.Io.KnownBytes.{Appends}

@@ -1,4 +1,4 @@
-//! How the errors that end the program early are printed, and the status of each.
+//! The errors that end `ffoscores` early: how each is printed, and its exit status.
 
 ghost use Rattle.std.specs.Prelude.{◌≡◌};
 ghost use Rattle.ffoscores.specs.Errors.{IsErrorOf, status_of};
@@ -7,7 +7,8 @@ use score_lists::ListFault;
 use std::io::Write;
 use suite_solver::{ProgramError, RunFault};
 
-// The error of the program where lists can't be printed.
+// The error of the program for a fault of printing: want of memory, or that standard output can't
+// be written.
 pub(crate) fn list_error(fault: ListFault) -> ProgramError<'static>
     ensures reason { IsErrorOf fault result }
     ensures status { status_of result ≡ 3 }
@@ -18,7 +19,7 @@ pub(crate) fn list_error(fault: ListFault) -> ProgramError<'static>
     }
 }
 
-// The exit status of an error.
+// The exit status of `ffoscores` after this error.
 fn status(error: &ProgramError<'_>) -> u8
     ensures { result ≡ status_of error.now }
 {
@@ -28,8 +29,8 @@ fn status(error: &ProgramError<'_>) -> u8
     }
 }
 
-// Prints the error that ends the program. The answer is the exit status. A standard error that
-// fails changes nothing.
+// Prints the error that ends the program, and gives the exit status. A failure of standard error
+// changes nothing.
 pub(crate) fn print_error<E: Write>(error: &ProgramError<'_>, errors: &mut E) -> u8
     ensures { result ≡ status_of error.now }
 {

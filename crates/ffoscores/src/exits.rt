@@ -1,4 +1,4 @@
-//! How the program ends in its `main`.
+//! The end of the program in its `main`.
 
 ghost use Rattle.std.specs.Prelude.{◌≡◌, ◌≢◌, ◌⊎◌, true, false, IsOkAnd};
 ghost use Rattle.std.specs.Process.{exit_status};
@@ -13,8 +13,8 @@ use std::process::{ExitCode, Termination};
 use std::rt::Files;
 use suite_solver::ErrorStream;
 
-/// How the program ended. `program_at` alone makes one, so that a `main` which gives it ends with
-/// the program's status.
+/// The end of the program, with its exit status. Only `program_at` makes one, so a `main` that
+/// returns one ends with the status of the program.
 #[derive(Drop)]
 pub(crate) struct Ended {
     status: u8,
@@ -28,7 +28,7 @@ impl Termination for Ended {
     }
 }
 
-/// `program_of`, for a `main`: its result ends the process with the status.
+/// Does the work of `program_of` for a `main`. The result ends the process with the status, 0 to 3.
 pub(crate) fn program_at<T: Files, R: Read, W: Write, E: ErrorStream>(
     rt: &T,
     alloc: Global,

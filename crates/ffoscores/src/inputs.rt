@@ -1,4 +1,4 @@
-//! Reads the lists.
+//! Reads the lists: the files of the command line, or standard input.
 
 ghost use Rattle.std.specs.Prelude.{◌≡◌, ◌≤◌, [], All, IfErr, IfOk, IfSome, length};
 ghost use Rattle.suite_solver.specs.CommandLine.{names_of};
@@ -12,7 +12,9 @@ use std::io::Read;
 use std::rt::Files;
 use suite_solver::{MOST_BYTES, MOST_FILES, ProgramError, RunFault, read_error, read_front};
 
-// All that a reader gives: the file of this sender, counted from 0, and of this name.
+// Reads all bytes of a reader. `sender`, counted from 0, and `name` are those of its file. The
+// errors are `FileTooLarge` with the sender above 1,048,576 bytes, `CannotRead` with the name, and
+// want of memory.
 fn read_whole<'a, R: Read>(
     alloc: Global,
     reader: &mut R,
@@ -35,7 +37,7 @@ fn read_whole<'a, R: Read>(
     }
 }
 
-// The file of a name.
+// Reads the file of this name. The errors are those of `read_whole`.
 fn read_file<'a, T: Files>(
     rt: &T,
     alloc: Global,
@@ -51,7 +53,7 @@ fn read_file<'a, T: Files>(
     }
 }
 
-// Standard input as the one file.
+// Reads standard input as the one file.
 fn read_input<R: Read>(alloc: Global, input: &mut R) -> Result<Vec<Vec<u8>>, ProgramError<'static>>
     ensures ok { IfOk result
         (λ texts. AreLists (names_of []) (R.remaining input.old) (texts_of texts.items)) }
@@ -63,7 +65,7 @@ fn read_input<R: Read>(alloc: Global, input: &mut R) -> Result<Vec<Vec<u8>>, Pro
     Ok(texts)
 }
 
-// The files of these names, in their order.
+// Reads the files of these names, in their order.
 fn read_named<'a, T: Files>(
     rt: &T,
     alloc: Global,
@@ -83,8 +85,8 @@ fn read_named<'a, T: Files>(
     Ok(texts)
 }
 
-// The lists of these names, or standard input where there is no name. All are read before anything
-// is printed.
+// Reads the files of these names, or standard input where there is no name. All are read before
+// anything is printed. More than 64 names are `TooManyFiles`.
 pub(crate) fn read_lists<'a, T: Files, R: Read>(
     rt: &T,
     alloc: Global,

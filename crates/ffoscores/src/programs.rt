@@ -21,8 +21,8 @@ use suite_solver::{
     list_options, words_error,
 };
 
-// Prints lists again with every move's score, over one table. The answer is whether nothing is
-// wrong in them.
+// Prints lists again with every move's score, over one table of bounds. The result says whether
+// nothing in them is wrong.
 fn print_lists<W: Write>(
     alloc: Global,
     settings: &Settings,
@@ -47,8 +47,8 @@ fn print_lists<W: Write>(
     }
 }
 
-// Reads the lists that are asked for, and prints them again. The answer is whether nothing is wrong
-// in them.
+// Reads the lists that the options name, and prints them again. The result says whether nothing in
+// them is wrong.
 fn carry_out<'a, T: Files, R: Read, W: Write>(
     rt: &T,
     alloc: Global,
@@ -68,7 +68,7 @@ fn carry_out<'a, T: Files, R: Read, W: Write>(
     print_lists(alloc, &asked.settings, &texts, output)
 }
 
-// Prints what clap says in place of options. The answer is the exit status.
+// Prints what clap hands over in place of options, and gives the exit status.
 fn end_without_options<W: Write, E: Write>(
     error: &clap::Error,
     output: &mut W,
@@ -85,14 +85,16 @@ fn end_without_options<W: Write, E: Write>(
     }
 }
 
-/// The whole program over the words of its command line, the program's name first: it reads the
-/// lists that they name, or standard input, and prints them again on standard output with every
-/// move's score, each line as soon as it is solved. The status is 0 where nothing is wrong in them,
-/// or where help or the version was asked for and printed; 1 where a line is refused or something
-/// is remarked; 2 where the command line is refused; 3 where a list can't be read, is too large or
-/// one of too many, where standard output can't be written, or where memory ran out. An error that
-/// ends it early is printed on standard error, by one line or clap's text, and what was printed
-/// before stands; a standard error that fails changes nothing.
+/// The whole program over the words of its command line, the program's name first. It reads the
+/// lists that the words name, or standard input. It prints them again on standard output with every
+/// move's score, each line as soon as it is solved.
+///
+/// The status is 0 where nothing in the lists is wrong, or where help or the version was asked for
+/// and printed; 1 where a line is refused or something is remarked; 2 where the command line is
+/// refused; 3 where a list can't be read, is too large or one of too many, where standard output
+/// can't be written, or where memory ran out. An error that ends the program early is printed on
+/// standard error, as one line or as clap's text, and the lines that were printed before stay; a
+/// failure of standard error changes nothing.
 pub(crate) fn program<T: Files, R: Read, W: Write, E: Write>(
     rt: &T,
     alloc: Global,
@@ -102,8 +104,8 @@ pub(crate) fn program<T: Files, R: Read, W: Write, E: Write>(
     errors: &mut E,
 ) -> u8
     ensures status { (result ≡ 0) ⊎ ((result ≡ 1) ⊎ ((result ≡ 2) ⊎ (result ≡ 3))) }
-    // The lists that the words ask for were printed, and nothing is wrong in them; or help or the
-    // version was printed, which they ask for.
+    // The lists that the words ask for were printed, and nothing in them is wrong; or the words ask
+    // for help or the version.
     ensures right { result ≡ 0 → AsksForText ffoscores (map (λ word. word.now) words.now) ⊎
         IsAnswered (map (λ word. word.now) words.now)
         (R.remaining input.old) (W.contents output.old) (W.contents output.new) true }
@@ -111,7 +113,8 @@ pub(crate) fn program<T: Files, R: Read, W: Write, E: Write>(
         (R.remaining input.old) (W.contents output.old) (W.contents output.new) false }
     ensures taken { IsTakenBy ffoscores (map (λ word. word.now) words.now) → result ≢ 2 }
     ensures refused { result ≡ 2 → W.contents output.new ≡ W.contents output.old }
-    // A front of what the words ask for was printed, or nothing.
+    // Nothing was printed, or a front of the lists that the words ask for; or the words ask for
+    // help or the version.
     ensures stopped { result ≡ 3 → AsksForText ffoscores (map (λ word. word.now) words.now) ⊎
         ((W.contents output.new ≡ W.contents output.old) ⊎
         IsBegun (map (λ word. word.now) words.now)
@@ -128,8 +131,8 @@ pub(crate) fn program<T: Files, R: Read, W: Write, E: Write>(
     }
 }
 
-/// The whole program over the words as `env::args` gives them. Where a word is no text, the status
-/// is 2.
+/// The whole program, as `program`, over the words as `env::args` gives them. The status is 2 where
+/// a word is no text, and 3 where there was no memory for the words.
 pub(crate) fn program_of<T: Files, R: Read, W: Write, E: Write>(
     rt: &T,
     alloc: Global,

@@ -1,4 +1,4 @@
--- A reader's first bytes.
+-- The first bytes of a reader.
 use Rattle.std.proofs.Common.{◌≡◌, ℕ, List, [], ◌++◌, take, arith, Option, Some, None}
 use Rattle.std.specs.Prelude.{IfSome}
 use Rattle.std.specs.Option.{option_map}

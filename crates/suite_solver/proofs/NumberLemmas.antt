@@ -1,4 +1,4 @@
--- What `get_one` reads.
+-- The number that clap's `get_one` gives.
 use Rattle.std.proofs.Common.{◌≡◌, ℕ, Option, Some, None, Ok, refl, sym}
 use Rattle.std.specs.Prelude.{IfSome, Result}
 use Rattle.std.specs.Str.Parse.{ParsesUnsigned}

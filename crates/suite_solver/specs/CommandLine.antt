@@ -1,4 +1,4 @@
--- The command line, as clap's contracts see it.
+-- The command lines of both programs, as clap's contracts see them.
 use Rattle.std.specs.Prelude.{◌≡◌, ◌≢◌, ◌⊎◌, ℕ, pos, true, List, [], ◌∷◌, map, Option, Some, String, codes, option_map, string_bytes, unwrap_or}
 use Rattle.std.specs.Borrow.{Bor}
 use Rattle.std.specs.Str.Parse.{IsNumeral, digits_value, without_leading_plus}
@@ -32,16 +32,17 @@ number_rule name most default = record (new_rule name) {
   parser = Some (parser.Signed (pos 0) (pos most));
 }
 
--- clap holds a list of names where it stands in memory
+-- a list of names, which clap borrows from where it stands in memory
 abbrev pub NameList : Type 0
 NameList = Bor (List (Bor Text))
 
+-- the list has the names of all scorings, in their order
 abbrev pub NamesScorings : NameList → Type 0
 NamesScorings names =
     map (λ name. name.now) names.now
     ≡ map scoring_name all_scorings
 
--- an option with one of these names
+-- the option `--scoring`, whose value is one of these names
 abbrev pub scoring_rule : NameList → Rule
 scoring_rule names = record (new_rule (codes "scoring")) {
   long = Some (codes "scoring");
@@ -54,18 +55,18 @@ scoring_rule names = record (new_rule (codes "scoring")) {
 abbrev pub book_rule : Text → Rule
 book_rule name = record (new_rule name) { long = Some name; value_names = 1 }
 
--- any number of words
+-- the names of the files, of which there may be any number
 abbrev pub files_rule : Rule
 files_rule = record (new_rule (codes "FILES")) {
   action = Some Append;
   range = Some (record { start_inclusive = 0; end_inclusive = usize_max });
 }
 
--- a command with `--help` and `--version`, and no other option yet
+-- a command with `--help` and `--version`, and with no other option
 abbrev pub versioned : Text → App
 versioned name = on_top (λ (s : Shape). record s { has_version = true }) (new_app name)
 
--- the command with the options of a run
+-- the command `ffosolve`, without books and files
 abbrev pub run_options : NameList → App
 run_options names = with_rule (with_rule (with_rule (with_rule (versioned (codes "ffosolve"))
     (number_rule (codes "max-empties") 60 (codes "20")))
@@ -73,14 +74,14 @@ run_options names = with_rule (with_rule (with_rule (with_rule (versioned (codes
     (number_rule (codes "table") 4194304 (codes "65536")))
     (scoring_rule names)
 
--- the whole command
+-- the whole command `ffosolve`
 abbrev pub ffosolve : NameList → App
 ffosolve names = with_rule (with_rule (with_rule (run_options names)
     (book_rule (codes "book-in")))
     (book_rule (codes "book-out")))
     files_rule
 
--- the command of `ffoscores`
+-- the whole command `ffoscores`
 abbrev pub ffoscores : NameList → App
 ffoscores names = with_rule (with_rule (with_rule (with_rule (versioned (codes "ffoscores"))
     (number_rule (codes "max-empties") 60 (codes "20")))
@@ -88,39 +89,42 @@ ffoscores names = with_rule (with_rule (with_rule (with_rule (versioned (codes "
     (scoring_rule names))
     files_rule
 
--- ---- what stands in its matches
+-- ---- the matches of words
 
--- the text that stands for an option is the decimal numeral of n
+-- the value of the option, by the words or by default, is the decimal numeral of n
 pub record HasNumber (name : Text) (rows : List Row) (n : ℕ) : Type 0 where
   pub text : Text
   pub given : one_of name rows ≡ Some text
   pub numeral : IsNumeral 10 (without_leading_plus text)
   pub value : n ≡ digits_value 10 (without_leading_plus text)
 
+-- the settings are the values of the options of `ffosolve`
 pub record HasSettings (c : SettingsView) (rows : List Row) : Type 0 where
   pub max_empties : HasNumber (codes "max-empties") rows c.max_empties
   pub workers : HasNumber (codes "workers") rows c.workers
   pub table : HasNumber (codes "table") rows c.table
   pub scoring : first_of (codes "scoring") rows ≡ Some (scoring_name c.scoring)
 
--- no workers are asked for
+-- the settings are the values of the options of `ffoscores`, with 0 workers
 pub record HasListSettings (c : SettingsView) (rows : List Row) : Type 0 where
   pub max_empties : HasNumber (codes "max-empties") rows c.max_empties
   pub workers : c.workers ≡ 0
   pub table : HasNumber (codes "table") rows c.table
   pub scoring : first_of (codes "scoring") rows ≡ Some (scoring_name c.scoring)
 
+-- the bytes of each name
 abbrev pub names_of : List (String Global) → List Text
 names_of names = map string_bytes names
 
--- settings, the names of a book to read and of one to write, where there are any, and the names of
--- files
+-- a request to `ffosolve`: settings, the names of a book to read and of a book to write, where
+-- there are any, and the names of files
 pub record Request : Type 0 where
   pub settings : SettingsView
   pub book_in : Option Text
   pub book_out : Option Text
   pub files : List Text
 
+-- the request that options hold
 abbrev pub request_of : Options → Request
 request_of o = record {
   settings = o.settings;
@@ -129,8 +133,8 @@ request_of o = record {
   files = names_of o.files.items;
 }
 
--- The words ask for this: clap finds no fault in them, and it stands in the matches that clap
--- defines for the words and the command.
+-- The words ask for the request: clap finds no fault in them, and the request has the values in the
+-- matches that clap defines for the words and the command.
 pub record Asks (words : List Text) (r : Request) : Type 0 where
   pub names : NameList
   pub named : NamesScorings names
@@ -140,14 +144,16 @@ pub record Asks (words : List Text) (r : Request) : Type 0 where
   pub book_out : r.book_out ≡ first_of (codes "book-out") (matches_of (ffosolve names) words)
   pub listed : r.files ≡ unwrap_or (all_of (codes "FILES") (matches_of (ffosolve names) words)) []
 
--- the settings and the names of the files that words of `ffoscores` ask for
+-- a request to `ffoscores`: settings, and the names of files
 pub record ListRequest : Type 0 where
   pub settings : SettingsView
   pub files : List Text
 
+-- the request that options of `ffoscores` hold
 abbrev pub list_request_of : ListOptions → ListRequest
 list_request_of o = record { settings = o.settings; files = names_of o.files.items }
 
+-- the words of `ffoscores` ask for the request, as `Asks` says it of `ffosolve`
 pub record AsksLists (words : List Text) (r : ListRequest) : Type 0 where
   pub names : NameList
   pub named : NamesScorings names
@@ -155,8 +161,9 @@ pub record AsksLists (words : List Text) (r : ListRequest) : Type 0 where
   pub settings : HasListSettings r.settings (matches_of (ffoscores names) words)
   pub listed : r.files ≡ unwrap_or (all_of (codes "FILES") (matches_of (ffoscores names) words)) []
 
--- ---- when it is refused
+-- ---- words that are refused
 
+-- a command, by the list of the names of the scorings
 abbrev pub Program : Type 0
 Program = NameList → App
 
@@ -164,7 +171,8 @@ Program = NameList → App
 abbrev pub IsTakenBy : Program → List Text → Type 0
 IsTakenBy program words = (names : NameList) → NamesScorings names → takes (program names) words ≡ true
 
--- clap finds a fault of this kind in the words; a request for help or for the version is one
+-- clap finds a fault of this kind in the words of a program; a request for help or for the version
+-- is one
 pub record HasFaultBy (program : Program) (words : List Text) (kind : ErrorKind) : Type 0 where
   pub names : NameList
   pub named : NamesScorings names
@@ -174,25 +182,29 @@ pub record HasFaultBy (program : Program) (words : List Text) (kind : ErrorKind)
 abbrev pub AsksForText : Program → List Text → Type 0
 AsksForText program words = HasFaultBy program words DisplayHelp ⊎ HasFaultBy program words DisplayVersion
 
--- an error that is no refusal: help or the version
+-- the kinds of the errors that are no refusals: help and the version
 abbrev pub IsTextKind : ErrorKind → Type 0
 IsTextKind kind = (kind ≡ DisplayHelp) ⊎ (kind ≡ DisplayVersion)
 
+-- the fault is `Memory`, or an error of a kind that clap finds in the words of a program
 abbrev pub IsFaultFor : Program → List Text → OptionFault → Type 0
 IsFaultFor program words Memory = Unit {0}
 IsFaultFor program words (Refused error) = HasFaultBy program words (kind_of error)
 
--- of `ffosolve`
+-- clap takes the words of `ffosolve`
 abbrev pub IsTaken : List Text → Type 0
 IsTaken words = IsTakenBy ffosolve words
 
+-- clap finds a fault of this kind in the words of `ffosolve`
 abbrev pub HasFault : List Text → ErrorKind → Type 0
 HasFault words kind = HasFaultBy ffosolve words kind
 
+-- the fault is `Memory`, or an error of a kind that clap finds in the words of `ffosolve`
 abbrev pub IsFaultOf : List Text → OptionFault → Type 0
 IsFaultOf words fault = IsFaultFor ffosolve words fault
 
--- clap's own want of memory is want of memory
+-- the fault for an error of clap: `Memory` where clap met want of memory, and else `Refused` with
+-- the error
 abbrev pub IsFaultBy : Error → OptionFault → Type 0
 IsFaultBy error fault =
     ((kind_of error ≡ OutOfMemory) × (fault ≡ Memory))

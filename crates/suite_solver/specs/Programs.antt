@@ -1,4 +1,4 @@
--- What the program prints, and the status it ends with.
+-- The texts that the program reads, its reports, and its errors with their statuses.
 use Rattle.std.specs.Prelude.{◌≡◌, ℕ, ◌≤◌, List, [], ◌∷◌, ◌++◌, length, codes, min, Option, None, IfSome, take}
 use Rattle.std.specs.Io.KnownBytes.{Appends}
 use Rattle.std.specs.List.{concat}
@@ -14,44 +14,47 @@ use Rattle.suite_runs.specs.declared.faults.RunFault.TheVariants.{Memory}
 use Rattle.suite_solver.specs.declared.errors.ProgramError.{ProgramError}
 use Rattle.suite_solver.specs.declared.errors.ProgramError.TheVariants.{Run, BadWords, BadBook, CannotRead, NoPlace, CannotWrite}
 
--- The texts of a run: what standard input gives, where that is known, if no file is named; else one
--- for each name. What a file holds is not known.
+-- These are the texts of a run. Without file names there is one, which is the text on standard
+-- input, where that is known. Else there is one for each name; the content of a file is not known.
 abbrev pub AreTextsOf : List (List ℕ) → Option (List ℕ) → List (List ℕ) → Type 0
 AreTextsOf [] given texts = IfSome given (λ text. texts ≡ text ∷ [])
 AreTextsOf (name ∷ names) given texts = length texts ≡ length (name ∷ names)
 
--- These are the fronts of the texts that are read: of each text one byte more than a file may have,
--- if it has them, and of one text more than there may be, if there are more.
+-- These are the fronts of the texts of a run, as they are read. Without file names there is one:
+-- the first 1,048,577 bytes of standard input, where these are known. Else there is one for each of
+-- the first 65 names; the content of a file is not known.
 abbrev pub AreFrontsOf : List (List ℕ) → Option (List ℕ) → List (List ℕ) → Type 0
 AreFrontsOf [] given fronts = IfSome given (λ text. fronts ≡ take 1048577 text ∷ [])
 AreFrontsOf (name ∷ names) given fronts = length fronts ≡ min 65 (length (name ∷ names))
 
--- A run refuses none of the texts, and their reports were written to standard output, one after the
--- other: it held `old` before and holds `new` now.
+-- A run refuses none of the texts, and their reports were written one after the other to standard
+-- output, which held `old` before and holds `new` now.
 pub record PrintsReports (c : SettingsView) (texts : List (List ℕ)) (old new : Option (List ℕ))
     : Type 0 where
   pub few : length texts ≤ 64
   pub small : first_large texts ≡ None
   pub written : Appends old new (concat (reports c.scoring c.max_empties texts))
 
--- the reports of the texts that were named
+-- the reports of the files of these names, or of standard input, were printed
 pub record Prints (c : SettingsView) (names : List (List ℕ)) (given old new : Option (List ℕ))
     : Type 0 where
   pub texts : List (List ℕ)
   pub read : AreTextsOf names given texts
   pub printed : PrintsReports c texts old new
 
--- the words ask for settings and files, and their reports were printed, whatever a read book claims
+-- the words ask for a request, and the reports of its files were printed, whatever a read book
+-- claims
 pub record IsAnswered (words : List (List ℕ)) (given old new : Option (List ℕ)) : Type 0 where
   pub request : Request
   pub asked : Asks words request
   pub printed : Prints request.settings request.files given old new
 
--- what a fault of a book is to the program
+-- the error of the program for a fault of the book that it reads
 abbrev pub book_error : BookFault → ProgramError
 book_error book.Memory = Run Memory
 book_error fault = BadBook fault
 
+-- the reason of an error, as its line has it
 unfoldable pub error_reason : ProgramError → List ℕ
 error_reason (Run fault) = run_fault_text fault
 error_reason (BadBook fault) = book_fault_text fault
@@ -60,10 +63,11 @@ error_reason (CannotRead name) = codes "cannot read " ++ name.now
 error_reason (NoPlace name) = codes "cannot write " ++ name.now
 error_reason (CannotWrite name) = codes "cannot write " ++ name.now
 
--- one line for standard error, which begins with the name of the program
+-- the line of an error on standard error, which begins with the name of the program
 unfoldable pub error_text : List ℕ → ProgramError → List ℕ
 error_text program error = program ++ (codes ": " ++ (error_reason error ++ 10 ∷ []))
 
+-- the exit status of `ffosolve` after an error
 abbrev pub status_of : ProgramError → ℕ
 status_of (Run fault) = 1
 status_of BadWords = 2
@@ -72,7 +76,7 @@ status_of (CannotRead name) = 3
 status_of (NoPlace name) = 3
 status_of (CannotWrite name) = 3
 
--- what ends the program before it prints anything: all but what can't be written
+-- the error comes before anything is printed; each does but `CannotWrite`
 abbrev pub IsSilent : ProgramError → Type 0
 IsSilent (CannotWrite name) = ⊥
 IsSilent _ = Unit {0}

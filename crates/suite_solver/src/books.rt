@@ -1,4 +1,4 @@
-//! The books of the program: the one that it reads, and the one that it writes.
+//! The book that the program reads, and the book that it writes.
 
 ghost use Rattle.std.specs.Prelude.{◌≡◌, ◌⊎◌, IfOk, IfErr};
 ghost use Rattle.solved_book.specs.Books.{book_text};
@@ -13,14 +13,14 @@ use std::io::{Read, Write};
 use std::rt::Files;
 use std::{fs, io};
 
-// All that a reader gives.
+// Reads all bytes of a reader.
 fn read_whole<R: Read>(alloc: Global, reader: &mut R) -> io::Result<Vec<u8>> {
     let mut bytes = Vec::new(alloc);
     reader.read_to_end(&mut bytes)?;
     Ok(bytes)
 }
 
-// The text of a book's file.
+// Reads the file of a book.
 fn read_text<'a, T: Files>(
     rt: &T,
     alloc: Global,
@@ -39,7 +39,7 @@ fn read_text<'a, T: Files>(
     }
 }
 
-// What the book of a file claims.
+// Reads the claims of the book in the file of this name.
 fn read_book<'a, T: Files>(rt: &T, alloc: Global, name: &'a str) -> Result<Claims, ProgramError<'a>>
     ensures silent { IfErr result IsSilent }
     ensures status { IfErr result (λ error. (status_of error ≡ 1) ⊎ (status_of error ≡ 3)) }
@@ -53,7 +53,8 @@ fn read_book<'a, T: Files>(rt: &T, alloc: Global, name: &'a str) -> Result<Claim
     }
 }
 
-/// What the book that is asked for claims, where one is.
+/// Reads the claims of the book in the file of this name; None where there is no name. The errors
+/// are a file that can't be read, a text that is no book, and want of memory.
 pub(crate) fn read_advice<'a, T: Files>(
     rt: &T,
     alloc: Global,
@@ -71,16 +72,16 @@ pub(crate) fn read_advice<'a, T: Files>(
     }
 }
 
-/// A book's text, which takes no more memory to be written.
+/// The text of a book, made before the reports are printed. Its write takes no more memory.
 #[derive(Drop)]
 pub(crate) struct ReadyBook<'a> {
     name: &'a str,
-    // The name of a file beside it that isn't there.
+    // The name of a file beside the book's, which didn't exist when it was chosen.
     beside: String,
     text: Vec<u8>,
 }
 
-// The text of a book.
+// Makes the text of the book.
 fn text_of(alloc: Global, book: &Book) -> Result<Vec<u8>, AllocError>
     ensures { IfOk result (λ text. text.items ≡ book_text book.now.scoring book.now.positions) }
 {
@@ -92,7 +93,8 @@ fn text_of(alloc: Global, book: &Book) -> Result<Vec<u8>, AllocError>
 }
 
 impl<'a> ReadyBook<'a> {
-    /// The book that is to be written, where one is. Nothing is opened yet.
+    /// Makes the text of the book that is to be written under this name; None where there is no
+    /// name. No file is opened. The error is want of memory.
     pub(crate) fn of<T: Files>(
         rt: &T,
         alloc: Global,
@@ -110,7 +112,8 @@ impl<'a> ReadyBook<'a> {
         }
     }
 
-    /// Writes the book. Where a regular file of its name stood, it is whole until the new one is.
+    /// Writes the book. A regular file of its name stays whole until the new file takes its place.
+    /// The error is `CannotWrite` with the name.
     pub(crate) fn write<T: Files>(&self, rt: &T) -> Result<(), ProgramError<'a>>
         ensures told { IfErr result (λ error. IsSilent error → ⊥) }
         ensures status { IfErr result (λ error. status_of error ≡ 3) }
@@ -121,8 +124,8 @@ impl<'a> ReadyBook<'a> {
         }
     }
 
-    // A regular file, and one that isn't there yet, is written beside and renamed. What is no
-    // regular file, as a device, a pipe or a link, is written as it is.
+    // Writes the text under the book's name. A regular file, and a file that doesn't exist yet, is
+    // written beside and renamed. Any other, as a device, a pipe or a link, is opened and written.
     fn place<T: Files>(&self, rt: &T) -> io::Result<()> {
         match fs::symlink_metadata(rt, self.name) {
             Ok(found) => {
@@ -139,9 +142,9 @@ impl<'a> ReadyBook<'a> {
         }
     }
 
-    // Makes a file beside, gives it the permissions of the one that stood there, and renames it. A
-    // file that may not be written is not replaced. Where another program made the file beside
-    // meanwhile, it is left alone.
+    // Writes a file beside, gives it the permissions of the old file, and renames it. An old file
+    // that may not be written is not replaced. A file beside that another program made in the
+    // meantime is left alone.
     fn replace<T: Files>(&self, rt: &T, permissions: Option<fs::Permissions>) -> io::Result<()> {
         if permissions.is_some() {
             OpenOptions::new().write(true).open(rt, self.name)?;
@@ -157,6 +160,7 @@ impl<'a> ReadyBook<'a> {
         placed
     }
 
+    // Writes the text into the file, sets the permissions, and synchronizes the file.
     fn fill_file<T: Files>(
         &self,
         file: &mut T::File,

@@ -1,4 +1,4 @@
-//! Reads the command line, by `clap`.
+//! Reads the command lines of `ffosolve` and `ffoscores`, by `clap`.
 
 ghost use Rattle.std.specs.Prelude.{◌≡◌, ◌≤◌, ℕ, false, IfOk, IfErr, IfSome, [], codes, map, option_map, string_bytes, unwrap_or};
 ghost use Rattle.clap.specs.Words.{app_of, first_value, found_of, matched_of, raw_values, rows_of, rule_of};
@@ -48,7 +48,7 @@ Exit status:
 Example: what is wrong in a file of positions with all their moves
   ffoscores scored.obf | diff scored.obf -";
 
-// A command with `--help` and `--version`, and no other option yet.
+// A command with `--help` and `--version`, and with no other option.
 fn bare_command<'a>(
     alloc: Global,
     name: &'a str,
@@ -63,7 +63,7 @@ fn bare_command<'a>(
         .after_help(after_help)
 }
 
-// A number from 0 to `most`.
+// An option with a number from 0 to `most`.
 fn number_arg<'a>(
     alloc: Global,
     name: &'a str,
@@ -82,7 +82,7 @@ fn number_arg<'a>(
         .help(help)
 }
 
-// A scoring by its name.
+// The option `--scoring`, with one of these names.
 fn scoring_arg<'a>(alloc: Global, names: &'a [&'a str]) -> Arg<'a>
     ensures rule { rule_of result ≡ scoring_rule names.entry }
     ensures local { result.global ≡ false }
@@ -97,7 +97,7 @@ fn scoring_arg<'a>(alloc: Global, names: &'a [&'a str]) -> Arg<'a>
         )
 }
 
-// A book by the name of its file.
+// An option with the name of a book's file.
 fn book_arg<'a>(alloc: Global, name: &'a str, help: &'a str) -> Arg<'a>
     ensures rule { rule_of result ≡ book_rule name.entry.now }
     ensures local { result.global ≡ false }
@@ -108,7 +108,7 @@ fn book_arg<'a>(alloc: Global, name: &'a str, help: &'a str) -> Arg<'a>
         .help(help)
 }
 
-// The names of the files.
+// The names of the files, of which there may be any number.
 fn files_arg<'a>(alloc: Global) -> Arg<'a>
     ensures rule { rule_of result ≡ files_rule }
     ensures local { result.global ≡ false }
@@ -119,7 +119,7 @@ fn files_arg<'a>(alloc: Global) -> Arg<'a>
         .help("OBF files, at most 64, each of at most 1048576 bytes [default: standard input]")
 }
 
-// The most empty squares of a position that is solved.
+// The option `--max-empties`.
 fn max_empties_arg<'a>(alloc: Global) -> Arg<'a>
     ensures rule { rule_of result ≡ number_rule (codes "max-empties") 60 (codes "20") }
     ensures local { result.global ≡ false }
@@ -133,7 +133,7 @@ fn max_empties_arg<'a>(alloc: Global) -> Arg<'a>
     )
 }
 
-// The worker threads.
+// The option `--workers`.
 fn workers_arg<'a>(alloc: Global) -> Arg<'a>
     ensures rule { rule_of result ≡ number_rule (codes "workers") 64 (codes "2") }
     ensures local { result.global ≡ false }
@@ -147,7 +147,7 @@ fn workers_arg<'a>(alloc: Global) -> Arg<'a>
     )
 }
 
-// The entries of the table.
+// The option `--table`.
 fn table_arg<'a>(alloc: Global) -> Arg<'a>
     ensures rule { rule_of result ≡ number_rule (codes "table") 4194304 (codes "65536") }
     ensures local { result.global ≡ false }
@@ -161,7 +161,7 @@ fn table_arg<'a>(alloc: Global) -> Arg<'a>
     )
 }
 
-// The command with the options of a run.
+// The command `ffosolve`, without books and files.
 fn run_options<'a>(alloc: Global, names: &'a [&'a str]) -> Result<Command<'a>, AllocError>
     ensures { IfOk result (λ c. app_of c ≡ run_options names.entry) }
 {
@@ -172,6 +172,7 @@ fn run_options<'a>(alloc: Global, names: &'a [&'a str]) -> Result<Command<'a>, A
     with_table.arg(scoring_arg(alloc, names))
 }
 
+// The whole command `ffosolve`.
 fn command<'a>(alloc: Global, names: &'a [&'a str]) -> Result<Command<'a>, AllocError>
     ensures { IfOk result (λ c. app_of c ≡ ffosolve names.entry) }
 {
@@ -187,6 +188,7 @@ fn command<'a>(alloc: Global, names: &'a [&'a str]) -> Result<Command<'a>, Alloc
     writing_books.arg(files_arg(alloc))
 }
 
+// The whole command `ffoscores`.
 fn list_command<'a>(alloc: Global, names: &'a [&'a str]) -> Result<Command<'a>, AllocError>
     ensures { IfOk result (λ c. app_of c ≡ ffoscores names.entry) }
 {
@@ -197,19 +199,21 @@ fn list_command<'a>(alloc: Global, names: &'a [&'a str]) -> Result<Command<'a>, 
     with_scoring.arg(files_arg(alloc))
 }
 
+// The number under this option.
 fn u8_of(matches: &ArgMatches<'_>, id: &str) -> Option<u8>
     ensures { IfSome result (λ n. HasNumber id.now (rows_of (found_of matches.now)) n) }
 {
     matches.get_one::<u8>(id)
 }
 
+// The number under this option.
 fn u32_of(matches: &ArgMatches<'_>, id: &str) -> Option<u32>
     ensures { IfSome result (λ n. HasNumber id.now (rows_of (found_of matches.now)) n) }
 {
     matches.get_one::<u32>(id)
 }
 
-// The settings that the matches hold. Each of them has a default, and clap keeps each in its range.
+// The settings in the matches. Each option has a default, and clap keeps each number in its range.
 fn settings_of(matches: &ArgMatches<'_>) -> Option<Settings>
     ensures { IfSome result (λ settings. HasSettings settings (rows_of (found_of matches.now))) }
 {
@@ -220,7 +224,7 @@ fn settings_of(matches: &ArgMatches<'_>) -> Option<Settings>
     Settings::new(max_empties, workers, table, scoring)
 }
 
-// The settings that the matches of `ffoscores` hold. It has no workers.
+// The settings in the matches of `ffoscores`, with 0 workers.
 fn list_settings_of(matches: &ArgMatches<'_>) -> Option<Settings>
     ensures { IfSome result
         (λ settings. HasListSettings settings (rows_of (found_of matches.now))) }
@@ -231,6 +235,7 @@ fn list_settings_of(matches: &ArgMatches<'_>) -> Option<Settings>
     Settings::new(max_empties, 0, table, scoring)
 }
 
+// Copies of the names, in their order.
 fn copy_names(alloc: Global, names: &[&str]) -> Result<Vec<String>, AllocError>
     ensures { IfOk result (λ all. names_of all.items ≡ map (λ name. name.now) names.now) }
 {
@@ -241,7 +246,7 @@ fn copy_names(alloc: Global, names: &[&str]) -> Result<Vec<String>, AllocError>
     Ok(all)
 }
 
-// The name of a book, where the words have one.
+// The name of a book's file under this option; None where the words have none.
 fn book_name_of(
     alloc: Global,
     matches: &ArgMatches<'_>,
@@ -256,6 +261,7 @@ fn book_name_of(
     }
 }
 
+// The names of the files in the matches, in their order.
 fn files_of(alloc: Global, matches: &ArgMatches<'_>) -> Result<Vec<String>, AllocError>
     ensures { IfOk result (λ all. names_of all.items ≡ unwrap_or
         (option_map raw_values (matched_of (found_of matches.now) (codes "FILES"))) []) }
@@ -266,13 +272,14 @@ fn files_of(alloc: Global, matches: &ArgMatches<'_>) -> Result<Vec<String>, Allo
     }
 }
 
-/// Reads the words of a command line, the program's name first. A refusal for want of memory is
-/// `Memory`; any other has clap's error, which can also be the help that the words ask for.
+/// Reads the words of a command line of `ffosolve`, the program's name first. The error is `Memory`
+/// where memory was refused. Any other error has clap's error, which is also the help or the
+/// version where the words ask for one.
 pub fn options(alloc: Global, words: &[&str]) -> Result<Options, OptionFault>
-    // For words that clap takes, only memory can be wanting.
+    // For words that clap takes, the only error is `Memory`.
     ensures taken { IsTaken (map (λ word. word.now) words.now)
         → IfErr result (λ fault. fault ≡ Memory) }
-    // What else is refused has a fault that clap defines for the words.
+    // Any other error has a fault that clap defines for the words.
     ensures refused { IfErr result (IsFaultOf (map (λ word. word.now) words.now)) }
     // Clap takes the words, and the settings and names are those of the matches that it defines.
     ensures asked { IfOk result
@@ -295,13 +302,13 @@ pub fn options(alloc: Global, words: &[&str]) -> Result<Options, OptionFault>
     })
 }
 
-/// Reads the words of a command line of `ffoscores`, the program's name first, as `options` does
-/// those of `ffosolve`.
+/// Reads the words of a command line of `ffoscores`, the program's name first. The errors are those
+/// of `options`.
 pub fn list_options(alloc: Global, words: &[&str]) -> Result<ListOptions, OptionFault>
-    // For words that clap takes, only memory can be wanting.
+    // For words that clap takes, the only error is `Memory`.
     ensures taken { IsTakenBy ffoscores (map (λ word. word.now) words.now)
         → IfErr result (λ fault. fault ≡ Memory) }
-    // What else is refused has a fault that clap defines for the words.
+    // Any other error has a fault that clap defines for the words.
     ensures refused { IfErr result (IsFaultFor ffoscores (map (λ word. word.now) words.now)) }
     // Clap takes the words, and the settings and names are those of the matches that it defines.
     ensures asked { IfOk result

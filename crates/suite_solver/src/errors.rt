@@ -1,4 +1,4 @@
-//! The errors that end the program early.
+//! The errors that end `ffosolve` or `ffoscores` early.
 
 ghost use Rattle.std.specs.Prelude.{◌≡◌, ◌⊎◌, OnOk, Some};
 ghost use Rattle.std.specs.IoError.{error_kind};
@@ -13,18 +13,21 @@ use std::io::{ErrorKind, Write};
 use std::{fmt, io};
 use suite_runs::RunFault;
 
-/// An error that ends the program early. Names are those of files as the words have them, or of a
-/// standard stream.
+/// An error that ends a program early. A name is that of a file, as the command line has it, or
+/// `standard input` or `standard output`.
 #[derive(Drop)]
 pub enum ProgramError<'a> {
+    /// Files are too many or too large, memory was refused, or the job board refused a step.
     Run(RunFault),
     /// A word of the command line is no text.
     BadWords,
-    /// The text that was read is no book. Want of memory is `Run(Memory)`.
+    /// The file of the book to be read is no book. Want of memory is `Run(Memory)`.
     BadBook(BookFault),
+    /// The file or the stream of this name can't be read.
     CannotRead(&'a str),
-    /// The place of a book, before anything is solved.
+    /// A book can't be written under this name, as a test showed before anything was solved.
     NoPlace(&'a str),
+    /// The file or the stream of this name can't be written.
     CannotWrite(&'a str),
 }
 
@@ -80,8 +83,8 @@ impl fmt::Display for ProgramError<'_> {
     }
 }
 
-/// Why standard input, or a file of this name, can't be read: it has failed, or there was no memory
-/// for its bytes.
+/// The error for a read of the file or stream of this name that failed: `Run(Memory)` where memory
+/// was refused, and else `CannotRead` with the name.
 pub fn read_error<'a>(fault: &io::Error, name: &'a str) -> ProgramError<'a>
     ensures memory { error_kind fault.now ≡ ErrorKind.OutOfMemory → result ≡ Run Memory }
     ensures name { (error_kind fault.now ≡ ErrorKind.OutOfMemory → ⊥)
@@ -95,8 +98,8 @@ pub fn read_error<'a>(fault: &io::Error, name: &'a str) -> ProgramError<'a>
     }
 }
 
-// Why a book can't be written in a place, before anything is solved, or that there was no memory to
-// try it.
+// The error for the test of a book's place that failed: `Run(Memory)` where memory was refused, and
+// else `NoPlace` with the name.
 pub(crate) fn place_error<'a>(fault: &io::Error, name: &'a str) -> ProgramError<'a>
     ensures memory { error_kind fault.now ≡ ErrorKind.OutOfMemory → result ≡ Run Memory }
     ensures name { (error_kind fault.now ≡ ErrorKind.OutOfMemory → ⊥)
@@ -110,7 +113,8 @@ pub(crate) fn place_error<'a>(fault: &io::Error, name: &'a str) -> ProgramError<
     }
 }
 
-/// Why the command line can't be read: a word is no text, or there was no memory for it.
+/// The error for a command line that can't be read: `Run(Memory)` where memory was refused, and
+/// else `BadWords`.
 pub fn words_error(fault: &io::Error) -> ProgramError<'static>
     ensures { (status_of result ≡ 1) ⊎ (status_of result ≡ 2) }
 {
@@ -121,7 +125,8 @@ pub fn words_error(fault: &io::Error) -> ProgramError<'static>
 }
 
 impl ProgramError<'_> {
-    /// Writes the line of standard error, which begins with the program's name.
+    /// Writes the error as one line: the name of the program, `: `, the reason, and LF. The error
+    /// of the call is that of the writer.
     #[tactic(auto, unfolding(crate::specs::Programs::error_text))]
     pub fn print<E: Write>(&self, program: &str, errors: &mut E) -> io::Result<()>
         ensures { OnOk result (Appends
@@ -131,7 +136,7 @@ impl ProgramError<'_> {
         write!(errors, "{program}: {error}\n")
     }
 
-    // The exit status.
+    // The exit status of `ffosolve` after this error.
     pub(crate) fn status(&self) -> u8
         ensures { result ≡ status_of self.now }
     {

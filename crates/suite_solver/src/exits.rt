@@ -1,4 +1,4 @@
-//! How the program ends in its `main`.
+//! The end of the program in its `main`.
 
 ghost use Rattle.std.specs.Prelude.{◌≡◌, ◌≢◌, ◌⊎◌, IsOkAnd};
 ghost use Rattle.std.specs.Process.{exit_status};
@@ -15,8 +15,9 @@ use std::rt::Files;
 use std::sync::Wait;
 use std::thread::Threads;
 
-/// How the program ended. `program_at` alone makes one, and it is no value that may be let go: so a
-/// `main` that calls it gives it, and ends with the program's status.
+/// The end of the program, with its exit status. Only `program_at` makes one, and it may not be
+/// dropped. So a `main` that calls `program_at` returns it, and ends with the status of the
+/// program.
 pub struct Ended {
     status: u8,
 }
@@ -30,13 +31,13 @@ impl Termination for Ended {
     }
 }
 
-/// A stream for what ends the program early. Standard output is none, and can't be handed over as
-/// one.
+/// A stream to which errors may be printed. Standard error is one. Standard output is none, so a
+/// `main` can't hand it over as one.
 pub trait ErrorStream: Write {}
 
 impl ErrorStream for Stderr {}
 
-/// `program_of`, for a `main`: its result ends the process with the status.
+/// Does the work of `program_of` for a `main`. The result ends the process with the status, 0 to 3.
 pub fn program_at<T: Files + Threads + Wait + Sync, R: Read, W: Write, E: ErrorStream>(
     rt: &T,
     alloc: Global,

@@ -1,4 +1,4 @@
-//! Reads the files of a run.
+//! Reads the files of a run, or standard input.
 
 ghost use Rattle.std.specs.Prelude.{◌≡◌, ◌≤◌, ◌⊎◌, [], ◌∷◌, IfOk, IfErr, IfSome, length, min, take, vec_len};
 ghost use Rattle.suite_solver.specs.CommandLine.{names_of};
@@ -13,7 +13,7 @@ use std::io::Read;
 use std::rt::Files;
 use suite_runs::MOST_FILES;
 
-// Standard input as the one file.
+// Reads standard input as the one file, up to one byte more than a file may have.
 fn read_input<R: Read>(alloc: Global, input: &mut R) -> Result<Vec<Vec<u8>>, ProgramError<'static>>
     ensures ok { IfOk result (λ files. IfSome
         (R.remaining input.old) (λ all. texts_of files.items ≡ take 1048577 all ∷ [])) }
@@ -29,7 +29,7 @@ fn read_input<R: Read>(alloc: Global, input: &mut R) -> Result<Vec<Vec<u8>>, Pro
     }
 }
 
-// The file of a name.
+// Reads the file of this name, up to one byte more than a file may have.
 fn read_file<'a, T: Files>(
     rt: &T,
     alloc: Global,
@@ -48,7 +48,7 @@ fn read_file<'a, T: Files>(
     }
 }
 
-// Looks whether a file can be opened. Nothing of it is read.
+// Opens the file of this name, and reads nothing of it.
 fn open_only<'a, T: Files>(rt: &T, name: &'a str) -> Result<(), ProgramError<'a>>
     ensures { IfErr result (λ error. (status_of error ≡ 1) ⊎ (status_of error ≡ 3)) }
 {
@@ -58,8 +58,8 @@ fn open_only<'a, T: Files>(rt: &T, name: &'a str) -> Result<(), ProgramError<'a>
     }
 }
 
-// The files of these names, in their order: one more than a run may have, by which too many files
-// are known. From the 66th on a file is opened, but not read.
+// Reads the files of these names, in their order: at most 65, one more than a run may have, so that
+// the run refuses them. From the 66th name on a file is opened, but not read.
 fn read_named<'a, T: Files>(
     rt: &T,
     alloc: Global,
@@ -79,7 +79,7 @@ fn read_named<'a, T: Files>(
     Ok(files)
 }
 
-// The files of these names, or standard input where there is no name.
+// Reads the files of these names, in their order, or standard input where there is no name.
 pub(crate) fn read_files<'a, T: Files, R: Read>(
     rt: &T,
     alloc: Global,

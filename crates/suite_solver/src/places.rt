@@ -1,4 +1,4 @@
-//! Where the book that is asked for is written: tried before anything is solved.
+//! The place of a book that is to be written. It is tested before anything is solved.
 
 ghost use Rattle.std.specs.Prelude.{◌≡◌, ◌⊎◌, IfErr};
 ghost use Rattle.suite_solver.specs.Programs.{IsSilent, status_of};
@@ -10,7 +10,8 @@ use std::os::unix::fs::{FileTypeExt, MetadataExt};
 use std::rt::Files;
 use std::{fs, io};
 
-// The name of a file beside one of this name: the first of a hundred that isn't there.
+// A name for a file beside the file `name`: the first of `name.0.part` to `name.99.part` that
+// doesn't exist, and else `name.part`.
 pub(crate) fn name_beside<T: Files>(
     rt: &T,
     alloc: Global,
@@ -25,20 +26,21 @@ pub(crate) fn name_beside<T: Files>(
     format!(in alloc; "{name}.part")
 }
 
-// Looks whether a file can be made beside. It is taken away again.
+// Tests that a file can be made beside the file `name`, and removes it.
 fn try_beside<T: Files>(rt: &T, alloc: Global, name: &str) -> io::Result<()> {
     let beside = name_beside(rt, alloc, name)?;
     fs::File::create_new(rt, beside.as_str())?;
     fs::remove_file(rt, beside.as_str())
 }
 
-// Looks whether a place can be opened for writing. What stands there is left as it is; where a link
-// leads to no file, an empty one is made.
+// Tests that the file `name` can be opened for writing. Its content is left as it is. Where the
+// name is that of a link to no file, an empty file is made.
 fn try_open<T: Files>(rt: &T, name: &str) -> io::Result<()> {
     OpenOptions::new().write(true).create(true).open(rt, name)?;
     Ok(())
 }
 
+// Whether the name leads to a pipe.
 fn is_pipe<T: Files>(rt: &T, name: &str) -> bool {
     match fs::metadata(rt, name) {
         Ok(found) => found.file_type().is_fifo(),
@@ -46,8 +48,8 @@ fn is_pipe<T: Files>(rt: &T, name: &str) -> bool {
     }
 }
 
-// Looks whether a book can be written there. A pipe is not opened: that waits for its reader, which
-// would see its end.
+// Tests that a book can be written as the file `name`. A pipe is not opened, since that would wait
+// for the reader of the pipe, and the reader would see its end.
 fn try_place<T: Files>(rt: &T, alloc: Global, name: &str) -> io::Result<()> {
     match fs::symlink_metadata(rt, name) {
         Ok(found) => {
@@ -67,7 +69,7 @@ fn try_place<T: Files>(rt: &T, alloc: Global, name: &str) -> io::Result<()> {
     }
 }
 
-// Whether a name leads to this regular file.
+// Whether the name leads to this regular file.
 fn leads_to<T: Files>(rt: &T, name: &str, file: &Metadata) -> bool {
     match fs::metadata(rt, name) {
         Ok(found) => found.is_file() && found.dev() == file.dev() && found.ino() == file.ino(),
@@ -75,7 +77,7 @@ fn leads_to<T: Files>(rt: &T, name: &str, file: &Metadata) -> bool {
     }
 }
 
-// Whether a name leads to a regular file to which one of these names leads.
+// Whether the name leads to a regular file to which one of the other names leads.
 fn is_among<T: Files>(rt: &T, name: &str, names: &[String]) -> bool {
     let Ok(file) = fs::metadata(rt, name) else {
         return false;
@@ -88,9 +90,10 @@ fn is_among<T: Files>(rt: &T, name: &str, names: &[String]) -> bool {
     false
 }
 
-/// Looks whether the book that is asked for, where one is, can be written in its place: a file can
-/// be made beside a regular file, or where none is yet, and what stands there opens. A file that is
-/// read as a list is no such place.
+/// Tests that the book to be written, if there is one, can be written under its name. A file of
+/// that name, unless it is a pipe, has to open for writing. A file has to be made beside it, where
+/// it is a regular file or doesn't exist. A file that is read as a list is refused. The errors are
+/// `NoPlace` with the name, and want of memory.
 pub(crate) fn check_place<'a, T: Files>(
     rt: &T,
     alloc: Global,

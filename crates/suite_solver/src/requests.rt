@@ -1,4 +1,4 @@
-//! What a command line asks for, and why it can't be read.
+//! The options of a command line, and the fault of a command line without options.
 
 ghost use Rattle.std.specs.Prelude.{◌≡◌};
 ghost use Rattle.suite_solver.specs.CommandLine.{IsFaultBy};
@@ -9,23 +9,23 @@ use std::alloc::{AllocError, AllocFailed};
 use suite_runs::Settings;
 use thiserror::Error;
 
-/// What a command line asks for.
+/// The options of a command line of `ffosolve`.
 #[derive(Debug, Drop)]
 pub struct Options {
     pub settings: Settings,
-    /// The name of a book to read, as the words have it.
+    /// The name of the file of a book to read, as the words have it; None where there is none.
     pub book_in: Option<String>,
-    /// The name of a book to write, as the words have it.
+    /// The name of the file of a book to write, as the words have it; None where there is none.
     pub book_out: Option<String>,
     /// The names of the files as given, in their order. Without any, standard input is the one
     /// file.
     pub files: Vec<String>,
 }
 
-/// What a command line of `ffoscores` asks for.
+/// The options of a command line of `ffoscores`.
 #[derive(Debug, Drop)]
 pub struct ListOptions {
-    /// No workers.
+    /// The limit of empty squares, the table and the scoring, with 0 workers.
     pub settings: Settings,
     /// The names of the files as given, in their order. Without any, standard input is the one
     /// file.
@@ -35,10 +35,10 @@ pub struct ListOptions {
 /// Why a command line gives no options.
 #[derive(Debug, Drop, Error)]
 pub enum OptionFault {
-    /// There was no memory for it, or none for clap's own work.
+    /// Memory was refused, here or in clap.
     #[error("out of memory")]
     Memory,
-    /// What clap says of the words: why it refuses them, or the help that they ask for.
+    /// clap's error: why the words are refused, or the help or the version that they ask for.
     #[error("{0}")]
     Refused(clap::Error),
 }

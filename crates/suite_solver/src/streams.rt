@@ -1,4 +1,4 @@
-//! The words and streams of a program: what `ffosolve` and `ffoscores` have in common.
+//! Calls on words and streams that `ffosolve` and `ffoscores` share.
 
 ghost use Rattle.std.specs.Prelude.{◌≡◌, ◌≤◌, true, false, map, take, vec_len, IfOk, IfSome, IsErr};
 ghost use Rattle.clap.specs.Words.{kind_of};
@@ -10,8 +10,9 @@ use std::io;
 use std::io::{Read, Write};
 use suite_runs::MOST_BYTES;
 
-/// The first bytes of a reader, `MOST_BYTES` and one more, by which a file that is too large is
-/// known. They are cut once more, for a reader of which no contract says what bytes it gives.
+/// Reads the first bytes of a reader: 1,048,577 bytes, one more than a file may have, or all bytes
+/// where there are fewer. A file that is too large is known by that one byte. The error is that of
+/// the reader, or want of memory.
 pub fn read_front<R: Read>(alloc: Global, reader: &mut R) -> io::Result<Vec<u8>>
     ensures most { IfOk result (λ bytes. vec_len bytes ≤ 1048577) }
     ensures front { IfOk result
@@ -19,11 +20,13 @@ pub fn read_front<R: Read>(alloc: Global, reader: &mut R) -> io::Result<Vec<u8>>
 {
     let mut bytes = Vec::new(alloc);
     reader.take(MOST_BYTES as u64 + 1).read_to_end(&mut bytes)?;
+    // The bytes are cut once more, since no contract says how many a reader gives that doesn't tell
+    // its bytes.
     bytes.truncate(MOST_BYTES + 1);
     Ok(bytes)
 }
 
-/// The words as slices.
+/// The words as slices, in their order. The error is want of memory.
 pub fn borrow_words(alloc: Global, words: &[String]) -> Result<Vec<&str>, AllocError>
     ensures { IfOk result (λ all. map (λ word. word.now) all.items ≡ names_of words.now) }
 {
@@ -34,15 +37,15 @@ pub fn borrow_words(alloc: Global, words: &[String]) -> Result<Vec<&str>, AllocE
     Ok(borrowed)
 }
 
-// Writes help, or the version.
+// Writes the help or the version, which clap hands over as an error.
 fn write_help<W: Write>(output: &mut W, help: &clap::Error) -> io::Result<()> {
     write!(output, "{help}")?;
     output.flush()
 }
 
-/// Prints what clap says in place of options: help and the version on standard output, why the
-/// words are refused on standard error, where a failure changes nothing. The answer is whether they
-/// ask for help or the version. The error is that of standard output.
+/// Prints what clap hands over in place of options. Help and the version go to standard output, and
+/// the result is true. The reason of a refusal goes to standard error, and the result is false; a
+/// failure of standard error changes nothing. The error is that of standard output.
 pub fn explain<W: Write, E: Write>(
     error: &clap::Error,
     output: &mut W,
