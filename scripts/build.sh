@@ -12,7 +12,7 @@ child=''  # the process that builds, or waits for another build
 shower='' # the process that shows how far a build is
 signal='' # the signal that came meanwhile
 drops=0   # how often kept work was dropped
-kit=rattle-kit-13b
+kit=rattle-kit-13f
 
 say() {
     echo "$speaker: $1" >&2

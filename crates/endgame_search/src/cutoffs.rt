@@ -87,14 +87,14 @@ pub(crate) fn store_if_deep<T: Bounds>(table: &T, position: Pos, low: i8, high: 
     ensures { result ≡ score }
 {
     if position.empties() >= FEWEST_STORED {
-        store_range(table, position, low, high, score);
+        store_always(table, position, low, high, score);
     }
     score
 }
 
 // Stores the range that a search of the window proves by its score, however many squares are empty.
 #[inline(never)]
-pub(crate) fn store_range<T: Bounds>(table: &T, position: Pos, low: i8, high: i8, score: i8)
+pub(crate) fn store_always<T: Bounds>(table: &T, position: Pos, low: i8, high: i8, score: i8)
     requires window { IsWindow low high }
     requires places { Places low high (value_of (T.scoring table.now) position) score }
 {

@@ -1,16 +1,9 @@
-//! The program `ffoscores`: hands arguments, streams and allocator to `program_at`.
+//! The program `ffoscores`: hands arguments, streams and allocator to `suite_solver`.
 #![tactic(auto)]
 
-mod errors;
-mod exits;
-mod inputs;
-mod programs;
-#[cfg(test)]
-mod tests;
-
-use crate::exits::{Ended, program_at};
 use std::env::Env;
 use std::{env, io};
+use suite_solver::{Ended, list_program_at};
 
 // The words of the command line, the program's name first.
 fn words_of(rt: &(impl Env + AllocGlobal)) -> io::Result<Vec<String>> {
@@ -21,5 +14,5 @@ fn words_of(rt: &(impl Env + AllocGlobal)) -> io::Result<Vec<String>> {
 fn main(rt: HostRuntime) -> Ended {
     let (mut input, mut output, mut errors) = (rt.stdin(), rt.stdout(), rt.stderr());
     let words = words_of(&rt);
-    program_at(&rt, rt.alloc(), words, &mut input, &mut output, &mut errors)
+    list_program_at(&rt, rt.alloc(), words, &mut input, &mut output, &mut errors)
 }

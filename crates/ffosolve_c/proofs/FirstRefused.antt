@@ -6,7 +6,7 @@ use Rattle.std.proofs.lemmas.Grind.{common_steps}
 use Rattle.std.proofs.lemmas.List.Sums.{position_or_len_is}
 use Rattle.std.proofs.lemmas.Option.{slice_get-get_or}
 use Rattle.ffosolve_c.specs.declared.positions.FfosolvePosition.{FfosolvePosition}
-use Rattle.ffosolve_c.specs.declared.refusals.Refusal.{Refusal}
+use Rattle.ffosolve_c.specs.declared.refusals.CallRefusal.{CallRefusal}
 use Rattle.ffosolve_c.specs.Exports.{first_refused, first_refusal, position_refusal, AreSolvable}
 
 abbrev is_refused : FfosolvePosition → Bool
@@ -21,7 +21,7 @@ passed ps i k good le lt =
     let same : get_or (take i ps) k bare ≡ get_or ps k bare = grind (arith, common_steps) in
     ap is_some (ap position_refusal (sym same) ∙ good k bare (grind (arith, common_steps)))
 
-pub first_is : (ps : List FfosolvePosition) (i : ℕ) (r : Refusal) → i < length ps → AreSolvable (take i ps) → position_refusal (get_or ps i bare) ≡ Some r → first_refused ps ≡ Some i
+pub first_is : (ps : List FfosolvePosition) (i : ℕ) (r : CallRefusal) → i < length ps → AreSolvable (take i ps) → position_refusal (get_or ps i bare) ≡ Some r → first_refused ps ≡ Some i
 first_is ps i r lt good at =
     let n : position_or_len is_refused ps ≡ i = position_or_len_is is_refused ps i bare (omega arith) (λ k l. passed ps i k good (omega arith) l) (λ _. ap is_some at) in
     let inside : nat_lt i (length ps) ≡ true = grind (arith, common_steps) in
@@ -33,6 +33,6 @@ none_is ps good =
     let outside : nat_lt (length ps) (length ps) ≡ false = grind (arith, common_steps) in
     ap (λ m. cond (nat_lt m (length ps)) (Some m) None) n ∙ ap (λ b. cond b (Some (length ps)) None) outside
 
-pub refusal_is : (ps : List FfosolvePosition) (i : ℕ) (r : Refusal) → i < length ps → AreSolvable (take i ps) → position_refusal (get_or ps i bare) ≡ Some r → first_refusal ps ≡ Some r
+pub refusal_is : (ps : List FfosolvePosition) (i : ℕ) (r : CallRefusal) → i < length ps → AreSolvable (take i ps) → position_refusal (get_or ps i bare) ≡ Some r → first_refusal ps ≡ Some r
 refusal_is ps i r lt good at =
     ap (option_and_then (λ n. option_and_then position_refusal (slice_get ps n))) (first_is ps i r lt good at) ∙ ap (option_and_then position_refusal) (slice_get-get_or ps i bare lt) ∙ at

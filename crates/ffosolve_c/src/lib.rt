@@ -22,7 +22,7 @@ mod tests;
 
 ghost use Rattle.std.specs.Prelude.{◌≡◌, ◌≢◌, ◌↔◌, pos, Some, bit_and, length};
 ghost use Rattle.othello_bits.specs.Pos.{moves_of, play_of, IsMove};
-ghost use Rattle.ffosolve_c.specs.declared.refusals.Refusal.TheVariants as refusal;
+ghost use Rattle.ffosolve_c.specs.declared.refusals.CallRefusal.TheVariants as refusal;
 ghost use Rattle.ffosolve_c.specs.Exports.{discs_at, first_refused, c_position, refusal_of};
 ghost use Rattle.ffosolve_c.specs.Exports.{refusal_of_all, status_of, version, AreAnswers};
 ghost use Rattle.ffosolve_c.specs.Exports.{AreScores, IsAnswer, IsOfPosition, IsStatus};
@@ -34,12 +34,12 @@ use crate::requests::answer_one;
 use crate::scores::score_all;
 pub use answers::FfosolveAnswer;
 pub use positions::FfosolvePosition;
-pub use refusals::Refusal;
+pub use refusals::CallRefusal;
 use std::alloc::Global;
 
 /// Writes the answer of a position, by a search over a new table of `entries` entries, 0 to
 /// 4,194,304. `scoring` is 0 for `Winner`, 1 for `Discs` and 2 for `Sign`. The status is 0 where
-/// `answer` was written. Else `answer` is as it was, and the status is that of a `Refusal`: 1, 2,
+/// `answer` was written. Else `answer` is as it was, and the status is that of a `CallRefusal`: 1, 2,
 /// 4, 5 or 7. It is never 7, want of memory, with 0 entries.
 #[unsafe(no_mangle)]
 pub extern "C" fn ffosolve_solve(
@@ -92,7 +92,7 @@ pub extern "C" fn ffosolve_confirm(
 /// Writes the answer of each position at its index in `answers`, by searches over one new table of
 /// `entries` entries, 0 to 4,194,304. `scoring` is 0 for `Winner`, 1 for `Discs` and 2 for `Sign`.
 /// The status is 0 where all of `answers` was written. Else `answers` is as it was, and the status
-/// is that of a `Refusal`: 1, 2, 3, 4, 5 or 7; 3 where there are not as many answers as positions.
+/// is that of a `CallRefusal`: 1, 2, 3, 4, 5 or 7; 3 where there are not as many answers as positions.
 /// It is never 7, want of memory, with 0 entries. With 4 and 5 `at` is the index, from 0, of the
 /// first position that is refused; else `at` is as it was.
 #[unsafe(no_mangle)]
@@ -123,7 +123,7 @@ pub extern "C" fn ffosolve_solve_all(
 /// -64 to 64, or 1, 0 or -1 under `Sign`. All searches use one new table of `entries` entries, 0 to
 /// 4,194,304. `scoring` is 0 for `Winner`, 1 for `Discs` and 2 for `Sign`. The status is 0 where
 /// `scores` and `moves` were written. Else they are as they were, and the status is that of a
-/// `Refusal`: 1, 2, 4, 5 or 7. It is never 7, want of memory, with 0 entries.
+/// `CallRefusal`: 1, 2, 4, 5 or 7. It is never 7, want of memory, with 0 entries.
 #[unsafe(no_mangle)]
 pub extern "C" fn ffosolve_move_scores(
     alloc: Global,

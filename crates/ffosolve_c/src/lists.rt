@@ -2,14 +2,14 @@
 
 ghost use Rattle.std.specs.Prelude.{◌≡◌, ◌≢◌, Some, None, IsNone, IfSome, IfErr, OnOk, OnErr};
 ghost use Rattle.std.specs.Prelude.{length, map};
-ghost use Rattle.ffosolve_c.specs.declared.refusals.Refusal.TheVariants as refusal;
+ghost use Rattle.ffosolve_c.specs.declared.refusals.CallRefusal.TheVariants as refusal;
 ghost use Rattle.ffosolve_c.specs.Exports.{answer_at, first_refusal, first_refused};
 ghost use Rattle.ffosolve_c.specs.Exports.{position_refusal, refusal_of_all, status_of, AreAnswers};
 ghost use Rattle.ffosolve_c.specs.Exports.{AreSolvable, IsOfPosition, IsRefusal};
 
 use crate::answers::{FfosolveAnswer, c_answer};
 use crate::positions::{FfosolvePosition, task_of};
-use crate::refusals::Refusal;
+use crate::refusals::CallRefusal;
 use crate::requests::{table_of, table_scoring};
 use bound_table::{BoundTable, Bounds};
 use endgame_search::solve;
@@ -17,7 +17,7 @@ use othello_rules::Scoring;
 use std::alloc::Global;
 
 // The index of the first position that is refused, and its refusal. None where none is refused.
-fn first_refused(positions: &[FfosolvePosition]) -> Option<(usize, Refusal)>
+fn first_refused(positions: &[FfosolvePosition]) -> Option<(usize, CallRefusal)>
     ensures good { IsNone result → AreSolvable positions.now }
     ensures none { IsNone result → first_refusal positions.now ≡ None }
     ensures at { IfSome result (λ first. first_refused positions.now ≡ Some first.0) }
@@ -64,7 +64,7 @@ pub fn answer_all(
     entries: usize,
     answers: &mut [FfosolveAnswer],
     at: &mut usize,
-) -> Result<(), Refusal>
+) -> Result<(), CallRefusal>
     ensures good { OnOk result
         (refusal_of_all scoring entries positions.now (length answers.old) ≡ None) }
     ensures answers { OnOk result (AreAnswers scoring positions.now answers.new) }
@@ -79,7 +79,7 @@ pub fn answer_all(
 {
     let scoring = table_scoring(scoring, entries)?;
     if positions.len() != answers.len() {
-        return Err(Refusal::UnequalLengths);
+        return Err(CallRefusal::UnequalLengths);
     }
     if let Some((first, refusal)) = first_refused(positions) {
         *at = first;

@@ -2,11 +2,11 @@
 
 ghost use Rattle.std.specs.Prelude.{◌≡◌, ◌≢◌, ◌↔◌, bit_and, Some, None, Err, IfOk, IfErr};
 ghost use Rattle.othello_bits.specs.Pos.{play_of, IsMove};
-ghost use Rattle.ffosolve_c.specs.declared.refusals.Refusal.TheVariants as refusal;
+ghost use Rattle.ffosolve_c.specs.declared.refusals.CallRefusal.TheVariants as refusal;
 ghost use Rattle.ffosolve_c.specs.Exports.{discs_at, c_position, position_refusal, status_of};
 ghost use Rattle.ffosolve_c.specs.Exports.{IsOfPosition};
 
-use crate::refusals::Refusal;
+use crate::refusals::CallRefusal;
 use endgame_search::Task;
 use othello_bits::Pos;
 use othello_rules::{Scoring, Square};
@@ -21,7 +21,7 @@ pub struct FfosolvePosition {
 }
 
 /// The position of the two masks. `SharedSquare` where they share a square.
-pub fn position_of(position: FfosolvePosition) -> Result<Pos, Refusal>
+pub fn position_of(position: FfosolvePosition) -> Result<Pos, CallRefusal>
     ensures apart { IfOk result (λ p. bit_and position.own position.opp ≡ 0) }
     ensures value { IfOk result (λ p. p ≡ discs_at position) }
     ensures shared { IfErr result (λ r. bit_and position.own position.opp ≢ 0) }
@@ -29,14 +29,14 @@ pub fn position_of(position: FfosolvePosition) -> Result<Pos, Refusal>
 {
     match Pos::new(position.own, position.opp) {
         Some(position) => Ok(position),
-        None => Err(Refusal::SharedSquare),
+        None => Err(CallRefusal::SharedSquare),
     }
 }
 
 /// The task of the position under a scoring. `SharedSquare` where the masks share a square;
 /// `TooManyEmpties` where more than 60 squares are empty.
 #[tactic(auto, unfolding(crate::specs::Exports::position_refusal))]
-pub fn task_of(position: FfosolvePosition, scoring: Scoring) -> Result<Task, Refusal>
+pub fn task_of(position: FfosolvePosition, scoring: Scoring) -> Result<Task, CallRefusal>
     ensures good { IfOk result (λ task. position_refusal position ≡ None) }
     ensures task { IfOk result (λ task.
         task ≡ record { position = discs_at position; scoring = scoring }) }
@@ -47,13 +47,13 @@ pub fn task_of(position: FfosolvePosition, scoring: Scoring) -> Result<Task, Ref
     let position = position_of(position)?;
     match Task::new(position, Task::MOST_EMPTIES, scoring) {
         Ok(task) => Ok(task),
-        Err(_) => Err(Refusal::TooManyEmpties),
+        Err(_) => Err(CallRefusal::TooManyEmpties),
     }
 }
 
 /// The position after the mover's move to `square`, 0 to 63. `SharedSquare` where the masks share a
 /// square; `NoMove` where the mover can't move to the square.
-pub fn play_move(position: FfosolvePosition, square: u8) -> Result<FfosolvePosition, Refusal>
+pub fn play_move(position: FfosolvePosition, square: u8) -> Result<FfosolvePosition, CallRefusal>
     ensures apart { IfOk result (λ after. bit_and position.own position.opp ≡ 0) }
     ensures legal { IfOk result (λ after. IsMove (discs_at position) square) }
     ensures after { IfOk result (λ after. after ≡ c_position (play_of (discs_at position) square)) }
@@ -63,13 +63,13 @@ pub fn play_move(position: FfosolvePosition, square: u8) -> Result<FfosolvePosit
 {
     let position = position_of(position)?;
     let Some(square) = Square::new(square) else {
-        return Err(Refusal::NoMove);
+        return Err(CallRefusal::NoMove);
     };
     match position.play(square) {
         Some(after) => Ok(FfosolvePosition {
             own: after.own(),
             opp: after.opp(),
         }),
-        None => Err(Refusal::NoMove),
+        None => Err(CallRefusal::NoMove),
     }
 }

@@ -6,7 +6,7 @@ ghost use Rattle.ffosolve_c.specs.Exports.{status_of};
 /// Why a request is refused. A request is tested for the refusals in this order, and the first that
 /// fits is returned.
 #[derive(Clone, Copy)]
-pub enum Refusal {
+pub enum CallRefusal {
     /// The number of the scoring is not 0, 1 or 2.
     UnknownScoring,
     /// The table has more than 4,194,304 entries.
@@ -23,20 +23,20 @@ pub enum Refusal {
     NoMemory,
 }
 
-impl Refusal {
+impl CallRefusal {
     /// The status that C reads, from 1 to 7.
     pub fn status(self) -> i32
         ensures number { result ≡ status_of self }
         ensures not_done { result ≢ pos 0 }
     {
         match self {
-            Refusal::UnknownScoring => 1,
-            Refusal::TooManyEntries => 2,
-            Refusal::UnequalLengths => 3,
-            Refusal::SharedSquare => 4,
-            Refusal::TooManyEmpties => 5,
-            Refusal::NoMove => 6,
-            Refusal::NoMemory => 7,
+            CallRefusal::UnknownScoring => 1,
+            CallRefusal::TooManyEntries => 2,
+            CallRefusal::UnequalLengths => 3,
+            CallRefusal::SharedSquare => 4,
+            CallRefusal::TooManyEmpties => 5,
+            CallRefusal::NoMove => 6,
+            CallRefusal::NoMemory => 7,
         }
     }
 }

@@ -3,11 +3,11 @@
 ghost use Rattle.std.specs.Prelude.{◌≡◌, ◌≢◌, Some, None, length, map, IfOk, IfErr, OnErr};
 ghost use Rattle.othello_rules.specs.Board.{squares};
 ghost use Rattle.othello_bits.specs.Pos.{moves_of};
-ghost use Rattle.ffosolve_c.specs.declared.refusals.Refusal.TheVariants as refusal;
+ghost use Rattle.ffosolve_c.specs.declared.refusals.CallRefusal.TheVariants as refusal;
 ghost use Rattle.ffosolve_c.specs.Exports.{discs_at, refusal_of, score_at, AreScores, IsRefusal};
 
 use crate::positions::{FfosolvePosition, task_of};
-use crate::refusals::Refusal;
+use crate::refusals::CallRefusal;
 use crate::requests::{table_of, table_scoring};
 use bound_table::BoundTable;
 use move_scores::score_move;
@@ -46,7 +46,7 @@ pub fn score_all(
     scoring: u32,
     entries: usize,
     scores: &mut [i8; 64],
-) -> Result<u64, Refusal>
+) -> Result<u64, CallRefusal>
     ensures good { IfOk result (λ moves. refusal_of scoring entries position ≡ None) }
     ensures moves { IfOk result (λ moves. moves ≡ moves_of (discs_at position)) }
     ensures scores { IfOk result (λ moves. AreScores scoring position scores.new) }

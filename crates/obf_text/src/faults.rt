@@ -1,12 +1,14 @@
-//! Why a line can't be read.
+//! Why a line is refused, and the words for it.
 
-ghost use Rattle.std.specs.Prelude.{◌≡◌, Some};
-ghost use Rattle.obf_text.specs.Faults.{line_fault_text};
+ghost use Rattle.std.specs.Prelude.{◌≡◌, OnOk, Some};
+ghost use Rattle.std.specs.Io.KnownBytes.{Appends};
+ghost use Rattle.obf_text.specs.Faults.{line_fault_text, too_many_text};
 ghost use Rattle.obf_text.specs.declared.faults.LineFault.TheVariants.{Memory};
 
 use std::alloc::AllocError;
 use std::error::Error;
-use std::fmt;
+use std::io::Write;
+use std::{fmt, io};
 
 /// Why a line can't be read. A column is the place of a byte in the line, counted from 1. A report
 /// prints the text of a fault as its reason.
@@ -45,4 +47,22 @@ impl From<AllocError> for LineFault {
     fn from(_error: AllocError) -> LineFault {
         LineFault::Memory
     }
+}
+
+/// Writes the text of a fault, as reports and lists have it. The error is that of the writer.
+pub fn write_fault<W: Write>(writer: &mut W, fault: LineFault) -> io::Result<()>
+    ensures { OnOk result
+        (Appends (W.contents writer.old) (W.contents writer.new) (line_fault_text fault)) }
+{
+    write!(writer, "{fault}")
+}
+
+/// Writes that a position has `found` empty squares, more than the limit, as reports and lists have
+/// it. The error is that of the writer.
+#[tactic(auto, unfolding(crate::specs::Faults::too_many_text))]
+pub fn write_too_many<W: Write>(writer: &mut W, found: u8, limit: u8) -> io::Result<()>
+    ensures { OnOk result
+        (Appends (W.contents writer.old) (W.contents writer.new) (too_many_text found limit)) }
+{
+    write!(writer, "{found} empties, limit {limit}")
 }

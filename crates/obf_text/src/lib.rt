@@ -25,7 +25,7 @@ mod writes;
 
 pub use cuts::{Lines, split_lines};
 pub use entries::{Item, Line, ListedMove, greatest_score};
-pub use faults::LineFault;
+pub use faults::{LineFault, write_fault, write_too_many};
 pub use fields::{field_of, without_blanks};
 pub use reads::read_line;
 pub use splits::{Pieces, comment_of, line_pieces};

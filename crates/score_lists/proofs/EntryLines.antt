@@ -13,7 +13,8 @@ use Rattle.obf_text.specs.Fields.{Field}
 use Rattle.obf_text.specs.Obf.{Entry, Holds}
 use Rattle.obf_text.specs.Pieces.{line_pieces}
 use Rattle.score_lists.specs.Remarks.{has_remarks, remarks}
-use Rattle.score_lists.specs.Lines.{is_right, many_text, out_text, refused_text, scored_text}
+use Rattle.obf_text.specs.Faults.{too_many_text}
+use Rattle.score_lists.specs.Lines.{is_right, out_text, refused_text, scored_text}
 use Rattle.move_scores.specs.Scores.{score_fields, score_fields_of}
 use Rattle.move_scores.proofs.EitherSide.{score_fields-discs_of}
 
@@ -59,7 +60,7 @@ module _ (g : Scoring) (limit : ℕ) (line : List ℕ) (entry : Entry) (p : PosV
   right_scored scores few s = rw (within few, exact scores s) refl
 
   pub out_many : (found : ℕ) → (empties_of p ≤ limit → ⊥) → found ≡ empties_of p
-      → refused_text (many_text found limit) line ≡ out_text g limit line (Holds entry)
+      → refused_text (too_many_text found limit) line ≡ out_text g limit line (Holds entry)
   unfolding out_text
   out_many found many f =
       let all : found ≡ empties entry.position = f ∙ count in

@@ -16,7 +16,8 @@ use Rattle.obf_text.specs.declared.faults.LineFault.TheVariants.{Short, BadCell,
 use Rattle.obf_text.specs.Faults.{line_fault_text}
 use Rattle.score_lists.specs.Lines.{AppendsFront, Prints, are_right, is_right}
 use Rattle.score_lists.specs.Lines.{kept_text, lines_text, lists_right, lists_text, out_text}
-use Rattle.score_lists.specs.Lines.{refused_text, scores_text, texts_of}
+use Rattle.obf_text.specs.LineText.{texts_of}
+use Rattle.score_lists.specs.Lines.{refused_text, scores_text}
 use Rattle.score_lists.proofs.Prints.{prints_end, prints_more, prints_stop}
 
 lines_none : (g : Scoring) (limit : ℕ) → lines_text g limit [] ≡ []

@@ -1,14 +1,12 @@
 -- The text that is printed for a list: one line with every move's score for each line of the list.
 use Rattle.std.specs.Prelude.{◌≡◌, ℕ, ◌∷◌, ◌++◌, [], List, Bool, true, false, not, nat_lt, map}
-use Rattle.std.specs.Prelude.{Option, Vec, codes, if◌then◌else◌}
+use Rattle.std.specs.Prelude.{Option, codes, if◌then◌else◌}
 use Rattle.std.specs.Io.KnownBytes.{Appends}
 use Rattle.std.specs.List.{flat_map, list_all}
-use Rattle.std.specs.Fmt.{decimal}
-use Rattle.std.specs.declared.alloc.Global.{Global}
 use Rattle.othello_rules.specs.declared.scorings.Scoring.{Scoring}
 use Rattle.othello_rules.specs.Rules.{GridView}
 use Rattle.othello_rules.specs.Value.{empties}
-use Rattle.obf_text.specs.Faults.{line_fault_text}
+use Rattle.obf_text.specs.Faults.{line_fault_text, too_many_text}
 use Rattle.obf_text.specs.Fields.{Field}
 use Rattle.obf_text.specs.LineText.{lines_of}
 use Rattle.obf_text.specs.Obf.{Faulty, Holds, Meaning, Skipped, item_of}
@@ -16,10 +14,6 @@ use Rattle.obf_text.specs.Pieces.{comment_of, line_pieces}
 use Rattle.obf_text.specs.Written.{entry_text}
 use Rattle.move_scores.specs.Scores.{score_fields}
 use Rattle.score_lists.specs.Remarks.{has_remarks, remarks, remarks_text}
-
--- the reason of a line that is refused for too many empty squares
-unfoldable pub many_text : ℕ → ℕ → List ℕ
-many_text found limit = decimal found ++ (codes " empties, limit " ++ decimal limit)
 
 -- a line as it is, with its end
 abbrev pub kept_text : List ℕ → List ℕ
@@ -50,7 +44,7 @@ unfoldable pub out_text : Scoring → ℕ → List ℕ → Meaning → List ℕ
 out_text g limit line Skipped = kept_text line
 out_text g limit line (Holds entry) =
     if nat_lt limit (empties entry.position)
-    then refused_text (many_text (empties entry.position) limit) line
+    then refused_text (too_many_text (empties entry.position) limit) line
     else scored_text entry.position (score_fields g entry.position) line
 out_text g limit line (Faulty fault) = refused_text (line_fault_text fault) line
 
@@ -61,10 +55,6 @@ lines_text g limit lines = flat_map (λ line. out_text g limit line (item_of lin
 -- the text that is printed for a list
 abbrev pub scores_text : Scoring → ℕ → List ℕ → List ℕ
 scores_text g limit text = lines_text g limit (lines_of text)
-
--- the bytes of each list
-abbrev pub texts_of : List (Vec ℕ Global) → List (List ℕ)
-texts_of lists = map (λ list. list.items) lists
 
 -- the text that is printed for lists, one after the other
 unfoldable pub lists_text : Scoring → ℕ → List (List ℕ) → List ℕ

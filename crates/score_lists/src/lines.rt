@@ -3,11 +3,11 @@
 ghost use Rattle.std.specs.Prelude.{◌≡◌, ◌≢◌, ◌≤◌, ◌<◌, ◌++◌, ◌∷◌, [], All, IfOk, IsOk, OnOk};
 ghost use Rattle.std.specs.Prelude.{nat_abs, not, true, false};
 ghost use Rattle.std.specs.Io.KnownBytes.{Appends};
-ghost use Rattle.obf_text.specs.Faults.{line_fault_text};
+ghost use Rattle.obf_text.specs.Faults.{line_fault_text, too_many_text};
 ghost use Rattle.obf_text.specs.Obf.{Holds, entry_of, item_of};
 ghost use Rattle.obf_text.specs.Pieces.{line_pieces};
 ghost use Rattle.obf_text.specs.declared.faults.LineFault.TheVariants.{Memory};
-ghost use Rattle.score_lists.specs.Lines.{comment_text, is_right, kept_text, many_text};
+ghost use Rattle.score_lists.specs.Lines.{comment_text, is_right, kept_text};
 ghost use Rattle.score_lists.specs.Lines.{out_text, quoted_text, refused_text, scored_text};
 ghost use Rattle.score_lists.specs.Remarks.{has_remarks, remarks};
 
@@ -15,7 +15,10 @@ use crate::remarks::write_remarks;
 use bound_table::Bounds;
 use endgame_search::{Task, TooMany};
 use move_scores::score_moves;
-use obf_text::{Item, Line, LineFault, ListedMove, comment_of, read_line, write_entry};
+use obf_text::{
+    Item, Line, LineFault, ListedMove, comment_of, read_line, write_entry, write_fault,
+    write_too_many,
+};
 use othello_bits::Pos;
 use othello_rules::Grid;
 use std::alloc::{AllocError, Global};
@@ -29,14 +32,6 @@ fn write_kept<W: Write>(writer: &mut W, line: &[u8]) -> io::Result<()>
 {
     writer.write_all(line)?;
     writer.write_all(b"\n")
-}
-
-// Writes the text of a fault.
-fn write_fault<W: Write>(writer: &mut W, fault: LineFault) -> io::Result<()>
-    ensures { OnOk result
-        (Appends (W.contents writer.old) (W.contents writer.new) (line_fault_text fault)) }
-{
-    write!(writer, "{fault}")
 }
 
 // Writes a colon, a space and a line as it is.
@@ -59,23 +54,14 @@ fn write_faulty<W: Write>(writer: &mut W, fault: LineFault, line: &[u8]) -> io::
     write_quoted(writer, line)
 }
 
-// Writes that a position has `found` empty squares, more than the limit.
-#[tactic(auto, unfolding(crate::specs::Lines::many_text))]
-fn write_empties<W: Write>(writer: &mut W, found: u8, limit: u8) -> io::Result<()>
-    ensures { OnOk result
-        (Appends (W.contents writer.old) (W.contents writer.new) (many_text found limit)) }
-{
-    write!(writer, "{found} empties, limit {limit}")
-}
-
 // Writes the comment for a line that is refused because its position has `found` empty squares,
 // more than the limit.
 fn write_many<W: Write>(writer: &mut W, found: u8, limit: u8, line: &[u8]) -> io::Result<()>
     ensures { OnOk result (Appends (W.contents writer.old)
-        (W.contents writer.new) (refused_text (many_text found limit) line.now)) }
+        (W.contents writer.new) (refused_text (too_many_text found limit) line.now)) }
 {
     writer.write_all(b"% refused: ")?;
-    write_empties(writer, found, limit)?;
+    write_too_many(writer, found, limit)?;
     write_quoted(writer, line)
 }
 

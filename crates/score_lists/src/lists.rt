@@ -5,7 +5,8 @@ ghost use Rattle.std.specs.Io.KnownBytes.{Appends};
 ghost use Rattle.obf_text.specs.LineText.{lines_of};
 ghost use Rattle.obf_text.specs.Obf.{item_of};
 ghost use Rattle.score_lists.specs.Lines.{AppendsFront, Prints, are_right, is_right, lists_right};
-ghost use Rattle.score_lists.specs.Lines.{lists_text, out_text, scores_text, texts_of};
+ghost use Rattle.obf_text.specs.LineText.{texts_of};
+ghost use Rattle.score_lists.specs.Lines.{lists_text, out_text, scores_text};
 ghost use Rattle.score_lists.specs.declared.lists.ListFault.TheVariants.{CannotWrite, Memory};
 
 use crate::lines::line_text;

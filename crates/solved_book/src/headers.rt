@@ -36,7 +36,7 @@ fn scoring_in(line: &[u8]) -> Option<Scoring>
 }
 
 /// The scoring of a book by the first line of its text.
-pub(crate) fn scoring_of(text: &[u8]) -> Option<Scoring>
+pub(crate) fn scoring_of_text(text: &[u8]) -> Option<Scoring>
     ensures { result ≡ scoring_of_lines (lines_of text.now) }
 {
     match split_lines(text).next() {

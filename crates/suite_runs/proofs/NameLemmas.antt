@@ -3,7 +3,7 @@ use Rattle.std.proofs.Common.{◌≡◌, ◌<◌, ◌≤◌, ◌-◌, ℕ, List,
 use Rattle.std.specs.List.{flat_map}
 use Rattle.std.proofs.lemmas.Grind.{common_steps}
 use Rattle.othello_rules.specs.Board.{name_of}
-use Rattle.suite_runs.specs.Text.{comma_name, names_text}
+use Rattle.suite_runs.specs.ReportText.{comma_name, names_text}
 
 pub names_none : (squares : List ℕ) → length squares < 1 → names_text squares ≡ []
 unfolding names_text

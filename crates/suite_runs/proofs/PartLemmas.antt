@@ -15,7 +15,8 @@ use Rattle.solved_book.proofs.OneOrder.{same_order}
 use Rattle.suite_runs.specs.Parts.{IsBookOf, PartView, canonicals, part_view, part_view_of, report_of_view, reports_of_views, tasks_of_views}
 use Rattle.suite_runs.specs.Reports.{report, reports_from}
 use Rattle.suite_runs.specs.Rows.{tasks}
-use Rattle.suite_runs.specs.Runs.{all_tasks, texts_of}
+use Rattle.obf_text.specs.LineText.{texts_of}
+use Rattle.suite_runs.specs.Runs.{all_tasks}
 use Rattle.suite_runs.specs.declared.parts.Part.{Part}
 use Rattle.suite_runs.proofs.TaskLemmas.{HasScoring, tasks_scored}
 

@@ -7,10 +7,10 @@ use Rattle.obf_text.specs.LineText.{lines_of, room_of}
 use Rattle.obf_text.specs.Obf.{item_of}
 use Rattle.suite_runs.specs.declared.rows.RowResult.{RowResult}
 use Rattle.suite_runs.specs.declared.rows.ReportRow.{ReportRow}
-use Rattle.suite_runs.specs.Readings.{result_in, row_in}
+use Rattle.suite_runs.specs.Readings.{reading_result, row_in}
 use Rattle.suite_runs.specs.declared.readings.Reading.{Reading}
 use Rattle.suite_runs.specs.declared.lines.NumberedReading.{NumberedReading}
-use Rattle.suite_runs.specs.Rows.{report_row, result_of, rows, rows_from}
+use Rattle.suite_runs.specs.Rows.{report_row, line_result, rows, rows_from}
 
 pub rows_start : (g : Scoring) (limit : ℕ) (text : List ℕ) → rows g limit text ≡ rows_from g limit 1 (lines_of text)
 unfolding rows
@@ -20,27 +20,27 @@ rows_end : (g : Scoring) (limit n : ℕ) → rows_from g limit n [] ≡ []
 unfolding rows_from
 rows_end g limit n = refl
 
-rows_yes : (g : Scoring) (limit n : ℕ) (line : List ℕ) (lines : List (List ℕ)) (r : RowResult) → result_of g limit (item_of line) ≡ Some r
+rows_yes : (g : Scoring) (limit n : ℕ) (line : List ℕ) (lines : List (List ℕ)) (r : RowResult) → line_result g limit (item_of line) ≡ Some r
     → rows_from g limit n (line ∷ lines) ≡ report_row n r ∷ rows_from g limit (n + 1) lines
 unfolding rows_from
 rows_yes g limit n line lines r e = rw e refl
 
-rows_no : (g : Scoring) (limit n : ℕ) (line : List ℕ) (lines : List (List ℕ)) → result_of g limit (item_of line) ≡ None
+rows_no : (g : Scoring) (limit n : ℕ) (line : List ℕ) (lines : List (List ℕ)) → line_result g limit (item_of line) ≡ None
     → rows_from g limit n (line ∷ lines) ≡ rows_from g limit (n + 1) lines
 unfolding rows_from
 rows_no g limit n line lines e = rw e refl
 
 -- a line with a result adds its row
 pub rows_more : (g : Scoring) (limit n next : ℕ) (line : List ℕ) (left lines : List (List ℕ)) (r : Reading) (made : List NumberedReading) (all : List ReportRow)
-    → next ≡ n + 1 → left ≡ line ∷ lines → result_of g limit (item_of line) ≡ Some (result_in r) → map row_in made ++ rows_from g limit n left ≡ all
+    → next ≡ n + 1 → left ≡ line ∷ lines → line_result g limit (item_of line) ≡ Some (reading_result r) → map row_in made ++ rows_from g limit n left ≡ all
     → map row_in (made ++ (record { line = n; reading = r }) ∷ []) ++ rows_from g limit next lines ≡ all
 rows_more g limit n next line left lines r made all counted cut e h =
-    let k = rw (cut, rows_yes g limit n line lines (result_in r) e) at h in
+    let k = rw (cut, rows_yes g limit n line lines (reading_result r) e) at h in
     rw (map-append, append_assoc, counted) k
 
 -- a line that is skipped adds none
 pub rows_skip : (g : Scoring) (limit n next : ℕ) (line : List ℕ) (left lines : List (List ℕ)) (made all : List ReportRow)
-    → next ≡ n + 1 → left ≡ line ∷ lines → result_of g limit (item_of line) ≡ None → made ++ rows_from g limit n left ≡ all
+    → next ≡ n + 1 → left ≡ line ∷ lines → line_result g limit (item_of line) ≡ None → made ++ rows_from g limit n left ≡ all
     → made ++ rows_from g limit next lines ≡ all
 rows_skip g limit n next line left lines made all counted cut e h =
     let k = rw (cut, rows_no g limit n line lines e) at h in

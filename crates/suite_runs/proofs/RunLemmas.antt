@@ -6,7 +6,8 @@ use Rattle.std.proofs.lemmas.List.{length-map}
 use Rattle.std.proofs.lemmas.List.Sums.{fails_before_first}
 use borrow.Author.Tests.{ltb-true, ltb-false}
 use Rattle.suite_runs.specs.Settings.{SettingsView}
-use Rattle.suite_runs.specs.Runs.{Answers, first_large, is_large, refusal_of, texts_of}
+use Rattle.obf_text.specs.LineText.{texts_of}
+use Rattle.suite_runs.specs.Runs.{Answers, first_large, is_large, refusal_of}
 use Rattle.suite_runs.specs.declared.faults.RunFault.{RunFault}
 use Rattle.suite_runs.specs.declared.faults.RunFault.TheVariants.{Memory, Mixed, TooManyFiles, FileTooLarge}
 use Rattle.suite_runs.specs.declared.outcomes.Outcome.{Outcome}

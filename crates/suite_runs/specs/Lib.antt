@@ -1,6 +1,6 @@
 pub mod Settings
 pub mod Checks
-pub mod Text
+pub mod ReportText
 pub mod Rows
 pub mod Readings
 pub mod Reports

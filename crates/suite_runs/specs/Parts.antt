@@ -10,7 +10,7 @@ use Rattle.job_board.specs.declared.faults.SubmitFault.{SubmitFault}
 use Rattle.job_board.specs.declared.faults.SubmitFault.TheVariants as submit
 use Rattle.solved_book.specs.Books.{BookView}
 use Rattle.suite_runs.specs.Rows.{rows, tasks}
-use Rattle.suite_runs.specs.Text.{report_text}
+use Rattle.suite_runs.specs.ReportText.{report_text}
 use Rattle.suite_runs.specs.declared.faults.RunFault.{RunFault}
 use Rattle.suite_runs.specs.declared.faults.RunFault.TheVariants.{Memory, Mixed}
 use Rattle.suite_runs.specs.declared.parts.Part.{Part}

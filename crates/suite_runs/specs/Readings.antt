@@ -17,15 +17,15 @@ task_in (reading.Position task listed) = Some task
 task_in (reading.Refused refusal) = None
 
 -- the result of a line: the answer of its task with the check, or its refusal
-abbrev pub result_in : Reading → RowResult
-result_in (reading.Position task listed) =
+abbrev pub reading_result : Reading → RowResult
+reading_result (reading.Position task listed) =
     Solved (answer_of task.scoring task.position)
     (check listed.items (answer_of task.scoring task.position))
-result_in (reading.Refused refusal) = Refused refusal
+reading_result (reading.Refused refusal) = Refused refusal
 
 -- the row of a line that was read
 abbrev pub row_in : NumberedReading → ReportRow
-row_in numbered = record { line = numbered.line; result = result_in numbered.reading }
+row_in numbered = record { line = numbered.line; result = reading_result numbered.reading }
 
 -- the tasks of the lines that were read, in their order
 abbrev pub tasks_in : List NumberedReading → List TaskView

@@ -3,7 +3,7 @@ use Rattle.std.specs.Prelude.{ℕ, List, map}
 use Rattle.std.specs.List.{enumerate_from}
 use Rattle.othello_rules.specs.declared.scorings.Scoring.{Scoring}
 use Rattle.suite_runs.specs.Rows.{rows}
-use Rattle.suite_runs.specs.Text.{report_text}
+use Rattle.suite_runs.specs.ReportText.{report_text}
 
 -- the report of a sender's text
 abbrev pub report : Scoring → ℕ → ℕ × List ℕ → List ℕ

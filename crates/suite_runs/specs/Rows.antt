@@ -47,17 +47,17 @@ abbrev pub tasks : Scoring → ℕ → List ℕ → List TaskView
 tasks g limit text = tasks_from g limit (lines_of text)
 
 -- the result of a line by what the line says; a skipped line has none
-abbrev pub result_of : Scoring → ℕ → Meaning → Option RowResult
-result_of g limit Skipped = None
-result_of g limit (Holds entry) = Some (entry_result g limit entry)
-result_of g limit (Faulty fault) = fault_result fault
+abbrev pub line_result : Scoring → ℕ → Meaning → Option RowResult
+line_result g limit Skipped = None
+line_result g limit (Holds entry) = Some (entry_result g limit entry)
+line_result g limit (Faulty fault) = fault_result fault
 
 abbrev pub report_row : ℕ → RowResult → ReportRow
 report_row n result = record { line = n; result = result }
 
 -- the row of a line with its number
 abbrev pub row_of : Scoring → ℕ → ℕ × List ℕ → Option ReportRow
-row_of g limit (n, line) = option_map (report_row n) (result_of g limit (item_of line))
+row_of g limit (n, line) = option_map (report_row n) (line_result g limit (item_of line))
 
 -- the rows of lines, the first of which has the number n
 unfoldable pub rows_from : Scoring → ℕ → ℕ → List (List ℕ) → List ReportRow

@@ -1,8 +1,8 @@
 -- The refusal and the result of a run on files.
-use Rattle.std.specs.Prelude.{◌≡◌, ℕ, nat_lt, Bool, List, length, map, option_map, Option, Some, None, Result, Ok, Err, Vec, if◌then◌else◌}
+use Rattle.std.specs.Prelude.{◌≡◌, ℕ, nat_lt, Bool, List, length, map, option_map, Option, Some, None, Result, Ok, Err, if◌then◌else◌}
 use Rattle.std.specs.List.{flat_map, position}
-use Rattle.std.specs.declared.alloc.Global.{Global}
 use Rattle.othello_rules.specs.declared.scorings.Scoring.{Scoring}
+use Rattle.obf_text.specs.LineText.{texts_of}
 use Rattle.endgame_search.specs.Task.{TaskView}
 use Rattle.suite_runs.specs.Settings.{SettingsView}
 use Rattle.suite_runs.specs.Parts.{IsBookOf, part_view, part_view_of}
@@ -12,10 +12,6 @@ use Rattle.suite_runs.specs.declared.faults.RunFault.{RunFault}
 use Rattle.suite_runs.specs.declared.faults.RunFault.TheVariants.{Memory, Mixed, TooManyFiles, FileTooLarge}
 use Rattle.suite_runs.specs.declared.outcomes.Outcome.{Outcome}
 use Rattle.suite_runs.specs.declared.parts.Part.{Part}
-
--- the bytes of each file
-abbrev pub texts_of : List (Vec ℕ Global) → List (List ℕ)
-texts_of files = map (λ file. file.items) files
 
 -- the text has more than 1,048,576 bytes
 abbrev pub is_large : List ℕ → Bool

@@ -38,7 +38,7 @@ pub use outcomes::Outcome;
 pub use parts::Part;
 pub use report::write_report;
 pub use rows::{Refusal, ReportRow, RowResult};
-pub use runs::{run, run_serial};
+pub use runs::{check_files, run, run_serial};
 pub use settings::{
     MOST_BYTES, MOST_EMPTIES, MOST_ENTRIES, MOST_FILES, MOST_WORKERS, Settings, VERSION,
 };

@@ -4,7 +4,8 @@ ghost use Rattle.std.specs.Prelude.{◌≡◌, ◌⊎◌, ◌↔◌, ◌++◌, �
 ghost use Rattle.othello_bits.specs.Pos.{PosView};
 ghost use Rattle.endgame_search.specs.Task.{TaskView};
 ghost use Rattle.suite_runs.specs.Parts.{IsBookOf, PartView, canonicals, part_view_of, report_of_view, reports_of_views, tasks_of_views};
-ghost use Rattle.suite_runs.specs.Runs.{ArePartsOf, Solves, texts_of};
+ghost use Rattle.obf_text.specs.LineText.{texts_of};
+ghost use Rattle.suite_runs.specs.Runs.{ArePartsOf, Solves};
 
 use crate::parts::Part;
 use crate::report::write_report;

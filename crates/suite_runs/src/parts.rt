@@ -4,7 +4,8 @@ ghost use Rattle.std.specs.Prelude.{◌≡◌, ◌≤◌, length, All, IfOk, Non
 ghost use Rattle.endgame_search.specs.Task.{TaskView};
 ghost use Rattle.suite_runs.specs.Parts.{part_view, part_view_of};
 ghost use Rattle.suite_runs.specs.Readings.{tasks_in};
-ghost use Rattle.suite_runs.specs.Runs.{ArePartsOf, first_large, texts_of};
+ghost use Rattle.obf_text.specs.LineText.{texts_of};
+ghost use Rattle.suite_runs.specs.Runs.{ArePartsOf, first_large};
 
 use crate::lines::{NumberedReading, readings_of, rows_of};
 use crate::rows::ReportRow;

@@ -6,8 +6,8 @@ ghost use Rattle.std.specs.Option.{option_and_then};
 ghost use Rattle.std.specs.Slice.Iter.{iter_rest};
 ghost use Rattle.endgame_search.specs.Task.{TaskView};
 ghost use Rattle.obf_text.specs.Obf.{Holds, entry_of, item_of};
-ghost use Rattle.suite_runs.specs.Readings.{result_in, task_in};
-ghost use Rattle.suite_runs.specs.Rows.{entry_result, result_of, task_of};
+ghost use Rattle.suite_runs.specs.Readings.{reading_result, task_in};
+ghost use Rattle.suite_runs.specs.Rows.{entry_result, line_result, task_of};
 
 use crate::checks::check_of;
 use crate::rows::{Refusal, RowResult};
@@ -31,7 +31,7 @@ impl Reading {
     // The reading of a position: a task, or a refusal where it has more than `limit` empty squares.
     fn of_entry(limit: u8, scoring: Scoring, entry: Line) -> Reading
         requires { limit ≤ 60 }
-        ensures result { result_in result ≡ entry_result scoring limit (entry_of entry) }
+        ensures result { reading_result result ≡ entry_result scoring limit (entry_of entry) }
         ensures task { task_in result ≡ task_of scoring limit (Holds (entry_of entry)) }
     {
         match Task::new(Pos::of_grid(&entry.grid), limit, scoring) {
@@ -55,7 +55,7 @@ impl Reading {
     pub(crate) fn result(&self, answers: &mut Iter<'_, Solved>) -> RowResult
         requires { (task : TaskView) → task_in self.now ≡ Some task
             → slice_get (iter_rest answers.old) 0 ≡ Some task }
-        ensures result { result ≡ result_in self.now }
+        ensures result { result ≡ reading_result self.now }
         ensures left { iter_rest answers.old
             ≡ cons_option (task_in self.now) (iter_rest answers.new) }
     {
@@ -82,7 +82,7 @@ pub(crate) fn reading_of(
     requires few_empties { limit ≤ 60 }
     requires short { length line.now ≤ 1048576 }
     ensures result { IfOk result
-        (λ found. option_map result_in found ≡ result_of scoring limit (item_of line.now)) }
+        (λ found. option_map reading_result found ≡ line_result scoring limit (item_of line.now)) }
     ensures task { IfOk result
         (λ found. option_and_then task_in found ≡ task_of scoring limit (item_of line.now)) }
 {

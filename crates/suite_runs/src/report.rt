@@ -3,20 +3,19 @@
 ghost use Rattle.std.specs.Prelude.{◌≡◌, ◌<◌, ◌≤◌, length, OnOk};
 ghost use Rattle.std.specs.Io.KnownBytes.{Appends};
 ghost use Rattle.othello_rules.specs.Masks.{squares_of};
-ghost use Rattle.obf_text.specs.Faults.{line_fault_text};
-ghost use Rattle.suite_runs.specs.Text.{answer_text, best_text, check_text, comma_name, head_text, last_text};
-ghost use Rattle.suite_runs.specs.Text.{names_text, refusal_text, report_text, result_text};
-ghost use Rattle.suite_runs.specs.Text.{row_text, solved_count};
+ghost use Rattle.suite_runs.specs.ReportText.{answer_text, best_text, check_text, comma_name, head_text, last_text};
+ghost use Rattle.suite_runs.specs.ReportText.{names_text, refusal_text, report_text, result_text};
+ghost use Rattle.suite_runs.specs.ReportText.{row_text, solved_count};
 
 use crate::checks::Check;
 use crate::rows::{Refusal, ReportRow, RowResult};
-use obf_text::{LineFault, score_bytes};
+use obf_text::{LineFault, score_bytes, write_fault, write_too_many};
 use othello_rules::{Answer, Best, Square, squares_in};
 use std::io;
 use std::io::Write;
 
 // Writes a comma and the name of a square.
-#[tactic(auto, unfolding(crate::specs::Text::comma_name))]
+#[tactic(auto, unfolding(crate::specs::ReportText::comma_name))]
 fn write_next_name<W: Write>(writer: &mut W, square: Square) -> io::Result<()>
     ensures { OnOk result
         (Appends (W.contents writer.old) (W.contents writer.new) (comma_name square)) }
@@ -39,7 +38,7 @@ fn write_names<W: Write>(writer: &mut W, squares: &[Square]) -> io::Result<()>
     Ok(())
 }
 
-#[tactic(auto, unfolding(crate::specs::Text::best_text))]
+#[tactic(auto, unfolding(crate::specs::ReportText::best_text))]
 fn write_best<W: Write>(writer: &mut W, best: Best) -> io::Result<()>
     ensures { OnOk result
         (Appends (W.contents writer.old) (W.contents writer.new) (best_text best)) }
@@ -51,7 +50,7 @@ fn write_best<W: Write>(writer: &mut W, best: Best) -> io::Result<()>
     }
 }
 
-#[tactic(auto, unfolding(crate::specs::Text::check_text))]
+#[tactic(auto, unfolding(crate::specs::ReportText::check_text))]
 fn write_check<W: Write>(writer: &mut W, check: Check) -> io::Result<()>
     ensures { OnOk result
         (Appends (W.contents writer.old) (W.contents writer.new) (check_text check)) }
@@ -63,14 +62,7 @@ fn write_check<W: Write>(writer: &mut W, check: Check) -> io::Result<()>
     }
 }
 
-fn write_fault<W: Write>(writer: &mut W, fault: LineFault) -> io::Result<()>
-    ensures { OnOk result
-        (Appends (W.contents writer.old) (W.contents writer.new) (line_fault_text fault)) }
-{
-    write!(writer, "{fault}")
-}
-
-#[tactic(auto, unfolding(crate::specs::Text::refusal_text))]
+#[tactic(auto, unfolding(crate::specs::ReportText::refusal_text))]
 fn write_refusal<W: Write>(writer: &mut W, refusal: Refusal) -> io::Result<()>
     ensures { OnOk result
         (Appends (W.contents writer.old) (W.contents writer.new) (refusal_text refusal)) }
@@ -79,11 +71,11 @@ fn write_refusal<W: Write>(writer: &mut W, refusal: Refusal) -> io::Result<()>
         Refusal::Short(found) => write_fault(writer, LineFault::Short(found as usize)),
         Refusal::BadCell(column) => write_fault(writer, LineFault::BadCell(column as usize)),
         Refusal::BadSide(column) => write_fault(writer, LineFault::BadSide(column as usize)),
-        Refusal::Empties(found, limit) => write!(writer, "{found} empties, limit {limit}"),
+        Refusal::Empties(found, limit) => write_too_many(writer, found, limit),
     }
 }
 
-#[tactic(auto, unfolding(crate::specs::Text::answer_text))]
+#[tactic(auto, unfolding(crate::specs::ReportText::answer_text))]
 fn write_answer<W: Write>(writer: &mut W, answer: &Answer) -> io::Result<()>
     ensures { OnOk result
         (Appends (W.contents writer.old) (W.contents writer.new) (answer_text answer.now)) }
@@ -93,7 +85,7 @@ fn write_answer<W: Write>(writer: &mut W, answer: &Answer) -> io::Result<()>
     write_best(writer, answer.best)
 }
 
-#[tactic(auto, unfolding(crate::specs::Text::result_text))]
+#[tactic(auto, unfolding(crate::specs::ReportText::result_text))]
 fn write_solved<W: Write>(writer: &mut W, answer: &Answer, check: Check) -> io::Result<()>
     ensures { OnOk result (Appends (W.contents writer.old)
         (W.contents writer.new) (result_text (RowResult.Solved answer.now check))) }
@@ -103,7 +95,7 @@ fn write_solved<W: Write>(writer: &mut W, answer: &Answer, check: Check) -> io::
     write_check(writer, check)
 }
 
-#[tactic(auto, unfolding(crate::specs::Text::result_text))]
+#[tactic(auto, unfolding(crate::specs::ReportText::result_text))]
 fn write_result<W: Write>(writer: &mut W, row_result: &RowResult) -> io::Result<()>
     ensures { OnOk result
         (Appends (W.contents writer.old) (W.contents writer.new) (result_text row_result.now)) }
@@ -117,7 +109,7 @@ fn write_result<W: Write>(writer: &mut W, row_result: &RowResult) -> io::Result<
     }
 }
 
-#[tactic(auto, unfolding(crate::specs::Text::row_text))]
+#[tactic(auto, unfolding(crate::specs::ReportText::row_text))]
 fn write_row<W: Write>(writer: &mut W, row: &ReportRow) -> io::Result<()>
     ensures { OnOk result
         (Appends (W.contents writer.old) (W.contents writer.new) (row_text row.now)) }
@@ -129,7 +121,7 @@ fn write_row<W: Write>(writer: &mut W, row: &ReportRow) -> io::Result<()>
 }
 
 // The number of solved rows.
-#[tactic(auto, unfolding(crate::specs::Text::solved_count))]
+#[tactic(auto, unfolding(crate::specs::ReportText::solved_count))]
 fn solved_count(rows: &[ReportRow]) -> usize
     ensures count { result ≡ solved_count rows.now }
     ensures within { result ≤ length rows.now }
@@ -139,7 +131,7 @@ fn solved_count(rows: &[ReportRow]) -> usize
         .count()
 }
 
-#[tactic(auto, unfolding(crate::specs::Text::head_text))]
+#[tactic(auto, unfolding(crate::specs::ReportText::head_text))]
 fn write_head<W: Write>(writer: &mut W, sender: u32) -> io::Result<()>
     ensures { OnOk result
         (Appends (W.contents writer.old) (W.contents writer.new) (head_text sender)) }
@@ -148,7 +140,7 @@ fn write_head<W: Write>(writer: &mut W, sender: u32) -> io::Result<()>
     write!(writer, "[{number}]\n")
 }
 
-#[tactic(auto, unfolding(crate::specs::Text::last_text))]
+#[tactic(auto, unfolding(crate::specs::ReportText::last_text))]
 fn write_last<W: Write>(writer: &mut W, rows: &[ReportRow]) -> io::Result<()>
     ensures { OnOk result
         (Appends (W.contents writer.old) (W.contents writer.new) (last_text rows.now)) }

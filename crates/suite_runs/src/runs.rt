@@ -4,7 +4,8 @@ ghost use Rattle.std.specs.Prelude.{◌≡◌, ◌≢◌, ◌<◌, ◌≤◌, �
 ghost use Rattle.std.specs.List.{position};
 ghost use Rattle.suite_runs.specs.Parts.{IsBookOf};
 ghost use Rattle.suite_runs.specs.Reports.{reports};
-ghost use Rattle.suite_runs.specs.Runs.{Answers, Refuses, all_tasks, first_large, is_large, refusal_of, texts_of};
+ghost use Rattle.obf_text.specs.LineText.{texts_of};
+ghost use Rattle.suite_runs.specs.Runs.{Answers, Refuses, all_tasks, first_large, is_large, refusal_of};
 ghost use Rattle.suite_runs.specs.declared.faults.RunFault.TheVariants.{Mixed, TooManyFiles, FileTooLarge};
 
 use crate::faults::RunFault;
@@ -34,9 +35,10 @@ fn first_large(files: &[Vec<u8>]) -> Option<usize>
     large_file(files)
 }
 
-// Refuses more than 64 files, and else the first file of more than 1,048,576 bytes.
+/// Refuses more than 64 files, by `TooManyFiles`, and else the first file of more than 1,048,576
+/// bytes, by `FileTooLarge` with its sender. A run refuses them so.
 #[tactic(auto, unfolding(crate::specs::Runs::refusal_of))]
-fn check_files(files: &[Vec<u8>]) -> Result<(), RunFault>
+pub fn check_files(files: &[Vec<u8>]) -> Result<(), RunFault>
     ensures refuses { Refuses result (texts_of files.now) }
     ensures few { IsOk result → length files.now ≤ 64 }
     ensures small { IsOk result → first_large (texts_of files.now) ≡ None }

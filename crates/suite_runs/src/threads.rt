@@ -2,7 +2,8 @@
 
 ghost use Rattle.std.specs.Prelude.{◌≡◌, ◌<◌, ◌≤◌, ◌+◌, ◌++◌, ◌∷◌, length, map, IfOk, IfErr, Some, None, [], vec_len, vec_capacity};
 ghost use Rattle.suite_runs.specs.Parts.{GivesPart, GivesParts, worse_fault};
-ghost use Rattle.suite_runs.specs.Runs.{first_large, texts_of};
+ghost use Rattle.obf_text.specs.LineText.{texts_of};
+ghost use Rattle.suite_runs.specs.Runs.{first_large};
 ghost use Rattle.suite_runs.specs.Threads.{AreJoined, started_view};
 
 use crate::clients::{client_part, work};

@@ -83,9 +83,9 @@ impl fmt::Display for ProgramError<'_> {
     }
 }
 
-/// The error for a read of the file or stream of this name that failed: `Run(Memory)` where memory
-/// was refused, and else `CannotRead` with the name.
-pub fn read_error<'a>(fault: &io::Error, name: &'a str) -> ProgramError<'a>
+// The error for a read of the file or stream of this name that failed: `Run(Memory)` where memory
+// was refused, and else `CannotRead` with the name.
+pub(crate) fn read_error<'a>(fault: &io::Error, name: &'a str) -> ProgramError<'a>
     ensures memory { error_kind fault.now ≡ ErrorKind.OutOfMemory → result ≡ Run Memory }
     ensures name { (error_kind fault.now ≡ ErrorKind.OutOfMemory → ⊥)
         → result ≡ CannotRead name.entry }
@@ -113,9 +113,9 @@ pub(crate) fn place_error<'a>(fault: &io::Error, name: &'a str) -> ProgramError<
     }
 }
 
-/// The error for a command line that can't be read: `Run(Memory)` where memory was refused, and
-/// else `BadWords`.
-pub fn words_error(fault: &io::Error) -> ProgramError<'static>
+// The error for a command line that can't be read: `Run(Memory)` where memory was refused, and else
+// `BadWords`.
+pub(crate) fn words_error(fault: &io::Error) -> ProgramError<'static>
     ensures { (status_of result ≡ 1) ⊎ (status_of result ≡ 2) }
 {
     match fault.kind() {

@@ -3,7 +3,7 @@
 ghost use Rattle.std.specs.Prelude.{◌≡◌, ◌≤◌, ◌⊎◌, [], ◌∷◌, IfOk, IfErr, IfSome, length, min, take, vec_len};
 ghost use Rattle.suite_solver.specs.CommandLine.{names_of};
 ghost use Rattle.suite_solver.specs.Programs.{AreFrontsOf, status_of};
-ghost use Rattle.suite_runs.specs.Runs.{texts_of};
+ghost use Rattle.obf_text.specs.LineText.{texts_of};
 
 use crate::errors::{ProgramError, read_error};
 use crate::streams::read_front;

@@ -1,4 +1,4 @@
-//! The place of a book that is to be written. It is tested before anything is solved.
+//! The place of a file that is to be written. It is tested before anything is solved.
 
 ghost use Rattle.std.specs.Prelude.{◌≡◌, ◌⊎◌, IfErr};
 ghost use Rattle.suite_solver.specs.Programs.{IsSilent, status_of};

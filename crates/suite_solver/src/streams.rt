@@ -1,19 +1,20 @@
 //! Calls on words and streams that `ffosolve` and `ffoscores` share.
 
-ghost use Rattle.std.specs.Prelude.{◌≡◌, ◌≤◌, true, false, map, take, vec_len, IfOk, IfSome, IsErr};
+ghost use Rattle.std.specs.Prelude.{◌≡◌, ◌≢◌, ◌≤◌, ◌⊎◌, true, false, map, take, vec_len, IfOk, IfSome, IsErr};
 ghost use Rattle.clap.specs.Words.{kind_of};
 ghost use Rattle.suite_solver.specs.CommandLine.{IsTextKind, names_of};
 
+use crate::errors::ProgramError;
 use clap::error::ErrorKind;
 use std::alloc::{AllocError, Global};
 use std::io;
 use std::io::{Read, Write};
 use suite_runs::MOST_BYTES;
 
-/// Reads the first bytes of a reader: 1,048,577 bytes, one more than a file may have, or all bytes
-/// where there are fewer. A file that is too large is known by that one byte. The error is that of
-/// the reader, or want of memory.
-pub fn read_front<R: Read>(alloc: Global, reader: &mut R) -> io::Result<Vec<u8>>
+// Reads the first bytes of a reader: 1,048,577 bytes, one more than a file may have, or all bytes
+// where there are fewer. A file that is too large is known by that one byte. The error is that of
+// the reader, or want of memory.
+pub(crate) fn read_front<R: Read>(alloc: Global, reader: &mut R) -> io::Result<Vec<u8>>
     ensures most { IfOk result (λ bytes. vec_len bytes ≤ 1048577) }
     ensures front { IfOk result
         (λ bytes. IfSome (R.remaining reader.old) (λ all. bytes.items ≡ take 1048577 all)) }
@@ -26,8 +27,8 @@ pub fn read_front<R: Read>(alloc: Global, reader: &mut R) -> io::Result<Vec<u8>>
     Ok(bytes)
 }
 
-/// The words as slices, in their order. The error is want of memory.
-pub fn borrow_words(alloc: Global, words: &[String]) -> Result<Vec<&str>, AllocError>
+// The words as slices, in their order. The error is want of memory.
+pub(crate) fn borrow_words(alloc: Global, words: &[String]) -> Result<Vec<&str>, AllocError>
     ensures { IfOk result (λ all. map (λ word. word.now) all.items ≡ names_of words.now) }
 {
     let mut borrowed = Vec::new(alloc);
@@ -43,10 +44,10 @@ fn write_help<W: Write>(output: &mut W, help: &clap::Error) -> io::Result<()> {
     output.flush()
 }
 
-/// Prints what clap hands over in place of options. Help and the version go to standard output, and
-/// the result is true. The reason of a refusal goes to standard error, and the result is false; a
-/// failure of standard error changes nothing. The error is that of standard output.
-pub fn explain<W: Write, E: Write>(
+// Prints what clap hands over in place of options. Help and the version go to standard output, and
+// the result is true. The reason of a refusal goes to standard error, and the result is false; a
+// failure of standard error changes nothing. The error is that of standard output.
+fn explain<W: Write, E: Write>(
     error: &clap::Error,
     output: &mut W,
     errors: &mut E,
@@ -64,6 +65,29 @@ pub fn explain<W: Write, E: Write>(
         _ => {
             let _ = write!(errors, "{error}");
             Ok(false)
+        }
+    }
+}
+
+// Prints what clap hands over in place of options, as `explain`. The result is the exit status of
+// the program: 0 for help and the version, 2 for a refusal, and 3 where standard output can't be
+// written, which is told on standard error.
+pub(crate) fn end_without_options<W: Write, E: Write>(
+    program: &str,
+    error: &clap::Error,
+    output: &mut W,
+    errors: &mut E,
+) -> u8
+    ensures status { (result ≡ 0) ⊎ ((result ≡ 2) ⊎ (result ≡ 3)) }
+    ensures helped { result ≢ 2 → IsTextKind (kind_of error.now) }
+    ensures unwritten { result ≡ 2 → W.contents output.new ≡ W.contents output.old }
+{
+    match explain(error, output, errors) {
+        Ok(true) => 0,
+        Ok(false) => 2,
+        Err(_) => {
+            let _ = ProgramError::CannotWrite("standard output").print(program, errors);
+            3
         }
     }
 }

@@ -8,6 +8,7 @@ mod faults;
 mod files;
 mod joins;
 mod limits;
+mod lists;
 mod options;
 mod places;
 mod runs;

@@ -1,6 +1,6 @@
 //! Where books are put, and what stood there before.
 
-use crate::books::ReadyBook;
+use crate::books::{ready_book, write_book};
 use crate::places::check_place;
 use othello_rules::Scoring;
 use solved_book::Book;
@@ -98,10 +98,8 @@ fn is_place<T: Files>(rt: &T, alloc: Global, name: &str) -> Result<bool, AllocEr
 fn is_put<T: Files>(rt: &T, alloc: Global, name: &str) -> Result<bool, AllocError> {
     let name = Some(String::from_str(alloc, name)?);
     let book = Book::new(alloc, Scoring::Winner);
-    match ReadyBook::of(rt, alloc, &name, &book)? {
-        Some(ready) => Ok(ready.write(rt).is_ok()),
-        None => Ok(false),
-    }
+    let ready = ready_book(rt, alloc, &name, &book)?;
+    Ok(ready.is_some() && write_book(rt, &ready).is_ok())
 }
 
 // Whether the file of a name holds a text; where there is none, whether there is no file.
@@ -187,7 +185,7 @@ const LATE: Held = &[("late.book", Some(OLD)), ("late.book.0.part", Some(OLD))];
 // found.
 fn is_put_late<T: Files>(rt: &T, alloc: Global, name: &str, beside: &str) -> Result<bool, Fail> {
     let name = Some(String::from_str(alloc, name)?);
-    let ready = ReadyBook::of(rt, alloc, &name, &Book::new(alloc, Scoring::Winner))?;
+    let ready = ready_book(rt, alloc, &name, &Book::new(alloc, Scoring::Winner))?;
     fs::write(rt, beside, OLD)?;
     match ready {
         Some(ready) => Ok(ready.write(rt).is_ok()),

@@ -12,8 +12,8 @@ use std::{fs, io};
 
 // A reader that never ends, and counts what it gave.
 #[derive(Drop)]
-struct EndlessReader {
-    given: u64,
+pub(super) struct EndlessReader {
+    pub(super) given: u64,
 }
 
 impl Read for EndlessReader {
@@ -34,9 +34,9 @@ fn reads_no_more_than_it_may(rt: HostRuntime) -> Result<(), Fail> {
 
 // A reader that gives one byte a call, and whose call fails when none is left.
 #[derive(Drop)]
-struct FailingReader<'a> {
-    bytes: &'a [u8],
-    calls_left: u32,
+pub(super) struct FailingReader<'a> {
+    pub(super) bytes: &'a [u8],
+    pub(super) calls_left: u32,
 }
 
 impl Read for FailingReader<'_> {
@@ -99,7 +99,7 @@ fn ends_though_errors_fail(rt: HostRuntime) {
 
 // A writer that takes all, and fails where it is to pass it on.
 #[derive(Drop)]
-struct HoldingWriter {}
+pub(super) struct HoldingWriter {}
 
 impl Write for HoldingWriter {
     fn write(&mut self, buf: &[u8]) -> io::Result<usize> {

@@ -1,5 +1,5 @@
 use Rattle.std.proofs.Common.{◌+◌, rules, drop}
-use Rattle.score_lists.specs.Lines.{texts_of}
+use Rattle.obf_text.specs.LineText.{texts_of}
 use Rattle.score_lists.proofs.LineSteps.{all_end, all_more, list_end, list_more, list_stop}
 use Rattle.score_lists.proofs.LineSteps.{texts_cut, texts_end}
 use Rattle.score_lists.proofs.Results.{on_err}

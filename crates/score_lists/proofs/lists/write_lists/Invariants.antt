@@ -1,5 +1,6 @@
 use Rattle.std.proofs.Common.{◌≡◌, ◌&&◌, drop}
-use Rattle.score_lists.specs.Lines.{Prints, lists_right, lists_text, texts_of}
+use Rattle.obf_text.specs.LineText.{texts_of}
+use Rattle.score_lists.specs.Lines.{Prints, lists_right, lists_text}
 use Rattle.score_lists.proofs.lists.write_lists.Given as goal
 
 abbrev pub invariant-loop-text : goal.invariant-loop-text

@@ -1,7 +1,7 @@
 use Rattle.std.proofs.Common.{◌≡◌, ◌∷◌, [], rules, sym, ap, ◌∙◌, arith}
 use Rattle.std.specs.Prelude.{None}
 use Rattle.std.specs.Option.{option_and_then, option_map}
-use Rattle.suite_runs.specs.Readings.{result_in, task_in}
+use Rattle.suite_runs.specs.Readings.{reading_result, task_in}
 use Rattle.suite_runs.specs.Rows.{rows, tasks}
 use Rattle.suite_runs.proofs.RowLemmas.{room_more, rows_all, rows_more, rows_skip, rows_start}
 use Rattle.suite_runs.proofs.TaskLemmas.{tasks_all, tasks_more, tasks_skip}
@@ -37,7 +37,7 @@ loop-bytes-preserved c =
       | in-Some-2+in_ok-push w ↦
           let r = w.in-Some-2.reading in
           let items = ap (λ v. v.items) w.readings-is ∙ w.in_ok-push.ensures.items in
-          let result = sym c.in_ok-reading.ensures.result ∙ ap (option_map result_in) w.in-Some-2.is in
+          let result = sym c.in_ok-reading.ensures.result ∙ ap (option_map reading_result) w.in-Some-2.is in
           let task = sym (ap (option_and_then task_in) w.in-Some-2.is) ∙ c.in_ok-reading.ensures.task in
           record {
             rows = rw items (rows_more g limit n _ line left lines r made (rows g limit c.args.text.now) (omega arith) cut result kept.rows);
@@ -49,7 +49,7 @@ loop-bytes-preserved c =
       | in_default w ↦
           let items = ap (λ v. v.items) w.readings-is in
           let none : c.in_ok-reading.field-0 ≡ None = w.in_default.is in
-          let result = sym c.in_ok-reading.ensures.result ∙ ap (option_map result_in) none in
+          let result = sym c.in_ok-reading.ensures.result ∙ ap (option_map reading_result) none in
           let task = sym (ap (option_and_then task_in) none) ∙ c.in_ok-reading.ensures.task in
           record {
             rows = rw items (rows_skip g limit n _ line left lines _ (rows g limit c.args.text.now) (omega arith) cut result kept.rows);

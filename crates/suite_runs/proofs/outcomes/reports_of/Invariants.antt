@@ -1,6 +1,6 @@
 use Rattle.std.proofs.Common.{◌≡◌, ◌++◌, drop, map}
 use Rattle.suite_runs.specs.Parts.{part_view_of, reports_of_views}
-use Rattle.suite_runs.specs.Runs.{texts_of}
+use Rattle.obf_text.specs.LineText.{texts_of}
 use Rattle.suite_runs.proofs.outcomes.reports_of.Given as goal
 
 -- the reports so far, and those of the parts that are left, are all reports

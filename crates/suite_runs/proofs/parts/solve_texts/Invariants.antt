@@ -1,6 +1,6 @@
 use Rattle.std.proofs.Common.{◌≡◌, map, take}
 use Rattle.suite_runs.specs.Parts.{part_view, part_view_of}
-use Rattle.suite_runs.specs.Runs.{texts_of}
+use Rattle.obf_text.specs.LineText.{texts_of}
 use Rattle.suite_runs.proofs.parts.solve_texts.Given as goal
 
 abbrev pub invariant-loop-file : goal.invariant-loop-file

@@ -1,7 +1,7 @@
 use Rattle.std.proofs.Common.{◌-◌, ◌∙◌, length, take, drop, ap}
 use Rattle.std.specs.List.{flat_map}
 use Rattle.othello_rules.specs.Board.{name_of}
-use Rattle.suite_runs.specs.Text.{comma_name}
+use Rattle.suite_runs.specs.ReportText.{comma_name}
 use Rattle.suite_runs.proofs.NameLemmas.{names_first, names_none}
 use Rattle.obf_text.proofs.WriterLemmas.{appends_none, completes_more, completes_start}
 use Rattle.suite_runs.proofs.report.write_names.Goals as goal

@@ -1,6 +1,6 @@
 use Rattle.std.proofs.Common.{drop}
 use Rattle.std.specs.List.{flat_map}
-use Rattle.suite_runs.specs.Text.{comma_name, names_text}
+use Rattle.suite_runs.specs.ReportText.{comma_name, names_text}
 use Rattle.obf_text.proofs.WriterLemmas.{Completes}
 use Rattle.suite_runs.proofs.report.write_names.Given as goal
 

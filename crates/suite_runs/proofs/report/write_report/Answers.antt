@@ -1,6 +1,6 @@
 use Rattle.std.proofs.Common.{◌++◌}
 use Rattle.std.specs.List.{flat_map}
-use Rattle.suite_runs.specs.Text.{head_text, last_text, report_text, row_text}
+use Rattle.suite_runs.specs.ReportText.{head_text, last_text, report_text, row_text}
 use Rattle.obf_text.proofs.WriterLemmas.{completes_more, completes_start}
 use Rattle.suite_runs.proofs.report.write_report.Goals as goal
 

@@ -1,6 +1,6 @@
 use Rattle.std.proofs.Common.{length}
 use Rattle.std.proofs.lemmas.List.{length-map}
-use Rattle.suite_runs.specs.Runs.{texts_of}
+use Rattle.obf_text.specs.LineText.{texts_of}
 use Rattle.suite_runs.proofs.RunLemmas.{large_iff, many_iff}
 use Rattle.suite_runs.proofs.runs.run.Goals as goal
 

@@ -1,4 +1,4 @@
-use Rattle.suite_runs.specs.Runs.{texts_of}
+use Rattle.obf_text.specs.LineText.{texts_of}
 use Rattle.suite_runs.proofs.RunLemmas.{refused_answers}
 use Rattle.suite_runs.proofs.runs.run_threads.Goals as goal
 

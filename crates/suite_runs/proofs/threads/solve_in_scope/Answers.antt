@@ -1,4 +1,4 @@
-use Rattle.suite_runs.specs.Runs.{texts_of}
+use Rattle.obf_text.specs.LineText.{texts_of}
 use Rattle.suite_runs.proofs.JoinLemmas.{parts_given}
 use Rattle.suite_runs.proofs.threads.solve_in_scope.Goals as goal
 

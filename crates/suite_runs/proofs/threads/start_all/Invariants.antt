@@ -1,6 +1,6 @@
 use Rattle.std.proofs.Common.{◌≡◌, ◌≤◌, length, map, take, vec_len, vec_capacity}
 use Rattle.suite_runs.specs.Threads.{started_view}
-use Rattle.suite_runs.specs.Runs.{texts_of}
+use Rattle.obf_text.specs.LineText.{texts_of}
 use Rattle.suite_runs.proofs.threads.start_all.Given as goal
 
 abbrev pub invariant-loop-file : goal.invariant-loop-file

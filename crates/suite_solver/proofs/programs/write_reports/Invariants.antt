@@ -1,6 +1,6 @@
 use Rattle.std.proofs.Common.{drop}
 use Rattle.std.specs.List.{concat}
-use Rattle.suite_runs.specs.Runs.{texts_of}
+use Rattle.obf_text.specs.LineText.{texts_of}
 use Rattle.obf_text.proofs.WriterLemmas.{Completes}
 use Rattle.suite_solver.proofs.programs.write_reports.Given as goal
 

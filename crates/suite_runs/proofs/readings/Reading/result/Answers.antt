@@ -4,7 +4,7 @@ use Rattle.std.proofs.lemmas.Option.{slice_get_within}
 use Rattle.othello_bits.specs.Pos.{answer_of}
 use Rattle.endgame_search.specs.Task.{TaskView}
 use Rattle.suite_runs.specs.Checks.{check}
-use Rattle.suite_runs.specs.Readings.{result_in, task_in}
+use Rattle.suite_runs.specs.Readings.{reading_result, task_in}
 use Rattle.suite_runs.specs.declared.rows.RowResult.TheVariants.{Solved}
 use Rattle.suite_runs.proofs.readings.Reading.result.Goals as goal
 
@@ -22,4 +22,4 @@ returns-in-Some-clause-result c =
     let same : c.in-Some.solved.now ≡ t = cc in
     let answer = c.answer-answer.ensures ∙ ap (λ (p : TaskView). answer_of p.scoring p.position) same in
     let checked = c.check_of.ensures ∙ ap (λ l. check l c.answer-answer.result) c.deref.ensures.value in
-    ap₂ Solved answer (checked ∙ ap (check c.in-Position.listed.items) answer) ∙ sym (ap result_in c.in-Position.is)
+    ap₂ Solved answer (checked ∙ ap (check c.in-Position.listed.items) answer) ∙ sym (ap reading_result c.in-Position.is)

@@ -1,20 +1,28 @@
--- The result of the printing of lists.
-use Rattle.std.proofs.Common.{◌≡◌, ℕ, List, inr}
-use Rattle.std.specs.Prelude.{Bool, Option, Result, Ok, Err, IfOk, OnErr, OnOk}
+-- How the printing of lists ended.
+use Rattle.std.proofs.Common.{◌≡◌, ◌≤◌, ℕ, List, length, inr}
+use Rattle.std.specs.Prelude.{Bool, Option, None, Result, Ok, Err, IfOk, OnErr, OnOk}
 use Rattle.std.specs.Io.KnownBytes.{Appends}
 use Rattle.score_lists.specs.Lines.{AppendsFront, lists_right, lists_text}
+use Rattle.suite_runs.specs.Runs.{first_large}
 use Rattle.suite_runs.specs.Settings.{SettingsView}
-use Rattle.ffoscores.specs.Programs.{AreLists, Prints, Stops}
+use Rattle.suite_solver.specs.Lists.{AreLists, PrintsLists, StopsLists}
+use Rattle.suite_solver.specs.Programs.{AreFrontsOf}
 use Rattle.suite_solver.specs.declared.errors.ProgramError.{ProgramError}
+use Rattle.suite_solver.proofs.ProgramLemmas.{whole_texts}
+
+-- what was read is lists, where no limit is passed
+pub lists_read : (names : List (List ℕ)) (given : Option (List ℕ)) (texts : List (List ℕ)) → AreFrontsOf names given texts
+    → length texts ≤ 64 → first_large texts ≡ None → AreLists names given texts
+lists_read names given texts fronts few small = record { read = whole_texts names given texts fronts small few; few = few; small = small }
 
 pub printed : (r : Result Bool ProgramError) (c : SettingsView) (names : List (List ℕ)) (given old new : Option (List ℕ)) (texts : List (List ℕ))
     → AreLists names given texts → OnOk r (Appends old new (lists_text c.scoring c.max_empties texts))
-    → IfOk r (λ right. right ≡ lists_right c.scoring c.max_empties texts) → IfOk r (Prints c names given old new)
+    → IfOk r (λ right. right ≡ lists_right c.scoring c.max_empties texts) → IfOk r (PrintsLists c names given old new)
 printed (Ok right) c names given old new texts lists written e = record { texts = texts; lists = lists; written = written; told = e }
 printed (Err error) c names given old new texts lists written e = tt
 
 pub stopped : (r : Result Bool ProgramError) (c : SettingsView) (names : List (List ℕ)) (given old new : Option (List ℕ)) (texts : List (List ℕ))
     → AreLists names given texts → OnErr r (AppendsFront old new (lists_text c.scoring c.max_empties texts))
-    → OnErr r (Stops c names given old new)
+    → OnErr r (StopsLists c names given old new)
 stopped (Ok right) c names given old new texts lists front = tt
 stopped (Err error) c names given old new texts lists front = inr (record { texts = texts; lists = lists; front = front })

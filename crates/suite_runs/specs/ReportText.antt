@@ -8,7 +8,7 @@ use Rattle.othello_rules.specs.Answer.{AnswerView}
 use Rattle.obf_text.specs.Written.{score_text}
 use Rattle.othello_rules.specs.declared.answers.Best.{Best}
 use Rattle.othello_rules.specs.declared.answers.Best.TheVariants.{Moves, Pass, Over}
-use Rattle.obf_text.specs.Faults.{line_fault_text}
+use Rattle.obf_text.specs.Faults.{line_fault_text, too_many_text}
 use Rattle.obf_text.specs.declared.faults.LineFault.TheVariants as fault
 use Rattle.suite_runs.specs.declared.checks.Check.{Check}
 use Rattle.suite_runs.specs.declared.checks.Check.TheVariants.{Agree, Differ, Unlisted}
@@ -41,7 +41,7 @@ unfoldable pub refusal_text : Refusal → List ℕ
 refusal_text (Short found) = line_fault_text (fault.Short found)
 refusal_text (BadCell column) = line_fault_text (fault.BadCell column)
 refusal_text (BadSide column) = line_fault_text (fault.BadSide column)
-refusal_text (Empties found limit) = decimal found ++ (codes " empties, limit " ++ decimal limit)
+refusal_text (Empties found limit) = too_many_text found limit
 
 -- the score, a space, and the best moves
 unfoldable pub answer_text : AnswerView → List ℕ

@@ -4,7 +4,7 @@ use Rattle.othello_bits.specs.Pos.{value_of}
 use Rattle.othello_bits.proofs.GameLaws.{value_score}
 use Rattle.endgame_search.proofs.Windows.{shown, recast}
 use Rattle.endgame_search.proofs.ScoreRanges.{told_true}
-use Rattle.endgame_search.proofs.cutoffs.store_range.Goals as goal
+use Rattle.endgame_search.proofs.cutoffs.store_always.Goals as goal
 
 pub store-requires : goal.store-requires
 store-requires g c =

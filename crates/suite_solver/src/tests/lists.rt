@@ -1,23 +1,13 @@
-//! Whole runs of the program: options, files, hostile texts, and streams that fail or never end.
+//! Whole runs of `ffoscores`: options, files, hostile texts, and streams that fail or never end.
 
-use crate::programs::program;
+use super::streams::{EndlessReader, FailingReader, HoldingWriter};
+use super::{Ended, FailingWriter, Run, words_of};
+use crate::list_program;
 use std::alloc::{AllocError, Global};
+use std::fs;
 use std::io::{Read, Write};
 use std::rt::Files;
 use std::test::Fail;
-use std::{fs, io};
-
-// The words of a command line with spaces between, standard input, and the status, standard output
-// and standard error that the program ends with.
-type Run<'a> = (&'a str, &'a [u8], u8, &'a [u8], &'a [u8]);
-
-// How a program ended.
-#[derive(Drop)]
-struct Ended {
-    status: u8,
-    output: Vec<u8>,
-    errors: Vec<u8>,
-}
 
 const NO_MEMORY: &[u8] = b"ffoscores: out of memory\n";
 
@@ -33,10 +23,10 @@ fn run<T: Files, R: Read>(
     line: &str,
     input: &mut R,
 ) -> Result<Ended, AllocError> {
-    let words: Vec<&str> = line.split(' ').collect(alloc)?;
+    let words = words_of(alloc, line)?;
     let mut output = Vec::new(alloc);
     let mut errors = Vec::new(alloc);
-    let status = program(rt, alloc, &words, input, &mut output, &mut errors);
+    let status = list_program(rt, alloc, &words, input, &mut output, &mut errors);
     Ok(Ended {
         status,
         output,
@@ -236,36 +226,14 @@ fn measures_input(rt: HostRuntime) -> Result<(), Fail> {
     Ok(())
 }
 
-// A reader that gives blanks, and counts them, and fails after `calls_left` calls.
-#[derive(Drop)]
-struct BlankReader {
-    given: u64,
-    calls_left: u32,
-}
-
-impl Read for BlankReader {
-    fn read(&mut self, buf: &mut [u8]) -> io::Result<usize> {
-        if self.calls_left == 0 {
-            return Err(io::Error::from(io::ErrorKind::BrokenPipe));
-        }
-        self.calls_left -= 1;
-        buf.fill(b' ');
-        self.given = self.given.wrapping_add(buf.len() as u64);
-        Ok(buf.len())
-    }
-}
-
 #[test]
 fn tells_what_it_cannot_read(rt: HostRuntime) -> Result<(), Fail> {
-    let mut endless = BlankReader {
-        given: 0,
-        calls_left: u32::MAX,
-    };
+    let mut endless = EndlessReader { given: 0 };
     let ended = run(&rt, rt.alloc(), "ffoscores", &mut endless)?;
     assert!(rt; ended_so(&ended, (3, b"", TOO_LARGE))? && endless.given == 1_048_577);
     for calls_left in 0..3 {
-        let mut failing = BlankReader {
-            given: 0,
+        let mut failing = FailingReader {
+            bytes: TWO,
             calls_left,
         };
         let ended = run(&rt, rt.alloc(), "ffoscores", &mut failing)?;
@@ -274,61 +242,70 @@ fn tells_what_it_cannot_read(rt: HostRuntime) -> Result<(), Fail> {
     Ok(())
 }
 
-// A writer that takes at most `room` bytes, and then fails; where it takes all, it can't pass them
-// on.
-#[derive(Drop)]
-struct FullWriter {
-    room: usize,
-}
-
-impl Write for FullWriter {
-    fn write(&mut self, buf: &[u8]) -> io::Result<usize> {
-        if self.room == 0 {
-            return Err(io::Error::from(io::ErrorKind::StorageFull));
-        }
-        let taken = buf.len().min(self.room);
-        self.room -= taken;
-        Ok(taken)
-    }
-
-    fn flush(&mut self) -> io::Result<()> {
-        Err(io::Error::from(io::ErrorKind::StorageFull))
-    }
-}
-
-// Whether a run ends so whose standard output has room for so many bytes.
-fn ends_full<T: Files>(rt: &T, alloc: Global, line: &str, room: usize) -> Result<bool, AllocError> {
-    let words: Vec<&str> = line.split(' ').collect(alloc)?;
-    let (mut input, mut output, mut errors) = (TWO, FullWriter { room }, Vec::new(alloc));
-    let status = program(rt, alloc, &words, &mut input, &mut output, &mut errors);
+// Whether a run with this standard output ends with the status and the text on standard error.
+fn ends_with<T: Files, W: Write>(
+    rt: &T,
+    alloc: Global,
+    line: &str,
+    output: &mut W,
+    wanted: (u8, &[u8]),
+) -> Result<bool, AllocError> {
+    let words = words_of(alloc, line)?;
+    let (mut input, mut errors) = (TWO, Vec::new(alloc));
+    let status = list_program(rt, alloc, &words, &mut input, output, &mut errors);
     let ended = Ended {
         status,
         output: Vec::new(alloc),
         errors,
     };
-    ended_so(&ended, (3, b"", NO_OUTPUT))
+    ended_so(&ended, (wanted.0, b"", wanted.1))
 }
 
+// The two lines have 84 bytes and 92, which are 28 and 31 writes of three bytes and less. Help has
+// more.
 #[test]
 fn tells_what_it_cannot_write(rt: HostRuntime) -> Result<(), Fail> {
-    for room in [0, 1, 87, 88, 10_000] {
-        assert!(rt; ends_full(&rt, rt.alloc(), "ffoscores", room)?);
-        assert!(rt; ends_full(&rt, rt.alloc(), "ffoscores --help", room)?);
+    for calls_left in [0, 1, 27, 28, 58] {
+        let mut output = FailingWriter { calls_left };
+        assert!(rt; ends_with(&rt, rt.alloc(), "ffoscores", &mut output, (3, NO_OUTPUT))?);
+        let mut output = FailingWriter { calls_left };
+        assert!(rt;
+            ends_with(
+                &rt,
+                rt.alloc(),
+                "ffoscores --help",
+                &mut output,
+                (3, NO_OUTPUT)
+            )?
+        );
     }
+    let mut output = FailingWriter { calls_left: 59 };
+    assert!(rt; ends_with(&rt, rt.alloc(), "ffoscores", &mut output, (1, b""))?);
+    let mut output = HoldingWriter {};
+    assert!(rt; ends_with(&rt, rt.alloc(), "ffoscores", &mut output, (3, NO_OUTPUT))?);
+    assert!(rt;
+        ends_with(
+            &rt,
+            rt.alloc(),
+            "ffoscores --help",
+            &mut output,
+            (3, NO_OUTPUT)
+        )?
+    );
     Ok(())
 }
 
 // A standard error that fails, whenever it does, changes no status.
 #[test]
 fn ends_though_errors_fail(rt: HostRuntime) {
-    for room in 0..3 {
-        let mut input = BlankReader {
-            given: 0,
+    for calls_left in 0..3 {
+        let mut input = FailingReader {
+            bytes: TWO,
             calls_left: 0,
         };
-        let (mut output, mut errors) = (Vec::new(rt.alloc()), FullWriter { room });
+        let (mut output, mut errors) = (Vec::new(rt.alloc()), FailingWriter { calls_left });
         let words = ["ffoscores"];
-        let status = program(
+        let status = list_program(
             &rt,
             rt.alloc(),
             &words,

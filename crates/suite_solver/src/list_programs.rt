@@ -2,24 +2,36 @@
 
 ghost use Rattle.std.specs.Prelude.{◌≡◌, ◌≢◌, ◌⊎◌, true, false, map, IfErr, IfOk, IsOkAnd, OnErr, OnOk};
 ghost use Rattle.std.specs.Io.KnownBytes.{Appends};
-ghost use Rattle.clap.specs.Words.{kind_of};
-ghost use Rattle.score_lists.specs.Lines.{AppendsFront, lists_right, lists_text, texts_of};
-ghost use Rattle.suite_solver.specs.CommandLine.{AsksForText, IsTakenBy, IsTextKind, ffoscores, names_of};
-ghost use Rattle.ffoscores.specs.Programs.{IsAnswered, IsBegun, Prints, Stops};
-ghost use Rattle.ffoscores.specs.Errors.{status_of};
+ghost use Rattle.obf_text.specs.LineText.{texts_of};
+ghost use Rattle.score_lists.specs.Lines.{AppendsFront, lists_right, lists_text};
+ghost use Rattle.suite_solver.specs.CommandLine.{AsksForText, IsTakenBy, ffoscores, names_of};
+ghost use Rattle.suite_solver.specs.Lists.{AreListsBegun, AreListsPrinted, IsListError, PrintsLists};
+ghost use Rattle.suite_solver.specs.Lists.{StopsLists, list_status_of};
 
-use crate::errors::{list_error, print_error};
-use crate::inputs::read_lists;
+use crate::command_line::list_options;
+use crate::errors::{ProgramError, words_error};
+use crate::inputs::read_files;
+use crate::requests::{ListOptions, OptionFault};
+use crate::streams::{borrow_words, end_without_options};
 use bound_table::BoundTable;
-use score_lists::write_lists;
+use score_lists::{ListFault, write_lists};
 use std::alloc::Global;
 use std::io;
 use std::io::{Read, Write};
 use std::rt::Files;
-use suite_solver::{
-    ListOptions, OptionFault, ProgramError, RunFault, Settings, borrow_words, explain,
-    list_options, words_error,
-};
+use suite_runs::{RunFault, Settings, check_files};
+
+// The error of the program for a fault of printing: want of memory, or that standard output can't
+// be written.
+fn list_error(fault: ListFault) -> ProgramError<'static>
+    ensures reason { IsListError fault result }
+    ensures status { list_status_of result ≡ 3 }
+{
+    match fault {
+        ListFault::Memory => ProgramError::Run(RunFault::Memory),
+        ListFault::CannotWrite => ProgramError::CannotWrite("standard output"),
+    }
+}
 
 // Prints lists again with every move's score, over one table of bounds. The result says whether
 // nothing in them is wrong.
@@ -35,7 +47,7 @@ fn print_lists<W: Write>(
         (lists_text settings.now.scoring settings.now.max_empties (texts_of texts.now))) }
     ensures right { IfOk result (λ right. right
         ≡ lists_right settings.now.scoring settings.now.max_empties (texts_of texts.now)) }
-    ensures status { IfErr result (λ error. status_of error ≡ 3) }
+    ensures status { IfErr result (λ error. list_status_of error ≡ 3) }
 {
     let entries = settings.table() as usize;
     let Ok(table) = BoundTable::new(alloc, entries, settings.scoring()) else {
@@ -47,8 +59,8 @@ fn print_lists<W: Write>(
     }
 }
 
-// Reads the lists that the options name, and prints them again. The result says whether nothing in
-// them is wrong.
+// Reads the lists that the options name, and prints them again. All are read before anything is
+// printed. The result says whether nothing in them is wrong.
 fn carry_out<'a, T: Files, R: Read, W: Write>(
     rt: &T,
     alloc: Global,
@@ -57,37 +69,40 @@ fn carry_out<'a, T: Files, R: Read, W: Write>(
     output: &mut W,
 ) -> Result<bool, ProgramError<'a>>
     ensures printed { IfOk result
-        (Prints asked.now.settings (names_of asked.now.files.items)
+        (PrintsLists asked.now.settings (names_of asked.now.files.items)
         (R.remaining input.old) (W.contents output.old) (W.contents output.new)) }
     ensures stopped { OnErr result
-        (Stops asked.now.settings (names_of asked.now.files.items)
+        (StopsLists asked.now.settings (names_of asked.now.files.items)
         (R.remaining input.old) (W.contents output.old) (W.contents output.new)) }
-    ensures status { IfErr result (λ error. status_of error ≡ 3) }
+    ensures status { IfErr result (λ error. list_status_of error ≡ 3) }
 {
-    let texts = read_lists(rt, alloc, &asked.files, input)?;
+    let texts = read_files(rt, alloc, &asked.files, input)?;
+    check_files(&texts)?;
     print_lists(alloc, &asked.settings, &texts, output)
 }
 
-// Prints what clap hands over in place of options, and gives the exit status.
-fn end_without_options<W: Write, E: Write>(
-    error: &clap::Error,
-    output: &mut W,
-    errors: &mut E,
-) -> u8
-    ensures status { (result ≡ 0) ⊎ ((result ≡ 2) ⊎ (result ≡ 3)) }
-    ensures helped { result ≢ 2 → IsTextKind (kind_of error.now) }
-    ensures unwritten { result ≡ 2 → W.contents output.new ≡ W.contents output.old }
+// The exit status of `ffoscores` after this error.
+fn list_status(error: &ProgramError<'_>) -> u8
+    ensures { result ≡ list_status_of error.now }
 {
-    match explain(error, output, errors) {
-        Ok(true) => 0,
-        Ok(false) => 2,
-        Err(_) => print_error(&ProgramError::CannotWrite("standard output"), errors),
+    match error {
+        ProgramError::BadWords => 2,
+        _ => 3,
     }
 }
 
-/// The whole program over the words of its command line, the program's name first. It reads the
-/// lists that the words name, or standard input. It prints them again on standard output with every
-/// move's score, each line as soon as it is solved.
+// Prints the error that ends the program, and gives the exit status. A failure of standard error
+// changes nothing.
+fn print_error<E: Write>(error: &ProgramError<'_>, errors: &mut E) -> u8
+    ensures { result ≡ list_status_of error.now }
+{
+    let _ = error.print("ffoscores", errors);
+    list_status(error)
+}
+
+/// The whole program `ffoscores` over the words of its command line, the program's name first. It
+/// reads the lists that the words name, or standard input. It prints them again on standard output
+/// with every move's score, each line as soon as it is solved.
 ///
 /// The status is 0 where nothing in the lists is wrong, or where help or the version was asked for
 /// and printed; 1 where a line is refused or something is remarked; 2 where the command line is
@@ -95,7 +110,7 @@ fn end_without_options<W: Write, E: Write>(
 /// can't be written, or where memory ran out. An error that ends the program early is printed on
 /// standard error, as one line or as clap's text, and the lines that were printed before stay; a
 /// failure of standard error changes nothing.
-pub(crate) fn program<T: Files, R: Read, W: Write, E: Write>(
+pub fn list_program<T: Files, R: Read, W: Write, E: Write>(
     rt: &T,
     alloc: Global,
     words: &[&str],
@@ -107,9 +122,9 @@ pub(crate) fn program<T: Files, R: Read, W: Write, E: Write>(
     // The lists that the words ask for were printed, and nothing in them is wrong; or the words ask
     // for help or the version.
     ensures right { result ≡ 0 → AsksForText ffoscores (map (λ word. word.now) words.now) ⊎
-        IsAnswered (map (λ word. word.now) words.now)
+        AreListsPrinted (map (λ word. word.now) words.now)
         (R.remaining input.old) (W.contents output.old) (W.contents output.new) true }
-    ensures wrong { result ≡ 1 → IsAnswered (map (λ word. word.now) words.now)
+    ensures wrong { result ≡ 1 → AreListsPrinted (map (λ word. word.now) words.now)
         (R.remaining input.old) (W.contents output.old) (W.contents output.new) false }
     ensures taken { IsTakenBy ffoscores (map (λ word. word.now) words.now) → result ≢ 2 }
     ensures refused { result ≡ 2 → W.contents output.new ≡ W.contents output.old }
@@ -117,7 +132,7 @@ pub(crate) fn program<T: Files, R: Read, W: Write, E: Write>(
     // help or the version.
     ensures stopped { result ≡ 3 → AsksForText ffoscores (map (λ word. word.now) words.now) ⊎
         ((W.contents output.new ≡ W.contents output.old) ⊎
-        IsBegun (map (λ word. word.now) words.now)
+        AreListsBegun (map (λ word. word.now) words.now)
         (R.remaining input.old) (W.contents output.old) (W.contents output.new)) }
 {
     match list_options(alloc, words) {
@@ -127,13 +142,15 @@ pub(crate) fn program<T: Files, R: Read, W: Write, E: Write>(
             Err(error) => print_error(&error, errors),
         },
         Err(OptionFault::Memory) => print_error(&ProgramError::Run(RunFault::Memory), errors),
-        Err(OptionFault::Refused(error)) => end_without_options(&error, output, errors),
+        Err(OptionFault::Refused(error)) => {
+            end_without_options("ffoscores", &error, output, errors)
+        }
     }
 }
 
-/// The whole program, as `program`, over the words as `env::args` gives them. The status is 2 where
-/// a word is no text, and 3 where there was no memory for the words.
-pub(crate) fn program_of<T: Files, R: Read, W: Write, E: Write>(
+/// The whole program, as `list_program`, over the words as `env::args` gives them. The status is 2
+/// where a word is no text, and 3 where there was no memory for the words.
+pub fn list_program_of<T: Files, R: Read, W: Write, E: Write>(
     rt: &T,
     alloc: Global,
     words: io::Result<Vec<String>>,
@@ -143,15 +160,15 @@ pub(crate) fn program_of<T: Files, R: Read, W: Write, E: Write>(
 ) -> u8
     ensures status { (result ≡ 0) ⊎ ((result ≡ 1) ⊎ ((result ≡ 2) ⊎ (result ≡ 3))) }
     ensures right { result ≡ 0 → IsOkAnd words (λ all.
-        AsksForText ffoscores (names_of all.items) ⊎ IsAnswered (names_of all.items)
+        AsksForText ffoscores (names_of all.items) ⊎ AreListsPrinted (names_of all.items)
         (R.remaining input.old) (W.contents output.old) (W.contents output.new) true) }
-    ensures wrong { result ≡ 1 → IsOkAnd words (λ all. IsAnswered (names_of all.items)
+    ensures wrong { result ≡ 1 → IsOkAnd words (λ all. AreListsPrinted (names_of all.items)
         (R.remaining input.old) (W.contents output.old) (W.contents output.new) false) }
     ensures taken { IsOkAnd words (λ all. IsTakenBy ffoscores (names_of all.items)) → result ≢ 2 }
     ensures refused { result ≡ 2 → W.contents output.new ≡ W.contents output.old }
     ensures stopped { result ≡ 3 → (W.contents output.new ≡ W.contents output.old) ⊎
         IsOkAnd words (λ all. AsksForText ffoscores (names_of all.items) ⊎
-        IsBegun (names_of all.items)
+        AreListsBegun (names_of all.items)
         (R.remaining input.old) (W.contents output.old) (W.contents output.new)) }
 {
     let words = match words {
@@ -159,7 +176,7 @@ pub(crate) fn program_of<T: Files, R: Read, W: Write, E: Write>(
         Err(fault) => return print_error(&words_error(&fault), errors),
     };
     match borrow_words(alloc, &words) {
-        Ok(borrowed) => program(rt, alloc, &borrowed, input, output, errors),
+        Ok(borrowed) => list_program(rt, alloc, &borrowed, input, output, errors),
         Err(_) => print_error(&ProgramError::Run(RunFault::Memory), errors),
     }
 }

@@ -1,4 +1,0 @@
-use Rattle.ffoscores.proofs.errors.print_error.Goals as goal
-
-pub returns : goal.returns
-returns g c = c.status.ensures
