@@ -1,5 +1,5 @@
 -- The text that is printed for a list: one line with every move's score for each line of the list.
-use Rattle.std.specs.Prelude.{◌≡◌, ℕ, ◌∷◌, ◌++◌, [], List, Bool, true, false, not, nat_lt, map}
+use Rattle.std.specs.Prelude.{◌≡◌, ℕ, ◌∷◌, ◌++◌, [], List, Bool, true, false, not, nat_lt}
 use Rattle.std.specs.Prelude.{Option, codes, if◌then◌else◌}
 use Rattle.std.specs.Io.KnownBytes.{Appends}
 use Rattle.std.specs.List.{flat_map, list_all}
