@@ -12,7 +12,7 @@ child=''  # the process that builds, or waits for another build
 shower='' # the process that shows how far a build is
 signal='' # the signal that came meanwhile
 drops=0   # how often kept work was dropped
-kit=rattle-kit-13f
+kits='rattle-kit-13b or rattle-kit-13f' # the gate passed with each of these; is_kit knows them, too
 
 say() {
     echo "$speaker: $1" >&2
@@ -118,11 +118,18 @@ unlock() {
     exec 9>&-
 }
 
+is_kit() {
+    case $1 in
+    rattle-kit-13b | rattle-kit-13f) ;;
+    *) return 1 ;;
+    esac
+}
+
 test_kit() {
-    command -v rt >/dev/null || stop "$product is not built: rt ($kit) is not on the path"
+    command -v rt >/dev/null || stop "$product is not built: rt ($kits) is not on the path"
     found=$(rt version </dev/null 2>/dev/null 9>&- | head -n 1) || :
-    [ "${found%% *}" = "$kit" ] ||
-        stop "$product is not built: rt is ${found:-of no known kit}, and this checkout is proved with $kit"
+    is_kit "${found%% *}" ||
+        stop "$product is not built: rt is ${found:-of no known kit}, and this checkout is proved with $kits"
 }
 
 # The first line of the log that tells an error, else the last one.

@@ -7,7 +7,7 @@ ghost use Rattle.othello_bits.specs.Pos.{moves_of, empties_of, value_of, HasNoMo
 ghost use Rattle.endgame_search.specs.Windows.{IsBound, IsWindow, Places};
 ghost use Rattle.endgame_search.specs.Children.{AreOthersOf};
 
-use crate::children::{Child, order_children, order_until_stuck};
+use crate::children::{Child, add_children, add_until_stuck};
 use crate::cutoffs::{BELOW_ALL_SCORES, decide};
 use crate::endings::search_two;
 use arrayvec::ArrayVec;
@@ -90,7 +90,7 @@ fn search_few_moves<T: Bounds>(table: &T, position: Pos, moves: u64, empties: u8
     if empties == 2 {
         search_two(table, position, moves, bound)
     } else {
-        search_listed(table, position, moves, bound)
+        search_few_by_list(table, position, moves, bound)
     }
 }
 
@@ -100,7 +100,7 @@ fn search_few_moves<T: Bounds>(table: &T, position: Pos, moves: u64, empties: u8
 // made.
 #[cycle(few)]
 #[inline(never)]
-fn search_listed<T: Bounds>(table: &T, position: Pos, moves: u64, bound: i8) -> i8
+fn search_few_by_list<T: Bounds>(table: &T, position: Pos, moves: u64, bound: i8) -> i8
     requires moves { moves ≡ moves_of position }
     requires some { moves ≢ 0 }
     requires few { empties_of position ≤ 7 }
@@ -111,7 +111,7 @@ fn search_listed<T: Bounds>(table: &T, position: Pos, moves: u64, bound: i8) -> 
     if let Some(score) = decide(table, position, bound, bound + 1) {
         return score;
     }
-    let Some(stuck) = order_until_stuck(position, moves, &mut children) else {
+    let Some(stuck) = add_until_stuck(position, moves, &mut children) else {
         return search_few_children(table, position, &children, BELOW_ALL_SCORES, bound);
     };
     let first = stuck.child;
@@ -119,7 +119,7 @@ fn search_listed<T: Bounds>(table: &T, position: Pos, moves: u64, bound: i8) -> 
     if score > bound {
         return score;
     }
-    order_children(position, stuck.rest, &mut children);
+    add_children(position, stuck.rest, &mut children);
     search_few_children(table, position, &children, score, bound)
 }
 

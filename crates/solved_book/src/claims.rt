@@ -9,7 +9,7 @@ ghost use Rattle.solved_book.specs.Reading.{GivesMap, claimed_positions};
 
 use crate::entries::read_claim;
 use crate::faults::BookFault;
-use crate::headers::scoring_of_text;
+use crate::headers::read_first_line;
 use crate::images::{Masks, best_on_image, masks_of};
 use endgame_search::Claim;
 use obf_text::split_lines;
@@ -91,7 +91,7 @@ impl Claims {
     pub fn read(alloc: Global, text: &[u8]) -> Result<Claims, BookFault>
         ensures { GivesAdvice result (claims_of text.now) }
     {
-        let Some(scoring) = scoring_of_text(text) else {
+        let Some(scoring) = read_first_line(text) else {
             return Err(BookFault::Header);
         };
         let claims = read_claims(alloc, text)?;

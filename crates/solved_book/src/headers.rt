@@ -23,7 +23,7 @@ pub(crate) fn write_header<W: Write>(writer: &mut W, scoring: Scoring) -> io::Re
 
 // The scoring that a first line names: `Winner` where it is no header, None where it is an unknown
 // one.
-fn scoring_in(line: &[u8]) -> Option<Scoring>
+fn read_header(line: &[u8]) -> Option<Scoring>
     ensures { result ≡ scoring_in line.now }
 {
     if line.starts_with(b"% ffobook 2 ") {
@@ -36,11 +36,11 @@ fn scoring_in(line: &[u8]) -> Option<Scoring>
 }
 
 /// The scoring of a book by the first line of its text.
-pub(crate) fn scoring_of_text(text: &[u8]) -> Option<Scoring>
+pub(crate) fn read_first_line(text: &[u8]) -> Option<Scoring>
     ensures { result ≡ scoring_of_lines (lines_of text.now) }
 {
     match split_lines(text).next() {
-        Some(line) => scoring_in(line),
+        Some(line) => read_header(line),
         None => Some(Scoring::Winner),
     }
 }

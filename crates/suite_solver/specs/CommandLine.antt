@@ -67,8 +67,8 @@ abbrev pub versioned : Text → App
 versioned name = on_top (λ (s : Shape). record s { has_version = true }) (new_app name)
 
 -- the command `ffosolve`, without books and files
-abbrev pub run_options : NameList → App
-run_options names = with_rule (with_rule (with_rule (with_rule (versioned (codes "ffosolve"))
+abbrev pub settings_command : NameList → App
+settings_command names = with_rule (with_rule (with_rule (with_rule (versioned (codes "ffosolve"))
     (number_rule (codes "max-empties") 60 (codes "20")))
     (number_rule (codes "workers") 64 (codes "2")))
     (number_rule (codes "table") 4194304 (codes "65536")))
@@ -76,7 +76,7 @@ run_options names = with_rule (with_rule (with_rule (with_rule (versioned (codes
 
 -- the whole command `ffosolve`
 abbrev pub ffosolve : NameList → App
-ffosolve names = with_rule (with_rule (with_rule (run_options names)
+ffosolve names = with_rule (with_rule (with_rule (settings_command names)
     (book_rule (codes "book-in")))
     (book_rule (codes "book-out")))
     files_rule

@@ -3,7 +3,7 @@
 ghost use Rattle.std.specs.Prelude.{◌≡◌, ◌≤◌, ℕ, false, IfOk, IfErr, IfSome, [], codes, map, option_map, string_bytes, unwrap_or};
 ghost use Rattle.clap.specs.Words.{app_of, first_value, found_of, matched_of, raw_values, rows_of, rule_of};
 ghost use Rattle.suite_solver.specs.CommandLine.{Asks, AsksLists, HasListSettings, HasNumber, HasSettings, IsFaultFor, IsFaultOf, IsTaken, IsTakenBy};
-ghost use Rattle.suite_solver.specs.CommandLine.{book_rule, ffoscores, ffosolve, files_rule, list_request_of, names_of, number_rule, request_of, run_options, scoring_rule, versioned};
+ghost use Rattle.suite_solver.specs.CommandLine.{book_rule, ffoscores, ffosolve, files_rule, list_request_of, names_of, number_rule, request_of, settings_command, scoring_rule, versioned};
 ghost use Rattle.suite_solver.specs.declared.requests.OptionFault.TheVariants.{Memory};
 
 use crate::requests::{ListOptions, OptionFault, Options};
@@ -162,8 +162,8 @@ fn table_arg<'a>(alloc: Global) -> Arg<'a>
 }
 
 // The command `ffosolve`, without books and files.
-fn run_options<'a>(alloc: Global, names: &'a [&'a str]) -> Result<Command<'a>, AllocError>
-    ensures { IfOk result (λ c. app_of c ≡ run_options names.entry) }
+fn settings_command<'a>(alloc: Global, names: &'a [&'a str]) -> Result<Command<'a>, AllocError>
+    ensures { IfOk result (λ c. app_of c ≡ settings_command names.entry) }
 {
     let bare = bare_command(alloc, "ffosolve", ABOUT, AFTER_HELP);
     let with_empties = bare.arg(max_empties_arg(alloc))?;
@@ -173,10 +173,10 @@ fn run_options<'a>(alloc: Global, names: &'a [&'a str]) -> Result<Command<'a>, A
 }
 
 // The whole command `ffosolve`.
-fn command<'a>(alloc: Global, names: &'a [&'a str]) -> Result<Command<'a>, AllocError>
+fn ffosolve_command<'a>(alloc: Global, names: &'a [&'a str]) -> Result<Command<'a>, AllocError>
     ensures { IfOk result (λ c. app_of c ≡ ffosolve names.entry) }
 {
-    let for_runs = run_options(alloc, names)?;
+    let for_runs = settings_command(alloc, names)?;
     let book_in = book_arg(
         alloc,
         "book-in",
@@ -189,7 +189,7 @@ fn command<'a>(alloc: Global, names: &'a [&'a str]) -> Result<Command<'a>, Alloc
 }
 
 // The whole command `ffoscores`.
-fn list_command<'a>(alloc: Global, names: &'a [&'a str]) -> Result<Command<'a>, AllocError>
+fn ffoscores_command<'a>(alloc: Global, names: &'a [&'a str]) -> Result<Command<'a>, AllocError>
     ensures { IfOk result (λ c. app_of c ≡ ffoscores names.entry) }
 {
     let bare = bare_command(alloc, "ffoscores", LIST_ABOUT, LIST_AFTER_HELP);
@@ -286,7 +286,7 @@ pub fn options(alloc: Global, words: &[&str]) -> Result<Options, OptionFault>
         (λ found. Asks (map (λ word. word.now) words.now) (request_of found)) }
 {
     let names = Scoring::names();
-    let command = command(alloc, names.as_slice())?;
+    let command = ffosolve_command(alloc, names.as_slice())?;
     let matches = command.try_get_matches_from(words)?;
     let Some(settings) = settings_of(&matches) else {
         return Err(OptionFault::Memory);
@@ -315,7 +315,7 @@ pub fn list_options(alloc: Global, words: &[&str]) -> Result<ListOptions, Option
         (λ found. AsksLists (map (λ word. word.now) words.now) (list_request_of found)) }
 {
     let names = Scoring::names();
-    let command = list_command(alloc, names.as_slice())?;
+    let command = ffoscores_command(alloc, names.as_slice())?;
     let matches = command.try_get_matches_from(words)?;
     let Some(settings) = list_settings_of(&matches) else {
         return Err(OptionFault::Memory);

@@ -1,6 +1,6 @@
 //! The order of moves.
 
-use crate::children::{Child, order_children};
+use crate::children::{Child, add_children};
 use crate::tests::{EQUAL_CORNERS, OPEN_CORNERS, RINGS, is_first_enough, pos_of};
 use arrayvec::ArrayVec;
 use othello_rules::{Side, Square};
@@ -24,7 +24,7 @@ fn are_in_order(children: &[Child]) -> bool {
 fn children_come_in_order(rt: HostRuntime) {
     let position = pos_of(&rt, RINGS, Side::Black);
     let mut children = ArrayVec::<Child, 64>::new();
-    order_children(position, position.moves(), &mut children);
+    add_children(position, position.moves(), &mut children);
     assert!(rt; children.len() == 28 && are_in_order(&children));
 }
 

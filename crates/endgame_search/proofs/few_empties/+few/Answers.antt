@@ -78,8 +78,8 @@ search_few_moves-search_two-requires-clause-some g t c = c.requires.some
 pub search_few_moves-search_two-requires-clause-bound : goal.search_few_moves-search_two-requires-clause-bound
 search_few_moves-search_two-requires-clause-bound g t c = shown_bound c.args.bound c.requires.bound
 
-pub search_few_moves-search_listed-requires : goal.search_few_moves-search_listed-requires
-search_few_moves-search_listed-requires g t c κs within =
+pub search_few_moves-search_few_by_list-requires : goal.search_few_moves-search_few_by_list-requires
+search_few_moves-search_few_by_list-requires g t c κs within =
     let d : 6 * empties_of c.args.position + 3 ≡ t = c.decreases in
     let w : 6 * empties_of c.args.position + 2 < t = omega (arith, d) in
     let few : empties_of c.args.position ≤ 7 = subst (λ n. n ≤ 7) c.requires.empties c.requires.few in
@@ -89,25 +89,25 @@ pub search_few_moves-returns-then-empties-eq2 : goal.search_few_moves-returns-th
 search_few_moves-returns-then-empties-eq2 g t c = same_places c.args.bound c.requires.bound _ _ c.search_two.ensures
 
 pub search_few_moves-returns-else-empties-eq2 : goal.search_few_moves-returns-else-empties-eq2
-search_few_moves-returns-else-empties-eq2 g t c = same_places c.args.bound c.requires.bound _ _ c.search_listed.ensures
+search_few_moves-returns-else-empties-eq2 g t c = same_places c.args.bound c.requires.bound _ _ c.search_few_by_list.ensures
 
-pub search_listed-decide-requires : goal.search_listed-decide-requires
-search_listed-decide-requires g t c = decided_window c.args.bound c.requires.bound
+pub search_few_by_list-decide-requires : goal.search_few_by_list-decide-requires
+search_few_by_list-decide-requires g t c = decided_window c.args.bound c.requires.bound
 
-pub search_listed-returns-in-Some : goal.search_listed-returns-in-Some
-search_listed-returns-in-Some g t c = decided_places c.args.bound c.requires.bound _ _ c.in-Some.ensures
+pub search_few_by_list-returns-in-Some : goal.search_few_by_list-returns-in-Some
+search_few_by_list-returns-in-Some g t c = decided_places c.args.bound c.requires.bound _ _ c.in-Some.ensures
 
-pub search_listed-order_until_stuck-requires : goal.search_listed-order_until_stuck-requires
-search_listed-order_until_stuck-requires g t c =
+pub search_few_by_list-add_until_stuck-requires : goal.search_few_by_list-add_until_stuck-requires
+search_few_by_list-add_until_stuck-requires g t c =
     let room = few_moves c.args.position c.args.moves c.requires.moves c.ranges.moves.fits in
     (search rules, (c.requires.moves, (omega (arith, room, c.requires.few), c.new-children.ensures)))
 
-pub search_listed-search_few_children-requires : goal.search_listed-search_few_children-requires
-search_listed-search_few_children-requires g t c κs within =
+pub search_few_by_list-search_few_children-requires : goal.search_few_by_list-search_few_children-requires
+search_few_by_list-search_few_children-requires g t c κs within =
     let r = g.T.Bounds.scoring c.args.table.now in
     let d : 6 * empties_of c.args.position + 2 ≡ t = c.decreases in
     let w : 6 * empties_of c.args.position + 1 < t = omega (arith, d) in
-    let others = all_others r c.args.position _ (negsuc 64) (c.in_default-order_until_stuck.ensures.all refl) in (
+    let others = all_others r c.args.position _ (negsuc 64) (c.in_default-add_until_stuck.ensures.all refl) in (
       w,
       (
         within,
@@ -124,38 +124,38 @@ search_listed-search_few_children-requires g t c κs within =
       ),
     )
 
-pub search_listed-returns-in_default-order_until_stuck : goal.search_listed-returns-in_default-order_until_stuck
-search_listed-returns-in_default-order_until_stuck g t c = same_places c.args.bound c.requires.bound _ _ c.search_few_children.ensures
+pub search_few_by_list-returns-in_default-add_until_stuck : goal.search_few_by_list-returns-in_default-add_until_stuck
+search_few_by_list-returns-in_default-add_until_stuck g t c = same_places c.args.bound c.requires.bound _ _ c.search_few_children.ensures
 
-pub search_listed-search_few_pass-score-requires : goal.search_listed-search_few_pass-score-requires
-search_listed-search_few_pass-score-requires g t c κs within =
-    let up = c.in-Some-order_until_stuck.ensures.stuck in
+pub search_few_by_list-search_few_pass-score-requires : goal.search_few_by_list-search_few_pass-score-requires
+search_few_by_list-search_few_pass-score-requires g t c κs within =
+    let up = c.in-Some-add_until_stuck.ensures.stuck in
     let d : 6 * empties_of c.args.position + 2 ≡ t = c.decreases in
-    let e = child_empties c.args.position c.in-Some-order_until_stuck.stuck.child up.child in
-    let w : 6 * empties_of c.in-Some-order_until_stuck.stuck.child.position + 4 < t = omega (arith, d, e) in
-    let few : empties_of c.in-Some-order_until_stuck.stuck.child.position ≤ 7 = omega (arith, e, c.requires.few) in
+    let e = child_empties c.args.position c.in-Some-add_until_stuck.stuck.child up.child in
+    let w : 6 * empties_of c.in-Some-add_until_stuck.stuck.child.position + 4 < t = omega (arith, d, e) in
+    let few : empties_of c.in-Some-add_until_stuck.stuck.child.position ≤ 7 = omega (arith, e, c.requires.few) in
     (w, (within, (sym up.child.replies ∙ up.stuck, (few, other_bound c.args.bound c.requires.bound))))
 
-pub search_listed-returns-then-score-bound : goal.search_listed-returns-then-score-bound
-search_listed-returns-then-score-bound g t c =
+pub search_few_by_list-returns-then-score-bound : goal.search_few_by_list-returns-then-score-bound
+search_few_by_list-returns-then-score-bound g t c =
     cut_above c.args.bound _ _ (shown (pos 0 -ℤ shown c.search_few_pass-score.result)) c.requires.bound
     (turned_above c.args.bound _ _ c.requires.bound c.search_few_pass-score.ensures)
-    (child_worth (g.T.Bounds.scoring c.args.table.now) c.args.position c.in-Some-order_until_stuck.stuck.child c.in-Some-order_until_stuck.ensures.stuck.child) c.if-score-bound.true
+    (child_worth (g.T.Bounds.scoring c.args.table.now) c.args.position c.in-Some-add_until_stuck.stuck.child c.in-Some-add_until_stuck.ensures.stuck.child) c.if-score-bound.true
 
-pub search_listed-order_children-requires : goal.search_listed-order_children-requires
-search_listed-order_children-requires g t c = (search rules, (c.in-Some-order_until_stuck.ensures.stuck.rest, (c.in-Some-order_until_stuck.ensures.left, c.in-Some-order_until_stuck.ensures.stuck.each)))
+pub search_few_by_list-add_children-requires : goal.search_few_by_list-add_children-requires
+search_few_by_list-add_children-requires g t c = (search rules, (c.in-Some-add_until_stuck.ensures.stuck.rest, (c.in-Some-add_until_stuck.ensures.left, c.in-Some-add_until_stuck.ensures.stuck.each)))
 
-pub search_listed-search_few_children-requires-2 : goal.search_listed-search_few_children-requires-2
-search_listed-search_few_children-requires-2 g t c κs within =
+pub search_few_by_list-search_few_children-requires-2 : goal.search_few_by_list-search_few_children-requires-2
+search_few_by_list-search_few_children-requires-2 g t c κs within =
     let r = g.T.Bounds.scoring c.args.table.now in
-    let up = c.in-Some-order_until_stuck.ensures.stuck in
-    let above = child_worth r c.args.position c.in-Some-order_until_stuck.stuck.child up.child in
+    let up = c.in-Some-add_until_stuck.ensures.stuck in
+    let above = child_worth r c.args.position c.in-Some-add_until_stuck.stuck.child up.child in
     let d : 6 * empties_of c.args.position + 2 ≡ t = c.decreases in
     let w : 6 * empties_of c.args.position + 1 < t = omega (arith, d) in
     let s = shown (pos 0 -ℤ shown c.search_few_pass-score.result) in
     let p = turned_above c.args.bound _ _ c.requires.bound c.search_few_pass-score.ensures in
     let covered = score_covers c.args.bound _ _ s c.requires.bound p above c.if-score-bound.false in
-    let others = others_left r c.args.position c.in-Some-order_until_stuck.stuck _ _ _ up covered c.order_children.ensures.each c.order_children.ensures.every in (
+    let others = others_left r c.args.position c.in-Some-add_until_stuck.stuck _ _ _ up covered c.add_children.ensures.each c.add_children.ensures.every in (
       w,
       (
         within,
@@ -172,8 +172,8 @@ search_listed-search_few_children-requires-2 g t c κs within =
       ),
     )
 
-pub search_listed-returns : goal.search_listed-returns
-search_listed-returns g t c = same_places c.args.bound c.requires.bound _ _ c.search_few_children-2.ensures
+pub search_few_by_list-returns : goal.search_few_by_list-returns
+search_few_by_list-returns g t c = same_places c.args.bound c.requires.bound _ _ c.search_few_children-2.ensures
 
 pub search_few_children-overflow_sub-empties : goal.search_few_children-overflow_sub-empties
 search_few_children-overflow_sub-empties g t c =

@@ -12,8 +12,8 @@ decreases-search_few_pass g l = 6 * empties_of l.position + 4
 abbrev pub decreases-search_few_moves : goal.decreases-search_few_moves
 decreases-search_few_moves g l = 6 * empties_of l.position + 3
 
-abbrev pub decreases-search_listed : goal.decreases-search_listed
-decreases-search_listed g l = 6 * empties_of l.position + 2
+abbrev pub decreases-search_few_by_list : goal.decreases-search_few_by_list
+decreases-search_few_by_list g l = 6 * empties_of l.position + 2
 
 abbrev pub decreases-search_few_children : goal.decreases-search_few_children
 decreases-search_few_children g l = 6 * empties_of l.position + 1

@@ -78,29 +78,29 @@ search_moves-decide-requires g t c = shown_window c.args.low c.args.high c.requi
 pub search_moves-returns-in-Some : goal.search_moves-returns-in-Some
 search_moves-returns-in-Some g t c = same_window c.args.low c.args.high _ _ c.requires.window c.in-Some.ensures
 
-pub search_moves-search_some-requires : goal.search_moves-search_some-requires
-search_moves-search_some-requires g t c κs within =
+pub search_moves-search_up_to_16-requires : goal.search_moves-search_up_to_16-requires
+search_moves-search_up_to_16-requires g t c κs within =
     let d : 8 * empties_of c.args.position + 5 ≡ t = c.decreases in
     let w : 8 * empties_of c.args.position + 3 < t = omega (arith, d) in
     (w, (within, (c.requires.moves, (c.requires.some, (c.if-moves-le16.true, shown_window c.args.low c.args.high c.requires.window)))))
 
 pub search_moves-returns-then-moves-le16 : goal.search_moves-returns-then-moves-le16
-search_moves-returns-then-moves-le16 g t c = same_window c.args.low c.args.high _ _ c.requires.window c.search_some.ensures
+search_moves-returns-then-moves-le16 g t c = same_window c.args.low c.args.high _ _ c.requires.window c.search_up_to_16.ensures
 
-pub search_moves-search_many-requires : goal.search_moves-search_many-requires
-search_moves-search_many-requires g t c κs within =
+pub search_moves-search_up_to_64-requires : goal.search_moves-search_up_to_64-requires
+search_moves-search_up_to_64-requires g t c κs within =
     let d : 8 * empties_of c.args.position + 5 ≡ t = c.decreases in
     let w : 8 * empties_of c.args.position + 3 < t = omega (arith, d) in
     (w, (within, (c.requires.moves, (c.requires.some, shown_window c.args.low c.args.high c.requires.window))))
 
 pub search_moves-returns : goal.search_moves-returns
-search_moves-returns g t c = same_window c.args.low c.args.high _ _ c.requires.window c.search_many.ensures
+search_moves-returns g t c = same_window c.args.low c.args.high _ _ c.requires.window c.search_up_to_64.ensures
 
-pub search_some-order_until_stuck-requires : goal.search_some-order_until_stuck-requires
-search_some-order_until_stuck-requires g t c = (search rules, (c.requires.moves, (c.requires.room, c.new-children.ensures)))
+pub search_up_to_16-add_until_stuck-requires : goal.search_up_to_16-add_until_stuck-requires
+search_up_to_16-add_until_stuck-requires g t c = (search rules, (c.requires.moves, (c.requires.room, c.new-children.ensures)))
 
-pub search_some-search_children-requires : goal.search_some-search_children-requires
-search_some-search_children-requires g t c κs within =
+pub search_up_to_16-search_children-requires : goal.search_up_to_16-search_children-requires
+search_up_to_16-search_children-requires g t c κs within =
     let r = g.T.Bounds.scoring c.args.table.now in
     let d : 8 * empties_of c.args.position + 3 ≡ t = c.decreases in
     let w : 8 * empties_of c.args.position + 2 < t = omega (arith, d) in
@@ -118,43 +118,43 @@ search_some-search_children-requires g t c κs within =
       ),
     )
 
-pub search_some-returns-in_default : goal.search_some-returns-in_default
-search_some-returns-in_default g t c = same_window c.args.low c.args.high _ _ c.requires.window c.search_children.ensures
+pub search_up_to_16-returns-in_default : goal.search_up_to_16-returns-in_default
+search_up_to_16-returns-in_default g t c = same_window c.args.low c.args.high _ _ c.requires.window c.search_children.ensures
 
-pub search_some-search_after-score-requires : goal.search_some-search_after-score-requires
-search_some-search_after-score-requires g t c κs within =
+pub search_up_to_16-search_after-score-requires : goal.search_up_to_16-search_after-score-requires
+search_up_to_16-search_after-score-requires g t c κs within =
     let up = c.in-Some.ensures.stuck in
     let d : 8 * empties_of c.args.position + 3 ≡ t = c.decreases in
     let w : 8 * empties_of c.in-Some.stuck.child.position + 8 < t = omega (arith, d, child_empties c.args.position c.in-Some.stuck.child up.child) in
     (w, (within, (up.child.replies, shown_window c.args.low c.args.high c.requires.window)))
 
-pub search_some-store_if_deep-requires-clause-window : goal.search_some-store_if_deep-requires-clause-window
-search_some-store_if_deep-requires-clause-window g t c = shown_window c.args.low c.args.high c.requires.window
+pub search_up_to_16-store_if_deep-requires-clause-window : goal.search_up_to_16-store_if_deep-requires-clause-window
+search_up_to_16-store_if_deep-requires-clause-window g t c = shown_window c.args.low c.args.high c.requires.window
 
-pub search_some-store_if_deep-requires-clause-places : goal.search_some-store_if_deep-requires-clause-places
-search_some-store_if_deep-requires-clause-places g t c =
+pub search_up_to_16-store_if_deep-requires-clause-places : goal.search_up_to_16-store_if_deep-requires-clause-places
+search_up_to_16-store_if_deep-requires-clause-places g t c =
     let above = child_worth (g.T.Bounds.scoring c.args.table.now) c.args.position c.in-Some.stuck.child c.in-Some.ensures.stuck.child in
     first_cut c.args.low c.args.high _ _ _ c.requires.window c.search_after-score.ensures above c.if-score-high.true
 
-pub search_some-returns-then-score-high : goal.search_some-returns-then-score-high
-search_some-returns-then-score-high g t c =
+pub search_up_to_16-returns-then-score-high : goal.search_up_to_16-returns-then-score-high
+search_up_to_16-returns-then-score-high g t c =
     let above = child_worth (g.T.Bounds.scoring c.args.table.now) c.args.position c.in-Some.stuck.child c.in-Some.ensures.stuck.child in
     given_back c.args.low c.args.high _ _ _ c.requires.window
     (first_cut c.args.low c.args.high _ _ _ c.requires.window c.search_after-score.ensures above c.if-score-high.true)
     c.store_if_deep.ensures
 
-pub search_some-order_children-requires : goal.search_some-order_children-requires
-search_some-order_children-requires g t c = (search rules, (c.in-Some.ensures.stuck.rest, (c.in-Some.ensures.left, c.in-Some.ensures.stuck.each)))
+pub search_up_to_16-add_children-requires : goal.search_up_to_16-add_children-requires
+search_up_to_16-add_children-requires g t c = (search rules, (c.in-Some.ensures.stuck.rest, (c.in-Some.ensures.left, c.in-Some.ensures.stuck.each)))
 
-pub search_some-search_children-requires-2 : goal.search_some-search_children-requires-2
-search_some-search_children-requires-2 g t c κs within =
+pub search_up_to_16-search_children-requires-2 : goal.search_up_to_16-search_children-requires-2
+search_up_to_16-search_children-requires-2 g t c κs within =
     let r = g.T.Bounds.scoring c.args.table.now in
     let up = c.in-Some.ensures.stuck in
     let above = child_worth r c.args.position c.in-Some.stuck.child up.child in
     let d : 8 * empties_of c.args.position + 3 ≡ t = c.decreases in
     let w : 8 * empties_of c.args.position + 2 < t = omega (arith, d) in
     let covered = first_covers c.args.low c.args.high _ _ _ c.requires.window c.search_after-score.ensures above c.if-score-high.false in
-    let others = others_left r c.args.position c.in-Some.stuck _ _ _ up covered c.order_children.ensures.each c.order_children.ensures.every in (
+    let others = others_left r c.args.position c.in-Some.stuck _ _ _ up covered c.add_children.ensures.each c.add_children.ensures.every in (
       w,
       (
         within,
@@ -168,14 +168,14 @@ search_some-search_children-requires-2 g t c κs within =
       ),
     )
 
-pub search_some-returns : goal.search_some-returns
-search_some-returns g t c = same_window c.args.low c.args.high _ _ c.requires.window c.search_children-2.ensures
+pub search_up_to_16-returns : goal.search_up_to_16-returns
+search_up_to_16-returns g t c = same_window c.args.low c.args.high _ _ c.requires.window c.search_children-2.ensures
 
-pub search_many-order_until_stuck-requires : goal.search_many-order_until_stuck-requires
-search_many-order_until_stuck-requires g t c = (search rules, (c.requires.moves, (ones_of_64 c.args.moves c.ranges.moves.fits, c.new-children.ensures)))
+pub search_up_to_64-add_until_stuck-requires : goal.search_up_to_64-add_until_stuck-requires
+search_up_to_64-add_until_stuck-requires g t c = (search rules, (c.requires.moves, (ones_of_64 c.args.moves c.ranges.moves.fits, c.new-children.ensures)))
 
-pub search_many-search_children-requires : goal.search_many-search_children-requires
-search_many-search_children-requires g t c κs within =
+pub search_up_to_64-search_children-requires : goal.search_up_to_64-search_children-requires
+search_up_to_64-search_children-requires g t c κs within =
     let r = g.T.Bounds.scoring c.args.table.now in
     let d : 8 * empties_of c.args.position + 3 ≡ t = c.decreases in
     let w : 8 * empties_of c.args.position + 2 < t = omega (arith, d) in
@@ -193,43 +193,43 @@ search_many-search_children-requires g t c κs within =
       ),
     )
 
-pub search_many-returns-in_default : goal.search_many-returns-in_default
-search_many-returns-in_default g t c = same_window c.args.low c.args.high _ _ c.requires.window c.search_children.ensures
+pub search_up_to_64-returns-in_default : goal.search_up_to_64-returns-in_default
+search_up_to_64-returns-in_default g t c = same_window c.args.low c.args.high _ _ c.requires.window c.search_children.ensures
 
-pub search_many-search_after-score-requires : goal.search_many-search_after-score-requires
-search_many-search_after-score-requires g t c κs within =
+pub search_up_to_64-search_after-score-requires : goal.search_up_to_64-search_after-score-requires
+search_up_to_64-search_after-score-requires g t c κs within =
     let up = c.in-Some.ensures.stuck in
     let d : 8 * empties_of c.args.position + 3 ≡ t = c.decreases in
     let w : 8 * empties_of c.in-Some.stuck.child.position + 8 < t = omega (arith, d, child_empties c.args.position c.in-Some.stuck.child up.child) in
     (w, (within, (up.child.replies, shown_window c.args.low c.args.high c.requires.window)))
 
-pub search_many-store_if_deep-requires-clause-window : goal.search_many-store_if_deep-requires-clause-window
-search_many-store_if_deep-requires-clause-window g t c = shown_window c.args.low c.args.high c.requires.window
+pub search_up_to_64-store_if_deep-requires-clause-window : goal.search_up_to_64-store_if_deep-requires-clause-window
+search_up_to_64-store_if_deep-requires-clause-window g t c = shown_window c.args.low c.args.high c.requires.window
 
-pub search_many-store_if_deep-requires-clause-places : goal.search_many-store_if_deep-requires-clause-places
-search_many-store_if_deep-requires-clause-places g t c =
+pub search_up_to_64-store_if_deep-requires-clause-places : goal.search_up_to_64-store_if_deep-requires-clause-places
+search_up_to_64-store_if_deep-requires-clause-places g t c =
     let above = child_worth (g.T.Bounds.scoring c.args.table.now) c.args.position c.in-Some.stuck.child c.in-Some.ensures.stuck.child in
     first_cut c.args.low c.args.high _ _ _ c.requires.window c.search_after-score.ensures above c.if-score-high.true
 
-pub search_many-returns-then-score-high : goal.search_many-returns-then-score-high
-search_many-returns-then-score-high g t c =
+pub search_up_to_64-returns-then-score-high : goal.search_up_to_64-returns-then-score-high
+search_up_to_64-returns-then-score-high g t c =
     let above = child_worth (g.T.Bounds.scoring c.args.table.now) c.args.position c.in-Some.stuck.child c.in-Some.ensures.stuck.child in
     given_back c.args.low c.args.high _ _ _ c.requires.window
     (first_cut c.args.low c.args.high _ _ _ c.requires.window c.search_after-score.ensures above c.if-score-high.true)
     c.store_if_deep.ensures
 
-pub search_many-order_children-requires : goal.search_many-order_children-requires
-search_many-order_children-requires g t c = (search rules, (c.in-Some.ensures.stuck.rest, (c.in-Some.ensures.left, c.in-Some.ensures.stuck.each)))
+pub search_up_to_64-add_children-requires : goal.search_up_to_64-add_children-requires
+search_up_to_64-add_children-requires g t c = (search rules, (c.in-Some.ensures.stuck.rest, (c.in-Some.ensures.left, c.in-Some.ensures.stuck.each)))
 
-pub search_many-search_children-requires-2 : goal.search_many-search_children-requires-2
-search_many-search_children-requires-2 g t c κs within =
+pub search_up_to_64-search_children-requires-2 : goal.search_up_to_64-search_children-requires-2
+search_up_to_64-search_children-requires-2 g t c κs within =
     let r = g.T.Bounds.scoring c.args.table.now in
     let up = c.in-Some.ensures.stuck in
     let above = child_worth r c.args.position c.in-Some.stuck.child up.child in
     let d : 8 * empties_of c.args.position + 3 ≡ t = c.decreases in
     let w : 8 * empties_of c.args.position + 2 < t = omega (arith, d) in
     let covered = first_covers c.args.low c.args.high _ _ _ c.requires.window c.search_after-score.ensures above c.if-score-high.false in
-    let others = others_left r c.args.position c.in-Some.stuck _ _ _ up covered c.order_children.ensures.each c.order_children.ensures.every in (
+    let others = others_left r c.args.position c.in-Some.stuck _ _ _ up covered c.add_children.ensures.each c.add_children.ensures.every in (
       w,
       (
         within,
@@ -243,8 +243,8 @@ search_many-search_children-requires-2 g t c κs within =
       ),
     )
 
-pub search_many-returns : goal.search_many-returns
-search_many-returns g t c = same_window c.args.low c.args.high _ _ c.requires.window c.search_children-2.ensures
+pub search_up_to_64-returns : goal.search_up_to_64-returns
+search_up_to_64-returns g t c = same_window c.args.low c.args.high _ _ c.requires.window c.search_children-2.ensures
 
 pub search_children-probe_children-requires-clause-children : goal.search_children-probe_children-requires-clause-children
 search_children-probe_children-requires-clause-children g t c = c.requires.others.each

@@ -13,11 +13,11 @@ decreases-search_pass g l = 8 * empties_of l.position + 6
 abbrev pub decreases-search_moves : goal.decreases-search_moves
 decreases-search_moves g l = 8 * empties_of l.position + 5
 
-abbrev pub decreases-search_some : goal.decreases-search_some
-decreases-search_some g l = 8 * empties_of l.position + 3
+abbrev pub decreases-search_up_to_16 : goal.decreases-search_up_to_16
+decreases-search_up_to_16 g l = 8 * empties_of l.position + 3
 
-abbrev pub decreases-search_many : goal.decreases-search_many
-decreases-search_many g l = 8 * empties_of l.position + 3
+abbrev pub decreases-search_up_to_64 : goal.decreases-search_up_to_64
+decreases-search_up_to_64 g l = 8 * empties_of l.position + 3
 
 abbrev pub decreases-search_children : goal.decreases-search_children
 decreases-search_children g l = 8 * empties_of l.position + 2

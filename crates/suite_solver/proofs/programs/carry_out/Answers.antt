@@ -9,8 +9,8 @@ pub returns-in-Ok-clause-reported : goal.returns-in-Ok-clause-reported
 returns-in-Ok-clause-reported g c =
     let names = names_of c.args.asked.now.files.items in
     let given = g.R.Read.remaining c.args.input.now in
-    let texts = texts_of c.in_ok-files.files.items in
-    let fronts = rw c.deref.ensures.value at c.in_ok-files.ensures.ok in
+    let texts = texts_of c.in_ok-texts.texts.items in
+    let fronts = rw c.deref.ensures.value at c.in_ok-texts.ensures.ok in
     let p = rw c.deref-3.ensures.value at c.in-Ok.ensures.reported in
     on_ok c.write_book.result (Prints c.args.asked.now.settings names given (g.W.Write.contents c.args.output.now) (g.W.Write.contents c.solve_files.new.output)) (record {
       texts = texts;

@@ -2,7 +2,7 @@ use Rattle.std.proofs.Common.{◌≡◌, ◌∙◌, ap₂, codes}
 use Rattle.std.proofs.lemmas.Result.{IfOk-weaker}
 use Rattle.clap.specs.Words.{App, app_of, with_rule}
 use Rattle.suite_solver.specs.CommandLine.{number_rule, versioned}
-use Rattle.suite_solver.proofs.command_line.run_options.Goals as goal
+use Rattle.suite_solver.proofs.command_line.settings_command.Goals as goal
 
 pub returns : goal.returns
 returns c =
