@@ -18,7 +18,7 @@
    seconds, 24 minutes, and 30 hopelessly long. A call can't be stopped. A program that has to be able to stop one makes
    it in a process of its own, and ends that.
 
-   Platform. Linux on x86-64-v2 (SSE4.2 and POPCNT), which is any such processor since about 2009. The library looks at
+   Platform. Linux on x86-64-v2 (SSE4.2 and POPCNT), which most processors since 2009 are. The library looks at
    no processor before it runs. */
 #ifndef FFOSOLVE_H
 #define FFOSOLVE_H
