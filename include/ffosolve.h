@@ -14,7 +14,7 @@
    stack grows with the empty squares: 32 KiB suffice for 14 empty squares and 128 KiB for 60 (measured). No call sees
    that its stack runs out, so give a thread of your own as much.
 
-   Time. Two more empty squares take some 4 to 14 times as long: 16 of them some hundredths of a second, 20 some
+   Time. Two more empty squares take some 3 to 16 times as long: 16 of them some hundredths of a second, 20 some
    seconds, 24 minutes, and 30 hopelessly long. A call can't be stopped. A program that has to be able to stop one makes
    it in a process of its own, and ends that.
 

@@ -12,7 +12,7 @@
 
 This package calls the shared library libffosolve.so.1, which has to be installed, or named by its path:
 `Solver(library="FOLDER/libffosolve.so")`. A call can't be stopped, not by Ctrl-C either, and two more empty squares
-take some 4 to 14 times as long: a program that has to be able to stop one makes it in a process of its own
+take some 3 to 16 times as long: a program that has to be able to stop one makes it in a process of its own
 (`multiprocessing`). Calls from several threads run at once.
 """
 from ._answers import Answer, Kind
