@@ -1,24 +1,167 @@
-# Each target is one line over a script.
+# Proves and builds the programs and the library for C with rt, tests, installs and packs them. `make help` lists the targets.
+MAKEFLAGS += -rR --no-print-directory
+.SHELLFLAGS = -euc
+.ONESHELL:
+.SILENT:
+.NOTPARALLEL:# a proof takes all processors
+.SECONDEXPANSION:
 
-all: ## proves and builds the program and the library for C
-	@scripts/build
+PREFIX = /usr/local
+DESTDIR =
+BINDIR = $(PREFIX)/bin
+LIBDIR = $(PREFIX)/lib
+INCLUDEDIR = $(PREFIX)/include
+MANDIR = $(PREFIX)/share/man
+LIST =
+# The level of processors that the programs and the static library are for: by default the best that this machine is of.
+CPU := $(shell /lib64/ld-linux-x86-64.so.2 --help 2>&1 | grep -q 'x86-64-v3 .supported' && echo x86-64-v3 || echo x86-64-v2)
+tell = 2# the descriptor on which a build tells how far it is
 
-check: ## tests all that ships; the last line counts what passed
-	@scripts/check
+levels = x86-64-v2 x86-64-v3
+programs = ffosolve ffoscores
+scripts = ffosolve-many ffosolve-games
+exported = ffosolve_*
+version := $(file <VERSION)
+major := $(firstword $(subst ., ,$(version)))
+
+$(if $(filter $(levels),$(CPU)),,$(error CPU is $(CPU), and has to be one of: $(levels)))
+
+all: $(programs:%=out/%) library ## proves and builds the programs, and the library for C
+	echo "built: $(programs:%=out/%), which bin/ runs; out/library"
+
+# What rt makes. Make by itself sees no change that has an older time than before, and no file that is gone; find does, by the
+# times of status of files and folders.
+changed = $(if $(shell find crates crates.txt -name out -prune -o -name must-fail -prune -o -cnewer $1.sum -print -quit 2>&1),always)
+level = $(notdir $(@D))
+objects := $(foreach level,$(levels),$(programs:%=out/$(level)/%.o))
+
+$(objects): $$(call changed,$$@)
+	exec scripts/prove $@ $(basename $(@F)) run $(level) $(tell)
+
+$(levels:%=out/%/libffosolve_c.a): $$(call changed,$$@)
+	exec scripts/prove $@ ffosolve_c lib $(level) $(tell)
+
+# What is linked of that, beside its place first, since another make can be at work.
+kit = $$(dirname "$$(rt doc)")
+new = $@.$$$$
+needs.x86-64-v2 = 2
+needs.x86-64-v3 = 4
+
+$(objects:.o=): %: %.o packaging/level.s
+	"$(kit)/toolchain/bin/clang" -Wa,-defsym,LEVEL=$(needs.$(level)) -c -o $(new).o packaging/level.s
+	said=$$("$(kit)/bin/rattle-link" --target x86_64-unknown-linux-gnu --toolchain "$(kit)/toolchain" -o $(new) \
+	    $< $(new).o "$(kit)/c/libos_c.a" "$(kit)/c/liblibc_c.a" 2>&1) || { echo "$$said" >&2; exit 1; }
+	rm $(new).o
+	mv -f $(new) $@
+
+# One object, with the toolchain's calls of malloc and free, that shows the calls of the header alone.
+$(levels:%=out/%/libffosolve.o): out/%/libffosolve.o: out/%/libffosolve_c.a
+	ld -r -o $(new).o --whole-archive $< --no-whole-archive "$(kit)/c/liblibc_c.a"
+	objcopy --wildcard --keep-global-symbol='$(exported)' $(new).o $(new)
+	rm $(new).o
+	mv -f $(new) $@
+
+$(levels:%=out/%/libffosolve.a): %.a: %.o
+	ar rcsD $(new) $<
+	mv -f $(new) $@
+
+$(levels:%=out/%/libffosolve.so): %.so: %.o VERSION
+	echo 'FFOSOLVE_$(major) { global: $(exported); };' >$(new).map
+	cc -shared -Wl,-soname,libffosolve.so.$(major),--version-script=$(new).map,-z,defs,-z,relro,-z,now,-z,$(level) -o $(new) $<
+	rm $(new).map
+	mv -f $(new) $@
+
+# What bin/ runs.
+$(programs:%=out/%): out/%: out/$(CPU)/% always
+	cmp -s $< $@ || { cp $< $(new) && mv -f $(new) $@; }
+
+# Writes a text with the version, the greatest table and the places in it: $(call fill,FILE,TO).
+number = $(shell echo $(version) | awk -F . '{ print 10000 * $$1 + 100 * $$2 + $$3 }')
+entries = $(shell awk '/const MOST_ENTRIES/ { gsub("[^0-9]", ""); print }' crates/bound_table/src/bound_table.rt)
+fill = sed -e 's/@VERSION@/$(version)/g; s/@NUMBER@/$(number)/g; s/@MAJOR@/$(major)/g; s/@LEVEL@/$(CPU)/g; s/@ENTRIES@/$(entries)/g' \
+    -e "s|@INCLUDE@|$$(realpath -ms --relative-to='$(LIBDIR)' '$(INCLUDEDIR)')|g" $1 | install -D -m 644 /dev/stdin $2
+
+# The library as a program in the making takes it: two names of the shared one, and no link, which rt refuses in a checkout.
+library: out/$(CPU)/libffosolve.a out/$(CPU)/libffosolve.so ## builds libffosolve.a, libffosolve.so and ffosolve.h in out/library
+	install -D -m 644 -t out/library $^
+	install -m 644 out/$(CPU)/libffosolve.so out/library/libffosolve.so.$(major)
+	$(call fill,include/ffosolve.h.in,out/library/ffosolve.h)
+
+# Both levels of all, as tests and packages take them.
+levels: $(programs:%=out/%) library $(objects:.o=) $(foreach level,$(levels),out/$(level)/libffosolve.so out/$(level)/libffosolve.a)
+
+look: export list = $(LIST)
+look: ## solves three positions in about a minute, with nothing proved; LIST=FILE: a small list of yours
+	if [ -n "$$list" ]; then
+	    list=$$(realpath -e -- "$$list")
+	    set -- --data "list.obf=$$list" -- list.obf
+	fi
+	cd crates/ffosolve
+	exec 3>&1
+	said=$$(rt try "$$@" <stdin 2>&1 >&3) && status=0 || status=$$?
+	case $$said in
+	*'run=ended '*) echo 'nothing is proved yet: bin/ffosolve proves the program, and then runs it' ;;
+	*) echo "$$said" | tail -n 3 >&2; exit 4 ;;
+	esac
+	exit $$status
+
+check: levels ## tests all that ships; the last line counts what passed
+	$(MAKE) -f tests/check.mk
 
 gate: ## what a change has to pass: rt ci, and then make check
-	@.ci/run
+	.ci/run
 
-install: ## lays program, library, manual pages and completions below PREFIX (/usr/local), in DESTDIR
-	@scripts/install
+# Installing. `install` puts a new file into the place of an old one, so that what runs meanwhile keeps the file that it is in.
+lib = "$(DESTDIR)$(LIBDIR)
+share = "$(DESTDIR)$(PREFIX)/share
+doc = $(share)/doc/ffosolve
+documents = README.md LICENSE CHANGELOG.md VERSION \
+    $(shell find docs examples python rust \( -name __pycache__ -o -name target \) -prune -o -type f -print)
+absolute = case "$(PREFIX)" in /*) ;; *) echo "PREFIX is $(PREFIX), and has to begin with a slash" >&2; exit 1 ;; esac
 
-uninstall: ## takes away what make install laid
-	@scripts/uninstall
+install: $(programs:%=out/$(CPU)/%) out/$(CPU)/libffosolve.a $(levels:%=out/%/libffosolve.so) ## lays programs, library, manual pages, completions and documents below PREFIX (/usr/local), in DESTDIR
+	$(absolute)
+	install -D -t "$(DESTDIR)$(BINDIR)" $(programs:%=out/$(CPU)/%) $(scripts:%=bin/%)
+	for page in share/man/*; do $(call fill,"$$page","$(DESTDIR)$(MANDIR)/man1/$${page##*/}"); done
+	for file in share/bash-completion/*/* share/zsh/*/* share/fish/*/*; do install -D -m 644 "$$file" "$(DESTDIR)$(PREFIX)/$$file"; done
+	rm -rf $(doc)"
+	for file in $(documents); do install -D -m 644 "$$file" $(doc)/$$file"; done
+	rm -f $(lib)/"libffosolve.so* $(lib)/glibc-hwcaps/x86-64-v3/"libffosolve.so*
+	install -D -m 644 out/$(CPU)/libffosolve.a $(lib)/libffosolve.a"
+	install -D -m 644 out/x86-64-v2/libffosolve.so $(lib)/libffosolve.so.$(version)"
+	install -D -m 644 out/x86-64-v3/libffosolve.so $(lib)/glibc-hwcaps/x86-64-v3/libffosolve.so.$(version)"
+	for folder in $(lib)" $(lib)/glibc-hwcaps/x86-64-v3"; do
+	    ln -s libffosolve.so.$(version) "$$folder/libffosolve.so.$(major)"
+	    ln -s libffosolve.so.$(major) "$$folder/libffosolve.so"
+	done
+	$(call fill,include/ffosolve.h.in,"$(DESTDIR)$(INCLUDEDIR)/ffosolve.h")
+	$(call fill,packaging/ffosolve.pc.in,$(lib)/pkgconfig/ffosolve.pc")
+	for file in ffosolve-config.cmake ffosolve-config-version.cmake; do
+	    $(call fill,packaging/$$file.in,$(lib)/cmake/ffosolve/$$file")
+	done
+	echo "installed below $(DESTDIR)$(PREFIX)"
 
-dist: ## makes the archive of a release, in out
-	@scripts/dist
+uninstall: ## takes away what make install laid, and folders that are empty then
+	$(absolute)
+	for name in $(programs) $(scripts); do
+	    rm -f "$(DESTDIR)$(BINDIR)/$$name" "$(DESTDIR)$(MANDIR)/man1/$$name.1" $(share)/bash-completion/completions/$$name" \
+	        $(share)/zsh/site-functions/_$$name" $(share)/fish/vendor_completions.d/$$name.fish"
+	done
+	rm -f $(lib)/"libffosolve.* $(lib)/glibc-hwcaps/x86-64-v3/"libffosolve.* $(lib)/pkgconfig/ffosolve.pc" "$(DESTDIR)$(INCLUDEDIR)/ffosolve.h"
+	rm -rf $(doc)" $(lib)/cmake/ffosolve"
+	# The folders of the system stay, empty or not.
+	case '$(PREFIX)' in /usr | /usr/local) exit 0 ;; esac
+	rmdir --ignore-fail-on-non-empty 2>/dev/null \
+	    "$(DESTDIR)$(BINDIR)" $(lib)/glibc-hwcaps/x86-64-v3" $(lib)/glibc-hwcaps" $(lib)/pkgconfig" $(lib)/cmake" $(lib)" \
+	    "$(DESTDIR)$(INCLUDEDIR)" "$(DESTDIR)$(MANDIR)/man1" "$(DESTDIR)$(MANDIR)" $(share)/bash-completion/completions" \
+	    $(share)/bash-completion" $(share)/zsh/site-functions" $(share)/zsh" $(share)/fish/vendor_completions.d" $(share)/fish" \
+	    $(share)/doc" $(share)" "$(DESTDIR)$(PREFIX)" || :
+	echo "uninstalled from $(DESTDIR)$(PREFIX)"
+
+include packaging/packages.mk
 
 help: ## lists the targets
-	@sed -n 's/^\([a-z-]*\):.*## /make \1	/p' Makefile | expand -t 20
+	sed -n 's/^\([a-z-]*\):.*## /make \1	/p' $(MAKEFILE_LIST) | expand -t 20
 
-.PHONY: all check gate install uninstall dist help
+always:
+.PHONY: all levels library look check gate install uninstall help always

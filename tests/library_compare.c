@@ -140,7 +140,13 @@ static size_t compare_all(uint32_t scoring) {
     for (size_t at = 0; at < number; at++) {
         if (!is_same(answers[at], wanted[at])) differ("solve_all", from[at]);
     }
-    free(positions), free(wanted), free(answers), free(from);
+    ffosolve_move_scores_of *found = malloc(number * sizeof *found + 1), one = {{0}, 0};
+    if (!found || ffosolve_move_scores_all(positions, number, scoring, 1024, found, number, NULL) != FFOSOLVE_DONE) exit(2);
+    for (size_t at = 0; at < number; at++) {
+        if (ffosolve_move_scores(positions[at], scoring, 1024, one.scores, &one.moves) != FFOSOLVE_DONE) exit(2);
+        if (memcmp(found[at].scores, one.scores, sizeof one.scores) || found[at].moves != one.moves) differ("move_scores_all", from[at]);
+    }
+    free(positions), free(wanted), free(answers), free(from), free(found);
     return number;
 }
 

@@ -1,9 +1,10 @@
 /* Prints how many bytes of stack calls take, by the stack of a thread that is filled before: of 20 positions of 14 empty
-   squares, which are solved, confirmed and have their moves scored, and of the first position of a game, whose solving is
-   left after two seconds. */
+   squares, whose masks it reads, and which are solved, confirmed and have their moves scored; and of the first position
+   of a game, whose solving is left after two seconds. */
 #define _GNU_SOURCE
 #include "ffosolve.h"
 
+#include <inttypes.h>
 #include <pthread.h>
 #include <stdio.h>
 #include <stdlib.h>
@@ -15,42 +16,6 @@ enum { STACK = 1 << 20, FILLED = 0xa5, POSITIONS = 20 };
 static unsigned char *stack;
 static const ffosolve_position start = {0x0000000810000000, 0x0000001008000000};
 static ffosolve_position positions[POSITIONS];
-
-static int empties_of(ffosolve_position position) {
-    int number = 64;
-    for (uint64_t discs = position.own | position.opp; discs; discs &= discs - 1) number--;
-    return number;
-}
-
-/* Xorshift. */
-static unsigned chance(unsigned below) {
-    static uint64_t state = 0x9e3779b97f4a7c15;
-    state ^= state << 13;
-    state ^= state >> 7;
-    state ^= state << 17;
-    return (unsigned)(state >> 33) % below;
-}
-
-/* A position of a game of random moves, in which a pass takes its turn like a move. */
-static ffosolve_position random_position(int empties) {
-    ffosolve_position position = start;
-    for (int passes = 0; empties_of(position) > empties;) {
-        uint64_t moves;
-        if (ffosolve_moves(position, &moves) != FFOSOLVE_DONE) exit(2);
-        if (moves) {
-            unsigned square = chance(64);
-            while (!(moves >> square & 1)) square = chance(64);
-            if (ffosolve_play(position, (uint8_t)square, &position) != FFOSOLVE_DONE) exit(2);
-            passes = 0;
-        } else if (passes++) {
-            position = start;
-        } else {
-            const ffosolve_position passed = {position.opp, position.own};
-            position = passed;
-        }
-    }
-    return position;
-}
 
 static void *solve_some(void *nothing) {
     for (int at = 0; at < POSITIONS; at++) {
@@ -70,7 +35,7 @@ static void *solve_some(void *nothing) {
 
 static void *solve_a_game(void *nothing) {
     ffosolve_answer answer;
-    ffosolve_solve(start, FFOSOLVE_WINNER, 1024, &answer);
+    if (ffosolve_solve(start, FFOSOLVE_WINNER, 1024, &answer) != FFOSOLVE_DONE) exit(2);
     return nothing;
 }
 
@@ -93,7 +58,9 @@ static int used(void) {
 }
 
 int main(void) {
-    for (int at = 0; at < POSITIONS; at++) positions[at] = random_position(14);
+    for (int at = 0; at < POSITIONS; at++) {
+        if (scanf("%" SCNx64 "%" SCNx64, &positions[at].own, &positions[at].opp) != 2) return 2;
+    }
     if (pthread_join(begin(solve_some), NULL) != 0) return 2;
     printf("14: %d\n", used());
     begin(solve_a_game);

@@ -3,7 +3,6 @@
    always by the first best move.
 
        cc -o answers answers.c $(pkg-config --cflags --libs ffosolve)
-       cc -IFOLDER -o answers answers.c FOLDER/libffosolve.a             FOLDER as bin/ffosolve-library made it
        ./answers <../masks.txt */
 #include "ffosolve.h"
 

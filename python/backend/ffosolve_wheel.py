@@ -12,6 +12,7 @@ import zipfile
 
 FOLDER = os.path.dirname(os.path.dirname(os.path.abspath(__file__)))
 SOURCES = os.path.join(FOLDER, "src", "ffosolve")
+LIBRARIES = os.environ.get("FFOSOLVE_WHEEL_LIBRARIES")
 
 
 def setting(name):
@@ -20,20 +21,39 @@ def setting(name):
         return re.search(rf'^{name} = "(.*)"$', text.read(), re.MULTILINE).group(1)
 
 
+def version():
+    """The file VERSION of the package, where this is a source archive, else that of the repository."""
+    places = (os.path.join(SOURCES, "VERSION"), os.path.join(FOLDER, "..", "VERSION"))
+    with open(next(filter(os.path.exists, places)), encoding="utf-8") as text:
+        return text.read().strip()
+
+
 def head():
-    return f"ffosolve-{setting('version')}"
+    return f"ffosolve-{version()}"
 
 
 def metadata():
     return (
-        f"Metadata-Version: 2.1\nName: ffosolve\nVersion: {setting('version')}\nSummary: {setting('description')}\n"
+        f"Metadata-Version: 2.1\nName: ffosolve\nVersion: {version()}\nSummary: {setting('description')}\n"
         f"Requires-Python: {setting('requires-python')}\nLicense: MIT\nClassifier: Typing :: Typed\n"
         "Classifier: Operating System :: POSIX :: Linux\n"
     )
 
 
+def tag():
+    """`make wheel` puts the shared library into the wheel, which needs glibc 2.34."""
+    return "py3-none-manylinux_2_34_x86_64" if LIBRARIES else "py3-none-any"
+
+
 def tags():
-    return "Wheel-Version: 1.0\nGenerator: ffosolve\nRoot-Is-Purelib: true\nTag: py3-none-any\n"
+    return f"Wheel-Version: 1.0\nGenerator: ffosolve\nRoot-Is-Purelib: {str(not LIBRARIES).lower()}\nTag: {tag()}\n"
+
+
+def libraries():
+    """The shared library for each level of processors, from the folder in which make has built them."""
+    for level in ("x86-64-v2", "x86-64-v3") if LIBRARIES else ():
+        with open(os.path.join(LIBRARIES, level, "libffosolve.so"), "rb") as library:
+            yield f"ffosolve/{level}/libffosolve.so.1", library.read()
 
 
 def package_files():
@@ -41,10 +61,11 @@ def package_files():
     for name in names:
         with open(os.path.join(SOURCES, name), "rb") as source:
             yield f"ffosolve/{name}", source.read()
+    yield "ffosolve/VERSION", version().encode() + b"\n"
 
 
 def write_wheel(folder, files):
-    name = f"{head()}-py3-none-any.whl"
+    name = f"{head()}-{tag()}.whl"
     records = []
     with zipfile.ZipFile(os.path.join(folder, name), "w", zipfile.ZIP_DEFLATED) as wheel:
         for path, content in files:
@@ -60,6 +81,8 @@ def write_wheel(folder, files):
 def dist_info():
     yield f"{head()}.dist-info/METADATA", metadata().encode()
     yield f"{head()}.dist-info/WHEEL", tags().encode()
+    program = f"[console_scripts]\nffosolve-games = {setting('ffosolve-games')}\n"
+    yield f"{head()}.dist-info/entry_points.txt", program.encode()
 
 
 def get_requires_for_build_wheel(config_settings=None):
@@ -70,7 +93,7 @@ get_requires_for_build_sdist = get_requires_for_build_editable = get_requires_fo
 
 
 def build_wheel(wheel_directory, config_settings=None, metadata_directory=None):
-    return write_wheel(wheel_directory, [*package_files(), *dist_info()])
+    return write_wheel(wheel_directory, [*package_files(), *libraries(), *dist_info()])
 
 
 def build_editable(wheel_directory, config_settings=None, metadata_directory=None):

@@ -2,15 +2,21 @@
 
     python3 -m unittest discover python/tests
 """
+import gc
+import io
 import os
+import pickle
 import subprocess
 import sys
 import tempfile
+import tracemalloc
 import unittest
 from concurrent.futures import ThreadPoolExecutor
+from unittest import mock
 
 import ffosolve
 from ffosolve import Answer, Kind, Position, Scoring, Solver
+from ffosolve._library import places
 
 CORNERS = "-OXXXXX-XXXXXXXOXXXXXXXXXXXXXXXXXXXOXXXXXXXXXXXXXXXXXXXXXXXXXXXX X; H1:+62;"
 POSITION = Position(0xFFFFFFF7FFFF7F7C, 0x0000000800008002)
@@ -18,10 +24,13 @@ ANSWER = Answer(62, Kind.MOVES, 0x80)
 START = Position(0x0000000810000000, 0x0000001008000000)
 SMALL = """
 import resource, sys, ffosolve
-pages = int(open("/proc/self/statm").read().split()[0])
-limit = pages * resource.getpagesize() + 60_000_000
+def limit(more):
+    pages = int(open("/proc/self/statm").read().split()[0])
+    limit = pages * resource.getpagesize() + more
+    resource.setrlimit(resource.RLIMIT_AS, (limit, limit))
 solver = ffosolve.Solver(entries=ffosolve.MOST_ENTRIES)
-resource.setrlimit(resource.RLIMIT_AS, (limit, limit))
+limit(100_000_000)
+line = b"-" * 64 + b"X;" + b"B1:1;" * 2_000_000
 position = ffosolve.Position(0xFFFFFFF7FFFF7F7C, 0x0000000800008002)
 claim = ffosolve.Answer(62, ffosolve.Kind.MOVES, 0x80)
 for call, word in (
@@ -29,7 +38,11 @@ for call, word in (
     (solver.confirm, (position, claim)),
     (solver.solve_all, ([position],)),
     (solver.move_scores, (position,)),
+    (ffosolve.Position.from_obf, (line,)),
+    (next, (ffosolve.read_lines([line], refused=print),)),
 ):
+    if word[0] is line:
+        limit(4_000_000)
     try:
         call(*word)
         sys.exit(f"{call} has memory")
@@ -55,6 +68,16 @@ class Calls(unittest.TestCase):
     def test_pass_and_end(self):
         self.assertEqual(self.solver.solve(Position(0x7E, ~0x7F & 2**64 - 1)), Answer(-64, Kind.PASS, 0))
         self.assertEqual(self.solver.solve(Position(0xFFFFFFFF, 0xFFFF << 48)), Answer(32, Kind.OVER, 0))
+        told = [self.solver.solve(POSITION), self.solver.confirm(POSITION, ANSWER), *self.solver.solve_all([POSITION])]
+        self.assertEqual([type(answer.kind) for answer in told], [Kind] * 3)
+
+    def test_equals_have_one_hash_and_are_printed_as_they_are(self):
+        line = Position.from_obf(CORNERS)
+        self.assertEqual(len({POSITION, Position(*POSITION), line, POSITION.passed()}), 2)
+        self.assertEqual(len({ANSWER, Answer(*ANSWER), self.solver.solve(POSITION)}), 1)
+        self.assertEqual(repr(POSITION), f"Position(own={POSITION.own}, opp={POSITION.opp})")
+        self.assertEqual(repr(line), f"Line(own={POSITION.own}, opp={POSITION.opp})")
+        self.assertEqual(repr(POSITION.show()), str(POSITION))
 
     def test_answers_differ_in_each_member(self):
         self.assertTrue(ANSWER == Answer(62, Kind.MOVES, 0x80) and not ANSWER != Answer(62, Kind.MOVES, 0x80))
@@ -85,8 +108,13 @@ class Calls(unittest.TestCase):
         self.assertEqual(self.solver.play(START, "d3"), after)
         self.assertEqual(self.solver.play(START, 19), after)
 
-    def test_scoring(self):
+    def test_what_is_told(self):
+        """Scorings, numbers of empty squares, limits and versions."""
         self.assertEqual([Solver(scoring=number).scoring for number in range(3)], list(Scoring))
+        self.assertEqual((POSITION.empties, POSITION.passed().empties, START.empties), (2, 2, 60))
+        limit = self.solver._library.ffosolve_limit
+        self.assertEqual([limit(0), limit(1), limit(2)], [ffosolve.MOST_ENTRIES, ffosolve.MOST_EMPTIES, len(Scoring)])
+        self.assertEqual(self.solver.library_version, ffosolve.__version__)
 
     def test_table_is_for_the_most_empty_squares(self):
         asked = []
@@ -101,11 +129,37 @@ class Calls(unittest.TestCase):
             solver.solve_all([POSITION, Position(0xFFF, 0), POSITION])
         self.assertEqual(asked, [ffosolve.table_entries(52), 7])
 
-    def test_empty_squares(self):
-        self.assertEqual((POSITION.empties, POSITION.passed().empties, START.empties), (2, 2, 60))
+    def test_a_claim_is_handed_on(self):
+        asked = []
 
-    def test_versions(self):
-        self.assertEqual(self.solver.library_version, ffosolve.__version__)
+        class Library:
+            def ffosolve_confirm(self, position, scoring, entries, claim, answer):
+                asked.append((position.own, position.opp, scoring, entries, claim.score, claim.kind, claim.best))
+                return 0
+
+        solver = Solver(scoring=Scoring.SIGN, entries=7)
+        solver._library = Library()
+        solver.confirm(Position(1, 2), Answer(-3, Kind.OVER, 4))
+        self.assertEqual(asked, [(1, 2, Scoring.SIGN, 7, -3, Kind.OVER, 4)])
+
+    def test_keeps_nothing(self):
+        calls = (
+            lambda: self.solver.solve(POSITION), lambda: self.solver.confirm(POSITION, ANSWER),
+            lambda: self.solver.solve_all([POSITION] * 9), lambda: list(self.solver.solve_iter([POSITION] * 9)),
+            lambda: self.solver.move_scores(POSITION), lambda: self.solver.move_scores_all([POSITION] * 9),
+            lambda: self.solver.moves(POSITION), lambda: self.solver.play(START, "d3"),
+            lambda: Position.from_obf(CORNERS), lambda: list(ffosolve.read_lines([CORNERS] * 9)),
+        )
+        for call in calls:
+            call()
+        tracemalloc.start()
+        self.addCleanup(tracemalloc.stop)
+        for call in calls:
+            before = tracemalloc.get_traced_memory()[0]
+            for _ in range(100):
+                call()
+            gc.collect()
+            self.assertLess(tracemalloc.get_traced_memory()[0] - before, 2000)
 
     def test_threads(self):
         with ThreadPoolExecutor(8) as pool:
@@ -142,16 +196,32 @@ class Refusals(unittest.TestCase):
         """The texts and numbers of ffosolve.h; all but want of memory are errors of values."""
         for refusal, number, reason in (
             (ffosolve.UnknownScoring, 1, "no scoring has the number"),
-            (ffosolve.TooManyEntries, 2, "more than 4194304 table entries"),
+            (ffosolve.TooManyEntries, 2, f"more than {ffosolve.MOST_ENTRIES} table entries"),
             (ffosolve.UnequalLengths, 3, "not as many answers as positions"),
             (ffosolve.SharedSquare, 4, "the masks share a square"),
-            (ffosolve.TooManyEmpties, 5, "more than 60 empty squares"),
+            (ffosolve.TooManyEmpties, 5, f"more than {ffosolve.MOST_EMPTIES} empty squares"),
             (ffosolve.NoMove, 6, "no move"),
             (ffosolve.NoMemory, 7, "out of memory"),
         ):
             self.assertEqual((refusal.status, str(refusal()), refusal().index), (number, reason, None))
             self.assertEqual((str(refusal(1)), refusal(1).index), (f"position 2: {reason}", 1))
             self.assertTrue(issubclass(refusal, MemoryError if number == 7 else ValueError))
+            again = pickle.loads(pickle.dumps(refusal(1)))
+            self.assertEqual((type(again), str(again), again.index), (refusal, f"position 2: {reason}", 1))
+
+    def test_reasons_of_lines(self):
+        """The numbers of ffosolve.h, and the texts of a report."""
+        for refusal, number, reason, column in (
+            (ffosolve.NoPosition, 8, "no position: the line is blank or a comment", None),
+            (ffosolve.ShortBoard, 9, "board has 5 of 64 squares", None),
+            (ffosolve.BadSquare, 10, "bad square at column 5", 5),
+            (ffosolve.BadSide, 11, "bad side at column 5", 5),
+        ):
+            self.assertTrue(issubclass(refusal, ffosolve.LineRefused) and issubclass(refusal, ValueError))
+            for told in (refusal(5), pickle.loads(pickle.dumps(refusal(5)))):
+                self.assertEqual((told.status, str(told), told.at, told.column, told.line), (number, reason, 5, column, None))
+            for told in (refusal(5, 3), pickle.loads(pickle.dumps(refusal(5, 3)))):
+                self.assertEqual((str(told), told.at, told.line), (f"line 3: {reason}", 5, 3))
 
     def test_squares(self):
         for square in ("A1", 0, 64, 255, 256, -1, 256 + 19):
@@ -180,6 +250,18 @@ class Refusals(unittest.TestCase):
                 Solver(empty.name)
         with self.assertRaisesRegex(ffosolve.LibraryNotFound, "ffosolve_solve"):
             Solver("libc.so.6" if os.path.exists("libc.so.6") else find_libc())
+        with self.assertRaisesRegex(ffosolve.LibraryNotFound, f"^{os.getcwd()}/libc.so.6: "):
+            Solver("libc.so.6")  # a file of this folder, and not the system's
+
+    def test_places(self):
+        with mock.patch.dict(os.environ, {"FFOSOLVE_LIBRARY": "/of/mine.so"}):
+            self.assertEqual(places(), ["/of/mine.so"])
+        folder, name = os.path.dirname(ffosolve.__file__), "libffosolve.so.1"
+        of_package = [f"{folder}/{level}/{name}" for level in ("x86-64-v3", "x86-64-v2")]
+        others = [f"{prefix}/lib/{name}" for prefix in ("/of/venv", "/of/python", "/usr/local")]
+        with mock.patch.dict(os.environ, {"FFOSOLVE_LIBRARY": ""}), mock.patch.object(os.path, "exists", lambda _: True), \
+                mock.patch.multiple(sys, prefix="/of/venv", base_prefix="/of/python"):
+            self.assertEqual(places(), [*of_package, name, *others])
 
 
 def find_libc():
@@ -196,25 +278,66 @@ class Obf(unittest.TestCase):
         self.assertEqual(Position.from_obf(POSITION.to_obf()), POSITION)
 
     def test_letters(self):
-        for letters, position in (("Xx*Bb", Position(1, 0)), ("OoWw", Position(0, 1)), ("-.", Position(0, 0))):
+        for letters, position, of_mover in (
+            ("Xx*Bb", Position(1, 0), Position(1, 2)),
+            ("OoWw", Position(0, 1), Position(2, 1)),
+            ("-.", Position(0, 0), None),
+        ):
             for letter in letters:
                 self.assertEqual(Position.from_obf(letter + "-" * 63 + "X"), position, letter)
-        for letters, position in (("Xx*Bb", Position(1, 2)), ("OoWw", Position(2, 1))):
-            for letter in letters:
-                self.assertEqual(Position.from_obf("XO" + "-" * 62 + letter), position, letter)
+                if of_mover:
+                    self.assertEqual(Position.from_obf("XO" + "-" * 62 + letter), of_mover, letter)
         self.assertEqual(Position(1, 2).to_obf(), "XO" + "-" * 62 + " X;")
 
     def test_refuses(self):
-        for text, told in (
-            ("", "board has 0 of 64 squares"),
-            (CORNERS[:63], "board has 63 of 64 squares"),
-            (CORNERS[:3] + "?" + CORNERS[4:], "bad square at column 4"),
-            (" " + CORNERS[:3] + "?", "bad square at column 5"),
-            (CORNERS[:64], "bad side at column 65"),
-            (CORNERS[:64] + " -;", "bad side at column 66"),
+        for text, error, told in (
+            ("", ffosolve.NoPosition, "no position: the line is blank or a comment"),
+            (" % X", ffosolve.NoPosition, "no position: the line is blank or a comment"),
+            (CORNERS[:63], ffosolve.ShortBoard, "board has 63 of 64 squares"),
+            (CORNERS[:3] + "?" + CORNERS[4:], ffosolve.BadSquare, "bad square at column 4"),
+            (" " + CORNERS[:3] + "?", ffosolve.BadSquare, "bad square at column 5"),
+            (CORNERS[:3] + "\ud800", ffosolve.BadSquare, "bad square at column 4"),
+            (CORNERS[:64], ffosolve.BadSide, "bad side at column 65"),
+            (CORNERS[:64] + " -;", ffosolve.BadSide, "bad side at column 66"),
         ):
-            with self.assertRaisesRegex(ValueError, told):
-                Position.from_obf(text)
+            for line in (text, text.encode("utf-8", "surrogatepass"), text + "\n", text + "\r\n"):
+                with self.assertRaisesRegex(error, f"^{told}$"):
+                    Position.from_obf(line)
+
+    def test_listed_moves(self):
+        line = Position.from_obf(CORNERS)
+        self.assertEqual((line.listed, line.side, line.number), ((("H1", 62),), "X", None))
+        self.assertEqual(Solver().solve(line), ANSWER)
+        for text, side, listed in (
+            (" O", "O", ()),
+            ("w;PS:-4;--:0; a1:-64", "O", (("PS", -4), ("--", 0), ("A1", -64))),
+            ("X;H1:65;I1:1;note; h8:+07 % A1:1;", "X", (("H8", 7),)),
+            *(("X" + "B1:1;" * count + "\r\n", "X", (("B1", 1),) * count) for count in (31, 32, 33, 34, 1000)),
+        ):
+            line = Position.from_obf(CORNERS[:64] + text)
+            self.assertEqual((line.side, line.listed), (side, listed))
+        again = pickle.loads(pickle.dumps(line))
+        self.assertEqual((again, again.listed, again.side), (line, line.listed, line.side))
+        self.assertEqual((line, line.passed(), type(line.passed())), (POSITION, POSITION.passed(), Position))
+
+    def test_many_lines(self):
+        lines = ["", CORNERS, "% H1", CORNERS[:63], CORNERS[:64] + " O;", "?" + CORNERS]
+        for end in ("\n", "\r\n"):
+            text = end.join(lines) + end
+            for given in (text, text.encode(), lines, [line + end for line in lines], io.StringIO(text), io.BytesIO(text.encode())):
+                wrong = []
+                told = list(ffosolve.read_lines(given, refused=wrong.append))
+                self.assertEqual([(line, line.number, line.side) for line in told], [(POSITION, 2, "X"), (POSITION.passed(), 5, "O")])
+                again = pickle.loads(pickle.dumps(told[0]))
+                self.assertEqual((told[0].listed, again.number, again), ((("H1", 62),), 2, told[0]))
+                self.assertEqual([str(error) for error in wrong], ["line 4: board has 63 of 64 squares", "line 6: bad square at column 1"])
+                self.assertEqual([(type(error), error.line, error.column) for error in wrong],
+                                 [(ffosolve.ShortBoard, 4, None), (ffosolve.BadSquare, 6, 1)])
+        read = ffosolve.read_lines(lines)
+        self.assertEqual(next(read), POSITION)
+        with self.assertRaisesRegex(ffosolve.ShortBoard, "^line 4: board has 63 of 64 squares$"):
+            next(read)
+        self.assertEqual([list(ffosolve.read_lines(nothing)) for nothing in ("", b"", [], "\n", b"% X")], [[]] * 5)
 
     def test_squares(self):
         names = [ffosolve.square_name(number) for number in range(64)]
@@ -225,9 +348,11 @@ class Obf(unittest.TestCase):
                 ffosolve.square_name(wrong)
 
     def test_table_entries(self):
-        sizes = [ffosolve.table_entries(empties) for empties in range(61)]
+        sizes = [ffosolve.table_entries(empties) for empties in range(ffosolve.MOST_EMPTIES + 1)]
         self.assertEqual(sizes, sorted(sizes))
-        self.assertEqual((sizes[0], max(sizes) <= ffosolve.MOST_ENTRIES), (0, True))
+        self.assertLessEqual(max(sizes), ffosolve.MOST_ENTRIES)
+        at = [sizes[empties] for empties in (0, 10, 11, 14, 15, 19, 20, 60)]  # as ffosolve.h says
+        self.assertEqual(at, [0, 0, 1024, 1024, 65536, 65536, 1000000, 1000000])
 
 
 if __name__ == "__main__":

@@ -19,6 +19,7 @@
 
 mod answers;
 mod errors;
+mod lines;
 mod positions;
 pub mod raw;
 mod solvers;
@@ -26,6 +27,7 @@ mod squares;
 
 pub use answers::{Answer, Best};
 pub use errors::{Error, ObfError};
+pub use lines::{Line, Listed, Side};
 pub use positions::Position;
 pub use solvers::{library_version, table_entries, Scoring, Solver, MOST_EMPTIES, MOST_ENTRIES};
 pub use squares::{Square, SquareError, Squares};

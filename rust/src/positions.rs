@@ -1,4 +1,5 @@
 //! Positions.
+use crate::lines::{read_line, without_end};
 use crate::raw;
 use crate::{Error, ObfError, Square, Squares};
 
@@ -7,27 +8,6 @@ use crate::{Error, ObfError, Square, Squares};
 pub struct Position {
     own: u64,
     opp: u64,
-}
-
-#[derive(Clone, Copy, PartialEq, Eq)]
-enum Letter {
-    Black,
-    White,
-    Empty,
-    Other,
-}
-
-fn letter_of(byte: u8) -> Letter {
-    match byte {
-        b'X' | b'x' | b'*' | b'B' | b'b' => Letter::Black,
-        b'O' | b'o' | b'W' | b'w' => Letter::White,
-        b'-' | b'.' => Letter::Empty,
-        _ => Letter::Other,
-    }
-}
-
-fn is_blank(byte: &u8) -> bool {
-    matches!(byte, b' ' | b'\t')
 }
 
 impl Position {
@@ -43,29 +23,13 @@ impl Position {
         }
     }
 
-    /// The position of an OBF line: 64 squares from A1 on, and the side to move. Black is one of `X x * B b`, white one
-    /// of `O o W w`, an empty square `-` or `.`. Blanks before the squares and before the side are skipped, and so is
-    /// all that comes after the side.
-    pub fn from_obf(text: &str) -> Result<Position, ObfError> {
-        let bytes = text.as_bytes();
-        let start = bytes.iter().take_while(|byte| is_blank(byte)).count();
-        let (mut black, mut white) = (0, 0);
-        for square in 0..64 {
-            let at = start + square;
-            match letter_of(*bytes.get(at).ok_or(ObfError::ShortBoard { squares: square })?) {
-                Letter::Black => black |= 1 << square,
-                Letter::White => white |= 1 << square,
-                Letter::Empty => {}
-                Letter::Other => return Err(ObfError::BadSquare { column: at + 1 }),
-            }
-        }
-        let rest = &bytes[start + 64..];
-        let at = start + 64 + rest.iter().take_while(|byte| is_blank(byte)).count();
-        match bytes.get(at).map(|byte| letter_of(*byte)) {
-            Some(Letter::Black) => Ok(Position { own: black, opp: white }),
-            Some(Letter::White) => Ok(Position { own: white, opp: black }),
-            _ => Err(ObfError::BadSide { column: at + 1 }),
-        }
+    /// The position of a line of OBF text, as `Line::from_obf` reads it.
+    ///
+    /// # Errors
+    /// Those of `Line::from_obf`.
+    pub fn from_obf<T: AsRef<[u8]> + ?Sized>(text: &T) -> Result<Position, ObfError> {
+        let line = read_line(without_end(text.as_ref()), &mut [])?;
+        Ok(Position::of_raw(line.position))
     }
 
     /// The position as an OBF line in which the mover has X: 64 squares, and ` X;`.
@@ -116,9 +80,13 @@ impl Position {
         let mut after = raw::Position::default();
         // SAFETY: the pointer is to a position of this call's own.
         match unsafe { raw::ffosolve_play(self.raw(), square.number(), &mut after) } {
-            0 => Ok(Position { own: after.own, opp: after.opp }),
+            0 => Ok(Position::of_raw(after)),
             _ => Err(Error::NoMove),
         }
+    }
+
+    pub(crate) const fn of_raw(position: raw::Position) -> Position {
+        Position { own: position.own, opp: position.opp }
     }
 
     pub(crate) const fn raw(self) -> raw::Position {

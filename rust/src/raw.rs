@@ -17,6 +17,24 @@ pub struct Answer {
     pub best: u64,
 }
 
+/// A position that a line holds, how many moves the line lists, and the side to move (0 black, 1 white).
+#[repr(C)]
+#[derive(Clone, Copy, PartialEq, Eq, Hash, Debug, Default)]
+pub struct Line {
+    pub position: Position,
+    pub listed: usize,
+    pub side: i32,
+}
+
+/// A move that a line lists: its score, what it is (0 a move, 1 a pass, 2 the end of the game), and the square's number.
+#[repr(C)]
+#[derive(Clone, Copy, PartialEq, Eq, Hash, Debug, Default)]
+pub struct Listed {
+    pub score: i32,
+    pub kind: i32,
+    pub square: u8,
+}
+
 extern "C" {
     pub fn ffosolve_solve(position: Position, scoring: u32, entries: usize, answer: *mut Answer) -> i32;
     pub fn ffosolve_confirm(
@@ -44,5 +62,14 @@ extern "C" {
     ) -> i32;
     pub fn ffosolve_moves(position: Position, moves: *mut u64) -> i32;
     pub fn ffosolve_play(position: Position, square: u8, after: *mut Position) -> i32;
+    pub fn ffosolve_read_line(
+        text: *const u8,
+        length: usize,
+        line: *mut Line,
+        listed: *mut Listed,
+        room: usize,
+        at: *mut usize,
+    ) -> i32;
+    pub fn ffosolve_limit(limit: u32) -> usize;
     pub fn ffosolve_version() -> u32;
 }

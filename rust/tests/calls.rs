@@ -1,5 +1,10 @@
 //! Each call with good and bad arguments.
-use ffosolve::{library_version, table_entries, Answer, Best, Error, ObfError, Position, Scoring, Solver, Square, Squares};
+use ffosolve::{
+    library_version, raw, table_entries, Answer, Best, Error, Line, Listed, ObfError, Position, Scoring, Side, Solver,
+    Square, Squares,
+};
+use std::collections::hash_map::DefaultHasher;
+use std::hash::{Hash, Hasher};
 use std::thread;
 
 const LINE: &str = "-OXXXXX-XXXXXXXOXXXXXXXXXXXXXXXXXXXOXXXXXXXXXXXXXXXXXXXXXXXXXXXX X; H1:+62;";
@@ -29,6 +34,10 @@ fn solves() {
     assert_eq!(scores, [-39, -1]);
     assert_eq!(solver.solve(position(0x7e, !0x7f)), Ok(Answer { score: -64, best: Best::Pass }));
     assert_eq!(solver.solve(position(0xffff_ffff, 0xffff << 48)), Ok(Answer { score: 32, best: Best::Over }));
+    for best in [Best::Pass, Best::Over] {
+        assert!(Answer { score: 0, best }.squares().is_empty());
+    }
+    assert_eq!(solver, Solver::default());
 }
 
 #[test]
@@ -79,16 +88,14 @@ fn refuses() {
     assert_eq!(large.solve_all(&[]), Err(Error::TooManyEntries));
     assert_eq!(Solver::new().entries(ffosolve::MOST_ENTRIES).solve(corners()), Ok(ANSWER));
     let told: Box<dyn std::error::Error + Send + Sync> = Error::TooManyEmpties { index: 1 }.into();
-    assert_eq!(told.to_string(), "position 2: more than 60 empty squares");
+    assert!(told.to_string().starts_with("position 2: more than "));
 }
 
 #[test]
 fn says_why() {
     for (error, why) in [
         (Error::UnknownScoring, "no scoring has the number"),
-        (Error::TooManyEntries, "more than 4194304 table entries"),
         (Error::SharedSquare, "the masks share a square"),
-        (Error::TooManyEmpties { index: 0 }, "position 1: more than 60 empty squares"),
         (Error::NoMove, "no move"),
         (Error::NoMemory, "out of memory"),
     ] {
@@ -98,9 +105,14 @@ fn says_why() {
         (ObfError::ShortBoard { squares: 3 }, "board has 3 of 64 squares"),
         (ObfError::BadSquare { column: 4 }, "bad square at column 4"),
         (ObfError::BadSide { column: 65 }, "bad side at column 65"),
+        (ObfError::NoPosition, "no position: the line is blank or a comment"),
+        (ObfError::NoMemory, "out of memory"),
     ] {
         assert_eq!(error.to_string(), why);
     }
+    let numbers = [ffosolve::MOST_ENTRIES, ffosolve::MOST_EMPTIES].map(|number| format!("more than {number} "));
+    assert_eq!(Error::TooManyEntries.to_string(), format!("{}table entries", numbers[0]));
+    assert_eq!(Error::TooManyEmpties { index: 0 }.to_string(), format!("position 1: {}empty squares", numbers[1]));
     assert_eq!("?".parse::<Square>().map_err(|error| error.to_string()), Err("no square has the name".to_string()));
 }
 
@@ -119,6 +131,23 @@ fn answers_and_positions_differ_in_each_member() {
     }
 }
 
+fn is_hashed_alike<T: Hash + Eq>(pair: [T; 2]) -> bool {
+    let [first, second] = [0, 1].map(|at| {
+        let mut hasher = DefaultHasher::new();
+        pair[at].hash(&mut hasher);
+        hasher.finish()
+    });
+    pair[0] == pair[1] && first == second
+}
+
+#[test]
+fn equals_have_one_hash() {
+    assert!(is_hashed_alike([position(1, 2), position(1, 2)]));
+    assert!(is_hashed_alike([ANSWER, Solver::new().solve(corners()).expect("an answer")]));
+    assert!(is_hashed_alike([Line::from_obf(LINE), LINE.parse()].map(|line| line.expect("a line"))));
+    assert!(is_hashed_alike([Squares(1), Squares(1)]) && is_hashed_alike([square("B1"), square("b1")]));
+}
+
 #[test]
 fn tells_the_discs_of_positions_and_the_squares_of_sets() {
     let two = position(1, 2);
@@ -129,6 +158,7 @@ fn tells_the_discs_of_positions_and_the_squares_of_sets() {
     assert_eq!((set.mask(), set.len(), set.is_empty(), set.to_string()), (0x81, 2, false, "A1,H1".to_string()));
     assert_eq!((0..64).filter_map(Square::new).filter(|each| set.contains(*each)).count(), 2);
     assert!(set.contains(square("A1")) && set.contains(square("H1")));
+    assert_eq!((set.size_hint(), format!("{set:?} {:?}", square("B1"))), ((2, Some(2)), "Squares(A1,H1) B1".to_string()));
     assert_eq!((Squares(0).len(), Squares(0).is_empty(), Squares(0).to_string()), (0, true, String::new()));
     assert_eq!([0, 1, 2].map(Scoring::try_from), [Ok(Scoring::Winner), Ok(Scoring::Discs), Ok(Scoring::Sign)]);
 }
@@ -155,7 +185,10 @@ fn reads_obf() {
     assert_eq!(format!("  {}", LINE.replace('X', "*").replace('O', "w").replace('-', ".")).parse(), Ok(corners()));
     assert_eq!(Position::from_obf(&LINE.replace(" X;", "\tO;")), Ok(corners().passed()));
     assert_eq!(Position::from_obf(&corners().to_obf()), Ok(corners()));
-    assert_eq!(Position::from_obf(""), Err(ObfError::ShortBoard { squares: 0 }));
+    for skipped in ["", " \t", "  % X", "\r\n"] {
+        assert_eq!(Position::from_obf(skipped), Err(ObfError::NoPosition));
+        assert_eq!(Line::from_obf(skipped), Err(ObfError::NoPosition));
+    }
     assert_eq!(Position::from_obf(&LINE[..63]), Err(ObfError::ShortBoard { squares: 63 }));
     assert_eq!(Position::from_obf(&LINE.replacen('X', "?", 1)), Err(ObfError::BadSquare { column: 3 }));
     assert_eq!(Position::from_obf(&LINE[..64]), Err(ObfError::BadSide { column: 65 }));
@@ -164,10 +197,32 @@ fn reads_obf() {
 }
 
 #[test]
+fn keeps_what_a_line_lists() {
+    let line = |text: &str| Line::from_obf(&format!("{}{text}", &LINE[..64])).expect("a position");
+    let listed = vec![(Listed::Move(square("H1")), 62)];
+    assert_eq!(LINE.parse(), Ok(Line { position: corners(), side: Side::Black, listed: listed.clone() }));
+    assert_eq!(line(" O"), Line { position: corners().passed(), side: Side::White, listed: Vec::new() });
+    for text in ["X H1:+62", "XH1:62\n", "X; h1:+62 \r\n", "X;H1:62;a9:1;H1:65;note% A1:1;"] {
+        assert_eq!(line(text).listed, listed);
+    }
+    let told = line("X; PS:-4;--:0; A1:-64;");
+    let words: Vec<String> = told.listed.iter().map(|(what, score)| format!("{what}:{score}")).collect();
+    assert_eq!(words, ["PS:-4", "--:0", "A1:-64"]);
+    for count in [0, 16, 17, 1000] {
+        let scores: Vec<i8> = (0..count).map(|at| (at % 129 - 64) as i8).collect();
+        let fields: String = scores.iter().map(|score| format!("B1:{score};")).collect();
+        let told = line(&format!("X;{fields}"));
+        assert_eq!(told.listed, scores.iter().map(|score| (Listed::Move(square("B1")), *score)).collect::<Vec<_>>());
+    }
+    assert_eq!(Line::from_obf(&b"\xff"[..]), Err(ObfError::BadSquare { column: 1 }));
+}
+
+#[test]
 fn names_squares() {
     assert_eq!(Square::new(64), None);
     let all: Vec<Square> = (0..64).filter_map(Square::new).collect();
     assert_eq!([all[0], all[1], all[7], all[8], all[63]].map(|each| each.to_string()), ["A1", "B1", "H1", "A2", "H8"]);
+    assert!(all.windows(2).all(|pair| pair[0] < pair[1]));
     for each in all {
         assert_eq!(each.to_string().to_lowercase().parse(), Ok(each));
         assert_eq!(Squares(each.bit()).collect::<Vec<Square>>(), [each]);
@@ -194,8 +249,19 @@ fn threads_call_at_once() {
 
 #[test]
 fn tells_versions_and_sizes() {
-    let parts = env!("CARGO_PKG_VERSION").split('.').map(|part| part.parse::<u32>().expect("a number"));
+    let parts = include_str!("../../VERSION").trim().split('.').map(|part| part.parse::<u32>().expect("a number"));
     assert_eq!(parts.fold(0, |number, part| 100 * number + part), library_version());
-    let sizes: Vec<usize> = (0..=60).map(table_entries).collect();
-    assert!(sizes.windows(2).all(|pair| pair[0] <= pair[1]) && sizes[0] == 0 && sizes[60] <= ffosolve::MOST_ENTRIES);
+    let sizes: Vec<usize> = (0..=ffosolve::MOST_EMPTIES).map(table_entries).collect();
+    assert!(sizes.windows(2).all(|pair| pair[0] <= pair[1]) && sizes[ffosolve::MOST_EMPTIES] <= ffosolve::MOST_ENTRIES);
+    let at = [0, 10, 11, 14, 15, 19, 20, 60].map(|empties| sizes[empties]); // as ffosolve.h says
+    assert_eq!(at, [0, 0, 1024, 1024, 65536, 65536, 1000000, 1000000]);
+}
+
+#[test]
+fn has_the_limits_of_the_library() {
+    // SAFETY: the call takes a number.
+    let limit = |number| unsafe { raw::ffosolve_limit(number) };
+    assert_eq!([limit(0), limit(1)], [ffosolve::MOST_ENTRIES, ffosolve::MOST_EMPTIES]);
+    let scorings = limit(2) as u32;
+    assert!(Scoring::try_from(scorings - 1).is_ok() && Scoring::try_from(scorings).is_err());
 }

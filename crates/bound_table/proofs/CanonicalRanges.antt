@@ -2,7 +2,7 @@
 use Rattle.std.proofs.Common.{◌≡◌, ◌∙◌, ap, Some, None, Option, IfSome}
 use Rattle.std.specs.Option.{SomeIff}
 use Rattle.othello_rules.specs.declared.discs.Side.TheVariants.{Black}
-use Rattle.othello_rules.specs.declared.scorings.Scoring.{Scoring}
+use Rattle.othello_rules.specs.declared.scoring.Scoring.{Scoring}
 use Rattle.othello_bits.specs.Pos.{PosView, position_of, value_of}
 use Rattle.othello_bits.specs.Symmetries.{first_symmetry, canonical_of}
 use Rattle.othello_bits.proofs.ImageLaws.{canonical_of-is, canonical_of-image_of, value_of-image_of}

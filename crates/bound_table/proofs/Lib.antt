@@ -1,3 +1,3 @@
 -- A range of scores, kept for the canonical position and shown for each of its images.
--- docs/proofs.md has the argument: most of it is the type of an entry's slot, not a lemma.
+-- docs/architecture.md has the argument: most of it is the type of an entry's slot, not a lemma.
 pub mod CanonicalRanges

@@ -1,6 +1,6 @@
 -- Ranges of scores (the bounds that a window search leaves), and when one is true of a position.
 use Rattle.std.specs.Prelude.{ℤ, negsuc, pos, ◌≤ℤ◌}
-use Rattle.othello_rules.specs.declared.scorings.Scoring.{Scoring}
+use Rattle.othello_rules.specs.declared.scoring.Scoring.{Scoring}
 use Rattle.othello_bits.specs.Pos.{PosView, value_of}
 
 -- the scores from low to high, ends included

@@ -1,9 +1,10 @@
 -- What a table keeps, and what contracts see of it.
 use Rattle.std.specs.Prelude.{◌≡◌, ℕ, ◌≤◌, List, length, All}
-use Rattle.othello_rules.specs.declared.scorings.Scoring.{Scoring}
+use Rattle.othello_rules.specs.declared.scoring.Scoring.{Scoring}
 use Rattle.othello_bits.specs.Pos.{PosView}
 use Rattle.othello_bits.specs.Symmetries.{canonical_of}
 use Rattle.bound_table.specs.Range.{RangeView, IsTrueOf}
+use Rattle.bound_table.specs.declared.bound_table.TheConstants.BoundTable.{MOST_ENTRIES}
 
 -- what a slot keeps of its entry: the position is canonical, and the range is true of it under the slot's scoring
 pub record IsKnown (g : Scoring) (p : PosView) (i : RangeView) : Type 0 where
@@ -18,4 +19,4 @@ pub record TableView : Type 0 where
 -- each slot, seen as the scoring of its range, has the scoring of the table
 pub record IsTable (g : Scoring) (slots : List Scoring) : Type 0 where
   pub scored : All (λ slot. slot ≡ g) slots
-  pub few : length slots ≤ 4194304
+  pub few : length slots ≤ MOST_ENTRIES

@@ -17,13 +17,13 @@
 //! ```
 #![tactic(auto)]
 
-mod bound_tables;
-mod entries;
-mod faults;
-mod ranges;
-mod tables;
+mod bound_table;
+mod bounds;
+mod entry;
+mod range;
+mod table_fault;
 
-pub use bound_tables::BoundTable;
-pub use faults::TableFault;
-pub use ranges::Range;
-pub use tables::{Bounds, NoTable};
+pub use bound_table::BoundTable;
+pub use bounds::{Bounds, NoTable};
+pub use range::Range;
+pub use table_fault::TableFault;

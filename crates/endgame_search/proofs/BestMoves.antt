@@ -5,7 +5,7 @@ use Rattle.std.proofs.lemmas.Bool.{cases_Bool, both_ways, and_parts, and_from, f
 use Rattle.std.proofs.lemmas.Bool.Decides.{Decides-int_eq}
 use Rattle.std.proofs.lemmas.List.Elements.{All-more, All-weaker, All-contains}
 use lib.Signed.{le_z}
-use Rattle.othello_rules.specs.declared.scorings.Scoring.{Scoring}
+use Rattle.othello_rules.specs.declared.scoring.Scoring.{Scoring}
 use Rattle.othello_rules.specs.Board.{squares}
 use Rattle.othello_rules.specs.Masks.{in_mask, squares_of}
 use Rattle.othello_rules.proofs.ListLaws.{Contains-filter, passes_in_filter}

@@ -3,7 +3,7 @@ use Rattle.std.proofs.Common.{◌≡◌, ◌≢◌, ℕ, zero, suc, ◌+◌, ◌
 use Rattle.std.specs.List.{count_by}
 use Rattle.std.specs.Int.Count.{ones}
 use Rattle.std.proofs.lemmas.Bool.{cases_eq, false≢true}
-use Rattle.othello_rules.specs.declared.scorings.Scoring.TheVariants.{Winner}
+use Rattle.othello_rules.specs.declared.scoring.Scoring.TheVariants.{Winner}
 use Rattle.othello_rules.specs.declared.discs.Side.TheVariants.{Black}
 use Rattle.othello_rules.specs.Board.{squares}
 use Rattle.othello_rules.specs.Masks.{in_mask}

@@ -10,8 +10,8 @@ use Rattle.std.proofs.lemmas.Nat.{ones-le, zero_from_ones}
 use Rattle.std.proofs.Math.Bool.{or-true, or-false}
 use Rattle.std.proofs.lemmas.Map.Views.{Contains-from_any}
 use Rattle.std.proofs.lemmas.Option.{slice_get-get_or}
-use Rattle.othello_rules.specs.declared.scorings.Scoring.{Scoring}
-use Rattle.othello_rules.specs.declared.scorings.Scoring.TheVariants.{Winner, Discs as PlainDiscs, Sign}
+use Rattle.othello_rules.specs.declared.scoring.Scoring.{Scoring}
+use Rattle.othello_rules.specs.declared.scoring.Scoring.TheVariants.{Winner, Discs as PlainDiscs, Sign}
 use Rattle.othello_rules.specs.declared.discs.Cell.{Cell}
 use Rattle.othello_rules.specs.declared.discs.Cell.TheVariants as cell
 use Rattle.othello_rules.specs.declared.discs.Side.TheVariants.{Black}

@@ -4,8 +4,8 @@ use Rattle.std.specs.List.{list_any}
 use Rattle.std.specs.Int.{int_max}
 use Rattle.std.proofs.lemmas.Bool.{cases_Bool, cases_eq, eq-eqb, both_ways, or_left}
 use Rattle.std.proofs.lemmas.Int.{ints, clamps}
-use Rattle.othello_rules.specs.declared.scorings.Scoring.{Scoring}
-use Rattle.othello_rules.specs.declared.scorings.Scoring.TheVariants.{Winner}
+use Rattle.othello_rules.specs.declared.scoring.Scoring.{Scoring}
+use Rattle.othello_rules.specs.declared.scoring.Scoring.TheVariants.{Winner}
 use Rattle.othello_rules.specs.declared.discs.Cell.TheVariants as cell
 use Rattle.othello_rules.specs.declared.discs.Side.{Side}
 use Rattle.othello_rules.specs.declared.discs.Side.TheVariants as side

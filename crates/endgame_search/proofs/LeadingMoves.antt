@@ -4,14 +4,14 @@ use Rattle.std.proofs.lemmas.Int.{ints, by_lt_z}
 use Rattle.std.proofs.lemmas.Bool.{cases_Bool, both_ways, and_parts, and_from, or_cases, or_left, or_right, eq-eqb, eqb-true, false_from_ne_true}
 use Rattle.std.proofs.lemmas.Bool.Decides.{Decides-int_eq}
 use Rattle.std.proofs.lemmas.List.Elements.{All-more, All-weaker, All-contains, All-map}
-use Rattle.othello_rules.specs.declared.scorings.Scoring.{Scoring}
+use Rattle.othello_rules.specs.declared.scoring.Scoring.{Scoring}
 use Rattle.othello_rules.specs.Masks.{in_mask}
 use Rattle.othello_rules.specs.Answer.{IsScore}
 use Rattle.othello_bits.specs.Pos.{PosView, mask_where, moves_of, play_of, value_of, is_best_move, IsMove}
 use Rattle.othello_bits.proofs.Bits.{none_from_zero}
 use Rattle.othello_bits.proofs.GameLaws.{value_score}
 use Rattle.othello_bits.proofs.TestMasks.{is_where}
-use Rattle.endgame_search.specs.declared.children.Child.{Child}
+use Rattle.endgame_search.specs.declared.move_order.Child.{Child}
 use Rattle.endgame_search.specs.Children.{IsChildOf, AreChildrenOf}
 use Rattle.endgame_search.specs.Windows.{Places}
 use Rattle.endgame_search.proofs.Moves.{child_worth, best_of_all}

@@ -3,11 +3,11 @@ use Rattle.std.proofs.Common.{◌≡◌, ◌≢◌, ◌⊎◌, ℕ, ◌+◌, ◌
 use Rattle.othello_rules.specs.Masks.{in_mask}
 use Rattle.std.proofs.lemmas.Int.{ints}
 use Rattle.std.proofs.lemmas.List.Elements.{All-map, All-contains, All-more, All-weaker}
-use Rattle.othello_rules.specs.declared.scorings.Scoring.{Scoring}
+use Rattle.othello_rules.specs.declared.scoring.Scoring.{Scoring}
 use Rattle.othello_bits.specs.Pos.{PosView, moves_of, play_of, pass_of, empties_of, value_of, HasNoMove}
 use Rattle.othello_bits.proofs.GameLaws.{value_above, value_reached, value-pass, empties_positive, empties-play, empties-pass}
-use Rattle.endgame_search.specs.declared.children.Child.{Child}
-use Rattle.endgame_search.specs.declared.children.Stuck.{Stuck}
+use Rattle.endgame_search.specs.declared.move_order.Child.{Child}
+use Rattle.endgame_search.specs.declared.move_order.Stuck.{Stuck}
 use Rattle.endgame_search.specs.Children.{IsChildOf, AreChildrenOf, AreOthersOf, AreUpTo, squares_of}
 
 -- what the move to a child is worth, and how many squares are empty there

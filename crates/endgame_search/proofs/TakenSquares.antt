@@ -12,7 +12,7 @@ use Rattle.othello_bits.specs.Pos.{PosView, IsMove}
 use Rattle.othello_bits.proofs.Bits.{in_mask-above, none_from_zero}
 use Rattle.othello_bits.proofs.MaskMeaning.{IsMove-on_board}
 use Rattle.othello_bits.proofs.Numbers.{count_below, is_number, ones_number}
-use Rattle.endgame_search.specs.declared.children.Child.{Child}
+use Rattle.endgame_search.specs.declared.move_order.Child.{Child}
 use Rattle.endgame_search.specs.Children.{squares_of}
 
 module _ (f h : ℕ → Bool) (r : ℕ) (taken : (i : ℕ) → h i ≡ (f i && not (nat_eq r i))) where

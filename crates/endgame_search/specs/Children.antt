@@ -1,10 +1,10 @@
 -- The positions that the moves of a position lead to.
 use Rattle.std.specs.Prelude.{◌≡◌, ◌⊎◌, ◌≤ℤ◌, ℕ, ℤ, neg_ℤ, true, List, map, All, Contains}
-use Rattle.othello_rules.specs.declared.scorings.Scoring.{Scoring}
+use Rattle.othello_rules.specs.declared.scoring.Scoring.{Scoring}
 use Rattle.othello_rules.specs.Masks.{in_mask}
 use Rattle.othello_bits.specs.Pos.{PosView, moves_of, play_of, value_of, IsMove}
-use Rattle.endgame_search.specs.declared.children.Child.{Child}
-use Rattle.endgame_search.specs.declared.children.Stuck.{Stuck}
+use Rattle.endgame_search.specs.declared.move_order.Child.{Child}
+use Rattle.endgame_search.specs.declared.move_order.Stuck.{Stuck}
 
 -- the squares of the moves that lead to the children
 abbrev pub squares_of : List Child → List ℕ

@@ -1,5 +1,5 @@
 -- What contracts see of a task and of a solved position.
-use Rattle.othello_rules.specs.declared.scorings.Scoring.{Scoring}
+use Rattle.othello_rules.specs.declared.scoring.Scoring.{Scoring}
 use Rattle.othello_bits.specs.Pos.{PosView}
 
 -- a position, whose value and best moves are asked for under a scoring

@@ -6,7 +6,7 @@ mod probes;
 mod tasks;
 
 ghost use Rattle.std.specs.Prelude.{◌≡◌};
-ghost use Rattle.othello_rules.specs.declared.scorings.Scoring.TheVariants.{Winner};
+ghost use Rattle.othello_rules.specs.declared.scoring.Scoring.TheVariants.{Winner};
 
 use crate::{Task, value_in};
 use bound_table::{BoundTable, Bounds, Range};

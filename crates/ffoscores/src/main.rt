@@ -1,9 +1,9 @@
-//! The program `ffoscores`: hands arguments, streams and allocator to `suite_solver`.
+//! The program `ffoscores`: hands arguments, streams and allocator to `list_scorer`.
 #![tactic(auto)]
 
+use list_scorer::{Ended, list_program_at};
 use std::env::Env;
 use std::{env, io};
-use suite_solver::{Ended, list_program_at};
 
 // The words of the command line, the program's name first.
 fn words_of(rt: &(impl Env + AllocGlobal)) -> io::Result<Vec<String>> {

@@ -5,9 +5,9 @@ use Rattle.std.specs.Prelude.{option_and_then, slice_get, get_or}
 use Rattle.std.proofs.lemmas.Grind.{common_steps}
 use Rattle.std.proofs.lemmas.List.Sums.{position_or_len_is}
 use Rattle.std.proofs.lemmas.Option.{slice_get-get_or}
-use Rattle.ffosolve_c.specs.declared.positions.FfosolvePosition.{FfosolvePosition}
-use Rattle.ffosolve_c.specs.declared.refusals.CallRefusal.{CallRefusal}
-use Rattle.ffosolve_c.specs.Exports.{first_refused, first_refusal, position_refusal, AreSolvable}
+use Rattle.ffosolve_c.specs.declared.position.FfosolvePosition.{FfosolvePosition}
+use Rattle.ffosolve_c.specs.declared.call_refusal.CallRefusal.{CallRefusal}
+use Rattle.ffosolve_c.specs.Refusals.{first_refused, first_refusal, position_refusal, AreSolvable}
 
 abbrev is_refused : FfosolvePosition → Bool
 is_refused p = is_some (position_refusal p)

@@ -1,3 +1,5 @@
 -- The loop that looks for the first position of a list that is refused.
--- docs/proofs.md has the argument of this crate's contracts.
+-- docs/architecture.md has the argument of this crate's contracts.
 pub mod FirstRefused
+-- What the call that reads a line tells.
+pub mod LineMeaning

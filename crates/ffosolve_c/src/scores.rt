@@ -3,17 +3,28 @@
 ghost use Rattle.std.specs.Prelude.{◌≡◌, ◌≢◌, Some, None, length, map, IfOk, IfErr, OnErr};
 ghost use Rattle.othello_rules.specs.Board.{squares};
 ghost use Rattle.othello_bits.specs.Pos.{moves_of};
-ghost use Rattle.ffosolve_c.specs.declared.refusals.CallRefusal.TheVariants as refusal;
-ghost use Rattle.ffosolve_c.specs.Exports.{discs_at, refusal_of, score_at, AreScores, IsRefusal};
+ghost use Rattle.ffosolve_c.specs.declared.call_refusal.CallRefusal.TheVariants as refusal;
+ghost use Rattle.ffosolve_c.specs.Answers.{discs_at, score_at, scores_at, AreScores};
+ghost use Rattle.ffosolve_c.specs.Refusals.{position_refusal, refusal_of, IsRefusal};
 
-use crate::positions::{FfosolvePosition, task_of};
-use crate::refusals::CallRefusal;
-use crate::requests::{table_of, table_scoring};
-use bound_table::BoundTable;
+use crate::call_refusal::CallRefusal;
+use crate::position::{FfosolvePosition, task_of};
+use crate::table::{table_of, table_scoring};
+use bound_table::{BoundTable, Bounds};
 use move_scores::score_move;
 use othello_bits::Pos;
 use othello_rules::{Square, has_square};
 use std::alloc::Global;
+
+/// What each move of a position is worth. `scores` has the score of each move, as the mover sees it,
+/// at its square's number, and 127 at the other squares. `moves` is the mask of the moves: square n
+/// is bit n.
+#[repr(C)]
+#[derive(Clone, Copy)]
+pub struct FfosolveMoveScores {
+    pub scores: [i8; 64],
+    pub moves: u64,
+}
 
 // The score of the move to the square as the mover sees it, and 127 where it is no move.
 fn score_at(table: &BoundTable, position: Pos, square: Square) -> i8
@@ -34,6 +45,24 @@ fn fill_scores(table: &BoundTable, position: Pos, scores: &mut [i8])
     let squares = Square::all();
     for i in 0..64 {
         scores[i] = score_at(table, position, squares[i]);
+    }
+}
+
+/// The scores of a position that is not refused.
+pub fn scores_at(table: &BoundTable, position: FfosolvePosition) -> FfosolveMoveScores
+    requires { position_refusal position ≡ None }
+    ensures { result ≡ scores_at table.now.scoring position }
+{
+    match task_of(position, table.scoring()) {
+        Ok(task) => {
+            let mut scores = [0; 64];
+            fill_scores(table, task.pos(), &mut scores);
+            FfosolveMoveScores {
+                scores,
+                moves: task.pos().moves(),
+            }
+        }
+        Err(_) => unreachable!(),
     }
 }
 

@@ -1,8 +1,9 @@
 //! Calls succeed where there is memory.
 
 use crate::{
-    FfosolveAnswer, FfosolvePosition, ffosolve_confirm, ffosolve_move_scores, ffosolve_solve,
-    ffosolve_solve_all,
+    FfosolveAnswer, FfosolveLine, FfosolveListed, FfosolveMoveScores, FfosolvePosition,
+    ffosolve_confirm, ffosolve_move_scores, ffosolve_move_scores_all, ffosolve_read_line,
+    ffosolve_solve, ffosolve_solve_all,
 };
 use std::alloc::Global;
 
@@ -64,6 +65,71 @@ fn scores(alloc: Global) -> ([i8; 64], u64) {
     (scores, moves)
 }
 
+fn scores_of_all(alloc: Global) -> [FfosolveMoveScores; 1] {
+    let mut found = [FfosolveMoveScores {
+        scores: [99; 64],
+        moves: 99,
+    }];
+    let positions = [UNEQUAL_CORNERS];
+    let mut at = 0;
+    if ffosolve_move_scores_all(alloc, &positions, 0, 64, &mut found, &mut at) == NO_MEMORY {
+        let _ = ffosolve_move_scores_all(alloc, &positions, 0, 64, &mut found, &mut at);
+    }
+    found
+}
+
+const LINE: &[u8] =
+    b"-OXXXXX-XXXXXXXOXXXXXXXXXXXXXXXXXXXOXXXXXXXXXXXXXXXXXXXXXXXXXXXX X; H1:+62; PS:-4;";
+
+const LISTED: FfosolveListed = FfosolveListed {
+    score: 99,
+    kind: 99,
+    square: 99,
+};
+
+fn line(alloc: Global) -> (FfosolveLine, [FfosolveListed; 3]) {
+    let mut line = FfosolveLine {
+        position: FfosolvePosition { own: 99, opp: 99 },
+        listed: 99,
+        side: 99,
+    };
+    let mut listed = [LISTED; 3];
+    let mut at = 0;
+    if ffosolve_read_line(alloc, LINE, &mut line, &mut listed, &mut at) == NO_MEMORY {
+        let _ = ffosolve_read_line(alloc, LINE, &mut line, &mut listed, &mut at);
+    }
+    (line, listed)
+}
+
+#[test]
+fn reads_a_line_where_memory_is_at_hand(rt: HostRuntime) {
+    let (line, listed) = line(rt.alloc());
+    assert!(rt;
+        line == FfosolveLine {
+            position: UNEQUAL_CORNERS,
+            listed: 2,
+            side: 0
+        }
+    );
+    assert!(rt;
+        listed[0]
+            == FfosolveListed {
+                score: 62,
+                kind: 0,
+                square: 7
+            }
+    );
+    assert!(rt;
+        listed[1]
+            == FfosolveListed {
+                score: -4,
+                kind: 1,
+                square: 64
+            }
+    );
+    assert!(rt; listed[2] == LISTED);
+}
+
 #[test]
 fn answers_where_memory_is_at_hand(rt: HostRuntime) {
     assert!(rt; answer(rt.alloc()) == FOUND);
@@ -73,4 +139,7 @@ fn answers_where_memory_is_at_hand(rt: HostRuntime) {
     wanted[0] = 52;
     wanted[7] = 62;
     assert!(rt; scores(rt.alloc()) == (wanted, 0x81));
+    let [found] = scores_of_all(rt.alloc());
+    let of_moves = found.scores;
+    assert!(rt; (of_moves, found.moves) == (wanted, 0x81));
 }

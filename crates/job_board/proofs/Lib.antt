@@ -1,8 +1,9 @@
 -- Lemmas about what each step keeps of a board, and the laws of histories and of clients.
--- Begin with BoardFacts and StateSteps; docs/proofs.md has the argument and the reading order.
+-- Begin with BoardFacts and StateSteps; docs/architecture.md has the argument.
 pub mod BoardFacts
 pub mod Deliveries
 pub mod HistoryFacts
+pub mod HistoryCalls
 pub mod HistoryAppends
 pub mod ServiceFacts
 pub mod StateSteps

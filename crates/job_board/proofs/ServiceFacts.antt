@@ -4,8 +4,8 @@ use Rattle.std.proofs.lemmas.List.{length_push}
 use Rattle.std.proofs.lemmas.Option.{same_Some}
 use Rattle.endgame_search.specs.Task.{TaskView}
 use Rattle.job_board.specs.declared.jobs.Delivery.{Delivery}
-use Rattle.job_board.specs.declared.clients.Turn.{Turn}
-use Rattle.job_board.specs.declared.clients.Turn.TheVariants.{Next, Work, Drained}
+use Rattle.job_board.specs.declared.client.Turn.{Turn}
+use Rattle.job_board.specs.declared.client.Turn.TheVariants.{Next, Work, Drained}
 use Rattle.job_board.specs.Histories.{InOrder}
 use Rattle.job_board.specs.Client.{ClientView, new_client, with_sent}
 use Rattle.job_board.specs.Turns.{IsServed}

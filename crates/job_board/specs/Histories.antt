@@ -10,7 +10,7 @@ use Rattle.job_board.specs.declared.steps.Step.{Step}
 use Rattle.job_board.specs.declared.steps.Step.TheVariants as step
 use Rattle.job_board.specs.declared.steps.Reply.{Reply}
 use Rattle.job_board.specs.declared.steps.Reply.TheVariants as reply
-use Rattle.job_board.specs.Senders.{SenderView}
+use Rattle.job_board.specs.Senders.{SenderView, is_finished}
 use Rattle.job_board.specs.Queues.{is_id_of}
 
 abbrev pub tasks_by : ℕ → Step → Reply → List TaskView
@@ -64,6 +64,13 @@ pub record IsStateOf (s : ℕ) (ss : List Step) (rs : List Reply) (state : Sende
       → slice_get state.stages k ≡ Some (stage_after s k Waiting ss rs)
   pub handed : state.handed ≡ length (deliveries_to s ss rs)
   pub closed : state.closed ≡ is_closed s ss rs
+
+-- each of n senders was closed, and each of its accepted jobs is finished
+abbrev pub HaveEnded : ℕ → List Step → List Reply → Type 0
+HaveEnded n ss rs = (s : ℕ) → s < n
+    → (is_closed s ss rs ≡ true)
+    × ((k : ℕ) → k < length (accepted_tasks s ss rs)
+    → is_finished (Some (stage_after s k Waiting ss rs)) ≡ true)
 
 -- the deliveries have the numbers from first on, one after the other, and solve the tasks of these
 -- numbers

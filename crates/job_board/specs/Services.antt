@@ -3,8 +3,8 @@
 use Rattle.std.specs.Prelude.{◌≡◌, List, [], ◌∷◌}
 use Rattle.endgame_search.specs.Task.{TaskView}
 use Rattle.job_board.specs.declared.jobs.Delivery.{Delivery}
-use Rattle.job_board.specs.declared.clients.Turn.{Turn}
-use Rattle.job_board.specs.declared.clients.Turn.TheVariants.{Next}
+use Rattle.job_board.specs.declared.client.Turn.{Turn}
+use Rattle.job_board.specs.declared.client.Turn.TheVariants.{Next}
 use Rattle.job_board.specs.Client.{ClientView, with_sent}
 use Rattle.job_board.specs.Turns.{TurnGives}
 

@@ -1,5 +1,5 @@
 -- Lists of steps with their replies (histories of the state machine).
-use Rattle.std.specs.Prelude.{◌≡◌, ℕ, List, [], ◌∷◌}
+use Rattle.std.specs.Prelude.{◌≡◌, ℕ, List, [], ◌∷◌, ◌++◌}
 use Rattle.job_board.specs.declared.jobs.Handed.TheVariants as handed
 use Rattle.job_board.specs.declared.steps.Step.{Step}
 use Rattle.job_board.specs.declared.steps.Step.TheVariants as step
@@ -53,3 +53,11 @@ content n ss rs = after_all (empty_content n) ss rs
 -- after a history of n senders, the reply of a deliver of s is `Drained`
 abbrev pub IsDrained : ℕ → ℕ → List Step → List Reply → Type 0
 IsDrained n s ss rs = handed.Drained ≡ deliver_reply (content n ss rs) s
+
+-- after any legal history that leaves the view `old`, the step with its reply continues the history
+-- to a legal one that leaves the view `new`
+abbrev pub Continues : BoardView → BoardView → Step → Reply → Type 0
+Continues old new st r =
+    (n : ℕ) (ss : List Step) (rs : List Reply) → IsLegal n ss rs → content n ss rs ≡ old
+    → IsLegal n (ss ++ st ∷ []) (rs ++ r ∷ [])
+    × (content n (ss ++ st ∷ []) (rs ++ r ∷ []) ≡ new)

@@ -4,8 +4,8 @@ use Rattle.job_board.specs.declared.jobs.Delivery.{Delivery}
 use Rattle.job_board.specs.declared.jobs.Handed.{Handed}
 use Rattle.job_board.specs.declared.jobs.Handed.TheVariants as handed
 use Rattle.job_board.specs.declared.faults.Mixed.{Mixed}
-use Rattle.job_board.specs.declared.clients.Turn.{Turn}
-use Rattle.job_board.specs.declared.clients.Turn.TheVariants.{Next, Work, Drained}
+use Rattle.job_board.specs.declared.client.Turn.{Turn}
+use Rattle.job_board.specs.declared.client.Turn.TheVariants.{Next, Work, Drained}
 use Rattle.job_board.specs.Senders.{BoardView, content_with, with_one_handed}
 use Rattle.job_board.specs.Replies.{Takes, after_take}
 use Rattle.job_board.specs.Client.{ClientView}

@@ -1,21 +1,34 @@
 //! What holds of every list of steps, in whatever order threads make them. Each function's contract
 //! is a law; calling the function does nothing.
 
-ghost use Rattle.std.specs.Prelude.{◌≡◌, ◌<◌, ◌≤◌, ◌++◌, ℕ, List, [], ◌∷◌, Some, length, map};
-ghost use Rattle.std.specs.Prelude.{slice_get, true};
-ghost use Rattle.job_board.specs.declared.clients.Turn.TheVariants.{Drained};
+ghost use Rattle.std.specs.Prelude.{◌≡◌, ◌↔◌, ◌<◌, ◌≤◌, ◌++◌, ℕ, Bool, List, [], ◌∷◌, Option, Some};
+ghost use Rattle.std.specs.Prelude.{Result, length, map, slice_get, true};
+ghost use Rattle.endgame_search.specs.Task.{TaskView};
+ghost use Rattle.job_board.specs.declared.client.Turn.TheVariants.{Drained};
+ghost use Rattle.job_board.specs.declared.faults.JobFault.{JobFault};
+ghost use Rattle.job_board.specs.declared.faults.NoSender.{NoSender};
+ghost use Rattle.job_board.specs.declared.faults.SubmitFault.{SubmitFault};
+ghost use Rattle.job_board.specs.declared.jobs.Handed.{Handed};
+ghost use Rattle.job_board.specs.declared.jobs.Job.{Job};
+ghost use Rattle.job_board.specs.declared.jobs.JobId.{JobId};
 ghost use Rattle.job_board.specs.declared.steps.Step.{Step};
+ghost use Rattle.job_board.specs.declared.steps.Step.TheVariants as step;
 ghost use Rattle.job_board.specs.declared.steps.Reply.{Reply};
-ghost use Rattle.job_board.specs.Senders.{SenderView, BoardView};
-ghost use Rattle.job_board.specs.Boards.{IsBoardView};
+ghost use Rattle.job_board.specs.declared.steps.Reply.TheVariants as reply;
+ghost use Rattle.job_board.specs.Senders.{SenderView, BoardView, empty_content};
+ghost use Rattle.job_board.specs.Boards.{AllDone, IsBoardView};
 ghost use Rattle.job_board.specs.Client.{ClientView, new_client};
+ghost use Rattle.job_board.specs.Replies.{Submits, after_submit, Takes, after_take, Finishes};
+ghost use Rattle.job_board.specs.Replies.{after_finish, give_back_reply, after_give_back};
+ghost use Rattle.job_board.specs.Replies.{deliver_reply, after_deliver, close_reply, after_close};
 ghost use Rattle.job_board.specs.Steps.{AreLawful, after_all, IsLegal, IsDrained, content};
-ghost use Rattle.job_board.specs.Histories.{InOrder, IsStateOf};
+ghost use Rattle.job_board.specs.Steps.{Continues};
+ghost use Rattle.job_board.specs.Histories.{HaveEnded, InOrder, IsStateOf};
 ghost use Rattle.job_board.specs.Histories.{accepted_tasks, deliveries_to, is_closed};
 ghost use Rattle.job_board.specs.Services.{Event, Told, Leads, sent_tasks, received_answers};
 ghost use Rattle.job_board.specs.Traces.{trace_steps, trace_replies};
 
-use crate::boards::Board;
+use crate::board::Board;
 
 /// In a legal history the answers that are delivered to a sender are, in order and each once, those
 /// of a prefix of its accepted tasks. Where the sender is drained they are those of all its
@@ -76,6 +89,37 @@ pub fn histories_continue()
     ensures content { (n : ℕ) (ss later : List Step) (rs replies : List Reply)
         → IsLegal n ss rs
         → content n (ss ++ later) (rs ++ replies) ≡ after_all (content n ss rs) later replies }
+{}
+
+/// Take any legal history, and a board whose view is the one that the history leaves. With the step
+/// and the reply of any call of the board the history is legal again, and leaves the view that the
+/// board has then; `is_done` says whether the history closes each sender and finishes all jobs. A
+/// new board has the view that the empty history leaves. Each clause is of the call of its name,
+/// and has what the contract of this call ensures as its premises; `old` is the board's view before
+/// the call, and `new` the one after it.
+pub fn calls_continue_histories()
+    ensures empty { (n : ℕ) → IsLegal n [] [] × (content n [] [] ≡ empty_content n) }
+    ensures submit { (old new : BoardView) (s : ℕ) (t : TaskView) (r : Result ℕ SubmitFault)
+        → Submits old s r → new ≡ after_submit old s t r
+        → Continues old new (step.Submit s t) (reply.Submitted r) }
+    ensures take { (old new : BoardView) (r : Option Job)
+        → Takes old r → new ≡ after_take old r
+        → Continues old new step.Take (reply.Took r) }
+    ensures finish { (old new : BoardView) (id : JobId) (a : TaskView)
+        → (r : Result (Unit {0}) JobFault)
+        → Finishes old id a r → new ≡ after_finish old id a r
+        → Continues old new (step.Finish id a) (reply.Finished r) }
+    ensures give_back { (old new : BoardView) (id : JobId) (r : Result (Unit {0}) JobFault)
+        → r ≡ give_back_reply old id → new ≡ after_give_back old id r
+        → Continues old new (step.GiveBack id) (reply.GaveBack r) }
+    ensures deliver { (old new : BoardView) (s : ℕ) (r : Handed)
+        → r ≡ deliver_reply old s → new ≡ after_deliver old s r
+        → Continues old new (step.Deliver s) (reply.Handed r) }
+    ensures close { (old new : BoardView) (s : ℕ) (r : Result Bool NoSender)
+        → r ≡ close_reply old s → new ≡ after_close old s r
+        → Continues old new (step.Close s) (reply.Closed r) }
+    ensures is_done { (n : ℕ) (ss : List Step) (rs : List Reply) → IsLegal n ss rs
+        → AllDone (content n ss rs) ↔ HaveEnded n ss rs }
 {}
 
 /// The view of every board meets `IsBoardView`, and has at most `MOST_SENDERS` senders.

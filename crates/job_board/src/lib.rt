@@ -16,19 +16,19 @@
 //! their answers came back.
 #![tactic(auto)]
 
-mod boards;
-mod clients;
-mod desks;
+mod board;
+mod client;
+mod desk;
 mod faults;
+mod job_queue;
 mod jobs;
 pub mod laws;
-mod queues;
-mod senders;
+mod sender;
 mod steps;
 
-pub use boards::Board;
-pub use clients::{Client, Turn};
-pub use desks::Desk;
+pub use board::Board;
+pub use client::{Client, Turn};
+pub use desk::Desk;
 pub use faults::{BoardFault, JobFault, Mixed, NoSender, SubmitFault};
 pub use jobs::{Delivery, Handed, Job, JobId, Stage};
 pub use steps::{Reply, Step, run_steps};

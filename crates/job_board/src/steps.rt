@@ -3,7 +3,7 @@
 ghost use Rattle.std.specs.Prelude.{◌≡◌, length, IfOk, OnErr};
 ghost use Rattle.job_board.specs.Steps.{AreLawful, after_all};
 
-use crate::boards::Board;
+use crate::board::Board;
 use crate::faults::{JobFault, NoSender, SubmitFault};
 use crate::jobs::{Handed, Job, JobId};
 use endgame_search::{Solved, Task};

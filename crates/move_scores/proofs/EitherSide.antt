@@ -2,7 +2,7 @@
 use Rattle.std.proofs.Common.{◌≡◌, ℕ, length, true, false, refl, inl, inr, neg_ℤ, sym, ap, ◌∙◌}
 use Rattle.std.specs.Prelude.{[], ◌∷◌}
 use Rattle.std.proofs.lemmas.Bool.{cases_Bool}
-use Rattle.othello_rules.specs.declared.scorings.Scoring.{Scoring}
+use Rattle.othello_rules.specs.declared.scoring.Scoring.{Scoring}
 use Rattle.othello_rules.specs.Rules.{GridView, pass, play}
 use Rattle.othello_rules.specs.Value.{can_move, value}
 use Rattle.othello_rules.specs.Colours.{colour_swap}

@@ -2,7 +2,7 @@
 
 ghost use Rattle.std.specs.Prelude.{◌≡◌, ◌≢◌, ℕ, map, neg_ℤ, Contains};
 ghost use Rattle.std.specs.List.Sorted.{IsPermutation};
-ghost use Rattle.othello_rules.specs.declared.scorings.Scoring.{Scoring};
+ghost use Rattle.othello_rules.specs.declared.scoring.Scoring.{Scoring};
 ghost use Rattle.othello_rules.specs.Rules.{GridView, moves};
 ghost use Rattle.othello_bits.specs.Pos.{PosView, IsMove, moves_of, play_of, value_of};
 ghost use Rattle.obf_text.specs.Fields.{greatest_listed};

@@ -1,5 +1,5 @@
 -- Lemmas about cutting a text and a line, the grammar against the reader, and written lines.
--- Begin with Fronts and OnlyMeaning; docs/proofs.md has the argument and the reading order.
+-- Begin with Fronts and OnlyMeaning; docs/architecture.md has the argument.
 pub mod LineLemmas
 pub mod RoomLemmas
 pub mod PartLemmas

@@ -15,7 +15,7 @@ use Rattle.obf_text.specs.Fields.{fields_of, pieces_of}
 use Rattle.obf_text.specs.Obf.{Meaning, Skipped, Holds, Faulty, Says, Skips, EndsShort, HasBadCell, HasBadSide, Spells, Entry, IsEndOrComment, IsNoSide, item_of, content_item, board_item, gap_item, side_item}
 use Rattle.obf_text.proofs.Fronts.{Stops, blanks_len, cells_len}
 use Rattle.obf_text.proofs.ListedLemmas.{lists_only}
-use Rattle.obf_text.specs.declared.faults.LineFault.TheVariants.{Short, BadCell, BadSide, Memory}
+use Rattle.obf_text.specs.declared.line_fault.LineFault.TheVariants.{Short, BadCell, BadSide, Memory}
 
 -- the meaning of a line, by the bytes behind its blanks
 item_start : (blanks rest : List ℕ) → AllPass is_blank blanks → Stops is_content rest → item_of (blanks ++ rest) ≡ content_item (length blanks) rest

@@ -10,7 +10,7 @@ use Rattle.obf_text.specs.Bytes.{cell_of, is_content, is_no_cell, side_of}
 use Rattle.obf_text.specs.Fields.{field_of, fields_of}
 use Rattle.obf_text.specs.Obf.{Entry, Faulty, Holds, Skipped, board_item, content_item, gap_item, item_of, side_item, side_item_at}
 use Rattle.obf_text.specs.Pieces.{behind_side, line_pieces}
-use Rattle.obf_text.specs.declared.faults.LineFault.{LineFault}
+use Rattle.obf_text.specs.declared.line_fault.LineFault.{LineFault}
 
 faulty_not : (f : LineFault) (entry : Entry) → Faulty f ≡ Holds entry → ⊥
 faulty_not f entry e = cc

@@ -4,8 +4,8 @@ use Rattle.std.specs.Prelude.{Result, Ok, Err, IfErr}
 use Rattle.std.proofs.lemmas.Grind.{common_steps}
 use Rattle.obf_text.specs.Obf.{EndsShort, Faulty, Gives, HasBadCell, HasBadSide, Meaning, Says, item_of, place_of}
 use Rattle.obf_text.specs.declared.entries.Item.{Item}
-use Rattle.obf_text.specs.declared.faults.LineFault.{LineFault}
-use Rattle.obf_text.specs.declared.faults.LineFault.TheVariants.{Short, BadCell, BadSide, Memory}
+use Rattle.obf_text.specs.declared.line_fault.LineFault.{LineFault}
+use Rattle.obf_text.specs.declared.line_fault.LineFault.TheVariants.{Short, BadCell, BadSide, Memory}
 use Rattle.obf_text.proofs.SomeMeaning.{says_item}
 
 short_place : (line : List ℕ) (n : ℕ) → EndsShort line n → n ≤ length line + 1

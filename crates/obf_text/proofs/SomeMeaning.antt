@@ -10,7 +10,7 @@ use Rattle.othello_rules.specs.declared.discs.Side.{Side}
 use Rattle.obf_text.specs.Bytes.{is_blank, is_cell, is_content, is_no_cell, cell_of, side_of}
 use Rattle.obf_text.specs.Fields.{fields_of, pieces_of}
 use Rattle.obf_text.specs.Obf.{Meaning, Skipped, Holds, Faulty, Says, item_of}
-use Rattle.obf_text.specs.declared.faults.LineFault.TheVariants.{Short, BadCell, BadSide}
+use Rattle.obf_text.specs.declared.line_fault.LineFault.TheVariants.{Short, BadCell, BadSide}
 use Rattle.obf_text.proofs.Fronts.{Stops, cut_of, not_false, not_true}
 use Rattle.obf_text.proofs.ListedLemmas.{lists_computed}
 use Rattle.obf_text.proofs.OnlyMeaning.{says_only}

@@ -6,7 +6,7 @@ use Rattle.std.proofs.lemmas.Int.{to_z-of_z}
 use Rattle.std.proofs.lemmas.List.{drop_all, drop_more, map_more, take_more_set}
 use Rattle.std.proofs.lemmas.Option.{get_or_from_slice_get}
 use Rattle.othello_rules.specs.declared.discs.Cell.{Cell}
-use Rattle.othello_rules.specs.declared.answers.Best.TheVariants.{Moves}
+use Rattle.othello_rules.specs.declared.answer.Best.TheVariants.{Moves}
 use Rattle.othello_rules.specs.Masks.{squares_of}
 use Rattle.obf_text.specs.declared.entries.ListedMove.TheVariants.{At}
 use Rattle.obf_text.specs.Fields.{Field}

@@ -10,8 +10,8 @@ use Rattle.obf_text.specs.Fields.{Field, Lists, pieces_of, fields_of}
 use Rattle.obf_text.specs.declared.entries.Item.{Item}
 use Rattle.obf_text.specs.declared.entries.Item.TheVariants as item
 use Rattle.obf_text.specs.declared.entries.Line.{Line}
-use Rattle.obf_text.specs.declared.faults.LineFault.{LineFault}
-use Rattle.obf_text.specs.declared.faults.LineFault.TheVariants.{Short, BadCell, BadSide, Memory}
+use Rattle.obf_text.specs.declared.line_fault.LineFault.{LineFault}
+use Rattle.obf_text.specs.declared.line_fault.LineFault.TheVariants.{Short, BadCell, BadSide, Memory}
 
 -- a position with its listed fields
 pub record Entry : Type 0 where

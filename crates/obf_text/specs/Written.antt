@@ -2,8 +2,8 @@
 -- with the score.
 use Rattle.std.specs.Prelude.{ℕ, ℤ, pos, negsuc, nat_abs, ◌<◌, ◌≤◌, ◌+◌, ◌/◌, ◌%◌, List, [], ◌∷◌, ◌++◌, map, codes}
 use Rattle.std.specs.List.{flat_map}
-use Rattle.othello_rules.specs.declared.answers.Best.{Best}
-use Rattle.othello_rules.specs.declared.answers.Best.TheVariants as best
+use Rattle.othello_rules.specs.declared.answer.Best.{Best}
+use Rattle.othello_rules.specs.declared.answer.Best.TheVariants as best
 use Rattle.othello_rules.specs.declared.discs.Cell.{Cell}
 use Rattle.othello_rules.specs.declared.discs.Cell.TheVariants as cell
 use Rattle.othello_rules.specs.declared.discs.Side.{Side}

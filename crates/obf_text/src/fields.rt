@@ -8,7 +8,7 @@ ghost use Rattle.obf_text.specs.Fields.{square_in};
 
 use crate::bytes::{blank_count, is_blank};
 use crate::entries::ListedMove;
-use crate::splits::pieces_of;
+use crate::pieces::pieces_of;
 use othello_rules::{GREATEST_SCORE, Square};
 use std::alloc::{AllocError, Global};
 

@@ -14,19 +14,19 @@
 #![tactic(auto)]
 
 mod bytes;
-mod cuts;
 mod entries;
-mod faults;
 mod fields;
 pub mod laws;
-mod reads;
-mod splits;
-mod writes;
+mod line_fault;
+mod lines;
+mod pieces;
+mod reader;
+mod writer;
 
-pub use cuts::{Lines, split_lines};
 pub use entries::{Item, Line, ListedMove, greatest_score};
-pub use faults::{LineFault, write_fault, write_too_many};
 pub use fields::{field_of, without_blanks};
-pub use reads::read_line;
-pub use splits::{Pieces, comment_of, line_pieces};
-pub use writes::{move_bytes, score_bytes, write_entry, write_line};
+pub use line_fault::{LineFault, write_fault, write_too_many};
+pub use lines::{Lines, split_lines};
+pub use pieces::{Pieces, comment_of, line_pieces};
+pub use reader::read_line;
+pub use writer::{move_bytes, score_bytes, write_entry, write_line};

@@ -6,8 +6,8 @@ use Rattle.othello_rules.specs.Masks.{in_mask}
 use Rattle.othello_rules.specs.Board.{directions, ray}
 use Rattle.othello_bits.proofs.LineSteps.{beside, line-is_walk}
 use Rattle.othello_bits.specs.Shifts.{back, can, chain, inside, line, opposite}
-use Rattle.othello_bits.specs.declared.headings.Heading.{Heading}
-use Rattle.othello_bits.specs.declared.headings.Heading.TheVariants.{North, NorthEast, East, SouthEast, South, SouthWest, West, NorthWest}
+use Rattle.othello_bits.specs.declared.mobility.Heading.{Heading}
+use Rattle.othello_bits.specs.declared.mobility.Heading.TheVariants.{North, NorthEast, East, SouthEast, South, SouthWest, West, NorthWest}
 use Rattle.othello_bits.proofs.Bits.{in_mask-or, empty_meet}
 use Rattle.othello_bits.proofs.Rays.{fits, ahead}
 

@@ -11,8 +11,8 @@ use Rattle.othello_rules.specs.Renamed.{image_by}
 use Rattle.othello_rules.proofs.Renaming.{length-moved_cells, image_by-back}
 use Rattle.othello_bits.specs.Pos.{PosView, discs, discs_of, position_of}
 use Rattle.othello_bits.specs.Symmetries.{target, inverse, image, others, symmetries, place, pair_of, image_pair, first_symmetry, canonical}
-use Rattle.othello_bits.specs.declared.symmetries.Sym.{Sym}
-use Rattle.othello_bits.specs.declared.symmetries.Sym.TheVariants.{Identity}
+use Rattle.othello_bits.specs.declared.sym.Sym.{Sym}
+use Rattle.othello_bits.specs.declared.sym.Sym.TheVariants.{Identity}
 use Rattle.othello_bits.proofs.TestMasks.{where_lt}
 use Rattle.othello_bits.proofs.PlayMeaning.{position_of-discs_of}
 use Rattle.othello_bits.proofs.SymmetryKeeps.{renaming, image-image, inverse-inverse}

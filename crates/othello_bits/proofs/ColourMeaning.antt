@@ -8,7 +8,7 @@ use Rattle.othello_rules.specs.Board.{squares}
 use Rattle.othello_rules.specs.Rules as rules
 use Rattle.othello_rules.specs.Rules.{GridView, disc, other, is_nonempty}
 use Rattle.othello_rules.specs.Value as worth
-use Rattle.othello_rules.specs.declared.scorings.Scoring.{Scoring}
+use Rattle.othello_rules.specs.declared.scoring.Scoring.{Scoring}
 use Rattle.othello_rules.specs.Colours.{swap_cell, colour_swap}
 use Rattle.othello_rules.proofs.ColourAnswers.{answer-swapped}
 use Rattle.othello_rules.proofs.ColourLaws.{flips-swapped, value-swapped}

@@ -3,8 +3,8 @@ use Rattle.std.proofs.Common.{◌≡◌, ℕ, ◌<◌, ◌&&◌, get_or, length,
 use Rattle.std.specs.List.{filter}
 use Rattle.std.proofs.lemmas.Bool.{cases_Bool}
 use Rattle.othello_rules.specs.declared.discs.Side.TheVariants.{Black}
-use Rattle.othello_rules.specs.declared.scorings.Scoring.{Scoring}
-use Rattle.othello_rules.specs.declared.answers.Best.TheVariants.{Moves}
+use Rattle.othello_rules.specs.declared.scoring.Scoring.{Scoring}
+use Rattle.othello_rules.specs.declared.answer.Best.TheVariants.{Moves}
 use Rattle.othello_rules.specs.Board.{squares}
 use Rattle.othello_rules.specs.Masks.{in_mask, mask_of, squares_of}
 use Rattle.othello_rules.specs.Rules as rules
@@ -16,7 +16,7 @@ use Rattle.othello_rules.specs.declared.discs.Cell.TheVariants.{Empty}
 use Rattle.othello_rules.proofs.Renaming.{get_or-moved_cells}
 use Rattle.othello_bits.specs.Pos.{PosView, position_of, discs_of, value_of, answer_of}
 use Rattle.othello_bits.specs.Symmetries.{target, inverse, image, mask_image, best_image, place, pair_of, image_pair, first_symmetry, canonical, image_of, canonical_of}
-use Rattle.othello_bits.specs.declared.symmetries.Sym.{Sym}
+use Rattle.othello_bits.specs.declared.sym.Sym.{Sym}
 use Rattle.othello_bits.proofs.TestMasks.{filter_again}
 use Rattle.othello_bits.proofs.AnswerLaws.{filter-filter}
 use Rattle.othello_bits.proofs.CellLaws.{length-cells_of}

@@ -5,9 +5,9 @@ use Rattle.othello_rules.specs.declared.discs.Side.{Side}
 use Rattle.othello_bits.specs.Pos.{PosView, discs, discs_of, position_of}
 use Rattle.othello_bits.specs.Images.{image_with, key, is_less}
 use Rattle.othello_bits.specs.Symmetries.{image, mask_image, symmetries, place, image_pair, first_symmetry, canonical}
-use Rattle.othello_bits.specs.declared.images.Image.{Image}
-use Rattle.othello_bits.specs.declared.symmetries.Sym.{Sym}
-use Rattle.othello_bits.specs.declared.symmetries.Sym.TheVariants.{Identity}
+use Rattle.othello_bits.specs.declared.canonical.Image.{Image}
+use Rattle.othello_bits.specs.declared.sym.Sym.{Sym}
+use Rattle.othello_bits.specs.declared.sym.Sym.TheVariants.{Identity}
 use Rattle.othello_bits.proofs.CellLaws.{AreApart}
 use Rattle.othello_bits.proofs.PlayMeaning.{AreMasks, apart-from, discs_of-position_of}
 use Rattle.othello_bits.proofs.SymmetryPlaces.{at_place}

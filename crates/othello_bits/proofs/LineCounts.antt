@@ -10,9 +10,9 @@ use Rattle.othello_rules.specs.Masks.{in_mask}
 use Rattle.othello_bits.specs.Pos.{mem}
 use Rattle.othello_bits.specs.Shifts.{line}
 use Rattle.othello_bits.specs.Lasts.{turned_along, turned_by}
-use Rattle.othello_bits.specs.declared.headings.Heading.{Heading}
-use Rattle.othello_bits.specs.declared.headings.Heading.TheVariants.{North, NorthEast, East, SouthEast, South, SouthWest, West, NorthWest}
-use Rattle.othello_bits.specs.declared.lasts.TheConstants.{TURNED_IN_LINE, DIAGONALS}
+use Rattle.othello_bits.specs.declared.mobility.Heading.{Heading}
+use Rattle.othello_bits.specs.declared.mobility.Heading.TheVariants.{North, NorthEast, East, SouthEast, South, SouthWest, West, NorthWest}
+use Rattle.othello_bits.specs.declared.last_flip.TheConstants.{TURNED_IN_LINE, DIAGONALS}
 use Rattle.othello_bits.proofs.Bits.{in_mask-and, in_mask-zero, in_mask-pow}
 use Rattle.othello_bits.proofs.Numbers.{number_below, is_number, power_lt}
 

@@ -5,8 +5,8 @@ use Rattle.std.proofs.lemmas.Bool.{agree_below_at}
 use Rattle.othello_rules.specs.Board.{directions, ray}
 use Rattle.othello_rules.proofs.Reorder.{same_list, same_list-true}
 use Rattle.othello_bits.specs.Shifts.{line}
-use Rattle.othello_bits.specs.declared.headings.Heading.{Heading}
-use Rattle.othello_bits.specs.declared.headings.Heading.TheVariants.{North, NorthEast, East, SouthEast, South, SouthWest, West, NorthWest}
+use Rattle.othello_bits.specs.declared.mobility.Heading.{Heading}
+use Rattle.othello_bits.specs.declared.mobility.Heading.TheVariants.{North, NorthEast, East, SouthEast, South, SouthWest, West, NorthWest}
 
 -- the first n squares met from q, where `next` gives the square beside another, if the board has one
 unfoldable pub walk : (ℕ → Option ℕ) → ℕ → ℕ → List ℕ

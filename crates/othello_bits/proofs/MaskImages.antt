@@ -16,7 +16,7 @@ use Rattle.othello_rules.proofs.Renaming.{same_position, length-moved_cells, get
 use Rattle.othello_rules.proofs.ImageValue.{sum_by-filter, sum_by-agree}
 use Rattle.othello_bits.specs.Pos.{PosView, discs, discs_of, cells_of, position_of, mask_where}
 use Rattle.othello_bits.specs.Symmetries.{target, inverse, image, mask_image, image_of}
-use Rattle.othello_bits.specs.declared.symmetries.Sym.{Sym}
+use Rattle.othello_bits.specs.declared.sym.Sym.{Sym}
 use Rattle.othello_bits.proofs.Bits.{in_mask-and}
 use Rattle.othello_bits.proofs.TestMasks.{in_mask-where, where_lt, is_where}
 use Rattle.othello_bits.proofs.TurnedMasks.{zero_from_none}

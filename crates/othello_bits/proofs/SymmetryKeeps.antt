@@ -7,8 +7,8 @@ use Rattle.othello_rules.specs.Rules.{GridView}
 use Rattle.othello_rules.proofs.Reorder.{same_list, without, reordered, member-list_any, list_all-member}
 use Rattle.othello_rules.proofs.Renaming.{Keeps, Keeps-from_tests, Renaming, image_by-image_by}
 use Rattle.othello_bits.specs.Symmetries.{target, inverse, image, others, symmetries}
-use Rattle.othello_bits.specs.declared.symmetries.Sym.{Sym}
-use Rattle.othello_bits.specs.declared.symmetries.Sym.TheVariants.{Identity, FlipColumns, FlipRows, HalfTurn, Transpose, TurnRight, TurnLeft, AntiTranspose}
+use Rattle.othello_bits.specs.declared.sym.Sym.{Sym}
+use Rattle.othello_bits.specs.declared.sym.Sym.TheVariants.{Identity, FlipColumns, FlipRows, HalfTurn, Transpose, TurnRight, TurnLeft, AntiTranspose}
 
 pub kept : (s : Sym) → Keeps (target s) (target (inverse s))
 unfolding ray directions squares same_list without reordered

@@ -1,8 +1,8 @@
 -- The eight symmetries by their places.
 use Rattle.std.proofs.Common.{◌≡◌, ℕ, zero, suc, ◌<◌, get_or, refl, arith}
 use Rattle.othello_bits.specs.Symmetries.{others, symmetries, place}
-use Rattle.othello_bits.specs.declared.symmetries.Sym.{Sym}
-use Rattle.othello_bits.specs.declared.symmetries.Sym.TheVariants.{Identity, FlipColumns, FlipRows, HalfTurn, Transpose, TurnRight, TurnLeft, AntiTranspose}
+use Rattle.othello_bits.specs.declared.sym.Sym.{Sym}
+use Rattle.othello_bits.specs.declared.sym.Sym.TheVariants.{Identity, FlipColumns, FlipRows, HalfTurn, Transpose, TurnRight, TurnLeft, AntiTranspose}
 
 pub place_below : (s : Sym) → place s < 8
 place_below Identity = omega arith

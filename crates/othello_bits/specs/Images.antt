@@ -1,8 +1,8 @@
 -- The masks of an image with the symmetry that leads to it, and which of two is less.
 use Rattle.std.specs.Prelude.{ℕ, ◌+◌, ◌*◌, ◌^◌, Bool, nat_lt}
 use Rattle.othello_bits.specs.Symmetries.{mask_image}
-use Rattle.othello_bits.specs.declared.images.Image.{Image}
-use Rattle.othello_bits.specs.declared.symmetries.Sym.{Sym}
+use Rattle.othello_bits.specs.declared.canonical.Image.{Image}
+use Rattle.othello_bits.specs.declared.sym.Sym.{Sym}
 
 abbrev pub image_with : ℕ → ℕ → Sym → Image
 image_with own opp s = record { own = mask_image s own; opp = mask_image s opp; sym = s }

@@ -3,7 +3,7 @@ use Rattle.std.specs.Prelude.{ℕ, ◌+◌, not, List, length}
 use Rattle.othello_rules.specs.Rules.{turned_on}
 use Rattle.othello_rules.specs.Masks.{in_mask}
 use Rattle.othello_bits.specs.Shifts.{line}
-use Rattle.othello_bits.specs.declared.headings.Heading.{Heading}
+use Rattle.othello_bits.specs.declared.mobility.Heading.{Heading}
 
 -- how many discs are turned on a line of squares
 abbrev pub turned_along : ℕ → List ℕ → ℕ

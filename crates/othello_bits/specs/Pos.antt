@@ -2,8 +2,8 @@
 use Rattle.std.specs.Prelude.{◌≡◌, ℕ, Bool, true, ◌&&◌, nat_eq, ◌==◌, List, map, ℤ, neg_ℤ, if◌then◌else◌}
 use Rattle.std.specs.List.{filter, list_any}
 use Rattle.std.specs.Ordering.{int_eq}
-use Rattle.othello_rules.specs.declared.answers.Best.{Best}
-use Rattle.othello_rules.specs.declared.answers.Best.TheVariants.{Moves, Pass, Over}
+use Rattle.othello_rules.specs.declared.answer.Best.{Best}
+use Rattle.othello_rules.specs.declared.answer.Best.TheVariants.{Moves, Pass, Over}
 use Rattle.othello_rules.specs.declared.discs.Side.{Side}
 use Rattle.othello_rules.specs.declared.discs.Side.TheVariants.{Black}
 use Rattle.othello_rules.specs.declared.discs.Cell.{Cell}
@@ -14,7 +14,7 @@ use Rattle.othello_rules.specs.Rules.{GridView, disc, other}
 use Rattle.othello_rules.specs.Answer.{AnswerView}
 use Rattle.othello_rules.specs.Value as worth
 use Rattle.othello_rules.specs.Scores.{final}
-use Rattle.othello_rules.specs.declared.scorings.Scoring.{Scoring}
+use Rattle.othello_rules.specs.declared.scoring.Scoring.{Scoring}
 use Rattle.othello_rules.specs.Masks.{mask_of, in_mask}
 
 -- the mover's discs and the other side's, as masks

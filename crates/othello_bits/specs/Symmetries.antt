@@ -2,15 +2,15 @@
 use Rattle.std.specs.Prelude.{ℕ, ◌+◌, ◌-◌, ◌*◌, ◌^◌, nat_lt, List, [], ◌∷◌, map}
 use Rattle.std.specs.List.{best_of}
 use Rattle.othello_rules.specs.declared.discs.Side.TheVariants.{Black}
-use Rattle.othello_rules.specs.declared.answers.Best.{Best}
-use Rattle.othello_rules.specs.declared.answers.Best.TheVariants.{Moves, Pass, Over}
+use Rattle.othello_rules.specs.declared.answer.Best.{Best}
+use Rattle.othello_rules.specs.declared.answer.Best.TheVariants.{Moves, Pass, Over}
 use Rattle.othello_rules.specs.Board.{square_at, column, row}
 use Rattle.othello_rules.specs.Rules.{GridView}
 use Rattle.othello_rules.specs.Renamed.{image_by}
 use Rattle.othello_rules.specs.Masks.{mask_of, squares_of}
 use Rattle.othello_bits.specs.Pos.{PosView, position_of, discs_of}
-use Rattle.othello_bits.specs.declared.symmetries.Sym.{Sym}
-use Rattle.othello_bits.specs.declared.symmetries.Sym.TheVariants.{Identity, FlipColumns, FlipRows, HalfTurn, Transpose, TurnRight, TurnLeft, AntiTranspose}
+use Rattle.othello_bits.specs.declared.sym.Sym.{Sym}
+use Rattle.othello_bits.specs.declared.sym.Sym.TheVariants.{Identity, FlipColumns, FlipRows, HalfTurn, Transpose, TurnRight, TurnLeft, AntiTranspose}
 
 -- where the square in column c and row r goes
 abbrev pub sends : Sym → ℕ → ℕ → ℕ

@@ -7,7 +7,7 @@ use Rattle.othello_rules.specs.Masks.{in_mask, mask_of}
 use Rattle.othello_rules.specs.Renamed.{moved_cells}
 use Rattle.othello_bits.specs.Pos.{PosView, discs, cells_of, position_of, discs_of}
 use Rattle.othello_bits.specs.Symmetries.{target, others, symmetries, first_symmetry, canonical_of}
-use Rattle.othello_bits.specs.declared.symmetries.Sym.TheVariants.{HalfTurn, FlipRows}
+use Rattle.othello_bits.specs.declared.sym.Sym.TheVariants.{HalfTurn, FlipRows}
 
 images_of_h1 : map (λ s. target s 7) symmetries ≡ 7 ∷ 0 ∷ 63 ∷ 56 ∷ 56 ∷ 63 ∷ 0 ∷ 7 ∷ []
 unfolding others

@@ -6,7 +6,7 @@ ghost use Rattle.std.specs.List.{Contains};
 ghost use Rattle.othello_rules.specs.declared.discs.Side.{Side};
 ghost use Rattle.othello_rules.specs.declared.discs.Side.TheVariants as side;
 ghost use Rattle.othello_rules.specs.declared.discs.Cell.TheVariants.{Empty};
-ghost use Rattle.othello_rules.specs.declared.scorings.Scoring.{Scoring};
+ghost use Rattle.othello_rules.specs.declared.scoring.Scoring.{Scoring};
 ghost use Rattle.othello_rules.specs.Board.{square_at};
 ghost use Rattle.othello_rules.specs.Masks.{in_mask};
 ghost use Rattle.othello_rules.specs.Rules.{GridView, is_move, play};
@@ -19,8 +19,8 @@ ghost use Rattle.othello_bits.specs.Symmetries.{target, inverse, symmetries, pla
 ghost use Rattle.othello_bits.specs.Symmetries.{image, mask_image, best_image, image_of};
 ghost use Rattle.othello_bits.specs.Symmetries.{pair_of, image_pair, first_symmetry};
 ghost use Rattle.othello_bits.specs.Symmetries.{canonical, canonical_of};
-ghost use Rattle.othello_bits.specs.declared.symmetries.Sym.{Sym};
-ghost use Rattle.othello_bits.specs.declared.symmetries.Sym.TheVariants as sym;
+ghost use Rattle.othello_bits.specs.declared.sym.Sym.{Sym};
+ghost use Rattle.othello_bits.specs.declared.sym.Sym.TheVariants as sym;
 
 /// The value of a position of two masks is the one of textbook minimax, from -64 to 64. A move
 /// fills one empty square, and a pass fills none.

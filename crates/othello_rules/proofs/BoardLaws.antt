@@ -2,7 +2,7 @@
 use Rattle.std.proofs.Common.{◌≡◌, ℕ, ◌+◌, ◌<◌, [], ◌∷◌, ◌++◌, length, get_or, take, ◌∙◌, ap, arith}
 use Rattle.std.proofs.lemmas.List.{take_more}
 use Rattle.std.proofs.lemmas.List.FromFn.{length-map-range_with_len, get_or-map-range_with_len}
-use Rattle.othello_rules.specs.declared.directions.Direction.{Direction}
+use Rattle.othello_rules.specs.declared.direction.Direction.{Direction}
 use Rattle.othello_rules.specs.Board.{room, square_after, ray}
 
 pub length-ray : (d : Direction) (q : ℕ) → length (ray d q) ≡ room d q

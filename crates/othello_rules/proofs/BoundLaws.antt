@@ -6,7 +6,7 @@ use Rattle.std.proofs.lemmas.Bool.{true≢false, false_from_ne_true, true_from_n
 use Rattle.othello_rules.proofs.MoveLaws.{is_move-from_Contains, move_on_board, square_below, is_nonempty_not}
 use Rattle.std.proofs.lemmas.Int.{fold-int_max_bounds, fold-int_max_reached}
 use Rattle.std.proofs.lemmas.List.Elements.{All-contains}
-use Rattle.othello_rules.specs.declared.scorings.Scoring.{Scoring}
+use Rattle.othello_rules.specs.declared.scoring.Scoring.{Scoring}
 use Rattle.othello_rules.specs.Rules.{GridView, moves, is_nonempty, is_move}
 use Rattle.othello_rules.specs.Value.{greatest, can_move, worth, best_worth, value}
 use Rattle.othello_rules.proofs.ListLaws.{Contains-head, Contains-cons, Contains-cons_cases, Contains-nil}

@@ -3,8 +3,8 @@ use Rattle.std.proofs.Common.{◌≡◌, ℕ, sym, ap, ◌∙◌, inl, inr, neg_
 use Rattle.std.specs.List.{filter}
 use Rattle.std.specs.Ordering.{int_eq}
 use Rattle.std.proofs.lemmas.Bool.{cases_Bool}
-use Rattle.othello_rules.specs.declared.scorings.Scoring.{Scoring}
-use Rattle.othello_rules.specs.declared.answers.Best.TheVariants.{Moves}
+use Rattle.othello_rules.specs.declared.scoring.Scoring.{Scoring}
+use Rattle.othello_rules.specs.declared.answer.Best.TheVariants.{Moves}
 use Rattle.othello_rules.specs.Rules.{GridView, pass, play}
 use Rattle.othello_rules.specs.Masks.{mask_of}
 use Rattle.othello_rules.specs.Value.{can_move, value, is_best, best_moves, best, answer}

@@ -6,13 +6,13 @@ use Rattle.std.specs.List.{count_by, list_any, filter, enumerate_from}
 use Rattle.std.proofs.lemmas.Bool.{cases_Bool}
 use Rattle.std.proofs.lemmas.Option.{slice_get-map}
 use Rattle.std.proofs.lemmas.List.Sums.{sum_by-cons}
-use Rattle.othello_rules.specs.declared.directions.Direction.{Direction}
+use Rattle.othello_rules.specs.declared.direction.Direction.{Direction}
 use Rattle.othello_rules.specs.declared.discs.Side.{Side}
 use Rattle.othello_rules.specs.declared.discs.Side.TheVariants as side
 use Rattle.othello_rules.specs.declared.discs.Cell.{Cell}
 use Rattle.othello_rules.specs.declared.discs.Cell.TheVariants as cell
 use Rattle.othello_rules.specs.Board.{squares, ray}
-use Rattle.othello_rules.specs.declared.scorings.Scoring.{Scoring}
+use Rattle.othello_rules.specs.declared.scoring.Scoring.{Scoring}
 use Rattle.othello_rules.specs.Rules.{GridView, has, own, opposing, other, disc, same_cell, is_some_cell, turned_on, turned, flips, is_move, is_nonempty, moves, pass, painted_cells, painted_cell, play, count_of}
 use Rattle.othello_rules.specs.Scores.{score_of, final}
 use Rattle.othello_rules.specs.Colours.{swap_cell, colour_swap}

@@ -1,5 +1,5 @@
 -- Lemmas about squares and rays, moves and the value; then colours, scorings and images.
--- Begin with TurnLaws and ValueLaws; docs/proofs.md has the argument and the reading order.
+-- Begin with TurnLaws and ValueLaws; docs/architecture.md has the argument.
 pub mod BoardLaws
 pub mod RayLaws
 pub mod SquareLaws

@@ -7,9 +7,9 @@ use Rattle.std.proofs.lemmas.List.Sums.{sum_by_push, sum_by-cons}
 use Rattle.std.proofs.lemmas.Nat.{pow_pos}
 use Rattle.std.proofs.lemmas.Bool.{false_from_ne_true, cases_Bool}
 use Rattle.std.proofs.lemmas.Bool.Decides.{Decides-int_eq}
-use Rattle.othello_rules.specs.declared.scorings.Scoring.{Scoring}
+use Rattle.othello_rules.specs.declared.scoring.Scoring.{Scoring}
 use Rattle.othello_rules.specs.Rules.{GridView, moves, is_move, pass}
-use Rattle.othello_rules.specs.declared.answers.Best.TheVariants.{Moves, Pass, Over}
+use Rattle.othello_rules.specs.declared.answer.Best.TheVariants.{Moves, Pass, Over}
 use Rattle.othello_rules.specs.Answer.{IsBest}
 use Rattle.othello_rules.specs.Value.{can_move, worth, value, is_best, best_moves, best}
 use Rattle.othello_rules.specs.Masks.{mask_of}

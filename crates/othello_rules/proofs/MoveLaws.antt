@@ -6,7 +6,7 @@ use Rattle.std.specs.List.{Contains, flat_map, range_with_len}
 use Rattle.std.proofs.lemmas.Bool.{cond-true, cond-false, cases_Bool, true≢false}
 use Rattle.std.proofs.lemmas.List.Elements.{Contains-get_or}
 use Rattle.std.proofs.lemmas.List.FromFn.{length-range_with_len, get_or-range_with_len}
-use Rattle.othello_rules.specs.declared.directions.Direction.{Direction}
+use Rattle.othello_rules.specs.declared.direction.Direction.{Direction}
 use Rattle.othello_rules.specs.declared.discs.Cell.TheVariants.{Empty}
 use Rattle.othello_rules.specs.Board.{squares, directions, ray}
 use Rattle.othello_rules.specs.Rules.{GridView, has, own, opposing, run, closes, turned, flips, is_nonempty, is_move, moves}

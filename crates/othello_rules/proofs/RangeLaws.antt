@@ -10,10 +10,10 @@ use Rattle.othello_rules.specs.declared.discs.Side.{Side}
 use Rattle.othello_rules.specs.declared.discs.Side.TheVariants as side
 use Rattle.othello_rules.specs.declared.discs.Cell.{Cell}
 use Rattle.othello_rules.specs.declared.discs.Cell.TheVariants as cell
-use Rattle.othello_rules.specs.declared.scorings.Scoring.{Scoring}
+use Rattle.othello_rules.specs.declared.scoring.Scoring.{Scoring}
 use Rattle.othello_rules.specs.Rules.{GridView, own, opposing, other, disc, same_cell, count_of, moves, play, pass}
 use Rattle.othello_rules.specs.Scores.{score_of, final}
-use Rattle.othello_rules.specs.declared.scorings.Scoring.TheVariants.{Winner, Discs, Sign}
+use Rattle.othello_rules.specs.declared.scoring.Scoring.TheVariants.{Winner, Discs, Sign}
 use Rattle.othello_rules.specs.Answer.{IsScore}
 use Rattle.othello_rules.specs.Value.{greatest, can_move, worth, best_worth, empties, value_at, value}
 use Rattle.othello_rules.proofs.CountLaws.{length-play}

@@ -5,7 +5,7 @@ use Rattle.std.proofs.lemmas.Bool.{agree_below, agree_below_at, eqb-true, ltb-tr
 use Rattle.std.proofs.lemmas.List.{same_lists, get_or_default}
 use Rattle.std.proofs.lemmas.List.FromFn.{length-map-range_with_len, get_or-map-range_with_len, fill_by_all}
 use Rattle.std.proofs.lemmas.Option.{slice_get-get_or}
-use Rattle.othello_rules.specs.declared.directions.Direction.{Direction}
+use Rattle.othello_rules.specs.declared.direction.Direction.{Direction}
 use Rattle.othello_rules.specs.declared.discs.Cell.{Cell}
 use Rattle.othello_rules.specs.declared.discs.Cell.TheVariants.{Empty}
 use Rattle.othello_rules.specs.Board.{squares, directions, ray}

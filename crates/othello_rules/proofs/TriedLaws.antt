@@ -5,7 +5,7 @@ use Rattle.std.specs.Int.{int_max}
 use Rattle.std.proofs.lemmas.List.{map-append}
 use Rattle.std.proofs.lemmas.List.Sums.{fold_push}
 use Rattle.std.proofs.lemmas.Bool.{cases_Bool}
-use Rattle.othello_rules.specs.declared.scorings.Scoring.{Scoring}
+use Rattle.othello_rules.specs.declared.scoring.Scoring.{Scoring}
 use Rattle.othello_rules.specs.Rules.{GridView, moves, is_move, is_nonempty, play, pass}
 use Rattle.othello_rules.proofs.SquareLaws.{first_squares, first_squares_none, first_squares_yes, first_squares_no, first_squares_all}
 use Rattle.othello_rules.proofs.CountLaws.{empties-play, empties-pass}

@@ -1,7 +1,7 @@
 -- What a move turns in one direction, by the index of the first square met that is not opposing.
 use Rattle.std.proofs.Common.{◌≡◌, ◌∙◌, ℕ, zero, suc, ◌+◌, ◌<◌, Bool, true, false, List, [], ◌∷◌, length, get_or, take, ap, arith, Option, Some, None, refl}
 use Rattle.std.specs.Prelude.{slice_get}
-use Rattle.othello_rules.specs.declared.directions.Direction.{Direction}
+use Rattle.othello_rules.specs.declared.direction.Direction.{Direction}
 use Rattle.othello_rules.specs.declared.discs.Side.{Side}
 use Rattle.othello_rules.specs.declared.discs.Side.TheVariants as side
 use Rattle.othello_rules.specs.declared.discs.Cell.{Cell}

@@ -1,7 +1,7 @@
 -- What contracts see of an answer.
 use Rattle.std.specs.Prelude.{◌<◌, ℤ, negsuc, pos, ◌≤ℤ◌, ⊤}
-use Rattle.othello_rules.specs.declared.answers.Best.{Best}
-use Rattle.othello_rules.specs.declared.answers.Best.TheVariants.{Moves, Pass, Over}
+use Rattle.othello_rules.specs.declared.answer.Best.{Best}
+use Rattle.othello_rules.specs.declared.answer.Best.TheVariants.{Moves, Pass, Over}
 
 pub record AnswerView : Type 0 where
   pub score : ℤ

@@ -2,9 +2,9 @@
 -- (World Othello Federation rules: columns A to H from left to right, rows 1 to 8 from top to bottom).
 use Rattle.std.specs.Prelude.{◌≡◌, ◌⊎◌, ℕ, ◌+◌, ◌-◌, ◌*◌, ◌/◌, ◌%◌, min, List, [], ◌∷◌, map}
 use Rattle.std.specs.List.{range_with_len}
-use Rattle.othello_rules.specs.declared.directions.Step.{Step}
-use Rattle.othello_rules.specs.declared.directions.Step.TheVariants.{Back, Stay, Ahead}
-use Rattle.othello_rules.specs.declared.directions.Direction.{Direction}
+use Rattle.othello_rules.specs.declared.direction.Step.{Step}
+use Rattle.othello_rules.specs.declared.direction.Step.TheVariants.{Back, Stay, Ahead}
+use Rattle.othello_rules.specs.declared.direction.Direction.{Direction}
 
 -- the square in column c and row r, both from 0, has the number c + 8 * r
 abbrev pub square_at : ℕ → ℕ → ℕ

@@ -1,8 +1,8 @@
 -- The square beside a square in a direction, if the board has one. The law of rays is stated by it.
 use Rattle.std.specs.Prelude.{ℕ, ◌+◌, ◌-◌, nat_lt, if◌then◌else◌, Option, Some, None}
-use Rattle.othello_rules.specs.declared.directions.Step.{Step}
-use Rattle.othello_rules.specs.declared.directions.Step.TheVariants.{Back, Stay, Ahead}
-use Rattle.othello_rules.specs.declared.directions.Direction.{Direction}
+use Rattle.othello_rules.specs.declared.direction.Step.{Step}
+use Rattle.othello_rules.specs.declared.direction.Step.TheVariants.{Back, Stay, Ahead}
+use Rattle.othello_rules.specs.declared.direction.Direction.{Direction}
 use Rattle.othello_rules.specs.Board.{square_at, column, row}
 
 -- the next column, or row, of the board: there is none behind the first nor ahead of the last

@@ -4,9 +4,9 @@ use Rattle.std.specs.List.{filter, fold}
 use Rattle.std.specs.Int.{int_max}
 use Rattle.std.specs.Ordering.{int_eq}
 use Rattle.othello_rules.specs.declared.discs.Cell.TheVariants.{Empty}
-use Rattle.othello_rules.specs.declared.scorings.Scoring.{Scoring}
-use Rattle.othello_rules.specs.declared.answers.Best.{Best}
-use Rattle.othello_rules.specs.declared.answers.Best.TheVariants.{Moves, Pass, Over}
+use Rattle.othello_rules.specs.declared.scoring.Scoring.{Scoring}
+use Rattle.othello_rules.specs.declared.answer.Best.{Best}
+use Rattle.othello_rules.specs.declared.answer.Best.TheVariants.{Moves, Pass, Over}
 use Rattle.othello_rules.specs.Rules.{GridView, moves, pass, play, count_of, is_nonempty}
 use Rattle.othello_rules.specs.Masks.{mask_of}
 use Rattle.othello_rules.specs.Scores.{final}

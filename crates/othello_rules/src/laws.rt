@@ -4,9 +4,9 @@ ghost use Rattle.std.specs.Prelude.{◌≡◌, ◌≢◌, ◌<◌, ◌≤◌, �
 ghost use Rattle.std.specs.Prelude.{neg_ℤ, length, map};
 ghost use Rattle.std.specs.List.{Contains};
 ghost use Rattle.std.specs.Int.{int_signum};
-ghost use Rattle.othello_rules.specs.declared.directions.Direction.{Direction};
-ghost use Rattle.othello_rules.specs.declared.scorings.Scoring.{Scoring};
-ghost use Rattle.othello_rules.specs.declared.scorings.Scoring.TheVariants.{Sign};
+ghost use Rattle.othello_rules.specs.declared.direction.Direction.{Direction};
+ghost use Rattle.othello_rules.specs.declared.scoring.Scoring.{Scoring};
+ghost use Rattle.othello_rules.specs.declared.scoring.Scoring.TheVariants.{Sign};
 ghost use Rattle.othello_rules.specs.Board.{directions, ray};
 ghost use Rattle.othello_rules.specs.Neighbours.{neighbour};
 ghost use Rattle.othello_rules.specs.Rules.{GridView, IsOver, moves, pass, play};

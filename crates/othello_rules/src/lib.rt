@@ -12,20 +12,20 @@
 //! ```
 #![tactic(auto)]
 
-mod answers;
-mod directions;
+mod answer;
+mod direction;
 mod discs;
-mod faults;
-mod grids;
+mod grid;
 pub mod laws;
 mod masks;
-mod scorings;
-mod squares;
+mod rule_fault;
+mod scoring;
+mod square;
 
-pub use answers::{Answer, Best};
+pub use answer::{Answer, Best};
 pub use discs::{Cell, Side};
-pub use faults::RuleFault;
-pub use grids::Grid;
+pub use grid::Grid;
 pub use masks::{has_square, squares_in};
-pub use scorings::{GREATEST_SCORE, Scoring};
-pub use squares::Square;
+pub use rule_fault::RuleFault;
+pub use scoring::{GREATEST_SCORE, Scoring};
+pub use square::Square;

@@ -3,7 +3,7 @@
 ghost use Rattle.std.specs.Prelude.{◌≡◌};
 ghost use Rattle.othello_rules.specs.Masks.{in_mask, squares_of};
 
-use crate::squares::Square;
+use crate::square::Square;
 use arrayvec::ArrayVec;
 
 /// Whether a square is in a mask: square n is bit n, so A1 is bit 0.

@@ -58,6 +58,16 @@ prints_front old now next rest all h k =
     prints_stop old now next rest [] all
     (subst (λ t. Prints old now t all) (sym (append-nil rest)) h) k
 
+-- of what is left, a front is written and `after` is left of it
+pub prints_part : (old now next : Option (List ℕ)) (before after more all : List ℕ)
+    → Prints old now (before ++ more) all → Prints now next after before
+    → Prints old next (after ++ more) all
+prints_part old now next before after more all h k =
+    prints_more old now next k.done (after ++ more) all
+    (subst (λ t. Prints old now t all)
+    (ap (λ t. t ++ more) k.whole ∙ append_assoc k.done after more) h)
+    k.written
+
 -- a write that took `count` bytes
 pub prints_some : (old now : Option (List ℕ)) (all : List ℕ) (count : ℕ)
     → Appends old now (take count all) → Prints old now (drop count all) all

@@ -6,7 +6,7 @@ use Rattle.std.specs.Prelude.{nat_abs}
 use Rattle.std.specs.List.{AllByRecursion, filter, fold, range_with_len}
 use Rattle.std.proofs.lemmas.Bool.{cases_Bool}
 use Rattle.othello_rules.specs.Board.{squares}
-use Rattle.othello_rules.specs.declared.scorings.Scoring.{Scoring}
+use Rattle.othello_rules.specs.declared.scoring.Scoring.{Scoring}
 use Rattle.othello_rules.specs.Rules.{GridView, is_move, moves, pass, play}
 use Rattle.othello_rules.specs.Value.{can_move, value}
 use Rattle.othello_rules.proofs.CountLaws.{length-play}

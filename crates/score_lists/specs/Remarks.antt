@@ -1,11 +1,13 @@
--- The remarks on the pieces of a line.
+-- The remarks on a line: on its pieces, and on best moves that it leaves out.
 use Rattle.std.specs.Prelude.{ℕ, ℤ, Bool, true, false, List, [], ◌∷◌, ◌++◌, Option, Some, None}
-use Rattle.std.specs.Prelude.{option_map, codes}
+use Rattle.std.specs.Prelude.{option_map, codes, if◌then◌else◌}
 use Rattle.std.specs.List.{filter_map}
 use Rattle.obf_text.specs.Fields.{Field, field_of, without_blanks}
 use Rattle.obf_text.specs.Written.{move_text, score_text}
-use Rattle.score_lists.specs.Checks.{wrong_in}
+use Rattle.obf_text.specs.declared.entries.ListedMove.{ListedMove}
+use Rattle.score_lists.specs.Checks.{asks_for_best, is_left_out, wrong_in}
 use Rattle.score_lists.specs.declared.checks.Wrong.{Wrong}
+use Rattle.score_lists.specs.declared.demands.Listing.{Listing}
 
 -- the score of a move, or that the position has no such move
 unfoldable pub verdict_text : Option ℤ → List ℕ
@@ -43,6 +45,25 @@ remark_of scores piece = remark_by scores piece (field_of piece)
 -- the remarks of pieces, in their order
 abbrev pub remarks : List Field → List (List ℕ) → List (List ℕ)
 remarks scores pieces = filter_map (remark_of scores) pieces
+
+-- `best move A1 is not listed`
+unfoldable pub left_out_text : ListedMove → List ℕ
+left_out_text move = codes "best move " ++ (move_text move ++ codes " is not listed")
+
+-- the remark on a move of the position; none where it is listed, or is no best move
+abbrev pub left_out_remark : List Field → List Field → Field → Option (List ℕ)
+left_out_remark scores listed f =
+    if is_left_out scores listed f then Some (left_out_text f.0) else None
+
+-- the remarks on best moves that are not listed, where they are asked for and the line lists moves
+abbrev pub left_out_remarks : Listing → List Field → List Field → List (List ℕ)
+left_out_remarks listing scores listed =
+    if asks_for_best listing listed then filter_map (left_out_remark scores listed) scores else []
+
+-- the remarks on a line: those on its pieces, and then those on the moves that it leaves out
+abbrev pub line_remarks : Listing → List Field → List Field → List (List ℕ) → List (List ℕ)
+line_remarks listing scores listed pieces =
+    remarks scores pieces ++ left_out_remarks listing scores listed
 
 abbrev pub has_remarks : List (List ℕ) → Bool
 has_remarks [] = false

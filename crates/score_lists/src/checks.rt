@@ -3,7 +3,7 @@
 ghost use Rattle.std.specs.Prelude.{◌≡◌, option_map};
 ghost use Rattle.std.specs.List.{find};
 ghost use Rattle.obf_text.specs.declared.entries.ListedMove.TheVariants.{At};
-ghost use Rattle.score_lists.specs.Checks.{same_move, score_in, wrong_in};
+ghost use Rattle.score_lists.specs.Checks.{is_best, is_left_out, same_move, score_in, wrong_in};
 
 use obf_text::ListedMove;
 use othello_rules::Square;
@@ -75,5 +75,27 @@ pub fn wrong_in(scores: &[(ListedMove, i8)], field: &(ListedMove, i8)) -> Option
                 score: Some(score),
             })
         }
+    }
+}
+
+// Whether no move has a greater score.
+fn is_best(scores: &[(ListedMove, i8)], score: i8) -> bool
+    ensures { result ≡ is_best scores.now score }
+{
+    scores.iter().all(|field| field.1 <= score)
+}
+
+/// Whether a move of the position, which is a field of its scores, is a best one and not listed. A
+/// pass and the end of the game are no moves to choose.
+pub(crate) fn is_left_out(
+    scores: &[(ListedMove, i8)],
+    listed: &[(ListedMove, i8)],
+    field: &(ListedMove, i8),
+) -> bool
+    ensures { result ≡ is_left_out scores.now listed.now field.now }
+{
+    match field.0 {
+        ListedMove::At(_) => { is_best(scores, field.1) && score_in(listed, field.0).is_none() }
+        _ => false,
     }
 }

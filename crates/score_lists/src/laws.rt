@@ -1,7 +1,7 @@
 //! Laws of printed lists. Each function's body is empty: its contract is the law.
 
 ghost use Rattle.std.specs.Prelude.{◌≡◌, ℕ, List, ◌∷◌, ◌++◌, length};
-ghost use Rattle.othello_rules.specs.declared.scorings.Scoring.{Scoring};
+ghost use Rattle.othello_rules.specs.declared.scoring.Scoring.{Scoring};
 ghost use Rattle.othello_rules.specs.Rules.{GridView};
 ghost use Rattle.obf_text.specs.Obf.{Holds, item_of};
 ghost use Rattle.obf_text.specs.Written.{entry_text};

@@ -3,10 +3,14 @@
 #![tactic(auto)]
 
 mod checks;
+mod chunks;
+mod demands;
 pub mod laws;
 mod lines;
 mod lists;
 mod remarks;
+mod started;
 
 pub use checks::{Wrong, wrong_in};
+pub use demands::{Demands, Listing};
 pub use lists::{ListFault, write_lists};

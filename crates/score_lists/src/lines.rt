@@ -6,21 +6,23 @@ ghost use Rattle.std.specs.Io.KnownBytes.{Appends};
 ghost use Rattle.obf_text.specs.Faults.{line_fault_text, too_many_text};
 ghost use Rattle.obf_text.specs.Obf.{Holds, entry_of, item_of};
 ghost use Rattle.obf_text.specs.Pieces.{line_pieces};
-ghost use Rattle.obf_text.specs.declared.faults.LineFault.TheVariants.{Memory};
-ghost use Rattle.score_lists.specs.Lines.{comment_text, is_right, kept_text};
+ghost use Rattle.obf_text.specs.declared.line_fault.LineFault.TheVariants.{Memory};
+ghost use Rattle.obf_text.specs.LineText.{lines_of};
+ghost use Rattle.score_lists.specs.Lines.{are_right, comment_text, is_right, kept_text};
 ghost use Rattle.score_lists.specs.Lines.{out_text, quoted_text, refused_text, scored_text};
-ghost use Rattle.score_lists.specs.Remarks.{has_remarks, remarks};
+ghost use Rattle.score_lists.specs.Lines.{scores_text};
+ghost use Rattle.score_lists.specs.Remarks.{has_remarks, line_remarks};
 
-use crate::remarks::write_remarks;
+use crate::demands::{Demands, Listing};
+use crate::remarks::write_line_remarks;
 use bound_table::Bounds;
 use endgame_search::{Task, TooMany};
 use move_scores::score_moves;
 use obf_text::{
-    Item, Line, LineFault, ListedMove, comment_of, read_line, write_entry, write_fault,
-    write_too_many,
+    Item, Line, LineFault, ListedMove, comment_of, read_line, split_lines, write_entry,
+    write_fault, write_too_many,
 };
 use othello_bits::Pos;
-use othello_rules::Grid;
 use std::alloc::{AllocError, Global};
 use std::io;
 use std::io::Write;
@@ -76,23 +78,25 @@ fn write_comment<W: Write>(writer: &mut W, comment: &[u8]) -> io::Result<()>
     write_kept(writer, comment)
 }
 
-// Writes the line of a position: the position with its scores, the remarks on the pieces of its
-// line, and the line's comment. Returns whether there is no remark.
+// Writes the line of a position: the position with its scores, the remarks on its line, and the
+// line's comment. Returns whether there is no remark.
 #[tactic(auto, unfolding(crate::specs::Lines::scored_text))]
 fn write_entry_line<W: Write>(
     writer: &mut W,
-    grid: &Grid,
+    listing: Listing,
+    entry: &Line,
     scores: &[(ListedMove, i8)],
     line: &[u8],
 ) -> io::Result<bool>
     requires { All (λ f. nat_abs f.1 < 100) scores.now }
     ensures written { OnOk result (Appends (W.contents writer.old)
-        (W.contents writer.new) (scored_text grid.now scores.now line.now)) }
+        (W.contents writer.new) (scored_text listing (entry_of entry.now) scores.now line.now)) }
     ensures right { IfOk result
-        (λ right. right ≡ not (has_remarks (remarks scores.now (line_pieces line.now)))) }
+        (λ right. right ≡ not (has_remarks
+        (line_remarks listing scores.now (entry_of entry.now).listed (line_pieces line.now)))) }
 {
-    write_entry(writer, grid, scores)?;
-    let found = write_remarks(writer, scores, line)?;
+    write_entry(writer, &entry.grid, scores)?;
+    let found = write_line_remarks(writer, listing, scores, &entry.listed, line)?;
     write_comment(writer, comment_of(line))?;
     Ok(!found)
 }
@@ -102,23 +106,23 @@ fn write_entry_line<W: Write>(
 fn write_scored<T: Bounds, W: Write>(
     table: &T,
     writer: &mut W,
-    limit: u8,
+    demands: Demands,
     line: &[u8],
     entry: &Line,
 ) -> io::Result<bool>
-    requires { limit ≤ 60 }
+    requires { demands.limit ≤ 60 }
     ensures written { OnOk result (Appends (W.contents writer.old) (W.contents writer.new)
-        (out_text (T.scoring table.now) limit line.now (Holds (entry_of entry.now)))) }
+        (out_text (T.scoring table.now) demands line.now (Holds (entry_of entry.now)))) }
     ensures right { IfOk result (λ right. right
-        ≡ is_right (T.scoring table.now) limit line.now (Holds (entry_of entry.now))) }
+        ≡ is_right (T.scoring table.now) demands line.now (Holds (entry_of entry.now))) }
 {
-    match Task::new(Pos::of_grid(&entry.grid), limit, table.scoring()) {
+    match Task::new(Pos::of_grid(&entry.grid), demands.limit, table.scoring()) {
         Ok(task) => {
             let scored = score_moves(table, task);
-            write_entry_line(writer, &entry.grid, scored.fields(), line)
+            write_entry_line(writer, demands.listing, entry, scored.fields(), line)
         }
         Err(TooMany(found)) => {
-            write_many(writer, found, limit, line)?;
+            write_many(writer, found, demands.limit, line)?;
             Ok(false)
         }
     }
@@ -157,48 +161,70 @@ fn write_item<T: Bounds, W: Write>(
     table: &T,
     alloc: Global,
     writer: &mut W,
-    limit: u8,
+    demands: Demands,
     line: &[u8],
 ) -> io::Result<bool>
-    requires { limit ≤ 60 }
+    requires { demands.limit ≤ 60 }
     ensures written { OnOk result (Appends (W.contents writer.old) (W.contents writer.new)
-        (out_text (T.scoring table.now) limit line.now (item_of line.now))) }
+        (out_text (T.scoring table.now) demands line.now (item_of line.now))) }
     ensures right { IfOk result
-        (λ right. right ≡ is_right (T.scoring table.now) limit line.now (item_of line.now)) }
+        (λ right. right ≡ is_right (T.scoring table.now) demands line.now (item_of line.now)) }
 {
     match read_line(alloc, line) {
         Ok(Item::Skip) => write_skipped(writer, line),
-        Ok(Item::Entry(entry)) => write_scored(table, writer, limit, line, &entry),
+        Ok(Item::Entry(entry)) => write_scored(table, writer, demands, line, &entry),
         Err(fault) => write_refused(writer, fault, line),
     }
 }
 
-/// The text that is printed for a line, and whether the line is right: it is not refused, and no
-/// remark is made on it.
-#[derive(Drop)]
-pub(crate) struct LineText {
-    pub(crate) bytes: Vec<u8>,
-    pub(crate) right: bool,
-}
-
-/// The text that is printed for a line. A line that is skipped is printed as it is. A line that is
-/// refused is printed as a comment with the reason and the line. A position is printed with every
-/// move's score, with the remarks on its line, and with the line's comment.
-pub(crate) fn line_text<T: Bounds>(
+// Writes the texts of a text's lines. Returns whether all lines are right.
+fn write_items<T: Bounds, W: Write>(
     table: &T,
     alloc: Global,
-    limit: u8,
-    line: &[u8],
-) -> Result<LineText, AllocError>
-    requires { limit ≤ 60 }
-    ensures bytes { IfOk result (λ text. text.bytes.items
-        ≡ out_text (T.scoring table.now) limit line.now (item_of line.now)) }
-    ensures right { IfOk result (λ text. text.right
-        ≡ is_right (T.scoring table.now) limit line.now (item_of line.now)) }
+    writer: &mut W,
+    demands: Demands,
+    text: &[u8],
+) -> io::Result<bool>
+    requires { demands.limit ≤ 60 }
+    ensures written { OnOk result (Appends (W.contents writer.old) (W.contents writer.new)
+        (scores_text (T.scoring table.now) demands text.now)) }
+    ensures right { IfOk result
+        (λ right. right ≡ are_right (T.scoring table.now) demands (lines_of text.now)) }
+{
+    let mut right = true;
+    for line in split_lines(text) {
+        let line_right = write_item(table, alloc, writer, demands, line)?;
+        right &= line_right;
+    }
+    Ok(right)
+}
+
+/// What is printed for lines, and whether all of them are right: none is refused, and no remark is
+/// made.
+#[derive(Drop)]
+pub struct LinesText {
+    pub bytes: Vec<u8>,
+    pub right: bool,
+}
+
+/// What is printed for the lines of a text. A line that is skipped is printed as it is. A line that
+/// is refused is printed as a comment with the reason and the line. A position is printed with every
+/// move's score, with the remarks on its line, and with the line's comment.
+pub(crate) fn lines_text<T: Bounds>(
+    table: &T,
+    alloc: Global,
+    demands: Demands,
+    text: &[u8],
+) -> Result<LinesText, AllocError>
+    requires { demands.limit ≤ 60 }
+    ensures bytes { IfOk result (λ found. found.bytes.items
+        ≡ scores_text (T.scoring table.now) demands text.now) }
+    ensures right { IfOk result (λ found. found.right
+        ≡ are_right (T.scoring table.now) demands (lines_of text.now)) }
 {
     let mut bytes = Vec::new(alloc);
-    match write_item(table, alloc, &mut bytes, limit, line) {
-        Ok(right) => Ok(LineText { bytes, right }),
+    match write_items(table, alloc, &mut bytes, demands, text) {
+        Ok(right) => Ok(LinesText { bytes, right }),
         Err(_) => Err(AllocError),
     }
 }

@@ -1,16 +1,18 @@
-//! Remarks on the pieces of a line: moves that are listed with a wrong score, and bytes that list
-//! no move.
+//! Remarks on a line: on moves that are listed with a wrong score, on bytes that list no move, and
+//! on best moves that are not listed.
 
 ghost use Rattle.std.specs.Prelude.{◌≡◌, ◌<◌, ◌||◌, false, All, IfOk, IfSome, OnOk, is_some};
 ghost use Rattle.std.specs.Prelude.{nat_abs};
 ghost use Rattle.std.specs.Io.KnownBytes.{Appends};
 ghost use Rattle.obf_text.specs.Pieces.{line_pieces};
-ghost use Rattle.score_lists.specs.Remarks.{field_remark, gap_text, has_remarks, one_text};
+ghost use Rattle.score_lists.specs.Remarks.{field_remark, gap_text, has_remarks, left_out_remark};
+ghost use Rattle.score_lists.specs.Remarks.{left_out_remarks, left_out_text, line_remarks, one_text};
 ghost use Rattle.score_lists.specs.Remarks.{remark_of, remarks};
 ghost use Rattle.score_lists.specs.Remarks.{remarks_text, unread_remark, unread_text, verdict_text};
 ghost use Rattle.score_lists.specs.Remarks.{wrong_text};
 
-use crate::checks::{Wrong, wrong_in};
+use crate::checks::{Wrong, is_left_out, wrong_in};
+use crate::demands::Listing;
 use obf_text::{ListedMove, field_of, line_pieces, move_bytes, score_bytes, without_blanks};
 use std::io;
 use std::io::Write;
@@ -126,7 +128,7 @@ fn write_remark<W: Write>(
 }
 
 // Writes the remarks on the pieces of a line. Returns whether there is a remark.
-pub(crate) fn write_remarks<W: Write>(
+fn write_remarks<W: Write>(
     writer: &mut W,
     scores: &[(ListedMove, i8)],
     line: &[u8],
@@ -142,4 +144,81 @@ pub(crate) fn write_remarks<W: Write>(
         found = write_remark(writer, scores, piece, found)?;
     }
     Ok(found)
+}
+
+// Writes `best move `, the move and ` is not listed`.
+#[tactic(auto, unfolding(crate::specs::Remarks::left_out_text))]
+fn write_left_out<W: Write>(writer: &mut W, listed: ListedMove) -> io::Result<()>
+    ensures { OnOk result
+        (Appends (W.contents writer.old) (W.contents writer.new) (left_out_text listed)) }
+{
+    writer.write_all(b"best move ")?;
+    writer.write_all(&move_bytes(listed))?;
+    writer.write_all(b" is not listed")
+}
+
+// Writes the remark on a move of the position, if it is a best one and not listed. `found` says
+// whether a remark stands before it. Returns whether a remark stands behind it.
+fn write_left_out_remark<W: Write>(
+    writer: &mut W,
+    scores: &[(ListedMove, i8)],
+    listed: &[(ListedMove, i8)],
+    field: &(ListedMove, i8),
+    found: bool,
+) -> io::Result<bool>
+    ensures written { OnOk result (Appends (W.contents writer.old) (W.contents writer.new)
+        (one_text found (left_out_remark scores.now listed.now field.now))) }
+    ensures found { IfOk result
+        (λ any. any ≡ (found || is_some (left_out_remark scores.now listed.now field.now))) }
+{
+    if !is_left_out(scores, listed, field) {
+        return Ok(found);
+    }
+    write_gap(writer, found)?;
+    write_left_out(writer, field.0)?;
+    Ok(true)
+}
+
+// Writes the remarks on best moves that are not listed, where they are asked for and the line lists
+// moves. `found` says whether a remark stands before them. Returns whether a remark stands behind
+// them.
+fn write_left_out_remarks<W: Write>(
+    writer: &mut W,
+    listing: Listing,
+    scores: &[(ListedMove, i8)],
+    listed: &[(ListedMove, i8)],
+    found: bool,
+) -> io::Result<bool>
+    ensures written { OnOk result (Appends (W.contents writer.old) (W.contents writer.new)
+        (remarks_text found (left_out_remarks listing scores.now listed.now))) }
+    ensures found { IfOk result
+        (λ any. any ≡ (found || has_remarks (left_out_remarks listing scores.now listed.now))) }
+{
+    if !listing.asks_for_best(listed) {
+        return Ok(found);
+    }
+    let mut any = found;
+    for field in scores {
+        any = write_left_out_remark(writer, scores, listed, field, any)?;
+    }
+    Ok(any)
+}
+
+// Writes the remarks on a line: those on its pieces, and then those on best moves that it leaves
+// out. Returns whether there is a remark.
+pub(crate) fn write_line_remarks<W: Write>(
+    writer: &mut W,
+    listing: Listing,
+    scores: &[(ListedMove, i8)],
+    listed: &[(ListedMove, i8)],
+    line: &[u8],
+) -> io::Result<bool>
+    requires { All (λ f. nat_abs f.1 < 100) scores.now }
+    ensures written { OnOk result (Appends (W.contents writer.old) (W.contents writer.new)
+        (remarks_text false (line_remarks listing scores.now listed.now (line_pieces line.now)))) }
+    ensures found { IfOk result (λ any. any
+        ≡ has_remarks (line_remarks listing scores.now listed.now (line_pieces line.now))) }
+{
+    let found = write_remarks(writer, scores, line)?;
+    write_left_out_remarks(writer, listing, scores, listed, found)
 }

@@ -1,13 +1,13 @@
 -- Canonical positions and their answers.
 use Rattle.std.proofs.Common.{◌≡◌, ℤ, bit_and, ap, sym, ◌∙◌, subst, arith}
 use Rattle.std.proofs.lemmas.Int.{ints}
-use Rattle.othello_rules.specs.declared.answers.Best.{Best}
+use Rattle.othello_rules.specs.declared.answer.Best.{Best}
 use Rattle.othello_rules.specs.declared.discs.Side.TheVariants.{Black}
-use Rattle.othello_rules.specs.declared.scorings.Scoring.{Scoring}
+use Rattle.othello_rules.specs.declared.scoring.Scoring.{Scoring}
 use Rattle.othello_rules.specs.Answer.{AnswerView, IsBest, IsScore}
 use Rattle.othello_bits.specs.Pos.{PosView, discs_of, position_of, answer_of, value_of}
 use Rattle.othello_bits.specs.Symmetries.{best_image, canonical, canonical_of, first_symmetry}
-use Rattle.othello_bits.specs.declared.symmetries.Sym.{Sym}
+use Rattle.othello_bits.specs.declared.sym.Sym.{Sym}
 use Rattle.othello_bits.proofs.AnswerLaws.{answer-is}
 use Rattle.othello_bits.proofs.GameLaws.{value_score}
 use Rattle.othello_bits.proofs.GridMeaning.{discs-apart}

@@ -10,19 +10,19 @@ use Rattle.std.proofs.lemmas.List.{append_assoc, append-nil}
 use Rattle.std.specs.List.{AllByRecursion}
 use Rattle.std.proofs.lemmas.Bool.{false≢true}
 use Rattle.othello_rules.specs.declared.discs.Side.TheVariants.{Black}
-use Rattle.othello_rules.specs.declared.scorings.Scoring.{Scoring}
+use Rattle.othello_rules.specs.declared.scoring.Scoring.{Scoring}
 use Rattle.othello_bits.specs.Pos.{PosView, discs_of, position_of}
 use Rattle.othello_bits.specs.Symmetries.{canonical_of, first_symmetry, inverse}
-use Rattle.othello_bits.specs.declared.symmetries.Sym.{Sym}
+use Rattle.othello_bits.specs.declared.sym.Sym.{Sym}
 use Rattle.obf_text.specs.LineText.{room_of}
 use Rattle.obf_text.specs.Obf.{Meaning, Skipped, Holds, Faulty, item_of}
-use Rattle.endgame_search.specs.declared.solutions.Claim.{Claim}
+use Rattle.endgame_search.specs.declared.solved.Claim.{Claim}
 use Rattle.solved_book.specs.Claims.{ClaimsView, PositionClaim, GivesAdvice, advice, claim_or_fault, claim_at, claims_from, claim_for, image_claim, is_behind, is_canonical_entry, claim_in_line, lists_nothing, claims_after, claims_with}
 use Rattle.solved_book.specs.Books.{Masks, position_at, positions_in}
 use Rattle.solved_book.specs.Listing.{claim_of}
 use Rattle.solved_book.specs.Reading.{GivesLine, GivesMap, position_claim, claimed_positions}
-use Rattle.solved_book.specs.declared.faults.BookFault.{BookFault}
-use Rattle.solved_book.specs.declared.faults.BookFault.TheVariants as fault
+use Rattle.solved_book.specs.declared.book_fault.BookFault.{BookFault}
+use Rattle.solved_book.specs.declared.book_fault.BookFault.TheVariants as fault
 use Rattle.solved_book.proofs.KeptEntries.{masks_cmp, masks_total}
 
 pub positions_claimed : (es : List (Masks × Claim)) → claimed_positions (map position_claim es) ≡ positions_in es
@@ -64,7 +64,7 @@ below_more : (k m : Masks) (v : Claim) (es : List (Masks × Claim)) → masks_cm
 below_more k m v [] a h = (a, tt)
 below_more k m v (e ∷ es) a h = (above k m e.0 a h.0, below_more k m v es a h.1)
 
-gt_is : (o : Ordering) → is_gt o ≡ true → o ≡ Greater
+pub gt_is : (o : Ordering) → is_gt o ≡ true → o ≡ Greater
 gt_is Less e = absurd (false≢true e)
 gt_is Equal e = absurd (false≢true e)
 gt_is Greater e = refl
@@ -89,7 +89,7 @@ checked_behind n false false canonical claim c h = cc
 checked_behind n false true false claim c h = cc
 checked_behind n false true true claim c h = (refl, cc)
 
-line_behind : (n : ℕ) (before : Option PosView) (m : Meaning) (c : PositionClaim) → claim_in_line n before m ≡ Ok (Some c) → is_behind before c.0 ≡ true
+pub line_behind : (n : ℕ) (before : Option PosView) (m : Meaning) (c : PositionClaim) → claim_in_line n before m ≡ Ok (Some c) → is_behind before c.0 ≡ true
 line_behind n before Skipped c h = cc
 line_behind n before (Faulty f) c h = cc
 line_behind n before (Holds entry) c h =

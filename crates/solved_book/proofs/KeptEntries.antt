@@ -15,7 +15,7 @@ use Rattle.std.proofs.lemmas.Cmp.{nat_cmp_total, on_total, then_total, tied_itse
 use Rattle.std.proofs.lemmas.List.Elements.{All-from_recursion, All-nil, All-map, All-weaker, recursion_from_All}
 use Rattle.std.proofs.lemmas.Map.Lookups.{CmpEqualImpliesEq, exact_pairs, exact_unsigned}
 use Rattle.std.proofs.lemmas.Map.Views.{btree_map_contains_key_iff}
-use Rattle.othello_rules.specs.declared.scorings.Scoring.{Scoring}
+use Rattle.othello_rules.specs.declared.scoring.Scoring.{Scoring}
 use Rattle.othello_rules.specs.Answer.{AnswerView}
 use Rattle.othello_rules.proofs.BoundLaws.{Contains-map, Contains-from_map}
 use Rattle.othello_bits.specs.Pos.{PosView}
@@ -56,7 +56,7 @@ solved_insert g k v es new h a e =
     rw e (All-from_recursion (IsSolvedEntry g) (insert_entry masks_cmp es k v) (insert_all (IsSolvedEntry g) k v h es (recursion_from_All (IsSolvedEntry g) es a)))
 
 -- an entry that is put in keeps the order
-all_weaker : (P Q : PosView → Type 0) → ((q : PosView) → P q → Q q) → (qs : List PosView) → AllByRecursion P qs → AllByRecursion Q qs
+pub all_weaker : (P Q : PosView → Type 0) → ((q : PosView) → P q → Q q) → (qs : List PosView) → AllByRecursion P qs → AllByRecursion Q qs
 all_weaker P Q f [] a = tt
 all_weaker P Q f (q ∷ qs) a = (f q a.0, all_weaker P Q f qs a.1)
 

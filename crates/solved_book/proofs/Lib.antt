@@ -1,5 +1,5 @@
 -- Lemmas about the entries of a book, the loop that reads one, and its text read back.
--- Begin with KeptEntries and ClaimSteps; docs/proofs.md has the argument and the reading order.
+-- Begin with KeptEntries and ClaimSteps; docs/architecture.md has the argument.
 pub mod MaskSteps
 pub mod KeptEntries
 pub mod Answers
@@ -8,3 +8,4 @@ pub mod ListedAnswers
 pub mod RoundTrip
 pub mod OneOrder
 pub mod LineLaws
+pub mod BookTexts

@@ -2,13 +2,13 @@
 use Rattle.std.proofs.Common.{◌≡◌, ℕ, ◌+◌, List, [], ◌∷◌, ◌++◌, length, refl, ap, ap₂, sym, ◌∙◌, true, false, Bool, Option, Some, None, arith}
 use Rattle.std.specs.Prelude.{Result, Ok, Err}
 use Rattle.std.specs.List.{filter_map}
-use Rattle.othello_rules.specs.declared.scorings.Scoring.{Scoring}
+use Rattle.othello_rules.specs.declared.scoring.Scoring.{Scoring}
 use Rattle.othello_bits.specs.Pos.{PosView, discs_of}
 use Rattle.obf_text.specs.LineText.{lines_of}
 use Rattle.obf_text.specs.Obf.{Meaning, Skipped, Holds, Faulty, item_of}
 use Rattle.solved_book.specs.Claims.{ClaimsView, PositionClaim, advice, advice_under, claim_or_fault, claims_from, claims_of, entry_claim, is_behind, is_canonical_entry, last_position, claim_in_line, lists_nothing, claims_after, scoring_of_lines}
 use Rattle.solved_book.specs.Listing.{claim_of}
-use Rattle.solved_book.specs.declared.faults.BookFault.{BookFault}
+use Rattle.solved_book.specs.declared.book_fault.BookFault.{BookFault}
 use Rattle.solved_book.proofs.ClaimSteps.{from_end, from_err, from_none, from_some}
 
 abbrev Given : Type 0
@@ -16,7 +16,7 @@ Given = Result (List PositionClaim) BookFault
 
 -- ---- the lines in front
 
-onto_ok : (c : PositionClaim) (r : Given) (cs : List PositionClaim) → claims_after (c ∷ []) r ≡ Ok cs → (more : List PositionClaim) × (r ≡ Ok more) × (cs ≡ c ∷ more)
+pub onto_ok : (c : PositionClaim) (r : Given) (cs : List PositionClaim) → claims_after (c ∷ []) r ≡ Ok cs → (more : List PositionClaim) × (r ≡ Ok more) × (cs ≡ c ∷ more)
 onto_ok c (Ok more) cs h = (more, refl, cc)
 onto_ok c (Err f) cs h = cc
 
@@ -74,7 +74,7 @@ entries_from n before (line ∷ lines) cs h = by (claim_in_line n before (item_o
         let split = onto_ok c (claims_from (n + 1) (Some c.0) lines) cs (sym (from_some n before line lines c i) ∙ h) in
         rw (entry_given n before (item_of line) (Some c) i) (split.2 ∙ ap (λ ds. c ∷ ds) (more (Some c.0) split.0 split.1))
 
-under_ok : (o : Option Scoring) (lines : List (List ℕ)) (a : ClaimsView) → advice_under o lines ≡ Ok a → claims_from 1 None lines ≡ Ok a.claims
+pub under_ok : (o : Option Scoring) (lines : List (List ℕ)) (a : ClaimsView) → advice_under o lines ≡ Ok a → claims_from 1 None lines ≡ Ok a.claims
 under_ok None lines a h = cc
 under_ok (Some g) lines a h = by (claims_from 1 None lines) refl h
   where

@@ -13,8 +13,8 @@ use Rattle.othello_rules.specs.Board.{squares}
 use Rattle.othello_rules.specs.Masks.{in_mask, squares_of}
 use Rattle.othello_rules.specs.Answer.{IsBest}
 use Rattle.othello_rules.specs.Value.{greatest}
-use Rattle.othello_rules.specs.declared.answers.Best.{Best}
-use Rattle.othello_rules.specs.declared.answers.Best.TheVariants as best
+use Rattle.othello_rules.specs.declared.answer.Best.{Best}
+use Rattle.othello_rules.specs.declared.answer.Best.TheVariants as best
 use Rattle.othello_rules.proofs.BoundLaws.{Contains-from_map}
 use Rattle.othello_rules.proofs.ListLaws.{Contains-cons_cases, Contains-nil}
 use Rattle.othello_rules.proofs.MoveLaws.{Contains-squares}
@@ -24,7 +24,7 @@ use Rattle.othello_bits.proofs.TestMasks.{is_where}
 use Rattle.obf_text.specs.Fields.{Field, greatest_listed}
 use Rattle.obf_text.specs.Written.{best_fields}
 use Rattle.obf_text.specs.declared.entries.ListedMove.TheVariants.{At, Pass, Over}
-use Rattle.endgame_search.specs.declared.solutions.Claim.{Claim}
+use Rattle.endgame_search.specs.declared.solved.Claim.{Claim}
 use Rattle.solved_book.specs.Listing.{best_by, listed_best, claim_of, lists_pass, lists_square, listed_squares}
 
 abbrev pub at : ℤ → ℕ → Field

@@ -10,15 +10,15 @@ use Rattle.std.specs.declared.cmp.Ordering.TheVariants.{Less, Equal, Greater}
 use Rattle.std.proofs.lemmas.Bool.{eq-eqb, false≢true}
 use Rattle.std.proofs.lemmas.Cmp.{tied_itself}
 use Rattle.std.proofs.lemmas.List.Elements.{recursion_from_All}
-use Rattle.othello_rules.specs.declared.answers.Best.TheVariants as best
+use Rattle.othello_rules.specs.declared.answer.Best.TheVariants as best
 use Rattle.othello_rules.specs.declared.discs.Side.TheVariants.{Black}
-use Rattle.othello_rules.specs.declared.scorings.Scoring.{Scoring}
-use Rattle.othello_rules.specs.declared.scorings.Scoring.TheVariants as scoring
+use Rattle.othello_rules.specs.declared.scoring.Scoring.{Scoring}
+use Rattle.othello_rules.specs.declared.scoring.Scoring.TheVariants as scoring
 use Rattle.othello_rules.specs.Answer.{AnswerView}
 use Rattle.othello_rules.proofs.ListLaws.{Contains-cons, Contains-cons_cases, Contains-head, Contains-nil}
 use Rattle.othello_bits.specs.Pos.{PosView, answer_of, best_answer, discs_of, is_best_move, mask_where, moves_of, pass_of, position_of}
 use Rattle.othello_bits.specs.Symmetries.{best_image, canonical, canonical_of, first_symmetry, image_of, inverse}
-use Rattle.othello_bits.specs.declared.symmetries.Sym.{Sym}
+use Rattle.othello_bits.specs.declared.sym.Sym.{Sym}
 use Rattle.othello_bits.proofs.AnswerLaws.{answer-is}
 use Rattle.othello_bits.proofs.CanonicalLaws.{opp_fits, own_fits}
 use Rattle.othello_bits.proofs.CellLaws.{AreApart, length-cells_of}
@@ -31,7 +31,7 @@ use Rattle.obf_text.specs.Written.{answer_entry, line_text}
 use Rattle.obf_text.proofs.LineLemmas.{has_first_part, keeps_first}
 use Rattle.obf_text.proofs.OnlyMeaning.{says_only}
 use Rattle.obf_text.proofs.WrittenLines.{written_line, written_says}
-use Rattle.endgame_search.specs.declared.solutions.Claim.{Claim}
+use Rattle.endgame_search.specs.declared.solved.Claim.{Claim}
 use Rattle.solved_book.specs.Claims.{ClaimsView, advice, advice_under, answer_claim, claim_or_fault, claim_at, claim_by, claims_from, claims_of, claim_for, image_claim, is_behind, is_canonical_entry, claim_in_line, claims_after, same_discs, scoring_in, scoring_of_lines}
 use Rattle.solved_book.specs.Books.{book_text, entry_text, header, position_at}
 use Rattle.solved_book.specs.Order.{IsCanonical, AreBookPositions, by_masks}

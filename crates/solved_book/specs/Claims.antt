@@ -6,22 +6,22 @@ use Rattle.std.specs.Map.{lookup}
 use Rattle.std.specs.Ordering.{is_gt, is_eq}
 use Rattle.othello_rules.specs.declared.discs.Side.{Side}
 use Rattle.othello_rules.specs.declared.discs.Side.TheVariants.{Black, White}
-use Rattle.othello_rules.specs.declared.scorings.Scoring.{Scoring}
-use Rattle.othello_rules.specs.declared.scorings.Scoring.TheVariants.{Winner}
+use Rattle.othello_rules.specs.declared.scoring.Scoring.{Scoring}
+use Rattle.othello_rules.specs.declared.scoring.Scoring.TheVariants.{Winner}
 use Rattle.othello_rules.specs.Rules.{GridView}
 use Rattle.othello_rules.specs.Scores.{scoring_named}
 use Rattle.othello_rules.specs.Answer.{AnswerView}
 use Rattle.othello_bits.specs.Pos as bits
 use Rattle.othello_bits.specs.Pos.{discs_of, position_of}
 use Rattle.othello_bits.specs.Symmetries.{best_image, canonical_of, first_symmetry, inverse}
-use Rattle.othello_bits.specs.declared.symmetries.Sym.{Sym}
+use Rattle.othello_bits.specs.declared.sym.Sym.{Sym}
 use Rattle.obf_text.specs.LineText.{lines_of}
 use Rattle.obf_text.specs.Obf.{Entry, Meaning, Skipped, Holds, Faulty, item_of}
-use Rattle.endgame_search.specs.declared.solutions.Claim.{Claim}
+use Rattle.endgame_search.specs.declared.solved.Claim.{Claim}
 use Rattle.solved_book.specs.Order.{by_masks}
 use Rattle.solved_book.specs.Listing.{claim_of}
-use Rattle.solved_book.specs.declared.faults.BookFault.{BookFault}
-use Rattle.solved_book.specs.declared.faults.BookFault.TheVariants as fault
+use Rattle.solved_book.specs.declared.book_fault.BookFault.{BookFault}
+use Rattle.solved_book.specs.declared.book_fault.BookFault.TheVariants as fault
 
 -- a position with its claim
 abbrev pub PositionClaim : Type 0

@@ -2,8 +2,8 @@
 use Rattle.std.specs.Prelude.{ℕ, List, ◌++◌, codes}
 use Rattle.std.specs.Fmt.{decimal}
 use Rattle.obf_text.specs.Faults.{line_fault_text}
-use Rattle.solved_book.specs.declared.faults.BookFault.{BookFault}
-use Rattle.solved_book.specs.declared.faults.BookFault.TheVariants.{Line, NoMoves, Unsorted, NotCanonical, Memory, Header}
+use Rattle.solved_book.specs.declared.book_fault.BookFault.{BookFault}
+use Rattle.solved_book.specs.declared.book_fault.BookFault.TheVariants.{Line, NoMoves, Unsorted, NotCanonical, Memory, Header}
 
 unfoldable pub book_fault_text : BookFault → List ℕ
 book_fault_text (Line n fault) =

@@ -2,12 +2,12 @@
 use Rattle.std.specs.Prelude.{ℕ, ℤ, ◌==◌, ◌&&◌, Bool, false, List, if◌then◌else◌}
 use Rattle.std.specs.List.{list_any}
 use Rattle.std.specs.Ordering.{int_eq}
-use Rattle.othello_rules.specs.declared.answers.Best.{Best}
-use Rattle.othello_rules.specs.declared.answers.Best.TheVariants as best
+use Rattle.othello_rules.specs.declared.answer.Best.{Best}
+use Rattle.othello_rules.specs.declared.answer.Best.TheVariants as best
 use Rattle.othello_bits.specs.Pos.{mask_where}
 use Rattle.obf_text.specs.Fields.{Field, greatest_listed}
 use Rattle.obf_text.specs.declared.entries.ListedMove.TheVariants.{At, Pass, Over}
-use Rattle.endgame_search.specs.declared.solutions.Claim.{Claim}
+use Rattle.endgame_search.specs.declared.solved.Claim.{Claim}
 
 -- whether a field lists a square, or a pass, with this score
 abbrev pub lists_square : ℤ → ℕ → Field → Bool

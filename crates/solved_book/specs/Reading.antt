@@ -2,11 +2,11 @@
 use Rattle.std.specs.Prelude.{◌≡◌, List, map, Option, option_map, Result, Ok, Err}
 use Rattle.std.specs.BTreeMap.{BTreeMap}
 use Rattle.othello_bits.specs.Pos.{PosView}
-use Rattle.endgame_search.specs.declared.solutions.Claim.{Claim}
+use Rattle.endgame_search.specs.declared.solved.Claim.{Claim}
 use Rattle.solved_book.specs.Books.{Masks, position_at}
 use Rattle.solved_book.specs.Claims.{PositionClaim}
-use Rattle.solved_book.specs.declared.faults.BookFault.{BookFault}
-use Rattle.solved_book.specs.declared.faults.BookFault.TheVariants.{Memory}
+use Rattle.solved_book.specs.declared.book_fault.BookFault.{BookFault}
+use Rattle.solved_book.specs.declared.book_fault.BookFault.TheVariants.{Memory}
 
 -- a claim that is stored under the masks of its position
 abbrev pub position_claim : Masks × Claim → PositionClaim

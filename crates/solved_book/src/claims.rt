@@ -7,9 +7,9 @@ ghost use Rattle.solved_book.specs.Books.{positions_in};
 ghost use Rattle.solved_book.specs.Order.{AreRising};
 ghost use Rattle.solved_book.specs.Reading.{GivesMap, claimed_positions};
 
+use crate::book_fault::BookFault;
 use crate::entries::read_claim;
-use crate::faults::BookFault;
-use crate::headers::read_first_line;
+use crate::header::read_first_line;
 use crate::images::{Masks, best_on_image, masks_of};
 use endgame_search::Claim;
 use obf_text::split_lines;

@@ -8,7 +8,7 @@ ghost use Rattle.solved_book.specs.Claims.{claim_in_line};
 ghost use Rattle.solved_book.specs.Books.{position_at};
 ghost use Rattle.solved_book.specs.Reading.{GivesLine};
 
-use crate::faults::BookFault;
+use crate::book_fault::BookFault;
 use crate::images::{Masks, masks_of};
 use crate::listing::claim_of;
 use endgame_search::Claim;

@@ -3,19 +3,19 @@
 
 ghost use Rattle.std.specs.Prelude.{◌≡◌, ◌↔◌, ℕ, ◌+◌, List, ◌∷◌, ◌++◌, length, Contains, map, Ok};
 ghost use Rattle.std.specs.Prelude.{Err, Some, None};
-ghost use Rattle.std.specs.List.{filter_map};
-ghost use Rattle.othello_rules.specs.declared.scorings.Scoring.{Scoring};
+ghost use Rattle.othello_rules.specs.declared.scoring.Scoring.{Scoring};
 ghost use Rattle.othello_bits.specs.Pos.{PosView, answer_of};
 ghost use Rattle.othello_bits.specs.Symmetries.{canonical_of, image_of};
-ghost use Rattle.othello_bits.specs.declared.symmetries.Sym.{Sym};
+ghost use Rattle.othello_bits.specs.declared.sym.Sym.{Sym};
 ghost use Rattle.obf_text.specs.LineText.{lines_of};
 ghost use Rattle.obf_text.specs.Obf.{item_of};
-ghost use Rattle.solved_book.specs.declared.faults.BookFault.{BookFault};
+ghost use Rattle.solved_book.specs.declared.book_fault.BookFault.{BookFault};
 ghost use Rattle.solved_book.specs.Claims.{ClaimsView, PositionClaim, answer_claim, claim_by};
 ghost use Rattle.solved_book.specs.Claims.{claims_from, claims_of, entry_claim, claim_for};
 ghost use Rattle.solved_book.specs.Claims.{last_position, claim_in_line};
 ghost use Rattle.solved_book.specs.Books.{book_text};
 ghost use Rattle.solved_book.specs.Order.{AreRising, AreBookPositions};
+ghost use Rattle.solved_book.specs.Texts.{IsBookText};
 
 /// The text of a book, read again, claims the answers of its positions under its scoring, and
 /// nothing else. So each image of a position of the book is found with its score and all its best
@@ -36,10 +36,16 @@ pub fn book_is_read_again()
         → claim_for a p ≡ None }
 {}
 
-/// Where a text has no fault, its claims are those of its entries, in their order.
+/// A text is read as claims exactly where it is a book of them: its first line names their scoring;
+/// each line is skipped, or holds an entry that lists a move, of a canonical position with Black to
+/// move; the claims are those of the entries, in their order; and their positions rise. So each
+/// claim is that of a line, and the claim of each line that holds an entry is among them.
 pub fn claims_are_of_entries()
-    ensures { (text : List ℕ) (a : ClaimsView) → claims_of text ≡ Ok a
-        → a.claims ≡ filter_map (λ line. entry_claim (item_of line)) (lines_of text) }
+    ensures text { (text : List ℕ) (a : ClaimsView) → claims_of text ≡ Ok a ↔ IsBookText text a }
+    ensures each { (text : List ℕ) (a : ClaimsView) (c : PositionClaim) → claims_of text ≡ Ok a
+        → Contains a.claims c
+        ↔ ((line : List ℕ) × Contains (lines_of text) line
+        × (entry_claim (item_of line) ≡ Some c)) }
 {}
 
 /// The fault of the first faulty line is that of all lines, whatever follows it.

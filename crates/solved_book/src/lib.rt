@@ -13,15 +13,15 @@
 //! ```
 #![tactic(auto)]
 
-mod books;
+mod book;
+mod book_fault;
 mod claims;
 mod entries;
-mod faults;
-mod headers;
+mod header;
 mod images;
 pub mod laws;
 mod listing;
 
-pub use books::Book;
+pub use book::Book;
+pub use book_fault::BookFault;
 pub use claims::Claims;
-pub use faults::BookFault;

@@ -2,18 +2,18 @@
 use Rattle.std.proofs.Common.{◌≡◌, ◌≤◌, ◌<◌, ℕ, length, true, false, refl, ap, ◌∙◌, arith, inl, inr}
 use Rattle.std.specs.Prelude.{nat_lt, Some, None}
 use Rattle.std.proofs.lemmas.Bool.{cases_lt, false_from_ne_true, lt-ltb, ltb-true}
-use Rattle.othello_rules.specs.declared.scorings.Scoring.{Scoring}
+use Rattle.othello_rules.specs.declared.scoring.Scoring.{Scoring}
 use Rattle.othello_rules.specs.Rules.{GridView}
 use Rattle.othello_rules.specs.Answer.{AnswerView}
 use Rattle.othello_rules.specs.Value.{answer, empties}
 use Rattle.othello_bits.specs.Pos.{PosView, discs_of, empties_of, answer_of}
 use Rattle.othello_bits.proofs.GameLaws.{answer-discs_of, empties-discs_of}
 use Rattle.obf_text.specs.Obf.{Entry, Holds}
-use Rattle.suite_runs.specs.Checks.{check}
+use Rattle.suite_runs.specs.Check.{check}
 use Rattle.endgame_search.specs.Task.{TaskView}
 use Rattle.suite_runs.specs.Rows.{entry_result, task_of}
-use Rattle.suite_runs.specs.declared.rows.Refusal.TheVariants.{Empties}
-use Rattle.suite_runs.specs.declared.rows.RowResult.TheVariants.{Solved, Refused}
+use Rattle.suite_runs.specs.declared.report_row.Refusal.TheVariants.{Empties}
+use Rattle.suite_runs.specs.declared.report_row.RowResult.TheVariants.{Solved, Refused}
 
 empties_are : (P : GridView) (p : PosView) → length P.cells ≡ 64 → p ≡ discs_of P → empties_of p ≡ empties P
 empties_are P p whole e = ap empties_of e ∙ empties-discs_of P whole

@@ -3,12 +3,13 @@ use Rattle.std.proofs.Common.{◌≡◌, ℕ, List, [], ◌∷◌, ◌++◌, map
 use Rattle.std.specs.Prelude.{Option, Some, None, Result, Ok, Err, IfOk, IfErr, Vec}
 use Rattle.std.specs.declared.alloc.Global.{Global}
 use Rattle.std.proofs.lemmas.List.{append-nil, map-append}
-use Rattle.othello_rules.specs.declared.scorings.Scoring.{Scoring}
-use Rattle.suite_runs.specs.Parts.{GivesPart, GivesParts, IsPartFault, worse_fault, part_view, part_view_of}
+use Rattle.othello_rules.specs.declared.scoring.Scoring.{Scoring}
+use Rattle.suite_runs.specs.Part.{GivesPart, GivesParts, IsPartFault, part_view, part_view_of}
+use Rattle.suite_runs.specs.RunFault.{worse_fault}
 use Rattle.suite_runs.specs.Threads.{AreJoined, StartedClientView, started_view, part_view_at}
-use Rattle.suite_runs.specs.declared.faults.RunFault.{RunFault}
-use Rattle.suite_runs.specs.declared.faults.RunFault.TheVariants.{Memory, Mixed, TooManyFiles, FileTooLarge}
-use Rattle.suite_runs.specs.declared.parts.Part.{Part}
+use Rattle.suite_runs.specs.declared.run_fault.RunFault.{RunFault}
+use Rattle.suite_runs.specs.declared.run_fault.RunFault.TheVariants.{Memory, Mixed, TooManyFiles, FileTooLarge}
+use Rattle.suite_runs.specs.declared.part.Part.{Part}
 
 pub started_views : (g : Scoring) (limit : ℕ) (texts : List (List ℕ)) → map part_view_at (map (started_view g limit) texts) ≡ map (part_view g limit) texts
 started_views g limit [] = refl

@@ -1,5 +1,5 @@
 -- Lemmas about the lines of a text, and the parts and the outcome of a run.
--- Begin with TaskLemmas and PartLemmas; docs/proofs.md has the argument and the reading order.
+-- Begin with TaskLemmas and PartLemmas; docs/architecture.md has the argument and the reading order.
 pub mod NameLemmas
 pub mod RowLemmas
 pub mod TaskLemmas

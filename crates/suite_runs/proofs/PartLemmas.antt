@@ -5,19 +5,20 @@ use Rattle.std.proofs.lemmas.List.{append_assoc, append-nil, drop_more, length-m
 use Rattle.std.proofs.lemmas.Grind.{flat_map-append}
 use Rattle.std.proofs.lemmas.List.Elements.{All-cons, All-contains, All-nil, All-same, Contains-get_or, Contains-append_left, Contains-append_right, Contains-append_cases, Contains-push, Contains-push_cases}
 use Rattle.othello_rules.proofs.BoundLaws.{Contains-map}
-use Rattle.othello_rules.specs.declared.scorings.Scoring.{Scoring}
+use Rattle.othello_rules.specs.declared.scoring.Scoring.{Scoring}
 use Rattle.othello_bits.specs.Pos.{PosView}
 use Rattle.othello_bits.specs.Symmetries.{canonical_of}
 use Rattle.endgame_search.specs.Task.{TaskView}
 use Rattle.solved_book.specs.Books.{BookView}
 use Rattle.solved_book.specs.Order.{AreBookPositions}
 use Rattle.solved_book.proofs.OneOrder.{same_order}
-use Rattle.suite_runs.specs.Parts.{IsBookOf, PartView, canonicals, part_view, part_view_of, report_of_view, reports_of_views, tasks_of_views}
+use Rattle.suite_runs.specs.Outcome.{IsBookOf, canonicals, report_of_view, reports_of_views, tasks_of_views}
+use Rattle.suite_runs.specs.Part.{PartView, part_view, part_view_of}
 use Rattle.suite_runs.specs.Reports.{report, reports_from}
 use Rattle.suite_runs.specs.Rows.{tasks}
 use Rattle.obf_text.specs.LineText.{texts_of}
 use Rattle.suite_runs.specs.Runs.{all_tasks}
-use Rattle.suite_runs.specs.declared.parts.Part.{Part}
+use Rattle.suite_runs.specs.declared.part.Part.{Part}
 use Rattle.suite_runs.proofs.TaskLemmas.{HasScoring, tasks_scored}
 
 abbrev File : Type 0

@@ -2,14 +2,14 @@
 use Rattle.std.proofs.Common.{◌≡◌, ℕ, ◌+◌, ◌≤◌, List, [], ◌∷◌, ◌++◌, length, map, refl, sym, ◌∙◌, arith}
 use Rattle.std.specs.Prelude.{Some, None}
 use Rattle.std.proofs.lemmas.List.{append_assoc, append-nil, map-append}
-use Rattle.othello_rules.specs.declared.scorings.Scoring.{Scoring}
+use Rattle.othello_rules.specs.declared.scoring.Scoring.{Scoring}
 use Rattle.obf_text.specs.LineText.{lines_of, room_of}
 use Rattle.obf_text.specs.Obf.{item_of}
-use Rattle.suite_runs.specs.declared.rows.RowResult.{RowResult}
-use Rattle.suite_runs.specs.declared.rows.ReportRow.{ReportRow}
-use Rattle.suite_runs.specs.Readings.{reading_result, row_in}
-use Rattle.suite_runs.specs.declared.readings.Reading.{Reading}
-use Rattle.suite_runs.specs.declared.lines.NumberedReading.{NumberedReading}
+use Rattle.suite_runs.specs.declared.report_row.RowResult.{RowResult}
+use Rattle.suite_runs.specs.declared.report_row.ReportRow.{ReportRow}
+use Rattle.suite_runs.specs.ParsedLine.{parsed_result, row_in}
+use Rattle.suite_runs.specs.declared.parsed_line.ParsedLine.{ParsedLine}
+use Rattle.suite_runs.specs.declared.numbered_line.NumberedLine.{NumberedLine}
 use Rattle.suite_runs.specs.Rows.{report_row, line_result, rows, rows_from}
 
 pub rows_start : (g : Scoring) (limit : ℕ) (text : List ℕ) → rows g limit text ≡ rows_from g limit 1 (lines_of text)
@@ -31,11 +31,11 @@ unfolding rows_from
 rows_no g limit n line lines e = rw e refl
 
 -- a line with a result adds its row
-pub rows_more : (g : Scoring) (limit n next : ℕ) (line : List ℕ) (left lines : List (List ℕ)) (r : Reading) (made : List NumberedReading) (all : List ReportRow)
-    → next ≡ n + 1 → left ≡ line ∷ lines → line_result g limit (item_of line) ≡ Some (reading_result r) → map row_in made ++ rows_from g limit n left ≡ all
-    → map row_in (made ++ (record { line = n; reading = r }) ∷ []) ++ rows_from g limit next lines ≡ all
+pub rows_more : (g : Scoring) (limit n next : ℕ) (line : List ℕ) (left lines : List (List ℕ)) (r : ParsedLine) (made : List NumberedLine) (all : List ReportRow)
+    → next ≡ n + 1 → left ≡ line ∷ lines → line_result g limit (item_of line) ≡ Some (parsed_result r) → map row_in made ++ rows_from g limit n left ≡ all
+    → map row_in (made ++ (record { line = n; parsed = r }) ∷ []) ++ rows_from g limit next lines ≡ all
 rows_more g limit n next line left lines r made all counted cut e h =
-    let k = rw (cut, rows_yes g limit n line lines (reading_result r) e) at h in
+    let k = rw (cut, rows_yes g limit n line lines (parsed_result r) e) at h in
     rw (map-append, append_assoc, counted) k
 
 -- a line that is skipped adds none

@@ -4,13 +4,15 @@ use Rattle.std.specs.Prelude.{◌↔◌, Option, Some, None, Result, Ok, Err, Is
 use Rattle.std.specs.List.{position, position_or_len}
 use Rattle.std.proofs.lemmas.List.{length-map}
 use Rattle.std.proofs.lemmas.List.Sums.{fails_before_first}
+use Rattle.std.proofs.lemmas.Bool.{lt-ltb}
 use borrow.Author.Tests.{ltb-true, ltb-false}
 use Rattle.suite_runs.specs.Settings.{SettingsView}
 use Rattle.obf_text.specs.LineText.{texts_of}
 use Rattle.suite_runs.specs.Runs.{Answers, first_large, is_large, refusal_of}
-use Rattle.suite_runs.specs.declared.faults.RunFault.{RunFault}
-use Rattle.suite_runs.specs.declared.faults.RunFault.TheVariants.{Memory, Mixed, TooManyFiles, FileTooLarge}
-use Rattle.suite_runs.specs.declared.outcomes.Outcome.{Outcome}
+use Rattle.suite_runs.specs.declared.run_fault.RunFault.{RunFault}
+use Rattle.suite_runs.specs.declared.run_fault.RunFault.TheVariants.{Memory, Mixed, TooManyFiles, FileTooLarge}
+use Rattle.suite_runs.specs.declared.settings.TheConstants.{MOST_BYTES, MOST_FILES}
+use Rattle.suite_runs.specs.declared.outcome.Outcome.{Outcome}
 
 abbrev File : Type 0
 File = Vec ℕ Global
@@ -28,7 +30,7 @@ cond_none true x e = cc
 cond_none false x e = refl
 
 -- where none is large, each is small
-pub small_at : (files : List File) (i : ℕ) (d : File) → first_large (texts_of files) ≡ None → i < length files → length (get_or files i d).items ≤ 1048576
+pub small_at : (files : List File) (i : ℕ) (d : File) → first_large (texts_of files) ≡ None → i < length files → length (get_or files i d).items ≤ MOST_BYTES
 small_at files i d none lt =
     let e = first_map files ∙ none in
     let past : length files ≤ position_or_len (λ f. is_large f.items) files = ltb-false _ _ (cond_none (nat_lt (position_or_len (λ f. is_large f.items) files) (length files)) (position_or_len (λ f. is_large f.items) files) e) in
@@ -72,17 +74,21 @@ is_first : (o : Option ℕ) (s : ℕ) → option_map FileTooLarge o ≡ Some (Fi
 is_first None s e = cc
 is_first (Some t) s e = cc
 
-refusal_cases : (texts : List (List ℕ)) → ((64 < length texts) × (refusal_of texts ≡ Some TooManyFiles))
-    ⊎ ((length texts ≤ 64) × (refusal_of texts ≡ option_map FileTooLarge (first_large texts)))
+refusal_cases : (texts : List (List ℕ)) → ((MOST_FILES < length texts) × (refusal_of texts ≡ Some TooManyFiles))
+    ⊎ ((length texts ≤ MOST_FILES) × (refusal_of texts ≡ option_map FileTooLarge (first_large texts)))
 unfolding refusal_of
-refusal_cases texts = go (nat_lt 64 (length texts)) refl
+refusal_cases texts = go (nat_lt MOST_FILES (length texts)) refl
   where
-    go : (b : Bool) → nat_lt 64 (length texts) ≡ b → ((64 < length texts) × (cond (nat_lt 64 (length texts)) (Some TooManyFiles) (option_map FileTooLarge (first_large texts)) ≡ Some TooManyFiles))
-        ⊎ ((length texts ≤ 64) × (cond (nat_lt 64 (length texts)) (Some TooManyFiles) (option_map FileTooLarge (first_large texts)) ≡ option_map FileTooLarge (first_large texts)))
+    go : (b : Bool) → nat_lt MOST_FILES (length texts) ≡ b → ((MOST_FILES < length texts) × (cond (nat_lt MOST_FILES (length texts)) (Some TooManyFiles) (option_map FileTooLarge (first_large texts)) ≡ Some TooManyFiles))
+        ⊎ ((length texts ≤ MOST_FILES) × (cond (nat_lt MOST_FILES (length texts)) (Some TooManyFiles) (option_map FileTooLarge (first_large texts)) ≡ option_map FileTooLarge (first_large texts)))
     go true e = inl (ltb-true _ _ e, rw e refl)
     go false e = inr (ltb-false _ _ e, rw e refl)
 
-pub many_iff : (r : Result Outcome RunFault) (s : SettingsView) (texts : List (List ℕ)) → Answers r s texts → IsErrOf r TooManyFiles ↔ 64 < length texts
+pub many_refused : (files : List File) → MOST_FILES < length files → refusal_of (texts_of files) ≡ Some TooManyFiles
+unfolding refusal_of
+many_refused files many = rw (length-map, lt-ltb MOST_FILES (length files) many) refl
+
+pub many_iff : (r : Result Outcome RunFault) (s : SettingsView) (texts : List (List ℕ)) → Answers r s texts → IsErrOf r TooManyFiles ↔ MOST_FILES < length texts
 many_iff r s texts a =
     let same = answers_refused r s texts a in (
       (λ e. elim (refusal_cases texts) [
@@ -96,7 +102,7 @@ many_iff r s texts a =
     )
 
 pub large_iff : (r : Result Outcome RunFault) (c : SettingsView) (n : ℕ) (texts : List (List ℕ)) → length texts ≡ n → Answers r c texts → (s : ℕ)
-    → IsErrOf r (FileTooLarge s) ↔ ((n ≤ 64) × (first_large texts ≡ Some s))
+    → IsErrOf r (FileTooLarge s) ↔ ((n ≤ MOST_FILES) × (first_large texts ≡ Some s))
 large_iff r c n texts len a s =
     let same = answers_refused r c texts a in (
       (λ e. elim (refusal_cases texts) [

@@ -1,11 +1,12 @@
 pub mod Settings
-pub mod Checks
+pub mod Check
 pub mod ReportText
 pub mod Rows
-pub mod Readings
+pub mod ParsedLine
 pub mod Reports
-pub mod Solvers
-pub mod Parts
+pub mod Solver
+pub mod Part
+pub mod Outcome
 pub mod Threads
 pub mod Runs
-pub mod Faults
+pub mod RunFault

@@ -6,17 +6,17 @@ use Rattle.othello_rules.specs.Board.{name_of}
 use Rattle.othello_rules.specs.Masks.{squares_of}
 use Rattle.othello_rules.specs.Answer.{AnswerView}
 use Rattle.obf_text.specs.Written.{score_text}
-use Rattle.othello_rules.specs.declared.answers.Best.{Best}
-use Rattle.othello_rules.specs.declared.answers.Best.TheVariants.{Moves, Pass, Over}
+use Rattle.othello_rules.specs.declared.answer.Best.{Best}
+use Rattle.othello_rules.specs.declared.answer.Best.TheVariants.{Moves, Pass, Over}
 use Rattle.obf_text.specs.Faults.{line_fault_text, too_many_text}
-use Rattle.obf_text.specs.declared.faults.LineFault.TheVariants as fault
-use Rattle.suite_runs.specs.declared.checks.Check.{Check}
-use Rattle.suite_runs.specs.declared.checks.Check.TheVariants.{Agree, Differ, Unlisted}
-use Rattle.suite_runs.specs.declared.rows.Refusal.{Refusal}
-use Rattle.suite_runs.specs.declared.rows.Refusal.TheVariants.{Short, BadCell, BadSide, Empties}
-use Rattle.suite_runs.specs.declared.rows.RowResult.{RowResult}
-use Rattle.suite_runs.specs.declared.rows.RowResult.TheVariants.{Solved, Refused}
-use Rattle.suite_runs.specs.declared.rows.ReportRow.{ReportRow}
+use Rattle.obf_text.specs.declared.line_fault.LineFault.TheVariants as fault
+use Rattle.suite_runs.specs.declared.check.Check.{Check}
+use Rattle.suite_runs.specs.declared.check.Check.TheVariants.{Agree, Differ, Unlisted}
+use Rattle.suite_runs.specs.declared.report_row.Refusal.{Refusal}
+use Rattle.suite_runs.specs.declared.report_row.Refusal.TheVariants.{Short, BadCell, BadSide, Empties}
+use Rattle.suite_runs.specs.declared.report_row.RowResult.{RowResult}
+use Rattle.suite_runs.specs.declared.report_row.RowResult.TheVariants.{Solved, Refused}
+use Rattle.suite_runs.specs.declared.report_row.ReportRow.{ReportRow}
 
 -- the names of squares with a comma between each two
 unfoldable pub names_text : List ℕ → List ℕ

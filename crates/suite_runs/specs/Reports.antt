@@ -1,7 +1,7 @@
 -- The reports that files define.
 use Rattle.std.specs.Prelude.{ℕ, List, map}
 use Rattle.std.specs.List.{enumerate_from}
-use Rattle.othello_rules.specs.declared.scorings.Scoring.{Scoring}
+use Rattle.othello_rules.specs.declared.scoring.Scoring.{Scoring}
 use Rattle.suite_runs.specs.Rows.{rows}
 use Rattle.suite_runs.specs.ReportText.{report_text}
 

@@ -2,18 +2,18 @@
 use Rattle.std.specs.Prelude.{ℕ, nat_lt, List, option_map, Option, Some, None, if◌then◌else◌}
 use Rattle.std.specs.List.{enumerate_from, filter_map}
 use Rattle.othello_rules.specs.Value.{answer, empties}
-use Rattle.othello_rules.specs.declared.scorings.Scoring.{Scoring}
+use Rattle.othello_rules.specs.declared.scoring.Scoring.{Scoring}
 use Rattle.othello_bits.specs.Pos.{discs_of}
 use Rattle.endgame_search.specs.Task.{TaskView}
 use Rattle.obf_text.specs.LineText.{lines_of}
 use Rattle.obf_text.specs.Obf.{Entry, Faulty, Holds, Meaning, Skipped, item_of}
-use Rattle.obf_text.specs.declared.faults.LineFault.{LineFault}
-use Rattle.obf_text.specs.declared.faults.LineFault.TheVariants as fault
-use Rattle.suite_runs.specs.Checks.{check}
-use Rattle.suite_runs.specs.declared.rows.Refusal.TheVariants as refusal
-use Rattle.suite_runs.specs.declared.rows.RowResult.{RowResult}
-use Rattle.suite_runs.specs.declared.rows.RowResult.TheVariants.{Solved, Refused}
-use Rattle.suite_runs.specs.declared.rows.ReportRow.{ReportRow}
+use Rattle.obf_text.specs.declared.line_fault.LineFault.{LineFault}
+use Rattle.obf_text.specs.declared.line_fault.LineFault.TheVariants as fault
+use Rattle.suite_runs.specs.Check.{check}
+use Rattle.suite_runs.specs.declared.report_row.Refusal.TheVariants as refusal
+use Rattle.suite_runs.specs.declared.report_row.RowResult.{RowResult}
+use Rattle.suite_runs.specs.declared.report_row.RowResult.TheVariants.{Solved, Refused}
+use Rattle.suite_runs.specs.declared.report_row.ReportRow.{ReportRow}
 
 -- the result of a position: its answer with the check; or a refusal, where it has more empty
 -- squares than the limit

@@ -1,31 +1,33 @@
 -- The refusal and the result of a run on files.
 use Rattle.std.specs.Prelude.{◌≡◌, ℕ, nat_lt, Bool, List, length, map, option_map, Option, Some, None, Result, Ok, Err, if◌then◌else◌}
 use Rattle.std.specs.List.{flat_map, position}
-use Rattle.othello_rules.specs.declared.scorings.Scoring.{Scoring}
+use Rattle.othello_rules.specs.declared.scoring.Scoring.{Scoring}
 use Rattle.obf_text.specs.LineText.{texts_of}
 use Rattle.endgame_search.specs.Task.{TaskView}
 use Rattle.suite_runs.specs.Settings.{SettingsView}
-use Rattle.suite_runs.specs.Parts.{IsBookOf, part_view, part_view_of}
+use Rattle.suite_runs.specs.Outcome.{IsBookOf}
+use Rattle.suite_runs.specs.Part.{part_view, part_view_of}
 use Rattle.suite_runs.specs.Reports.{reports}
 use Rattle.suite_runs.specs.Rows.{tasks}
-use Rattle.suite_runs.specs.declared.faults.RunFault.{RunFault}
-use Rattle.suite_runs.specs.declared.faults.RunFault.TheVariants.{Memory, Mixed, TooManyFiles, FileTooLarge}
-use Rattle.suite_runs.specs.declared.outcomes.Outcome.{Outcome}
-use Rattle.suite_runs.specs.declared.parts.Part.{Part}
+use Rattle.suite_runs.specs.declared.run_fault.RunFault.{RunFault}
+use Rattle.suite_runs.specs.declared.run_fault.RunFault.TheVariants.{Memory, Mixed, TooManyFiles, FileTooLarge}
+use Rattle.suite_runs.specs.declared.outcome.Outcome.{Outcome}
+use Rattle.suite_runs.specs.declared.part.Part.{Part}
+use Rattle.suite_runs.specs.declared.settings.TheConstants.{MOST_BYTES, MOST_FILES}
 
--- the text has more than 1,048,576 bytes
+-- the text has more than MOST_BYTES bytes
 abbrev pub is_large : List ℕ → Bool
-is_large text = nat_lt 1048576 (length text)
+is_large text = nat_lt MOST_BYTES (length text)
 
--- the sender of the first text of more than 1,048,576 bytes
+-- the sender of the first text of more than MOST_BYTES bytes
 abbrev pub first_large : List (List ℕ) → Option ℕ
 first_large texts = position is_large texts
 
--- the refusal of a run, before anything is solved: more than 64 files, and else the first file of
--- more than 1,048,576 bytes
+-- the refusal of a run, before anything is solved: more than MOST_FILES files, and else the
+-- first file of more than MOST_BYTES bytes
 unfoldable pub refusal_of : List (List ℕ) → Option RunFault
 refusal_of texts =
-    if nat_lt 64 (length texts) then Some TooManyFiles
+    if nat_lt MOST_FILES (length texts) then Some TooManyFiles
     else option_map FileTooLarge (first_large texts)
 
 -- the result is the refusal of the texts, or Ok where there is none

@@ -1,7 +1,9 @@
 -- What a contract sees of the settings of a run.
 use Rattle.std.specs.Prelude.{ℕ, ◌≤◌}
-use Rattle.othello_rules.specs.declared.scorings.Scoring.{Scoring}
-use Rattle.othello_rules.specs.declared.scorings.Scoring.TheVariants.{Winner}
+use Rattle.othello_rules.specs.declared.scoring.Scoring.{Scoring}
+use Rattle.othello_rules.specs.declared.scoring.Scoring.TheVariants.{Winner}
+use Rattle.suite_runs.specs.declared.settings.TheConstants.{MOST_EMPTIES, MOST_ENTRIES, MOST_WORKERS}
+use Rattle.suite_runs.specs.declared.settings.TheConstants.{DEFAULT_EMPTIES, DEFAULT_ENTRIES, DEFAULT_WORKERS}
 
 -- the most empty squares that are solved, the number of workers, of table entries, and the scoring
 pub record SettingsView : Type 0 where
@@ -12,10 +14,15 @@ pub record SettingsView : Type 0 where
 
 -- no number is above its limit
 pub record IsWithinLimits (c : SettingsView) : Type 0 where
-  pub few_empties : c.max_empties ≤ 60
-  pub few_workers : c.workers ≤ 64
-  pub few_entries : c.table ≤ 4194304
+  pub few_empties : c.max_empties ≤ MOST_EMPTIES
+  pub few_workers : c.workers ≤ MOST_WORKERS
+  pub few_entries : c.table ≤ MOST_ENTRIES
 
 -- the default settings
 abbrev pub defaults : SettingsView
-defaults = record { max_empties = 20; workers = 2; table = 65536; scoring = Winner }
+defaults = record {
+  max_empties = DEFAULT_EMPTIES;
+  workers = DEFAULT_WORKERS;
+  table = DEFAULT_ENTRIES;
+  scoring = Winner;
+}

@@ -1,9 +1,9 @@
 -- The clients of a run that were started, and the parts that they give.
 use Rattle.std.specs.Prelude.{◌≡◌, ℕ, List, map, Option, Some, None}
-use Rattle.othello_rules.specs.declared.scorings.Scoring.{Scoring}
-use Rattle.suite_runs.specs.Parts.{GivesPart, IsPartFault, PartView, part_view, part_view_of}
-use Rattle.suite_runs.specs.declared.faults.RunFault.{RunFault}
-use Rattle.suite_runs.specs.declared.parts.Part.{Part}
+use Rattle.othello_rules.specs.declared.scoring.Scoring.{Scoring}
+use Rattle.suite_runs.specs.Part.{GivesPart, IsPartFault, PartView, part_view, part_view_of}
+use Rattle.suite_runs.specs.declared.run_fault.RunFault.{RunFault}
+use Rattle.suite_runs.specs.declared.part.Part.{Part}
 use Rattle.suite_runs.specs.declared.threads.PartPromise.{PartPromise}
 use Rattle.suite_runs.specs.declared.threads.Progress.{Progress}
 use Rattle.suite_runs.specs.declared.threads.Progress.TheVariants.{Spawned, Done}

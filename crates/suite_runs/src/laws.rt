@@ -2,13 +2,13 @@
 //! empty: its contract is the law.
 
 ghost use Rattle.std.specs.Prelude.{◌≡◌, List};
-ghost use Rattle.othello_rules.specs.declared.scorings.Scoring.{Scoring};
+ghost use Rattle.othello_rules.specs.declared.scoring.Scoring.{Scoring};
 ghost use Rattle.endgame_search.specs.Task.{TaskView};
 ghost use Rattle.solved_book.specs.Books.{BookView};
 ghost use Rattle.solved_book.specs.Order.{AreBookPositions};
-ghost use Rattle.suite_runs.specs.Parts.{IsBookOf};
+ghost use Rattle.suite_runs.specs.Outcome.{IsBookOf};
 
-pub use crate::clients::client_part;
+pub use crate::client::client_part;
 
 /// Two books of the same tasks under one scoring are equal, if the positions of each are canonical
 /// and in rising order. So runs on the same files, under one scoring and one limit of empty

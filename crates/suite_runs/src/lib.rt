@@ -11,34 +11,38 @@
 //!
 //! `run` solves on threads, `run_serial` on the calling thread. The crate `suite_solver` hands the
 //! public names on, and has the program `ffosolve` and the tests of this crate, so that this crate
-//! is not proved again with tests. The modules `clients`, `solvers` and `threads` are public for
+//! is not proved again with tests. The modules `client`, `solver`, `threads` and `worker` are public for
 //! those tests.
 #![tactic(auto)]
 
-mod checks;
-pub mod clients;
-mod faults;
-mod gates;
+mod check;
+pub mod client;
+mod gate;
 pub mod laws;
-mod lines;
-mod outcomes;
-mod parts;
-mod readings;
+mod numbered_line;
+mod outcome;
+mod parsed_line;
+mod part;
 mod report;
-mod rows;
+mod report_row;
+mod run_fault;
 mod runs;
+mod serial;
 mod settings;
-pub mod solvers;
+pub mod solver;
 pub mod threads;
+pub mod worker;
 
-pub use checks::{Check, check_of};
-pub use faults::RunFault;
-pub use gates::{Gate, NoGate};
-pub use outcomes::Outcome;
-pub use parts::Part;
+pub use check::{Check, check_of};
+pub use gate::{Gate, NoGate};
+pub use outcome::Outcome;
+pub use part::Part;
 pub use report::write_report;
-pub use rows::{Refusal, ReportRow, RowResult};
+pub use report_row::{Refusal, ReportRow, RowResult};
+pub use run_fault::RunFault;
 pub use runs::{check_files, run, run_serial};
 pub use settings::{
-    MOST_BYTES, MOST_EMPTIES, MOST_ENTRIES, MOST_FILES, MOST_WORKERS, Settings, VERSION,
+    DEFAULT_EMPTIES, DEFAULT_EMPTIES_TEXT, DEFAULT_ENTRIES, DEFAULT_ENTRIES_TEXT, DEFAULT_WORKERS,
+    DEFAULT_WORKERS_TEXT, MOST_BYTES, MOST_EMPTIES, MOST_ENTRIES, MOST_FILES, MOST_WORKERS,
+    Settings, VERSION,
 };

@@ -7,8 +7,8 @@ ghost use Rattle.suite_runs.specs.ReportText.{answer_text, best_text, check_text
 ghost use Rattle.suite_runs.specs.ReportText.{names_text, refusal_text, report_text, result_text};
 ghost use Rattle.suite_runs.specs.ReportText.{row_text, solved_count};
 
-use crate::checks::Check;
-use crate::rows::{Refusal, ReportRow, RowResult};
+use crate::check::Check;
+use crate::report_row::{Refusal, ReportRow, RowResult};
 use obf_text::{LineFault, score_bytes, write_fault, write_too_many};
 use othello_rules::{Answer, Best, Square, squares_in};
 use std::io;

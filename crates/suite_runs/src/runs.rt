@@ -2,16 +2,16 @@
 
 ghost use Rattle.std.specs.Prelude.{◌≡◌, ◌≢◌, ◌<◌, ◌≤◌, ◌↔◌, ℕ, length, Some, None, Err, IfOk, IfSome, IsErrOf, IsOk};
 ghost use Rattle.std.specs.List.{position};
-ghost use Rattle.suite_runs.specs.Parts.{IsBookOf};
+ghost use Rattle.suite_runs.specs.Outcome.{IsBookOf};
 ghost use Rattle.suite_runs.specs.Reports.{reports};
 ghost use Rattle.obf_text.specs.LineText.{texts_of};
 ghost use Rattle.suite_runs.specs.Runs.{Answers, Refuses, all_tasks, first_large, is_large, refusal_of};
-ghost use Rattle.suite_runs.specs.declared.faults.RunFault.TheVariants.{Mixed, TooManyFiles, FileTooLarge};
+ghost use Rattle.suite_runs.specs.declared.run_fault.RunFault.TheVariants.{Mixed, TooManyFiles, FileTooLarge};
 
-use crate::faults::RunFault;
-use crate::gates::Gate;
-use crate::outcomes::{Outcome, outcome_of};
-use crate::parts::solve_texts;
+use crate::gate::Gate;
+use crate::outcome::{Outcome, outcome_of};
+use crate::run_fault::RunFault;
+use crate::serial::solve_texts;
 use crate::settings::{MOST_BYTES, MOST_FILES, Settings};
 use crate::threads::solve_texts_on_threads;
 use solved_book::Claims;
@@ -19,7 +19,7 @@ use std::alloc::Global;
 use std::sync::Wait;
 use std::thread::Threads;
 
-// The number, from 0, of the first file of more than 1,048,576 bytes. `first_large` has the same
+// The number, from 0, of the first file of more than `MOST_BYTES` bytes. `first_large` has the same
 // result, with a contract about the bytes of the files.
 fn large_file(files: &[Vec<u8>]) -> Option<usize>
     ensures { result ≡ position (λ file. is_large file.items) files.now }
@@ -27,7 +27,7 @@ fn large_file(files: &[Vec<u8>]) -> Option<usize>
     files.iter().position(|file| file.len() > MOST_BYTES)
 }
 
-// The sender of the first file of more than 1,048,576 bytes.
+// The sender of the first file of more than `MOST_BYTES` bytes.
 fn first_large(files: &[Vec<u8>]) -> Option<usize>
     ensures first { result ≡ first_large (texts_of files.now) }
     ensures within { IfSome result (λ sender. sender < length files.now) }
@@ -35,12 +35,12 @@ fn first_large(files: &[Vec<u8>]) -> Option<usize>
     large_file(files)
 }
 
-/// Refuses more than 64 files, by `TooManyFiles`, and else the first file of more than 1,048,576
-/// bytes, by `FileTooLarge` with its sender. A run refuses them so.
-#[tactic(auto, unfolding(crate::specs::Runs::refusal_of))]
+/// Refuses more than `MOST_FILES` files, by `TooManyFiles`, and else the first file of more than
+/// `MOST_BYTES` bytes, by `FileTooLarge` with its sender. A run refuses them so.
+#[tactic(auto, unfolding(crate::specs::Runs::refusal_of), using(crate::proofs::RunLemmas::many_refused))]
 pub fn check_files(files: &[Vec<u8>]) -> Result<(), RunFault>
     ensures refuses { Refuses result (texts_of files.now) }
-    ensures few { IsOk result → length files.now ≤ 64 }
+    ensures few { IsOk result → length files.now ≤ MOST_FILES }
     ensures small { IsOk result → first_large (texts_of files.now) ≡ None }
 {
     if files.len() > MOST_FILES {
@@ -78,8 +78,8 @@ fn run_files(
 /// of each solved position, and nothing else. Reports and book depend neither on the size of the
 /// table nor on the claims.
 ///
-/// Errors: `TooManyFiles` for more than 64 files, and else `FileTooLarge` for the first file of
-/// more than 1,048,576 bytes, both before anything is solved; `Memory` where memory was refused.
+/// Errors: `TooManyFiles` for more than `MOST_FILES` files, and else `FileTooLarge` for the first
+/// file of more than `MOST_BYTES` bytes, both before anything is solved; `Memory` where memory was refused.
 /// `Mixed` never comes.
 pub fn run_serial(
     alloc: Global,
@@ -87,9 +87,9 @@ pub fn run_serial(
     settings: &Settings,
     claims: Option<&Claims>,
 ) -> Result<Outcome, RunFault>
-    ensures too_many { IsErrOf result TooManyFiles ↔ 64 < length files.now }
+    ensures too_many { IsErrOf result TooManyFiles ↔ MOST_FILES < length files.now }
     ensures too_large { (sender : ℕ) → IsErrOf result (FileTooLarge sender) ↔
-        ((length files.now ≤ 64) × (first_large (texts_of files.now) ≡ Some sender)) }
+        ((length files.now ≤ MOST_FILES) × (first_large (texts_of files.now) ≡ Some sender)) }
     ensures unmixed { result ≢ Err Mixed }
     ensures reports { IfOk result (λ outcome. texts_of outcome.reports.items
         ≡ reports settings.now.scoring settings.now.max_empties (texts_of files.now)) }
@@ -121,8 +121,8 @@ fn run_threads<R: Threads + Wait + Sync, G: Gate>(
 /// Solves the positions of files on threads: a client for each file and the workers of the
 /// settings, at one desk and over one table of bounds. A worker whose thread can't be started is
 /// left out. The calling thread does the part of a client whose thread can't be started. The gate
-/// is called before and after each job. The call returns when all threads have ended, and may wait
-/// for them.
+/// is called once the jobs of a file are submitted, and before and after each job. The call returns
+/// when all threads have ended, and may wait for them.
 ///
 /// Reports and book are those of `run_serial`, for every number of workers and every gate. So are
 /// `TooManyFiles` and `FileTooLarge`, which come before a thread is started or the gate is called.
@@ -136,9 +136,9 @@ pub fn run<R: Threads + Wait + Sync, G: Gate>(
     claims: Option<&Claims>,
     gate: &G,
 ) -> Result<Outcome, RunFault>
-    ensures too_many { IsErrOf result TooManyFiles ↔ 64 < length files.now }
+    ensures too_many { IsErrOf result TooManyFiles ↔ MOST_FILES < length files.now }
     ensures too_large { (sender : ℕ) → IsErrOf result (FileTooLarge sender) ↔
-        ((length files.now ≤ 64) × (first_large (texts_of files.now) ≡ Some sender)) }
+        ((length files.now ≤ MOST_FILES) × (first_large (texts_of files.now) ≡ Some sender)) }
     ensures reports { IfOk result (λ outcome. texts_of outcome.reports.items
         ≡ reports settings.now.scoring settings.now.max_empties (texts_of files.now)) }
     ensures book { IfOk result (λ outcome. IsBookOf settings.now.scoring (all_tasks

@@ -10,7 +10,7 @@ use othello_rules::Scoring;
 use std::marker::Model;
 
 /// The version of the programs, as `--version` prints it.
-pub const VERSION: &str = "1.0.0";
+pub const VERSION: &str = "1.1.0";
 /// The greatest limit of empty squares that settings may have.
 pub const MOST_EMPTIES: u8 = Task::MOST_EMPTIES;
 /// The most worker threads.
@@ -21,6 +21,18 @@ pub const MOST_ENTRIES: u32 = BoundTable::MOST_ENTRIES as u32;
 pub const MOST_FILES: usize = Board::MOST_SENDERS as usize;
 /// The most bytes of a file.
 pub const MOST_BYTES: usize = 1_048_576;
+/// The limit of empty squares where none is given.
+pub const DEFAULT_EMPTIES: u8 = 20;
+/// The number of worker threads where none is given.
+pub const DEFAULT_WORKERS: u8 = 2;
+/// The entries of the table of bounds where no number is given.
+pub const DEFAULT_ENTRIES: u32 = 65_536;
+/// `DEFAULT_EMPTIES` as the words of a command line have it.
+pub const DEFAULT_EMPTIES_TEXT: &str = "20";
+/// `DEFAULT_WORKERS` as the words of a command line have it.
+pub const DEFAULT_WORKERS_TEXT: &str = "2";
+/// `DEFAULT_ENTRIES` as the words of a command line have it.
+pub const DEFAULT_ENTRIES_TEXT: &str = "65536";
 
 /// The settings of a run: three numbers, none above its limit, and the scoring.
 #[derive(Clone, Copy, PartialEq, Eq, Debug)]
@@ -61,7 +73,7 @@ impl Model for Settings {
 impl Settings {
     /// Settings by which positions of at most `max_empties` empty squares are solved, on `workers`
     /// threads beside one for each file, over a table of `table` entries. None where a number is
-    /// above its limit: 60, 64 and 4,194,304.
+    /// above its limit: `MOST_EMPTIES`, `MOST_WORKERS` and `MOST_ENTRIES`.
     pub fn new(max_empties: u8, workers: u8, table: u32, scoring: Scoring) -> Option<Settings>
         ensures within { IsSome result ↔ IsWithinLimits (record
             { max_empties = max_empties; workers = workers; table = table; scoring = scoring }) }
@@ -82,7 +94,7 @@ impl Settings {
     /// The most empty squares of a position that is solved. A position with more is refused.
     pub fn max_empties(&self) -> u8
         ensures value { result ≡ self.now.max_empties }
-        ensures within { result ≤ 60 }
+        ensures within { result ≤ MOST_EMPTIES }
     {
         self.max_empties
     }
@@ -97,7 +109,7 @@ impl Settings {
     /// The number of entries of the table of bounds.
     pub fn table(&self) -> u32
         ensures value { result ≡ self.now.table }
-        ensures within { result ≤ 4194304 }
+        ensures within { result ≤ MOST_ENTRIES }
     {
         self.table
     }
@@ -111,14 +123,14 @@ impl Settings {
 }
 
 impl Default for Settings {
-    /// At most 20 empty squares, 2 workers, a table of 65,536 entries, and the scoring `Winner`.
+    /// `DEFAULT_EMPTIES`, `DEFAULT_WORKERS`, `DEFAULT_ENTRIES`, and the scoring `Winner`.
     fn default() -> Settings
         ensures { result ≡ defaults }
     {
         Settings {
-            max_empties: 20,
-            workers: 2,
-            table: 65_536,
+            max_empties: DEFAULT_EMPTIES,
+            workers: DEFAULT_WORKERS,
+            table: DEFAULT_ENTRIES,
             scoring: Scoring::Winner,
         }
     }

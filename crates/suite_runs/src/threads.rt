@@ -1,17 +1,19 @@
 //! The threads of a run: a client for each file, and the workers.
 
 ghost use Rattle.std.specs.Prelude.{◌≡◌, ◌<◌, ◌≤◌, ◌+◌, ◌++◌, ◌∷◌, length, map, IfOk, IfErr, Some, None, [], vec_len, vec_capacity};
-ghost use Rattle.suite_runs.specs.Parts.{GivesPart, GivesParts, worse_fault};
+ghost use Rattle.suite_runs.specs.Part.{GivesPart, GivesParts};
+ghost use Rattle.suite_runs.specs.RunFault.{worse_fault};
 ghost use Rattle.obf_text.specs.LineText.{texts_of};
 ghost use Rattle.suite_runs.specs.Runs.{first_large};
 ghost use Rattle.suite_runs.specs.Threads.{AreJoined, started_view};
 
-use crate::clients::{client_part, work};
-use crate::faults::{RunFault, worse_fault};
-use crate::gates::Gate;
-use crate::parts::Part;
-use crate::settings::Settings;
-use crate::solvers::{Solver, new_table};
+use crate::client::client_part;
+use crate::gate::Gate;
+use crate::part::Part;
+use crate::run_fault::{RunFault, worse_fault};
+use crate::settings::{MOST_BYTES, MOST_FILES, Settings};
+use crate::solver::{Solver, new_table};
+use crate::worker::Worker;
 use bound_table::{BoundTable, Bounds};
 use job_board::{BoardFault, Desk};
 use othello_rules::Scoring;
@@ -22,8 +24,7 @@ use std::sync::Wait;
 use std::thread;
 use std::thread::{Promise, PromisedHandle, Scope, Threads};
 
-/// The values that all threads of a run share. The type has no type parameter and no lifetime,
-/// since a closure that captures a type with one promises its caller nothing.
+/// The values that are made for a run, which its threads share.
 #[derive(Drop)]
 pub(crate) struct Shared {
     pub(crate) alloc: Global,
@@ -34,7 +35,7 @@ pub(crate) struct Shared {
 
 impl Shared {
     fn new(alloc: Global, files: &[Vec<u8>], settings: &Settings) -> Result<Shared, AllocError>
-        requires { length files.now ≤ 64 }
+        requires { length files.now ≤ MOST_FILES }
         ensures scoring { IfOk result (λ shared. shared.table.scoring ≡ settings.now.scoring) }
         ensures settings { IfOk result (λ shared. shared.settings ≡ settings.now) }
     {
@@ -50,40 +51,48 @@ impl Shared {
             Err(BoardFault::TooManySenders) => unreachable!(),
         }
     }
+}
 
+// All that the threads of a run share. A closure captures its fields one by one and joins them anew:
+// the checker stops at a captured `&Crew`, and a closure that captures an `Option<&Claims>` promises
+// its caller nothing.
+#[derive(Drop)]
+struct Crew<'a, R, G> {
+    rt: &'a R,
+    shared: &'a Shared,
+    claims: &'a Claims,
+    gate: &'a G,
+}
+
+impl<'a, R: Wait, G: Gate> Crew<'a, R, G> {
     // Does the part of the client of one file.
-    fn part<R: Wait, G: Gate>(
-        &self,
-        rt: &R,
-        claims: &Claims,
-        gate: &G,
-        sender: u32,
-        text: &[u8],
-    ) -> Result<Part, RunFault>
-        requires { length text.now ≤ 1048576 }
-        ensures { GivesPart self.now.table.scoring self.now.settings.max_empties text.now result }
+    fn part(&self, sender: u32, text: &[u8]) -> Result<Part, RunFault>
+        requires { length text.now ≤ MOST_BYTES }
+        ensures { GivesPart self.now.shared.now.table.scoring
+            self.now.shared.now.settings.max_empties text.now result }
     {
+        let shared = self.shared;
         client_part(
-            rt,
-            self.alloc,
+            self.rt,
+            shared.alloc,
             text,
             sender,
-            self.settings.max_empties(),
-            &self.desk,
-            &self.table,
-            Some(claims),
-            gate,
+            shared.settings.max_empties(),
+            &shared.desk,
+            &shared.table,
+            Some(self.claims),
+            self.gate,
         )
     }
 
     // Does the part of one worker.
-    fn work<R: Wait, G: Gate>(&self, rt: &R, claims: &Claims, gate: &G) {
-        work(
-            rt,
-            &self.desk,
-            &Solver::new(&self.table, Some(claims)),
-            gate,
-        );
+    fn work(&self) {
+        let worker = Worker {
+            desk: &self.shared.desk,
+            solver: Solver::new(&self.shared.table, Some(self.claims)),
+            gate: self.gate,
+        };
+        worker.work(self.rt);
     }
 }
 
@@ -145,17 +154,20 @@ impl<'a> StartedClient<'a> {
 // the part of the client.
 fn start<'a, E, R: Threads + Wait + Sync, G: Gate>(
     scope: &Scope<'a, E>,
-    rt: &'a R,
-    shared: &'a Shared,
-    claims: &'a Claims,
-    gate: &'a G,
+    crew: &Crew<'a, R, G>,
     sender: u32,
     text: &'a [u8],
 ) -> StartedClient<'a>
-    requires { length text.now ≤ 1048576 }
-    ensures { result ≡ started_view shared.now.table.scoring
-        shared.now.settings.max_empties text.now }
+    requires { length text.now ≤ MOST_BYTES }
+    ensures { result ≡ started_view crew.now.shared.now.table.scoring
+        crew.now.shared.now.settings.max_empties text.now }
 {
+    let &Crew {
+        rt,
+        shared,
+        claims,
+        gate,
+    } = crew;
     let promise = PartPromise {
         scoring: shared.table.scoring(),
         limit: shared.settings.max_empties(),
@@ -164,10 +176,18 @@ fn start<'a, E, R: Threads + Wait + Sync, G: Gate>(
     let spawned = scope.spawn_with(
         promise,
         move || -> Result<Part, RunFault>
-            requires { length text.now ≤ 1048576 }
+            requires { length text.now ≤ MOST_BYTES }
             ensures { GivesPart shared.entry.now.table.scoring shared.entry.now.settings.max_empties
                 text.entry.now result }
-        { shared.part(rt, claims, gate, sender, text) },
+        {
+            let crew = Crew {
+                rt,
+                shared,
+                claims,
+                gate,
+            };
+            crew.part(sender, text)
+        },
     );
     let progress = match spawned {
         Ok(handle) => Progress::Spawned(handle),
@@ -180,24 +200,21 @@ fn start<'a, E, R: Threads + Wait + Sync, G: Gate>(
 // room for all.
 fn start_all<'a, E, R: Threads + Wait + Sync, G: Gate>(
     scope: &Scope<'a, E>,
-    rt: &'a R,
-    shared: &'a Shared,
-    claims: &'a Claims,
-    gate: &'a G,
+    crew: &Crew<'a, R, G>,
     files: &'a [Vec<u8>],
     clients: &mut Vec<StartedClient<'a>>,
 )
-    requires few { length files.now ≤ 64 }
+    requires few { length files.now ≤ MOST_FILES }
     requires small { first_large (texts_of files.now) ≡ None }
     requires none { clients.old.items ≡ [] }
     requires room { length files.now ≤ vec_capacity clients.old }
     ensures { clients.new.items ≡ map
-        (started_view shared.now.table.scoring shared.now.settings.max_empties)
+        (started_view crew.now.shared.now.table.scoring crew.now.shared.now.settings.max_empties)
         (texts_of files.now) }
 {
     let mut sender: u32 = 0;
     for file in files {
-        clients.push_reserved(start(scope, rt, shared, claims, gate, sender, file));
+        clients.push_reserved(start(scope, crew, sender, file));
         sender += 1;
     }
 }
@@ -205,13 +222,24 @@ fn start_all<'a, E, R: Threads + Wait + Sync, G: Gate>(
 // Starts the workers of the settings. A worker whose thread can't be started is left out.
 fn start_workers<'a, E, R: Threads + Wait + Sync, G: Gate>(
     scope: &Scope<'a, E>,
-    rt: &'a R,
-    shared: &'a Shared,
-    claims: &'a Claims,
-    gate: &'a G,
+    crew: &Crew<'a, R, G>,
 ) {
+    let &Crew {
+        rt,
+        shared,
+        claims,
+        gate,
+    } = crew;
     for _ in 0..shared.settings.workers() {
-        let _ = scope.spawn(move || shared.work(rt, claims, gate));
+        let _ = scope.spawn(move || {
+            let crew = Crew {
+                rt,
+                shared,
+                claims,
+                gate,
+            };
+            crew.work();
+        });
     }
 }
 
@@ -269,29 +297,26 @@ pub fn join_all<R: Threads>(rt: &R, clients: Vec<StartedClient<'_>>, joined: &mu
 // nothing can fail between the starts and the joins.
 fn solve_in_scope<'a, E, R: Threads + Wait + Sync, G: Gate>(
     scope: &Scope<'a, E>,
-    rt: &'a R,
-    shared: &'a Shared,
-    claims: &'a Claims,
-    gate: &'a G,
+    crew: &Crew<'a, R, G>,
     files: &'a [Vec<u8>],
 ) -> Result<Vec<Part>, RunFault>
-    requires few { length files.now ≤ 64 }
+    requires few { length files.now ≤ MOST_FILES }
     requires small { first_large (texts_of files.now) ≡ None }
-    ensures { GivesParts shared.now.table.scoring shared.now.settings.max_empties
-        (texts_of files.now) result }
+    ensures { GivesParts crew.now.shared.now.table.scoring
+        crew.now.shared.now.settings.max_empties (texts_of files.now) result }
 {
-    let mut clients = Vec::with_capacity(shared.alloc, files.len())?;
-    let parts = Vec::with_capacity(shared.alloc, files.len())?;
+    let mut clients = Vec::with_capacity(crew.shared.alloc, files.len())?;
+    let parts = Vec::with_capacity(crew.shared.alloc, files.len())?;
     let mut joined = Joined { parts, fault: None };
-    start_workers(scope, rt, shared, claims, gate);
-    start_all(scope, rt, shared, claims, gate, files, &mut clients);
-    join_all(rt, clients, &mut joined);
+    start_workers(scope, crew);
+    start_all(scope, crew, files, &mut clients);
+    join_all(crew.rt, clients, &mut joined);
     joined.into_parts()
 }
 
 /// The parts of the files, solved by a client for each file and by the workers of the settings, at
-/// one desk and over one table of bounds. There are at most 64 files, none of more than 1,048,576
-/// bytes.
+/// one desk and over one table of bounds. There are at most `MOST_FILES` files, none of more
+/// than `MOST_BYTES` bytes.
 pub(crate) fn solve_texts_on_threads<R: Threads + Wait + Sync, G: Gate>(
     rt: &R,
     alloc: Global,
@@ -300,7 +325,7 @@ pub(crate) fn solve_texts_on_threads<R: Threads + Wait + Sync, G: Gate>(
     claims: Option<&Claims>,
     gate: &G,
 ) -> Result<Vec<Part>, RunFault>
-    requires few { length files.now ≤ 64 }
+    requires few { length files.now ≤ MOST_FILES }
     requires small { first_large (texts_of files.now) ≡ None }
     ensures { GivesParts settings.now.scoring settings.now.max_empties (texts_of files.now) result }
 {
@@ -312,9 +337,17 @@ pub(crate) fn solve_texts_on_threads<R: Threads + Wait + Sync, G: Gate>(
         thread::scope_env(),
         rt,
         |scope| -> Result<Vec<Part>, RunFault>
-            requires { (length files.now ≤ 64) × (first_large (texts_of files.now) ≡ None) }
+            requires { (length files.now ≤ MOST_FILES) × (first_large (texts_of files.now) ≡ None) }
             ensures { GivesParts shared.entry.now.table.scoring
                 shared.entry.now.settings.max_empties (texts_of files.entry.now) result }
-        { solve_in_scope(scope, rt, shared, claims, gate, files) },
+        {
+            let crew = Crew {
+                rt,
+                shared,
+                claims,
+                gate,
+            };
+            solve_in_scope(scope, &crew, files)
+        },
     )
 }

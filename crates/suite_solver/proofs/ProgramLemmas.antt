@@ -1,16 +1,17 @@
 -- From the bytes of standard input to those of standard output.
-use Rattle.std.proofs.Common.{◌≡◌, ◌≤◌, ◌<◌, ◌+◌, ℕ, List, [], ◌∷◌, length, min, take, refl, sym, ◌∙◌, ap, arith, inl, inr, Bool, true, false}
+use Rattle.std.proofs.Common.{◌≡◌, ◌⊎◌, ◌≤◌, ◌<◌, ◌+◌, ℕ, List, [], ◌∷◌, length, min, take, refl, sym, ◌∙◌, ap, arith, inl, inr, Bool, true, false}
 use Rattle.std.specs.Prelude.{◌↔◌, Option, Some, None, Result, Ok, Err, IfErr, IfSome, IsErrOf, OnOk}
 use Rattle.std.proofs.lemmas.List.{length-take, take_all}
 use Rattle.std.proofs.lemmas.Bool.{cases_lt}
 use Rattle.std.proofs.Math.Nat.{min_comm, min-eq_left}
 use borrow.Author.Tests.{ltb-false}
 use Rattle.suite_solver.specs.Programs.{AreFrontsOf, AreTextsOf, IsSilent, status_of}
-use Rattle.suite_solver.specs.declared.errors.ProgramError.{ProgramError}
+use Rattle.suite_solver.specs.declared.program_error.ProgramError.{ProgramError}
 use Rattle.suite_runs.specs.Runs.{first_large, is_large}
-use Rattle.suite_runs.specs.declared.faults.RunFault.{RunFault}
-use Rattle.suite_runs.specs.declared.faults.RunFault.TheVariants.{FileTooLarge, TooManyFiles}
-use Rattle.suite_runs.specs.declared.outcomes.Outcome.{Outcome}
+use Rattle.suite_runs.specs.declared.settings.TheConstants.{MOST_BYTES, MOST_FILES}
+use Rattle.suite_runs.specs.declared.run_fault.RunFault.{RunFault}
+use Rattle.suite_runs.specs.declared.run_fault.RunFault.TheVariants.{FileTooLarge, TooManyFiles}
+use Rattle.suite_runs.specs.declared.outcome.Outcome.{Outcome}
 
 -- a front that is no longer than n is the whole, where one element more was asked for
 whole_front : {X : Type 0} (n m : ℕ) (all : List X) → m ≡ n + 1 → length (take m all) ≤ n → take m all ≡ all
@@ -22,15 +23,15 @@ ok_no_fault : (o : Outcome) (fault : RunFault) → IsErrOf {T = Outcome} {E = Ru
 ok_no_fault o fault e = cc
 
 -- a run that gives reports has few texts
-pub given_few : (o : Outcome) (n : ℕ) → (IsErrOf {T = Outcome} {E = RunFault} (Ok o) TooManyFiles ↔ 64 < n) → n ≤ 64
-given_few o n iff = elim (cases_lt 64 n) [
+pub given_few : (o : Outcome) (n : ℕ) → (IsErrOf {T = Outcome} {E = RunFault} (Ok o) TooManyFiles ↔ MOST_FILES < n) → n ≤ MOST_FILES
+given_few o n iff = elim (cases_lt MOST_FILES n) [
   | inl many ↦ absurd (ok_no_fault o TooManyFiles (iff.1 many))
   | inr few ↦ omega (arith, few)
 ]
 
 -- and none that is too large
-pub given_small : (o : Outcome) (n : ℕ) (texts : List (List ℕ)) (first : Option ℕ) → first_large texts ≡ first → n ≤ 64
-    → ((sender : ℕ) → IsErrOf {T = Outcome} {E = RunFault} (Ok o) (FileTooLarge sender) ↔ ((n ≤ 64) × (first_large texts ≡ Some sender)))
+pub given_small : (o : Outcome) (n : ℕ) (texts : List (List ℕ)) (first : Option ℕ) → first_large texts ≡ first → n ≤ MOST_FILES
+    → ((sender : ℕ) → IsErrOf {T = Outcome} {E = RunFault} (Ok o) (FileTooLarge sender) ↔ ((n ≤ MOST_FILES) × (first_large texts ≡ Some sender)))
     → first_large texts ≡ None
 given_small o n texts None e few iff = e
 given_small o n texts (Some sender) e few iff = absurd (ok_no_fault o (FileTooLarge sender) ((iff sender).1 (few, e)))
@@ -45,24 +46,24 @@ small_one : (text : List ℕ) (b : Bool) → is_large text ≡ b → first_large
 small_one text false e none = e
 small_one text true e none = absurd (some_not_none 0 (sym (first_if_large text e) ∙ none))
 
-whole_input : (given : Option (List ℕ)) (texts : List (List ℕ)) → IfSome given (λ all. texts ≡ take 1048577 all ∷ []) → first_large texts ≡ None → IfSome given (λ text. texts ≡ text ∷ [])
+whole_input : (given : Option (List ℕ)) (texts : List (List ℕ)) → IfSome given (λ all. texts ≡ take (MOST_BYTES + 1) all ∷ []) → first_large texts ≡ None → IfSome given (λ text. texts ≡ text ∷ [])
 whole_input None texts read small = read
 whole_input (Some all) texts read small =
     let one = rw read at small in
-    let short = ltb-false _ _ (small_one (take 1048577 all) (is_large (take 1048577 all)) refl one) in
-    read ∙ ap (λ t. t ∷ []) (whole_front 1048576 1048577 all refl short)
+    let short = ltb-false _ _ (small_one (take (MOST_BYTES + 1) all) (is_large (take (MOST_BYTES + 1) all)) refl one) in
+    read ∙ ap (λ t. t ∷ []) (whole_front MOST_BYTES (MOST_BYTES + 1) all refl short)
 
--- of no more than 64 texts none is left out
-all_named : (n m : ℕ) → n ≡ min 65 m → n ≤ 64 → n ≡ m
-all_named n m e few = elim (cases_lt 64 m) [
-  | inl many ↦ let whole = e ∙ min-eq_left {n = 65} {m = m} (omega (arith, many)) in absurd (omega (arith, whole, few))
-  | inr le ↦ e ∙ min_comm 65 m ∙ min-eq_left {n = m} {m = 65} (omega (arith, le))
+-- of no more texts than the limit none is left out
+all_named : (limit n m : ℕ) → n ≡ min (limit + 1) m → n ≤ limit → n ≡ m
+all_named limit n m e few = elim (cases_lt limit m) [
+  | inl many ↦ let whole = e ∙ min-eq_left {n = limit + 1} {m = m} (omega (arith, many)) in absurd (omega (arith, whole, few))
+  | inr le ↦ e ∙ min_comm (limit + 1) m ∙ min-eq_left {n = m} {m = limit + 1} (omega (arith, le))
 ]
 
 -- what was read is the whole, where it is no larger than a file may be
-pub whole_texts : (names : List (List ℕ)) (given : Option (List ℕ)) (texts : List (List ℕ)) → AreFrontsOf names given texts → first_large texts ≡ None → length texts ≤ 64 → AreTextsOf names given texts
+pub whole_texts : (names : List (List ℕ)) (given : Option (List ℕ)) (texts : List (List ℕ)) → AreFrontsOf names given texts → first_large texts ≡ None → length texts ≤ MOST_FILES → AreTextsOf names given texts
 whole_texts [] given texts read small few = whole_input given texts read small
-whole_texts (name ∷ names) given texts read small few = all_named (length texts) (length (name ∷ names)) read few
+whole_texts (name ∷ names) given texts read small few = all_named MOST_FILES (length texts) (length (name ∷ names)) read few
 
 -- ---- how a call ended
 
@@ -81,3 +82,14 @@ three_not_one error three one = let e = sym three ∙ one in omega (arith, e)
 pub not_refused : (r : Result (Unit {0}) ProgramError) (P : Type 0) → IfErr r (λ error. status_of error ≡ 3) → IfErr r (λ error. status_of error ≡ 1 → P)
 not_refused (Ok nothing) P h = tt
 not_refused (Err error) P h = λ one. absurd (three_not_one error h one)
+
+-- the status of a program that ended without options
+pub in_range_of : (s : ℕ) → (s ≡ 0) ⊎ ((s ≡ 2) ⊎ (s ≡ 3)) → s ≤ 3
+in_range_of s (inl zero) = omega (arith, zero)
+in_range_of s (inr (inl two)) = omega (arith, two)
+in_range_of s (inr (inr three)) = omega (arith, three)
+
+pub not_one : (s : ℕ) (P : Type 0) → (s ≡ 0) ⊎ ((s ≡ 2) ⊎ (s ≡ 3)) → s ≡ 1 → P
+not_one s P (inl zero) one = absurd (omega (arith, zero, one))
+not_one s P (inr (inl two)) one = absurd (omega (arith, two, one))
+not_one s P (inr (inr three)) one = absurd (omega (arith, three, one))

@@ -1,25 +1,29 @@
--- The command lines of both programs, as clap's contracts see them.
-use Rattle.std.specs.Prelude.{◌≡◌, ◌≢◌, ◌⊎◌, ℕ, pos, true, List, [], ◌∷◌, map, Option, Some, String, codes, option_map, string_bytes, unwrap_or}
+-- The command line of `ffosolve`, and what both programs' have in common, as clap's contracts see
+-- them.
+use Rattle.std.specs.Prelude.{◌≡◌, ◌≢◌, ◌⊎◌, ℕ, Bool, pos, true, false, List, [], ◌∷◌, map}
+use Rattle.std.specs.Prelude.{Option, Some, String, codes, option_map, string_bytes, unwrap_or}
 use Rattle.std.specs.Borrow.{Bor}
 use Rattle.std.specs.Str.Parse.{IsNumeral, digits_value, without_leading_plus}
 use Rattle.std.specs.declared.alloc.Global.{Global}
 use Rattle.clap.specs.Faults.{fault_of}
 use Rattle.clap.specs.Kinds.{IsAmong}
 use Rattle.clap.specs.Lexer.{usize_max}
-use Rattle.clap.specs.Words.{App, Row, Rule, Shape, Text, all_of, first_of, kind_of, matches_of, new_app, new_rule, one_of, takes, with_rule}
+use Rattle.clap.specs.Words.{App, Row, Rule, Shape, Text, all_of, first_of, kind_of, matches_of}
+use Rattle.clap.specs.Words.{new_app, new_rule, one_of, takes, with_rule}
 use Rattle.clap.specs.Simple.{on_top}
-use Rattle.clap.specs.declared.builder.ArgAction.TheVariants.{Append}
+use Rattle.clap.specs.declared.builder.ArgAction.TheVariants.{Append, Set, SetTrue}
 use Rattle.clap.specs.declared.builder.value_parser.ValueParser.TheVariants as parser
 use Rattle.clap.specs.declared.error.Error.{Error}
 use Rattle.clap.specs.declared.error.kind.ErrorKind.{ErrorKind}
 use Rattle.clap.specs.declared.error.kind.ErrorKind.TheVariants.{DisplayHelp, DisplayVersion, OutOfMemory}
 use Rattle.othello_rules.specs.Scores.{all_scorings, scoring_name}
-use Rattle.othello_rules.specs.declared.scorings.Scoring.TheVariants.{Winner}
+use Rattle.othello_rules.specs.declared.scoring.Scoring.TheVariants.{Winner}
 use Rattle.suite_runs.specs.Settings.{SettingsView}
-use Rattle.suite_solver.specs.declared.requests.ListOptions.{ListOptions}
-use Rattle.suite_solver.specs.declared.requests.Options.{Options}
-use Rattle.suite_solver.specs.declared.requests.OptionFault.{OptionFault}
-use Rattle.suite_solver.specs.declared.requests.OptionFault.TheVariants.{Memory, Refused}
+use Rattle.suite_runs.specs.declared.settings.TheConstants.{MOST_EMPTIES, MOST_ENTRIES, MOST_WORKERS}
+use Rattle.suite_runs.specs.declared.settings.TheConstants.{DEFAULT_EMPTIES_TEXT, DEFAULT_ENTRIES_TEXT, DEFAULT_WORKERS_TEXT}
+use Rattle.suite_solver.specs.declared.run_options.Options.{Options}
+use Rattle.suite_solver.specs.declared.option_fault.OptionFault.{OptionFault}
+use Rattle.suite_solver.specs.declared.option_fault.OptionFault.TheVariants.{Memory, Refused}
 
 -- ---- the command
 
@@ -27,6 +31,7 @@ use Rattle.suite_solver.specs.declared.requests.OptionFault.TheVariants.{Memory,
 abbrev pub number_rule : Text → ℕ → Text → Rule
 number_rule name most default = record (new_rule name) {
   long = Some name;
+  action = Some Set;
   value_names = 1;
   defaults = default ∷ [];
   parser = Some (parser.Signed (pos 0) (pos most));
@@ -46,6 +51,7 @@ NamesScorings names =
 abbrev pub scoring_rule : NameList → Rule
 scoring_rule names = record (new_rule (codes "scoring")) {
   long = Some (codes "scoring");
+  action = Some Set;
   value_names = 1;
   defaults = scoring_name Winner ∷ [];
   parser = Some (parser.Names names);
@@ -54,6 +60,10 @@ scoring_rule names = record (new_rule (codes "scoring")) {
 -- an option with the name of a book's file
 abbrev pub book_rule : Text → Rule
 book_rule name = record (new_rule name) { long = Some name; value_names = 1 }
+
+-- a flag, which takes no value
+abbrev pub flag_rule : Text → Rule
+flag_rule name = record (new_rule name) { long = Some name; action = Some SetTrue }
 
 -- the names of the files, of which there may be any number
 abbrev pub files_rule : Rule
@@ -66,27 +76,21 @@ files_rule = record (new_rule (codes "FILES")) {
 abbrev pub versioned : Text → App
 versioned name = on_top (λ (s : Shape). record s { has_version = true }) (new_app name)
 
--- the command `ffosolve`, without books and files
-abbrev pub settings_command : NameList → App
-settings_command names = with_rule (with_rule (with_rule (with_rule (versioned (codes "ffosolve"))
-    (number_rule (codes "max-empties") 60 (codes "20")))
-    (number_rule (codes "workers") 64 (codes "2")))
-    (number_rule (codes "table") 4194304 (codes "65536")))
+-- the command with the options of the settings besides
+abbrev pub with_settings : App → NameList → App
+with_settings app names = with_rule (with_rule (with_rule (with_rule app
+    (number_rule (codes "max-empties") MOST_EMPTIES DEFAULT_EMPTIES_TEXT.now))
+    (number_rule (codes "workers") MOST_WORKERS DEFAULT_WORKERS_TEXT.now))
+    (number_rule (codes "table") MOST_ENTRIES DEFAULT_ENTRIES_TEXT.now))
     (scoring_rule names)
 
 -- the whole command `ffosolve`
 abbrev pub ffosolve : NameList → App
-ffosolve names = with_rule (with_rule (with_rule (settings_command names)
+ffosolve names = with_rule (with_rule (with_rule (with_rule
+    (with_settings (versioned (codes "ffosolve")) names)
     (book_rule (codes "book-in")))
     (book_rule (codes "book-out")))
-    files_rule
-
--- the whole command `ffoscores`
-abbrev pub ffoscores : NameList → App
-ffoscores names = with_rule (with_rule (with_rule (with_rule (versioned (codes "ffoscores"))
-    (number_rule (codes "max-empties") 60 (codes "20")))
-    (number_rule (codes "table") 4194304 (codes "65536")))
-    (scoring_rule names))
+    (flag_rule (codes "progress")))
     files_rule
 
 -- ---- the matches of words
@@ -98,30 +102,29 @@ pub record HasNumber (name : Text) (rows : List Row) (n : ℕ) : Type 0 where
   pub numeral : IsNumeral 10 (without_leading_plus text)
   pub value : n ≡ digits_value 10 (without_leading_plus text)
 
--- the settings are the values of the options of `ffosolve`
+-- the settings are the values of the options
 pub record HasSettings (c : SettingsView) (rows : List Row) : Type 0 where
   pub max_empties : HasNumber (codes "max-empties") rows c.max_empties
   pub workers : HasNumber (codes "workers") rows c.workers
   pub table : HasNumber (codes "table") rows c.table
   pub scoring : first_of (codes "scoring") rows ≡ Some (scoring_name c.scoring)
 
--- the settings are the values of the options of `ffoscores`, with 0 workers
-pub record HasListSettings (c : SettingsView) (rows : List Row) : Type 0 where
-  pub max_empties : HasNumber (codes "max-empties") rows c.max_empties
-  pub workers : c.workers ≡ 0
-  pub table : HasNumber (codes "table") rows c.table
-  pub scoring : first_of (codes "scoring") rows ≡ Some (scoring_name c.scoring)
+-- whether the flag is among the words
+pub record HasFlag (name : Text) (rows : List Row) (b : Bool) : Type 0 where
+  pub set : one_of name rows ≡ Some (codes "true") → b ≡ true
+  pub unset : one_of name rows ≡ Some (codes "false") → b ≡ false
 
 -- the bytes of each name
 abbrev pub names_of : List (String Global) → List Text
 names_of names = map string_bytes names
 
 -- a request to `ffosolve`: settings, the names of a book to read and of a book to write, where
--- there are any, and the names of files
+-- there are any, whether to tell of progress, and the names of files
 pub record Request : Type 0 where
   pub settings : SettingsView
   pub book_in : Option Text
   pub book_out : Option Text
+  pub progress : Bool
   pub files : List Text
 
 -- the request that options hold
@@ -130,6 +133,7 @@ request_of o = record {
   settings = o.settings;
   book_in = option_map string_bytes o.book_in;
   book_out = option_map string_bytes o.book_out;
+  progress = o.progress;
   files = names_of o.files.items;
 }
 
@@ -142,24 +146,8 @@ pub record Asks (words : List Text) (r : Request) : Type 0 where
   pub settings : HasSettings r.settings (matches_of (ffosolve names) words)
   pub book_in : r.book_in ≡ first_of (codes "book-in") (matches_of (ffosolve names) words)
   pub book_out : r.book_out ≡ first_of (codes "book-out") (matches_of (ffosolve names) words)
+  pub progress : HasFlag (codes "progress") (matches_of (ffosolve names) words) r.progress
   pub listed : r.files ≡ unwrap_or (all_of (codes "FILES") (matches_of (ffosolve names) words)) []
-
--- a request to `ffoscores`: settings, and the names of files
-pub record ListRequest : Type 0 where
-  pub settings : SettingsView
-  pub files : List Text
-
--- the request that options of `ffoscores` hold
-abbrev pub list_request_of : ListOptions → ListRequest
-list_request_of o = record { settings = o.settings; files = names_of o.files.items }
-
--- the words of `ffoscores` ask for the request, as `Asks` says it of `ffosolve`
-pub record AsksLists (words : List Text) (r : ListRequest) : Type 0 where
-  pub names : NameList
-  pub named : NamesScorings names
-  pub faultless : fault_of (ffoscores names) words ≡ []
-  pub settings : HasListSettings r.settings (matches_of (ffoscores names) words)
-  pub listed : r.files ≡ unwrap_or (all_of (codes "FILES") (matches_of (ffoscores names) words)) []
 
 -- ---- words that are refused
 
@@ -169,7 +157,8 @@ Program = NameList → App
 
 -- clap takes the words of a program, wherever the names of the scorings stand
 abbrev pub IsTakenBy : Program → List Text → Type 0
-IsTakenBy program words = (names : NameList) → NamesScorings names → takes (program names) words ≡ true
+IsTakenBy program words =
+    (names : NameList) → NamesScorings names → takes (program names) words ≡ true
 
 -- clap finds a fault of this kind in the words of a program; a request for help or for the version
 -- is one
@@ -180,7 +169,8 @@ pub record HasFaultBy (program : Program) (words : List Text) (kind : ErrorKind)
 
 -- the words ask for help or for the version
 abbrev pub AsksForText : Program → List Text → Type 0
-AsksForText program words = HasFaultBy program words DisplayHelp ⊎ HasFaultBy program words DisplayVersion
+AsksForText program words =
+    HasFaultBy program words DisplayHelp ⊎ HasFaultBy program words DisplayVersion
 
 -- the kinds of the errors that are no refusals: help and the version
 abbrev pub IsTextKind : ErrorKind → Type 0

@@ -4,8 +4,8 @@ ghost use Rattle.std.specs.Prelude.{◌≡◌, ◌⊎◌, IfOk, IfErr};
 ghost use Rattle.solved_book.specs.Books.{book_text};
 ghost use Rattle.suite_solver.specs.Programs.{IsSilent, status_of};
 
-use crate::errors::{ProgramError, read_error};
-use crate::new_files::NewFile;
+use crate::new_file::NewFile;
+use crate::program_error::{ProgramError, read_error};
 use solved_book::{Book, Claims};
 use std::alloc::{AllocError, Global};
 use std::io::Read;

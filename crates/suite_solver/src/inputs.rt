@@ -1,22 +1,22 @@
 //! Reads the files of a run, or standard input.
 
-ghost use Rattle.std.specs.Prelude.{◌≡◌, ◌≤◌, ◌⊎◌, [], ◌∷◌, IfOk, IfErr, IfSome, length, min, take, vec_len};
+ghost use Rattle.std.specs.Prelude.{◌≡◌, ◌+◌, ◌≤◌, ◌⊎◌, [], ◌∷◌, IfOk, IfErr, IfSome, length, min, take, vec_len};
 ghost use Rattle.suite_solver.specs.CommandLine.{names_of};
 ghost use Rattle.suite_solver.specs.Programs.{AreFrontsOf, status_of};
 ghost use Rattle.obf_text.specs.LineText.{texts_of};
 
-use crate::errors::{ProgramError, read_error};
+use crate::program_error::{ProgramError, read_error};
 use crate::streams::read_front;
 use std::alloc::Global;
 use std::fs;
 use std::io::Read;
 use std::rt::Files;
-use suite_runs::MOST_FILES;
+use suite_runs::{MOST_BYTES, MOST_FILES};
 
 // Reads standard input as the one file, up to one byte more than a file may have.
 fn read_input<R: Read>(alloc: Global, input: &mut R) -> Result<Vec<Vec<u8>>, ProgramError<'static>>
     ensures ok { IfOk result (λ files. IfSome
-        (R.remaining input.old) (λ all. texts_of files.items ≡ take 1048577 all ∷ [])) }
+        (R.remaining input.old) (λ all. texts_of files.items ≡ take (MOST_BYTES + 1) all ∷ [])) }
     ensures err { IfErr result (λ error. (status_of error ≡ 1) ⊎ (status_of error ≡ 3)) }
 {
     match read_front(alloc, input) {
@@ -58,14 +58,15 @@ fn open_only<'a, T: Files>(rt: &T, name: &'a str) -> Result<(), ProgramError<'a>
     }
 }
 
-// Reads the files of these names, in their order: at most 65, one more than a run may have, so that
-// the run refuses them. From the 66th name on a file is opened, but not read.
+// Reads the files of these names, in their order: at most one more than a run may have, so that the
+// run refuses them. A file behind those is opened, but not read.
 fn read_named<'a, T: Files>(
     rt: &T,
     alloc: Global,
     names: &'a [String],
 ) -> Result<Vec<Vec<u8>>, ProgramError<'a>>
-    ensures ok { IfOk result (λ files. length files.items ≡ min 65 (length names.now)) }
+    ensures ok { IfOk result
+        (λ files. length files.items ≡ min (MOST_FILES + 1) (length names.now)) }
     ensures err { IfErr result (λ error. (status_of error ≡ 1) ⊎ (status_of error ≡ 3)) }
 {
     let mut files = Vec::new(alloc);
@@ -79,8 +80,8 @@ fn read_named<'a, T: Files>(
     Ok(files)
 }
 
-// Reads the files of these names, in their order, or standard input where there is no name.
-pub(crate) fn read_files<'a, T: Files, R: Read>(
+/// Reads the files of these names, in their order, or standard input where there is no name.
+pub fn read_files<'a, T: Files, R: Read>(
     rt: &T,
     alloc: Global,
     names: &'a [String],

@@ -1,23 +1,23 @@
 //! Calls on words and streams that `ffosolve` and `ffoscores` share.
 
-ghost use Rattle.std.specs.Prelude.{◌≡◌, ◌≢◌, ◌≤◌, ◌⊎◌, true, false, map, take, vec_len, IfOk, IfSome, IsErr};
+ghost use Rattle.std.specs.Prelude.{◌≡◌, ◌≢◌, ◌+◌, ◌≤◌, ◌⊎◌, true, false, map, take, vec_len, IfOk, IfSome, IsErr};
 ghost use Rattle.clap.specs.Words.{kind_of};
 ghost use Rattle.suite_solver.specs.CommandLine.{IsTextKind, names_of};
 
-use crate::errors::ProgramError;
+use crate::program_error::ProgramError;
 use clap::error::ErrorKind;
 use std::alloc::{AllocError, Global};
 use std::io;
 use std::io::{Read, Write};
 use suite_runs::MOST_BYTES;
 
-// Reads the first bytes of a reader: 1,048,577 bytes, one more than a file may have, or all bytes
-// where there are fewer. A file that is too large is known by that one byte. The error is that of
+// Reads the first bytes of a reader: one more than a file may have, or all bytes where there are
+// fewer. A file that is too large is known by that one byte. The error is that of
 // the reader, or want of memory.
 pub(crate) fn read_front<R: Read>(alloc: Global, reader: &mut R) -> io::Result<Vec<u8>>
-    ensures most { IfOk result (λ bytes. vec_len bytes ≤ 1048577) }
-    ensures front { IfOk result
-        (λ bytes. IfSome (R.remaining reader.old) (λ all. bytes.items ≡ take 1048577 all)) }
+    ensures most { IfOk result (λ bytes. vec_len bytes ≤ MOST_BYTES + 1) }
+    ensures front { IfOk result (λ bytes. IfSome (R.remaining reader.old)
+        (λ all. bytes.items ≡ take (MOST_BYTES + 1) all)) }
 {
     let mut bytes = Vec::new(alloc);
     reader.take(MOST_BYTES as u64 + 1).read_to_end(&mut bytes)?;
@@ -27,8 +27,8 @@ pub(crate) fn read_front<R: Read>(alloc: Global, reader: &mut R) -> io::Result<V
     Ok(bytes)
 }
 
-// The words as slices, in their order. The error is want of memory.
-pub(crate) fn borrow_words(alloc: Global, words: &[String]) -> Result<Vec<&str>, AllocError>
+/// The words as slices, in their order. The error is want of memory.
+pub fn borrow_words(alloc: Global, words: &[String]) -> Result<Vec<&str>, AllocError>
     ensures { IfOk result (λ all. map (λ word. word.now) all.items ≡ names_of words.now) }
 {
     let mut borrowed = Vec::new(alloc);
@@ -69,10 +69,11 @@ fn explain<W: Write, E: Write>(
     }
 }
 
-// Prints what clap hands over in place of options, as `explain`. The result is the exit status of
-// the program: 0 for help and the version, 2 for a refusal, and 3 where standard output can't be
-// written, which is told on standard error.
-pub(crate) fn end_without_options<W: Write, E: Write>(
+/// Prints what clap hands over in place of options: help and the version on standard output, the
+/// reason of a refusal on standard error. The result is the exit status of the program: 0 for help
+/// and the version, 2 for a refusal, and 3 where standard output can't be written, which is told on
+/// standard error.
+pub fn end_without_options<W: Write, E: Write>(
     program: &str,
     error: &clap::Error,
     output: &mut W,

@@ -2,15 +2,16 @@
 //! allocations that fail.
 
 mod alone;
+mod book_place;
 mod books;
 mod clients;
 mod faults;
 mod files;
 mod joins;
 mod limits;
-mod lists;
 mod options;
-mod places;
+mod overwrites;
+mod progress;
 mod runs;
 mod streams;
 mod texts;
@@ -19,7 +20,7 @@ use crate::{Gate, program};
 use std::alloc::{AllocError, Global};
 use std::io;
 use std::io::{Read, Write};
-use std::rt::Files;
+use std::rt::{Clock, Files};
 use std::sync::Wait;
 use std::sync::atomic::{AtomicU32, Ordering};
 use std::thread::Threads;
@@ -40,7 +41,7 @@ fn words_of(alloc: Global, line: &str) -> Result<Vec<&str>, AllocError> {
     line.split(' ').collect(alloc)
 }
 
-fn run<T: Files + Threads + Wait + Sync, R: Read>(
+fn run<T: Files + Clock + Threads + Wait + Sync, R: Read>(
     rt: &T,
     alloc: Global,
     words: &[&str],
@@ -69,7 +70,7 @@ fn ended_so(ended: &Ended, wanted: (u8, &[u8], &[u8])) -> Result<bool, AllocErro
     Ok(found == wanted)
 }
 
-fn ends_so<T: Files + Threads + Wait + Sync>(
+fn ends_so<T: Files + Clock + Threads + Wait + Sync>(
     rt: &T,
     alloc: Global,
     wanted: &Run<'_>,
@@ -80,7 +81,7 @@ fn ends_so<T: Files + Threads + Wait + Sync>(
     ended_so(&ended, (status, output, errors))
 }
 
-fn all_end_so<T: Files + Threads + Wait + Sync>(
+fn all_end_so<T: Files + Clock + Threads + Wait + Sync>(
     rt: &T,
     alloc: Global,
     runs: &[Run<'_>],
@@ -144,6 +145,14 @@ const NO_INPUT: &[u8] = b"ffosolve: cannot read standard input\n";
 const NO_OUTPUT: &[u8] = b"ffosolve: cannot write standard output\n";
 
 const TOO_LARGE: &[u8] = b"ffosolve: file 1 is larger than 1048576 bytes\n";
+
+const SECOND_TOO_LARGE: &[u8] = b"ffosolve: file 2 is larger than 1048576 bytes\n";
+
+const LARGE_TABLE: &[u8] = b"\
+error: invalid value '4194305' for '--table <N>': 4194305 is not in 0..=4194304
+
+For more information, try '--help'.
+";
 
 const TWO_JOBS: &[u8] = b"\
 --OOOOOXXXXXXXXXXXXXXXXXXXXXXXXXXXXXXXXXXXXXXXXXXXXXXXXXXXXXXXXX X\n\

@@ -15,43 +15,63 @@ This package calls the shared library libffosolve.so.1, which has to be installe
 take some 3 to 16 times as long: a program that has to be able to stop one makes it in a process of its own
 (`multiprocessing`). Calls from several threads run at once.
 """
+import os
+
 from ._answers import Answer, Kind
-from ._library import LibraryNotFound
-from ._positions import Position
+from ._boards import Board
+from ._library import MOST_EMPTIES, MOST_ENTRIES, LibraryNotFound
+from ._positions import Line, Position, read_lines
 from ._refusals import (
+    BadSide,
+    BadSquare,
+    LineRefused,
     NoMemory,
     NoMove,
+    NoPosition,
     Refused,
     SharedSquare,
+    ShortBoard,
     Status,
     TooManyEmpties,
     TooManyEntries,
     UnequalLengths,
     UnknownScoring,
 )
-from ._solvers import MOST_EMPTIES, MOST_ENTRIES, Scoring, Solver, table_entries
+from ._solvers import NO_SCORE, Scoring, Solver, table_entries
 from ._squares import square_name, square_number, square_names
 
-__version__ = "1.0.0"
+_FOLDER = os.path.dirname(os.path.abspath(__file__))
+_PLACES = [os.path.join(_FOLDER, place, "VERSION") for place in ("", "../../..")]  # as it is installed, and in a checkout
+with open(next(filter(os.path.exists, _PLACES)), encoding="utf-8") as _file:
+    __version__ = _file.read().strip()
 
 __all__ = [
     "MOST_EMPTIES",
     "MOST_ENTRIES",
+    "NO_SCORE",
     "Answer",
+    "BadSide",
+    "BadSquare",
+    "Board",
     "Kind",
     "LibraryNotFound",
+    "Line",
+    "LineRefused",
     "NoMemory",
     "NoMove",
+    "NoPosition",
     "Position",
     "Refused",
     "Scoring",
     "SharedSquare",
+    "ShortBoard",
     "Solver",
     "Status",
     "TooManyEmpties",
     "TooManyEntries",
     "UnequalLengths",
     "UnknownScoring",
+    "read_lines",
     "square_name",
     "square_names",
     "square_number",

@@ -7,6 +7,8 @@ from typing import List, Optional
 
 NAME = "libffosolve.so.1"
 MAJOR = 1
+MOST_EMPTIES = 60
+MOST_ENTRIES = 4_194_304
 
 
 class LibraryNotFound(OSError):
@@ -21,14 +23,31 @@ class CAnswer(ctypes.Structure):
     _fields_ = [("score", ctypes.c_int32), ("kind", ctypes.c_int32), ("best", ctypes.c_uint64)]
 
 
+class CLine(ctypes.Structure):
+    _fields_ = [("position", CPosition), ("listed", ctypes.c_size_t), ("side", ctypes.c_int32)]
+
+
+class CListed(ctypes.Structure):
+    _fields_ = [("score", ctypes.c_int32), ("kind", ctypes.c_int32), ("square", ctypes.c_uint8)]
+
+
+CScores = ctypes.c_int8 * 64
+
+
+class CMoveScores(ctypes.Structure):
+    _fields_ = [("scores", CScores), ("moves", ctypes.c_uint64)]
+
+
 def places() -> List[str]:
     """Where the library is looked for, in this order, if no path is given: the path in the environment's
-    FFOSOLVE_LIBRARY, if it has one; where the system's loader looks; beside this Python; /usr/local/lib."""
+    FFOSOLVE_LIBRARY, if it has one; in this package, if it was installed with the library, for the best level of processors
+    that loads; where the system's loader looks; beside this Python; /usr/local/lib."""
     named = os.environ.get("FFOSOLVE_LIBRARY")
     if named:
         return [named]
+    own = [os.path.join(os.path.dirname(__file__), level, NAME) for level in ("x86-64-v3", "x86-64-v2")]
     prefixes = [sys.prefix, sys.base_prefix, "/usr/local"]
-    return [NAME, *(os.path.join(prefix, "lib", NAME) for prefix in dict.fromkeys(prefixes))]
+    return [*filter(os.path.exists, own), NAME, *(os.path.join(prefix, "lib", NAME) for prefix in dict.fromkeys(prefixes))]
 
 
 def load(path: Optional[str] = None) -> ctypes.CDLL:
@@ -51,9 +70,11 @@ def declared(place: str) -> ctypes.CDLL:
         "solve": [CPosition, number, size, to(CAnswer)],
         "confirm": [CPosition, number, size, CAnswer, to(CAnswer)],
         "solve_all": [to(CPosition), size, number, size, to(CAnswer), size, to(size)],
-        "move_scores": [CPosition, number, size, to(ctypes.c_int8), to(ctypes.c_uint64)],
+        "move_scores_all": [to(CPosition), size, number, size, to(CMoveScores), size, to(size)],
         "moves": [CPosition, to(ctypes.c_uint64)],
         "play": [CPosition, ctypes.c_uint8, to(CPosition)],
+        "read_line": [ctypes.c_char_p, size, to(CLine), to(CListed), size, to(size)],
+        "limit": [number],
         "version": [],
     }
     for name, arguments in calls.items():
@@ -61,7 +82,7 @@ def declared(place: str) -> ctypes.CDLL:
             call = getattr(library, f"ffosolve_{name}")
         except AttributeError as error:
             raise LibraryNotFound(f"{place} is not this package's library: {error}") from None
-        call.argtypes, call.restype = arguments, ctypes.c_int32
+        call.argtypes, call.restype = arguments, size if name == "limit" else ctypes.c_int32
     if library.ffosolve_version() // 10000 != MAJOR:
         raise LibraryNotFound(f"{place} has version {library.ffosolve_version()}, and not {MAJOR}.x.y")
     return library

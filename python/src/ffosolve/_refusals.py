@@ -1,6 +1,8 @@
 """Why a call is refused. Nothing is lost by a refusal: the arguments are as they were."""
 import enum
-from typing import Dict, Optional, Type
+from typing import Dict, Optional, Tuple, Type
+
+from ._library import MOST_EMPTIES, MOST_ENTRIES
 
 
 class Status(enum.IntEnum):
@@ -14,6 +16,10 @@ class Status(enum.IntEnum):
     TOO_MANY_EMPTIES = 5
     NO_MOVE = 6
     NO_MEMORY = 7
+    SKIPPED = 8
+    SHORT_BOARD = 9
+    BAD_SQUARE = 10
+    BAD_SIDE = 11
 
 
 class Refused(Exception):
@@ -26,6 +32,9 @@ class Refused(Exception):
         super().__init__(self.reason if index is None else f"position {index + 1}: {self.reason}")
         self.index = index
 
+    def __reduce__(self) -> Tuple[Type["Refused"], Tuple[Optional[int], ...]]:
+        return type(self), (self.index,)
+
 
 class UnknownScoring(Refused, ValueError):
     """No scoring has the number."""
@@ -36,7 +45,7 @@ class UnknownScoring(Refused, ValueError):
 class TooManyEntries(Refused, ValueError):
     """The table is asked to have more than MOST_ENTRIES entries."""
 
-    status, reason = Status.TOO_MANY_ENTRIES, "more than 4194304 table entries"
+    status, reason = Status.TOO_MANY_ENTRIES, f"more than {MOST_ENTRIES} table entries"
 
 
 class UnequalLengths(Refused, ValueError):
@@ -54,7 +63,7 @@ class SharedSquare(Refused, ValueError):
 class TooManyEmpties(Refused, ValueError):
     """A position that is to be solved has more than MOST_EMPTIES empty squares."""
 
-    status, reason = Status.TOO_MANY_EMPTIES, "more than 60 empty squares"
+    status, reason = Status.TOO_MANY_EMPTIES, f"more than {MOST_EMPTIES} empty squares"
 
 
 class NoMove(Refused, ValueError):
@@ -64,9 +73,51 @@ class NoMove(Refused, ValueError):
 
 
 class NoMemory(Refused, MemoryError):
-    """There is no memory for the table; never with 0 entries."""
+    """There is no memory for the table, never with 0 entries; or for the moves that a line lists."""
 
     status, reason = Status.NO_MEMORY, "out of memory"
+
+
+class LineRefused(Refused, ValueError):
+    """A line of OBF text is refused. `line` is its number, from 1, where many were read, else None. `at` is the column,
+    from 1 in bytes, for BadSquare and BadSide, and how many squares there are for ShortBoard."""
+
+    def __init__(self, at: int = 0, line: Optional[int] = None) -> None:
+        super().__init__()
+        self.at, self.line = at, line
+        self.args = (("" if line is None else f"line {line}: ") + self.reason.format(at),)
+
+    @property
+    def column(self) -> Optional[int]:
+        """The column of the byte to blame, or of the end of the line, from 1 in bytes; None where there is none."""
+        return self.at if self.status in (Status.BAD_SQUARE, Status.BAD_SIDE) else None
+
+    def __reduce__(self) -> Tuple[Type["Refused"], Tuple[Optional[int], ...]]:
+        return type(self), (self.at, self.line)
+
+
+class NoPosition(LineRefused):
+    """The line is blank or a comment. `read_lines` skips such lines."""
+
+    status, reason = Status.SKIPPED, "no position: the line is blank or a comment"
+
+
+class ShortBoard(LineRefused):
+    """The line ends before its 64th square."""
+
+    status, reason = Status.SHORT_BOARD, "board has {} of 64 squares"
+
+
+class BadSquare(LineRefused):
+    """A byte in a square's place is no square."""
+
+    status, reason = Status.BAD_SQUARE, "bad square at column {}"
+
+
+class BadSide(LineRefused):
+    """The side to move is missing: another byte stands in its place, or the line ends."""
+
+    status, reason = Status.BAD_SIDE, "bad side at column {}"
 
 
 REFUSALS: Dict[int, Type[Refused]] = {
@@ -79,5 +130,9 @@ REFUSALS: Dict[int, Type[Refused]] = {
         TooManyEmpties,
         NoMove,
         NoMemory,
+        NoPosition,
+        ShortBoard,
+        BadSquare,
+        BadSide,
     )
 }

@@ -1,18 +1,28 @@
 """The solver."""
+import array
 import ctypes
 import enum
+import itertools
+import math
 import operator
-from typing import Dict, Iterable, List, Optional, Union
+import struct
+from typing import TYPE_CHECKING, Any, Callable, Dict, Iterable, Iterator, List, Optional, Sequence, Tuple, TypeVar, Union
 
 from ._answers import Answer, Kind
-from ._library import CAnswer, CPosition, load
+from ._bulk import Part, checked_threads, empties_of, in_order, parts_of
+from ._library import MOST_EMPTIES, MOST_ENTRIES, CAnswer, CMoveScores, CPosition, load
 from ._positions import Position
-from ._refusals import REFUSALS, Status, TooManyEntries, UnknownScoring
-from ._squares import square_name, square_number
+from ._refusals import REFUSALS, Refused, Status, TooManyEntries, UnknownScoring
+from ._squares import NAMES, square_number
 
-MOST_EMPTIES = 60
-MOST_ENTRIES = 4_194_304
+if TYPE_CHECKING:
+    from ._arrays import Answers
+
+NO_SCORE = 127  # in an array of scores, at a square that is no move
 OF_A_POSITION = (Status.SHARED_SQUARE, Status.TOO_MANY_EMPTIES)
+KINDS = tuple(Kind)
+ANSWER = struct.Struct("iiQ")
+BYTES = ctypes.sizeof(CMoveScores)
 
 
 class Scoring(enum.IntEnum):
@@ -66,7 +76,7 @@ class Solver:
 
     @property
     def library_version(self) -> str:
-        """The version of the shared library, as "1.0.0"."""
+        """The version of the shared library, as "1.2.3"."""
         number = self._library.ffosolve_version()
         return f"{number // 10000}.{number // 100 % 100}.{number % 100}"
 
@@ -74,37 +84,64 @@ class Solver:
         """The answer of a position. Raises SharedSquare, TooManyEmpties and NoMemory, and ValueError for a mask that is
         no number from 0 to 2**64 - 1."""
         answer = CAnswer()
-        entries = self._table([position])
+        entries = self._entries_for(empties_of(*position))
         accept(self._library.ffosolve_solve(given(position), self._scoring, entries, answer))
-        return read_answer(answer)
+        return Answer(answer.score, KINDS[answer.kind], answer.best)
 
     def confirm(self, position: Position, claim: Answer) -> Answer:
         """The answer of a position, for which a claim is tested first. Any claim may be made; it is right if it equals
         the answer. It pays for claims that are mostly right, from 10 empty squares on with a table. Raises what
         `solve` does."""
-        answer = CAnswer()
-        entries = self._table([position])
-        claimed = CAnswer(claim.score, claim.kind, claim.best)
+        answer, claimed = CAnswer(), CAnswer(claim.score, claim.kind, claim.best)
+        entries = self._entries_for(empties_of(*position))
         accept(self._library.ffosolve_confirm(given(position), self._scoring, entries, claimed, answer))
-        return read_answer(answer)
-
-    def solve_all(self, positions: Iterable[Position]) -> List[Answer]:
-        """The answers of positions, in their order, over one table. Raises what `solve` does; the `index` of
-        SharedSquare and TooManyEmpties is that of the first position that is refused."""
-        all_given = list(positions)
-        count, at = len(all_given), ctypes.c_size_t()
-        entries = self._table(all_given)
-        asked, answers = (CPosition * count)(*map(given, all_given)), (CAnswer * count)()
-        accept(self._library.ffosolve_solve_all(asked, count, self._scoring, entries, answers, count, at), at.value)
-        return [read_answer(answer) for answer in answers]
+        return Answer(answer.score, KINDS[answer.kind], answer.best)
 
     def move_scores(self, position: Position) -> Dict[str, int]:
         """The score of each of the mover's moves as the mover sees it, by the square's name, in the order A1, B1, ..
         H8; empty where the mover has none. All by searches over one table. Raises what `solve` does."""
-        scores, moves = (ctypes.c_int8 * 64)(), ctypes.c_uint64()
-        entries = self._table([position])
-        accept(self._library.ffosolve_move_scores(given(position), self._scoring, entries, scores, moves))
-        return {square_name(number): scores[number] for number in range(64) if moves.value >> number & 1}
+        found, refusal = self._score_part(Part(0, empties_of(*position), [position]))
+        if refusal is not None:
+            raise type(refusal)()
+        return found[0]
+
+    def solve_all(self, positions: Iterable[Position], *, threads: int = 1) -> List[Answer]:
+        """The answers of positions, in their order: of one thread over one table, of more over one for each part. Raises
+        what `solve` does, before anything is solved; the `index` of SharedSquare and TooManyEmpties is that of the first
+        position that is refused."""
+        if checked_threads(threads) > 1:
+            return list(one_by_one(in_order(self._solve_part, list(parts_of(positions, self._refuse)), threads)))
+        whole = next(parts_of(positions, self._refuse, math.inf, math.inf), Part(0, 0, []))
+        return list(one_by_one([self._solve_part(whole)]))
+
+    def solve_iter(self, positions: Iterable[Position], *, threads: int = 1) -> Iterator[Answer]:
+        """The answers of positions, in their order, as they come, by so many threads. It reads some parts ahead. A
+        position is refused, with its index, behind the answers of those before. Raises what `solve` does."""
+        return one_by_one(in_order(self._solve_part, parts_of(positions), checked_threads(threads)))
+
+    def move_scores_all(self, positions: Iterable[Position], *, threads: int = 1) -> List[Dict[str, int]]:
+        """The `move_scores` of positions, in their order, by so many threads. Raises as `solve_all` does."""
+        parts = list(parts_of(positions, self._refuse))
+        return list(one_by_one(in_order(self._score_part, parts, checked_threads(threads))))
+
+    def move_scores_iter(self, positions: Iterable[Position], *, threads: int = 1) -> Iterator[Dict[str, int]]:
+        """The `move_scores` of positions, in their order, as they come. Reads and raises as `solve_iter` does."""
+        return one_by_one(in_order(self._score_part, parts_of(positions), checked_threads(threads)))
+
+    def solve_arrays(self, own: Any, opp: Any, *, threads: int = 1) -> "Answers":
+        """The answers of positions whose masks are two arrays of uint64, as three arrays of their length: `score` and
+        `kind`, of int32, and `best`, of uint64. It needs NumPy. Raises as `solve_all` does, and TypeError and ValueError
+        for other arrays."""
+        from . import _arrays
+
+        return _arrays.solve(self, own, opp, checked_threads(threads))
+
+    def move_scores_arrays(self, own: Any, opp: Any, *, threads: int = 1) -> Any:
+        """The scores of all moves of positions whose masks are two arrays of uint64: an array of int8 with a row of 64
+        for each, by the squares' numbers, NO_SCORE where there is no move. Needs and raises as `solve_arrays` does."""
+        from . import _arrays
+
+        return _arrays.move_scores(self, own, opp, checked_threads(threads))
 
     def moves(self, position: Position) -> int:
         """The mask of the mover's moves, 0 if there is none; `square_names` names them. Raises SharedSquare."""
@@ -121,24 +158,79 @@ class Solver:
         accept(self._library.ffosolve_play(asked, number if 0 <= number < 64 else 255, after))
         return Position(after.own, after.opp)
 
-    def _table(self, positions: List[Position]) -> int:
-        if self._entries is not None:
-            return self._entries
-        return table_entries(max((64 - bin(own | opp).count("1") for own, opp in positions), default=0))
+    def _entries_for(self, empties: int) -> int:
+        return table_entries(empties) if self._entries is None else self._entries
+
+    def _refuse(self, index: int, position: Sequence[int]) -> None:
+        """Raises what the library refuses a position for, if it does."""
+        accept(self._library.ffosolve_solve(given(position), self._scoring, 0, CAnswer()), index)
+
+    def _solve_part(self, part: Part) -> "Results[Answer]":
+        return self._call_for(part, self._library.ffosolve_solve_all, CAnswer, answers_in)
+
+    def _score_part(self, part: Part) -> "Results[Dict[str, int]]":
+        return self._call_for(part, self._library.ffosolve_move_scores_all, CMoveScores, scores_in)
+
+    def _call_for(self, part: Part, call: Any, record: Any, read: "Callable[[Any], List[A]]") -> "Results[A]":
+        """What the call writes of the positions of a part, a record for each, as `read` gives it."""
+        asked, at = c_positions(part.positions), ctypes.c_size_t()
+        found = (record * len(asked))()
+        status = call(asked, len(asked), self._scoring, self._entries_for(part.empties), found, len(asked), at)
+        if status == Status.DONE:
+            return read(found), None
+        if status not in OF_A_POSITION:
+            return [], REFUSALS[status]()
+        before, refusal = self._call_for(part._replace(positions=part.positions[: at.value]), call, record, read)
+        return before, refusal or REFUSALS[status](part.start + at.value)
 
 
-def given(position: Position) -> CPosition:
-    own, opp = map(operator.index, position)
-    if not (0 <= own < 1 << 64 and 0 <= opp < 1 << 64):
-        raise ValueError("a mask is a number from 0 to 2**64 - 1")
-    return CPosition(own, opp)
+A = TypeVar("A")
+Results = Tuple[List[A], Optional[Refused]]  # of the positions of a part, up to the one that is refused
+
+
+def answers_in(found: Any) -> List[Answer]:
+    return [Answer(score, KINDS[kind], best) for score, kind, best in ANSWER.iter_unpack(found)]
+
+
+def scores_in(found: Any) -> List[Dict[str, int]]:
+    """The scores of the moves by their squares' names, of each position."""
+    if not len(found):
+        return []
+    view, rows = memoryview(found).cast("B"), []
+    words, scores = view.cast("Q"), view.cast("b")
+    for at in range(0, len(scores), BYTES):
+        its, left = {}, words[(at + 64) // 8]
+        while left:
+            lowest = left & -left
+            number = lowest.bit_length() - 1
+            its[NAMES[number]] = scores[at + number]
+            left ^= lowest
+        rows.append(its)
+    return rows
+
+
+def one_by_one(parts: "Iterable[Results[A]]") -> Iterator[A]:
+    for results, refusal in parts:
+        yield from results
+        if refusal is not None:
+            raise refusal
+
+
+def given(position: Sequence[int]) -> CPosition:
+    found: CPosition = c_positions([position])[0]
+    return found
+
+
+def c_positions(positions: Sequence[Sequence[int]]) -> Any:
+    """The positions as the library reads them."""
+    try:
+        masks = array.array("Q", itertools.chain.from_iterable(positions))
+    except OverflowError:
+        raise ValueError("a mask is a number from 0 to 2**64 - 1") from None
+    return (CPosition * len(positions)).from_buffer(masks)
 
 
 def accept(status: int, index: Optional[int] = None) -> None:
     """Raises what a status says, unless that is DONE."""
     if status != Status.DONE:
         raise REFUSALS[status](index if status in OF_A_POSITION else None)
-
-
-def read_answer(answer: CAnswer) -> Answer:
-    return Answer(answer.score, Kind(answer.kind), answer.best)

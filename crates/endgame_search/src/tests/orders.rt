@@ -1,6 +1,6 @@
 //! The order of moves.
 
-use crate::children::{Child, add_children};
+use crate::move_order::{Child, add_children};
 use crate::tests::{EQUAL_CORNERS, OPEN_CORNERS, RINGS, is_first_enough, pos_of};
 use arrayvec::ArrayVec;
 use othello_rules::{Side, Square};

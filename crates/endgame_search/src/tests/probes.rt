@@ -3,7 +3,7 @@
 ghost use Rattle.std.specs.Prelude.{◌≡◌};
 ghost use Rattle.endgame_search.specs.Windows.{IsWindow};
 
-use crate::searches::search_scores;
+use crate::alpha_beta::search_scores;
 use crate::tests::{
     BLACK_BOARD, Discs, H1, LAST_CORNER, ProbeCounter, TEN_EMPTY_SQUARES, UNEQUAL_CORNERS, after,
     count_probes, is_first_enough, pos_of, task_of,

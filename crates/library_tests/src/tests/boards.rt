@@ -5,6 +5,7 @@ mod at_the_end;
 mod boards;
 mod crowds;
 mod desks;
+mod memory;
 mod steps;
 mod texts;
 mod waits;

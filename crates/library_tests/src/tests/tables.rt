@@ -2,7 +2,7 @@
 //! calls succeed.
 
 ghost use Rattle.std.specs.Prelude.{◌≡◌};
-ghost use Rattle.othello_rules.specs.declared.scorings.Scoring.TheVariants.{Winner};
+ghost use Rattle.othello_rules.specs.declared.scoring.Scoring.TheVariants.{Winner};
 ghost use Rattle.bound_table.specs.Range.{IsTrueOf};
 
 use bound_table::{BoundTable, Bounds, NoTable, Range, TableFault};
@@ -91,7 +91,7 @@ fn tables_of_each_size(rt: HostRuntime) -> Result<(), Fail> {
     assert!(rt; keeps_nothing(&empty, &exact));
     let table = BoundTable::new(rt.alloc(), 16, Scoring::Winner)?;
     assert!(rt; table.scoring() == Scoring::Winner && !keeps_nothing(&table, &exact));
-    let too_many = BoundTable::new(rt.alloc(), 4_194_305, Scoring::Winner).err();
+    let too_many = BoundTable::new(rt.alloc(), BoundTable::MOST_ENTRIES + 1, Scoring::Winner).err();
     assert!(rt; too_many == Some(TableFault::TooMany));
     Ok(())
 }

@@ -14,8 +14,8 @@ use std::sync::atomic::{AtomicBool, Ordering};
 use std::test::Fail;
 use std::thread;
 use std::time::{Clock, Duration};
-use suite_runs::clients::work;
-use suite_runs::solvers::Solver;
+use suite_runs::solver::Solver;
+use suite_runs::worker::Worker;
 
 // What the worker and its watcher share.
 #[derive(Drop)]
@@ -42,8 +42,12 @@ fn take_part<R: Abort + Clock + Wait>(rt: &R, watched: &Watched, thread: usize) 
         watch(rt, watched);
         return true;
     }
-    let solver = Solver::new(&watched.table, None);
-    work(rt, &watched.desk, &solver, &NoGate);
+    let worker = Worker {
+        desk: &watched.desk,
+        solver: Solver::new(&watched.table, None),
+        gate: &NoGate,
+    };
+    worker.work(rt);
     watched.has_ended.store(true, Ordering::SeqCst);
     true
 }

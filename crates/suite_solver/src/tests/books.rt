@@ -1,9 +1,10 @@
 //! The program with books: what it writes, what it reads, and what it refuses.
 
 use super::{NO_FILE, ONE, ONE_POSITION, Run, TWO, TWO_BY_WINNER, all_end_so, ends_so, run};
+use crate::MOST_BYTES;
 use std::alloc::{AllocError, Global};
 use std::fs;
-use std::rt::Files;
+use std::rt::{Clock, Files};
 use std::sync::Wait;
 use std::test::Fail;
 use std::thread::Threads;
@@ -25,7 +26,7 @@ XXXXXXXXXXXXXXXXXXXXXXXXXXXXXXXXXXXXXXXXXXXXXXXXXXXXXXXXXOOOOO-- X; G8:+01;\n\
 XXXXXXXXXXXXXXXXXXXXXXXXXXXXXXXXXXXXXXXXXXXXXXXXXXXXXXXXXOOOOOO- X; H8:+01;\n\
 XXXXXXXXXXXXXXXXXXXXXXXXXXXXXXXXXXXXXXXXXXXXXXXXXXXXXXXX-OOXXOO- X; A8:+01; H8:+01;\n";
 
-const ONE_REPORT: &[u8] = b"[1]
+pub(super) const ONE_REPORT: &[u8] = b"[1]
 1 +64 A1 unlisted
 2 +64 B1 unlisted
 3 +64 A1,H1 unlisted
@@ -63,19 +64,19 @@ const WRITTEN: &[Written] = &[
     ),
     ("ffosolve --book-out out.book", ONE, ONE_REPORT, BOOK),
     (
-        "ffosolve --book-in out.book --workers 0 --book-out out.book",
+        "ffosolve --book-in read.book --workers 0 --book-out out.book",
         ONE,
         ONE_REPORT,
         BOOK,
     ),
     (
-        "ffosolve --book-in out.book --scoring discs --workers 64 --book-out out.book",
+        "ffosolve --book-in read.book --scoring discs --workers 64 --book-out out.book",
         ONE,
         ONE_BY_DISCS,
         BOOK_BY_DISCS,
     ),
     (
-        "ffosolve --book-in out.book --scoring sign --book-out out.book",
+        "ffosolve --book-in read.book --scoring sign --book-out out.book",
         ONE,
         ONE_BY_SIGN,
         BOOK_BY_SIGN,
@@ -83,7 +84,7 @@ const WRITTEN: &[Written] = &[
 ];
 
 // Whether a run ends so, and leaves this book and nothing beside it.
-fn is_written<T: Alloc + Files + Threads + Wait + Sync>(
+fn is_written<T: Alloc + Files + Clock + Threads + Wait + Sync>(
     rt: &T,
     alloc: Global,
     wanted: &Written<'_>,
@@ -95,13 +96,16 @@ fn is_written<T: Alloc + Files + Threads + Wait + Sync>(
     Ok(fs::read(rt, "out.book")?.as_slice() == book)
 }
 
-// A book takes the place of the one that was read, and nothing is left beside it.
+// A book takes the place of another, also of one of another scoring, and nothing is left beside it.
 #[test]
 fn writes_and_reads_books(rt: HostRuntime) -> Result<(), Fail> {
+    fs::write(&rt, "read.book", BOOK)?;
     for wanted in WRITTEN {
         assert!(rt; is_written(&rt, rt.alloc(), wanted)?);
     }
+    assert!(rt; fs::read(&rt, "read.book")?.as_slice() == BOOK);
     fs::remove_file(&rt, "out.book")?;
+    fs::remove_file(&rt, "read.book")?;
     Ok(())
 }
 
@@ -171,7 +175,7 @@ const READ: &[Run] = &[
 
 // Whether a book is read before the files and what it claims changes no report, or what is told of
 // it.
-fn is_told_so<T: Files + Threads + Wait + Sync>(
+fn is_told_so<T: Files + Clock + Threads + Wait + Sync>(
     rt: &T,
     alloc: Global,
     text: &[u8],
@@ -198,7 +202,7 @@ const LAST_FAULT: &[u8] = b"ffosolve: book line 2: bad square at column 1\n";
 
 // A book of more bytes than a file may have, whose last line is no line of a book.
 fn large_book(alloc: Global) -> Result<Vec<u8>, AllocError> {
-    let mut text = vec![in alloc; b' '; 1_048_577]?;
+    let mut text = vec![in alloc; b' '; MOST_BYTES + 1]?;
     text.extend_from_slice(b"\n?")?;
     Ok(text)
 }
@@ -227,7 +231,7 @@ const FRONTS: &[(usize, bool)] = &[
 ];
 
 // Whether the program reads the front of a book, and then reports as ever.
-fn is_read<T: Files + Threads + Wait + Sync>(
+fn is_read<T: Files + Clock + Threads + Wait + Sync>(
     rt: &T,
     alloc: Global,
     front: &[u8],
@@ -283,6 +287,14 @@ const PLACES: &[Run] = &[
         3,
         b"",
         b"ffosolve: cannot write no/a.book\n",
+    ),
+    // The name of no byte.
+    (
+        "ffosolve --book-out ",
+        ONE,
+        3,
+        b"",
+        b"ffosolve: cannot write \n",
     ),
     (
         "ffosolve --book-out no/a.book no-such.obf",

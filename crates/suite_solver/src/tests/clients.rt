@@ -4,7 +4,7 @@ ghost use Rattle.std.specs.Prelude.{◌≤◌, length};
 
 use super::{BOTH, CountingGate, ONE, TWO, TWO_JOBS};
 use crate::laws::client_part;
-use crate::{Gate, NoGate, RunFault, write_report};
+use crate::{Gate, MOST_BYTES, NoGate, RunFault, write_report};
 use arrayvec::ArrayVec;
 use bound_table::{BoundTable, NoTable};
 use endgame_search::Task;
@@ -14,7 +14,7 @@ use othello_rules::Scoring;
 use std::alloc::{AllocError, Global};
 use std::sync::{Mutex, Wait};
 use std::test::Fail;
-use suite_runs::clients::send_and_close;
+use suite_runs::client::send_and_close;
 
 // Writes the report of one client's part, and tells whether its answers are as many as its rows.
 fn report_part<R: Wait, G: Gate>(
@@ -26,7 +26,7 @@ fn report_part<R: Wait, G: Gate>(
     sender: u32,
     text: &[u8],
 ) -> Result<bool, Fail>
-    requires { length text.now ≤ 1048576 }
+    requires { length text.now ≤ MOST_BYTES }
 {
     let table = BoundTable::new(alloc, 16, Scoring::Winner)?;
     let part = client_part(rt, alloc, text, sender, 20, desk, &table, None, gate)?;
@@ -65,7 +65,7 @@ fn is_mixed_part<R: Wait, G: Gate>(
     text: &[u8],
     sender: u32,
 ) -> Result<bool, AllocError>
-    requires { length text.now ≤ 1048576 }
+    requires { length text.now ≤ MOST_BYTES }
 {
     let table = NoTable::new(Scoring::Winner);
     match client_part(rt, alloc, text, sender, 20, desk, &table, None, gate) {

@@ -1,20 +1,19 @@
 //! What faults print.
 
+use super::SECOND_TOO_LARGE;
 use crate::RunFault;
 use std::alloc::{AllocError, Global};
 
-const TEXTS: &[(RunFault, &str)] = &[
-    (RunFault::Memory, "out of memory"),
-    (RunFault::Mixed, "answers mixed"),
-    (RunFault::TooManyFiles, "more than 64 files"),
-    (
-        RunFault::FileTooLarge(1),
-        "file 2 is larger than 1048576 bytes",
-    ),
+const TEXTS: &[(RunFault, &[u8])] = &[
+    (RunFault::Memory, b"ffosolve: out of memory\n"),
+    (RunFault::Mixed, b"ffosolve: answers mixed\n"),
+    (RunFault::TooManyFiles, b"ffosolve: more than 64 files\n"),
+    (RunFault::FileTooLarge(1), SECOND_TOO_LARGE),
 ];
 
-fn has_text(alloc: Global, fault: RunFault, text: &str) -> Result<bool, AllocError> {
-    Ok(format!(in alloc; "{fault}")?.as_str() == text)
+// Whether the fault prints the text, as a line of the program has it.
+fn has_text(alloc: Global, fault: RunFault, text: &[u8]) -> Result<bool, AllocError> {
+    Ok(format!(in alloc; "ffosolve: {fault}\n")?.as_bytes() == text)
 }
 
 #[test]

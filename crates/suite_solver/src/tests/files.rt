@@ -1,10 +1,14 @@
 //! Files by their names, and their limits.
 
 use super::options::run_words;
-use super::{BOTH, EMPTY_REPORT, NO_FILE, ONE, Run, TOO_LARGE, TWO, all_end_so, ended_so, ends_so};
+use super::{
+    BOTH, EMPTY_REPORT, NO_FILE, ONE, Run, SECOND_TOO_LARGE, TOO_LARGE, TWO, all_end_so, ended_so,
+    ends_so,
+};
+use crate::MOST_BYTES;
 use std::alloc::{AllocError, Global};
 use std::fs;
-use std::rt::Files;
+use std::rt::{Clock, Files};
 use std::sync::Wait;
 use std::test::Fail;
 use std::thread::Threads;
@@ -36,14 +40,36 @@ const FILE_RUNS: &[Run] = &[
         b"",
         1,
         b"",
-        b"ffosolve: file 2 is larger than 1048576 bytes\n",
+        SECOND_TOO_LARGE,
+    ),
+    (
+        "ffosolve first.obf large.obf --book-out no/it.book",
+        b"",
+        1,
+        b"",
+        SECOND_TOO_LARGE,
+    ),
+    // A place under a file that is no folder.
+    (
+        "ffosolve first.obf --book-out second.obf/it.book",
+        b"",
+        3,
+        b"",
+        b"ffosolve: cannot write second.obf/it.book\n",
     ),
 ];
 
-// The program's name, so many times the name of one file, and another name.
-fn words_of_files(alloc: Global, files: u32, last: &str) -> Result<Vec<String>, AllocError> {
+// The program's name, the place of a book, so many times the name of one file, and another name.
+fn words_of_files(
+    alloc: Global,
+    place: &str,
+    files: u32,
+    last: &str,
+) -> Result<Vec<String>, AllocError> {
     let mut words = Vec::new(alloc);
-    words.push(String::from_str(alloc, "ffosolve")?)?;
+    for word in ["ffosolve", "--book-out", place] {
+        words.push(String::from_str(alloc, word)?)?;
+    }
     for _ in 0..files {
         words.push(String::from_str(alloc, "first.obf")?)?;
     }
@@ -54,13 +80,13 @@ fn words_of_files(alloc: Global, files: u32, last: &str) -> Result<Vec<String>, 
 fn write_files<T: Files>(rt: &T, alloc: Global) -> Result<(), Fail> {
     fs::write(rt, "first.obf", ONE)?;
     fs::write(rt, "second.obf", TWO)?;
-    fs::write(rt, "large.obf", &vec![in alloc; b' '; 1_048_577]?)?;
+    fs::write(rt, "large.obf", &vec![in alloc; b' '; MOST_BYTES + 1]?)?;
     Ok(())
 }
 
 // So many files and one more, and the status and the words that a run on them ends with. A folder
 // can be opened, and not read: from the 66th file on none is read, and that one can't be opened is
-// told before there being too many.
+// told before there being too many. That no book can be written where it is to go is told later.
 const MANY: &[(u32, &str, u8, &[u8])] = &[
     (64, "first.obf", 1, MANY_FILES),
     (65, ".", 1, MANY_FILES),
@@ -68,15 +94,17 @@ const MANY: &[(u32, &str, u8, &[u8])] = &[
     (3_000, "first.obf", 1, MANY_FILES),
 ];
 
-fn refuses_many_files<T: Files + Threads + Wait + Sync>(
+fn refuses_many_files<T: Files + Clock + Threads + Wait + Sync>(
     rt: &T,
     alloc: Global,
 ) -> Result<bool, AllocError> {
     for (files, last, status, errors) in MANY {
-        let words = words_of_files(alloc, *files, last)?;
-        let ended = run_words(rt, alloc, Ok(words));
-        if !ended_so(&ended, (*status, b"", errors))? {
-            return Ok(false);
+        for place in ["many.book", "no/many.book"] {
+            let words = words_of_files(alloc, place, *files, last)?;
+            let ended = run_words(rt, alloc, Ok(words));
+            if !ended_so(&ended, (*status, b"", errors))? {
+                return Ok(false);
+            }
         }
     }
     Ok(true)
@@ -94,13 +122,13 @@ fn runs_on_files(rt: HostRuntime) -> Result<(), Fail> {
 
 // Whether a file of as many bytes as may be is read, all of them the same, and one byte more
 // refused.
-fn is_measured<T: Files + Threads + Wait + Sync>(
+fn is_measured<T: Files + Clock + Threads + Wait + Sync>(
     rt: &T,
     alloc: Global,
     byte: u8,
     report: &[u8],
 ) -> Result<bool, AllocError> {
-    let mut text = vec![in alloc; byte; 1_048_576]?;
+    let mut text = vec![in alloc; byte; MOST_BYTES]?;
     let fits = ends_so(rt, alloc, &("ffosolve", &text, 0, report, b""))?;
     text.push(byte)?;
     Ok(fits && ends_so(rt, alloc, &("ffosolve", &text, 1, b"", TOO_LARGE))?)

@@ -1,7 +1,7 @@
 //! Clients that are joined.
 
 ghost use Rattle.std.specs.Prelude.{◌≡◌, ◌≤◌, [], ◌⊎◌, IfOk, vec_len, vec_capacity};
-ghost use Rattle.suite_runs.specs.declared.faults.RunFault.TheVariants.{Memory, Mixed};
+ghost use Rattle.suite_runs.specs.declared.run_fault.RunFault.TheVariants.{Memory, Mixed};
 
 use crate::RunFault;
 use othello_rules::Scoring;

@@ -4,7 +4,7 @@ ghost use Rattle.std.specs.Prelude.{◌<◌, ◌^◌};
 
 use super::runs::text_of;
 use super::{CountingGate, ONE_POSITION};
-use crate::{NoGate, Outcome, RunFault, Settings, run_serial};
+use crate::{MOST_BYTES, NoGate, Outcome, RunFault, Settings, run_serial};
 use std::alloc::{AllocError, Global};
 use std::sync::Wait;
 use std::test::Fail;
@@ -67,9 +67,9 @@ fn files_with_spaces(alloc: Global, count: u32, spaces: usize) -> Result<Vec<Vec
 // The files of one position, the spaces of a last file, and the refusal.
 const LIMITS: &[(u32, usize, RunFault)] = &[
     (65, 0, RunFault::TooManyFiles),
-    (64, 1_048_577, RunFault::TooManyFiles),
-    (1, 1_048_577, RunFault::FileTooLarge(1)),
-    (0, 1_048_577, RunFault::FileTooLarge(0)),
+    (64, MOST_BYTES + 1, RunFault::TooManyFiles),
+    (1, MOST_BYTES + 1, RunFault::FileTooLarge(1)),
+    (0, MOST_BYTES + 1, RunFault::FileTooLarge(0)),
 ];
 
 // Whether limits are refused alike by both runs, before the gate is told anything.
@@ -98,7 +98,7 @@ fn refuses_limits(rt: HostRuntime) -> Result<(), Fail> {
 // A file of as many bytes as may be.
 #[test]
 fn takes_a_large_file(rt: HostRuntime) -> Result<(), Fail> {
-    let files = files_with_spaces(rt.alloc(), 0, 1_048_576)?;
+    let files = files_with_spaces(rt.alloc(), 0, MOST_BYTES)?;
     let outcome = run_serial(rt.alloc(), &files, &Settings::default(), None)?;
     assert!(rt; has_reports(&outcome, 1, Some(super::EMPTY_REPORT)));
     Ok(())

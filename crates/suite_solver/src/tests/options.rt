@@ -1,11 +1,15 @@
 //! The command line.
 
-use super::{Ended, Run, TWO, WANT_OF_MEMORY, all_end_so, ended_so, words_of};
-use crate::{Options, Settings, list_options, options, program_of};
+use super::{
+    Ended, LARGE_TABLE, Run, TWO, WANT_OF_MEMORY, all_end_so, ended_so, ends_so, words_of,
+};
+use crate::{
+    MOST_EMPTIES, MOST_ENTRIES, MOST_WORKERS, Options, Settings, VERSION, options, program_of,
+};
 use othello_rules::Scoring;
 use std::alloc::{AllocError, Global};
 use std::io;
-use std::rt::Files;
+use std::rt::{Clock, Files};
 use std::sync::Wait;
 use std::test::Fail;
 use std::thread::Threads;
@@ -18,12 +22,6 @@ For more information, try '--help'.
 
 const BAD_TABLE: &[u8] = b"\
 error: invalid value 'x' for '--table <N>': invalid digit found in string
-
-For more information, try '--help'.
-";
-
-const LARGE_TABLE: &[u8] = b"\
-error: invalid value '4194305' for '--table <N>': 4194305 is not in 0..=4194304
 
 For more information, try '--help'.
 ";
@@ -46,38 +44,58 @@ For more information, try '--help'.
 ";
 
 const HELP: &[u8] = b"\
-Solves Othello endgames exactly. For each position of OBF files it prints the score in discs, as
-the side to move sees it, every best move, and how the scores that the line lists compare.
+Solves Othello endgames exactly. For each position of OBF files it prints the
+score in discs, as the side to move sees it, every best move, and how the scores
+that the line lists compare.
 
 Usage: ffosolve [OPTIONS] [FILES]...
 
 Arguments:
-  [FILES]...  OBF files, at most 64, each of at most 1048576 bytes [default: standard input]
+  [FILES]...  OBF files, at most 64, each of at most 1 MiB
+              [default: standard input]
 
 Options:
-      --max-empties <N>  Solve positions with at most N empty squares, 0 to 60 [default: 20]
-      --workers <N>      Solve on N threads beside one for each file, 0 to 64; it changes no report [default: 2]
-      --table <N>        Keep the bounds of at most N positions, 0 to 4194304 [default: 65536]
-      --scoring <NAME>   Score finished games with empty squares for the winner, by discs alone, or by their sign [default: winner] [possible values: winner, discs, sign]
-      --book-in <FILE>   Read a book of solved positions, whose claims are confirmed; it changes no report
+      --max-empties <N>  Solve positions with at most N empty squares,
+                         0 to 60 [default: 20]
+      --workers <N>      Solve on N threads beside one for each file, 0 to 64;
+                         it changes no report [default: 2]
+      --table <N>        Keep the bounds of at most N positions [default: 65536]
+      --scoring <NAME>   Score finished games with empty squares for the winner
+                         (winner), by discs alone (discs), or by their sign
+                         (sign) [default: winner]
+      --book-in <FILE>   Read a book of solved positions, whose claims are
+                         confirmed; it changes no report
       --book-out <FILE>  Write a book of all solved positions
+      --progress         Tell on standard error, every five seconds and at the
+                         end, how many are solved
   -h, --help             Print help
   -V, --version          Print version
 
 What a line of the report says:
-  agree     the greatest listed score is the score, and each move listed with it is a best one
-  differ    the greatest listed score is not the score, or a move listed with it is not a best one
+  agree     the greatest listed score is the score, and each move listed with it
+            is a best one
+  differ    the greatest listed score is not the score, or a move listed with it
+            is not a best one
   unlisted  the line lists no score
-  refused   the line is no position, or has more empty squares than --max-empties allows
+  refused   the line is no position, or has more empty squares than
+            --max-empties allows
+
+In place of moves:
+  PS  the side to move has to pass
+  --  the game is over
 
 Exit status:
   0  all reports were printed, or this help, or the version
-  1  more than 64 files, a file of more than 1048576 bytes, or memory ran out
+  1  more than 64 files, a file of more than 1 MiB, or memory ran out
   2  the command line is refused
-  3  a file or a stream can't be read or written, or the book of --book-in is refused
+  3  a file or a stream can't be read or written, or the book of --book-in is
+     refused
 
-Example: the lines of a suite whose listed scores are wrong
+Examples:
+  # the lines of a suite whose listed scores are wrong
   ffosolve --workers 4 suite.obf | grep differ
+  # the answers as a book, which --book-in reads
+  ffosolve --book-out suite.book suite.obf
 ";
 
 const NO_WORDS: &[u8] = b"ffosolve: cannot read the command line\n";
@@ -92,7 +110,6 @@ const REFUSED: &[Run] = &[
     ("ffosolve --max-empties 61", b"", 2, b"", BAD_EMPTIES),
     ("ffosolve --workers 65", b"", 2, b"", BAD_WORKERS),
     ("ffosolve --table x", b"", 2, b"", BAD_TABLE),
-    ("ffosolve --table 4194305", b"", 2, b"", LARGE_TABLE),
     ("ffosolve --best", b"", 2, b"", BAD_OPTION),
     ("ffosolve --scoring best", b"", 2, b"", BAD_SCORING),
 ];
@@ -100,17 +117,19 @@ const REFUSED: &[Run] = &[
 #[test]
 fn refuses_words(rt: HostRuntime) -> Result<(), Fail> {
     assert!(rt; all_end_so(&rt, rt.alloc(), &REFUSED)?);
+    let entries = MOST_ENTRIES + 1;
+    let line = format!(in rt.alloc(); "ffosolve --table {entries}")?;
+    assert!(rt; ends_so(&rt, rt.alloc(), &(&line, b"", 2, b"", LARGE_TABLE))?);
     Ok(())
 }
 
-const VERSIONS: &[Run] = &[
-    ("ffosolve --version", b"", 0, b"ffosolve 1.0.0\n", b""),
-    ("ffosolve -V", b"", 0, b"ffosolve 1.0.0\n", b""),
-];
-
 #[test]
 fn tells_its_version(rt: HostRuntime) -> Result<(), Fail> {
-    assert!(rt; all_end_so(&rt, rt.alloc(), &VERSIONS)?);
+    let version = VERSION;
+    let told = format!(in rt.alloc(); "ffosolve {version}\n")?;
+    for line in ["ffosolve --version", "ffosolve -V"] {
+        assert!(rt; ends_so(&rt, rt.alloc(), &(line, b"", 0, told.as_bytes(), b""))?);
+    }
     Ok(())
 }
 
@@ -121,7 +140,8 @@ fn options_of(alloc: Global, line: &str) -> Result<Options, Fail> {
 
 // Whether the options hold no more than the settings.
 fn names_nothing(found: &Options) -> bool {
-    found.files.is_empty() && found.book_in.is_none() && found.book_out.is_none()
+    let no_books = found.book_in.is_none() && found.book_out.is_none();
+    no_books && found.files.is_empty() && !found.progress
 }
 
 #[test]
@@ -131,39 +151,45 @@ fn reads_no_options(rt: HostRuntime) -> Result<(), Fail> {
     Ok(())
 }
 
-const LINE: &str =
-    "ffosolve a --max-empties=60 --workers 64 --table 4194304 --scoring sign --book-in b --book-out=c -- --help";
+// A line with every option, each number as great as may be.
+fn line_of_all(alloc: Global) -> Result<String, AllocError> {
+    let (empties, workers, entries) = (MOST_EMPTIES, MOST_WORKERS, MOST_ENTRIES);
+    format!(in alloc;
+        "ffosolve a --max-empties={empties} --workers {workers} --table {entries} --scoring sign --book-in b --book-out=c --progress -- --help"
+    )
+}
 
-// Whether the options hold the names of LINE.
+// Whether the options hold the names of that line.
 fn names_all(alloc: Global, found: &Options) -> Result<bool, AllocError> {
     let named = found.files.join(alloc, " ")?;
     let books = (found.book_in.as_deref(), found.book_out.as_deref());
-    Ok(named.as_str() == "a --help" && books == (Some("b"), Some("c")))
+    Ok(named.as_str() == "a --help" && books == (Some("b"), Some("c")) && found.progress)
 }
 
 #[test]
 fn reads_options(rt: HostRuntime) -> Result<(), Fail> {
-    let found = options_of(rt.alloc(), LINE)?;
-    let wanted = Settings::new(60, 64, 4_194_304, Scoring::Sign);
+    let line = line_of_all(rt.alloc())?;
+    let found = options_of(rt.alloc(), &line)?;
+    let wanted = Settings::new(60, 64, MOST_ENTRIES, Scoring::Sign);
     assert!(rt; Some(found.settings) == wanted && names_all(rt.alloc(), &found)?);
     Ok(())
 }
 
-const BEYOND: &[(u8, u8, u32)] = &[(61, 2, 0), (20, 65, 0), (20, 2, 4_194_305)];
+const BEYOND: &[(u8, u8, u32)] = &[(61, 2, 0), (20, 65, 0), (20, 2, MOST_ENTRIES + 1)];
 
 fn are_limits(settings: Settings) -> bool {
-    settings.max_empties() == 60 && settings.workers() == 64 && settings.table() == 4_194_304
+    settings.max_empties() == 60 && settings.workers() == 64 && settings.table() == MOST_ENTRIES
 }
 
 #[test]
 fn keeps_limits(rt: HostRuntime) {
     let scoring = Scoring::Winner;
     assert!(rt; BEYOND.iter().all(|row| Settings::new(row.0, row.1, row.2, scoring).is_none()));
-    assert!(rt; Settings::new(60, 64, 4_194_304, scoring).is_some_and(are_limits));
+    assert!(rt; Settings::new(60, 64, MOST_ENTRIES, scoring).is_some_and(are_limits));
 }
 
 // Words as the system gives them.
-pub(super) fn run_words<T: Files + Threads + Wait + Sync>(
+pub(super) fn run_words<T: Files + Clock + Threads + Wait + Sync>(
     rt: &T,
     alloc: Global,
     words: io::Result<Vec<String>>,
@@ -200,28 +226,5 @@ fn tells_failing_words(rt: HostRuntime) -> Result<(), Fail> {
     let no_memory = Err(io::Error::from(io::ErrorKind::OutOfMemory));
     let ended = run_words(&rt, rt.alloc(), no_memory);
     assert!(rt; ended_so(&ended, WANT_OF_MEMORY)?);
-    Ok(())
-}
-
-const LIST_LINE: &str = "ffoscores a --max-empties=60 --table 4194304 --scoring sign -- --help";
-
-// Whether the words of `ffoscores` ask for these settings and files.
-fn asks_lists(
-    alloc: Global,
-    line: &str,
-    settings: Option<Settings>,
-    files: &str,
-) -> Result<bool, Fail> {
-    let words = words_of(alloc, line)?;
-    let found = list_options(alloc, &words)?;
-    Ok(Some(found.settings) == settings && found.files.join(alloc, " ")?.as_str() == files)
-}
-
-#[test]
-fn reads_list_options(rt: HostRuntime) -> Result<(), Fail> {
-    let most = Settings::new(60, 0, 4_194_304, Scoring::Sign);
-    let usual = Settings::new(20, 0, 65_536, Scoring::Winner);
-    assert!(rt; asks_lists(rt.alloc(), LIST_LINE, most, "a --help")?);
-    assert!(rt; asks_lists(rt.alloc(), "ffoscores", usual, "")?);
     Ok(())
 }

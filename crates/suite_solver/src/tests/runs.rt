@@ -78,7 +78,7 @@ pub(super) fn text_of(alloc: Global, text: &[u8]) -> Result<Vec<u8>, AllocError>
 }
 
 // Files of these texts.
-fn files_of(alloc: Global, texts: &[&[u8]]) -> Result<Vec<Vec<u8>>, AllocError> {
+pub(super) fn files_of(alloc: Global, texts: &[&[u8]]) -> Result<Vec<Vec<u8>>, AllocError> {
     let mut files = Vec::new(alloc);
     for text in texts {
         files.push(text_of(alloc, text)?)?;
@@ -86,7 +86,7 @@ fn files_of(alloc: Global, texts: &[&[u8]]) -> Result<Vec<Vec<u8>>, AllocError> 
     Ok(files)
 }
 
-fn settings_of(workers: u8, table: u32) -> Settings {
+pub(super) fn settings_of(workers: u8, table: u32) -> Settings {
     Settings::new(20, workers, table, Scoring::Winner).unwrap_or_default()
 }
 

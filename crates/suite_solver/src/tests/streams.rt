@@ -1,10 +1,10 @@
 //! Streams that fail or never end.
 
 use super::{Ended, FailingWriter, NO_INPUT, NO_OUTPUT, TOO_LARGE, TWO, ended_so, run, words_of};
-use crate::program;
+use crate::{MOST_BYTES, program};
 use std::alloc::{AllocError, Global};
 use std::io::{Read, Write};
-use std::rt::Files;
+use std::rt::{Clock, Files};
 use std::sync::Wait;
 use std::test::Fail;
 use std::thread::Threads;
@@ -28,7 +28,7 @@ impl Read for EndlessReader {
 fn reads_no_more_than_it_may(rt: HostRuntime) -> Result<(), Fail> {
     let mut input = EndlessReader { given: 0 };
     let ended = run(&rt, rt.alloc(), &["ffosolve"], &mut input);
-    assert!(rt; ended_so(&ended, (1, b"", TOO_LARGE))? && input.given == 1_048_577);
+    assert!(rt; ended_so(&ended, (1, b"", TOO_LARGE))? && input.given == MOST_BYTES as u64 + 1);
     Ok(())
 }
 
@@ -54,7 +54,7 @@ impl Read for FailingReader<'_> {
     }
 }
 
-fn tells_input<T: Files + Threads + Wait + Sync>(
+fn tells_input<T: Files + Clock + Threads + Wait + Sync>(
     rt: &T,
     alloc: Global,
     calls_left: u32,
@@ -76,7 +76,7 @@ fn tells_failing_input(rt: HostRuntime) -> Result<(), Fail> {
 }
 
 // The status, and how many bytes were printed, where standard error fails after so many calls.
-fn end_without_errors<T: Files + Threads + Wait + Sync>(
+fn end_without_errors<T: Files + Clock + Threads + Wait + Sync>(
     rt: &T,
     alloc: Global,
     calls_left: u32,
@@ -112,7 +112,7 @@ impl Write for HoldingWriter {
 }
 
 // How the program ends that writes to a standard output.
-fn end_of<T: Files + Threads + Wait + Sync, W: Write>(
+fn end_of<T: Files + Clock + Threads + Wait + Sync, W: Write>(
     rt: &T,
     alloc: Global,
     line: &str,
@@ -132,7 +132,7 @@ fn end_of<T: Files + Threads + Wait + Sync, W: Write>(
 const UNWRITTEN: &str = "ffosolve --book-out unwritten.book";
 
 // Whether a run with this standard output ends so.
-fn ends_with<T: Files + Threads + Wait + Sync, W: Write>(
+fn ends_with<T: Files + Clock + Threads + Wait + Sync, W: Write>(
     rt: &T,
     alloc: Global,
     line: &str,
@@ -145,7 +145,7 @@ fn ends_with<T: Files + Threads + Wait + Sync, W: Write>(
 }
 
 // Whether a standard output that fails after so many calls is told.
-fn tells_output<T: Files + Threads + Wait + Sync>(
+fn tells_output<T: Files + Clock + Threads + Wait + Sync>(
     rt: &T,
     alloc: Global,
     line: &str,
@@ -162,7 +162,7 @@ fn tells_output<T: Files + Threads + Wait + Sync>(
 }
 
 // Whether it is told of reports and of help, and no book is written.
-fn tells_outputs<T: Files + Threads + Wait + Sync>(
+fn tells_outputs<T: Files + Clock + Threads + Wait + Sync>(
     rt: &T,
     alloc: Global,
     calls_left: u32,
@@ -185,7 +185,7 @@ fn tells_failing_output(rt: HostRuntime) -> Result<(), Fail> {
 }
 
 // Whether a standard output that can't be flushed is told.
-fn tells_unflushed<T: Files + Threads + Wait + Sync>(
+fn tells_unflushed<T: Files + Clock + Threads + Wait + Sync>(
     rt: &T,
     alloc: Global,
     line: &str,

@@ -1,7 +1,7 @@
 use Rattle.std.proofs.Common.{eqb, arith, refl, true}
 use Rattle.std.proofs.lemmas.Bool.{agree_below_at, eqb-true}
 use Rattle.othello_bits.specs.Symmetries.{others, target}
-use Rattle.othello_bits.specs.declared.symmetries.Sym.TheVariants.{Identity, FlipColumns, FlipRows, HalfTurn, Transpose, TurnRight, TurnLeft, AntiTranspose}
+use Rattle.othello_bits.specs.declared.sym.Sym.TheVariants.{Identity, FlipColumns, FlipRows, HalfTurn, Transpose, TurnRight, TurnLeft, AntiTranspose}
 use Rattle.othello_bits.proofs.SymmetryPlaces.{at_place}
 use Rattle.othello_bits.proofs.laws.symmetries_are_in_order.Goals as goal
 

@@ -4,8 +4,8 @@ use Rattle.othello_rules.specs.Masks.{in_mask}
 use Rattle.othello_rules.specs.Rules.{turned_on}
 use Rattle.othello_bits.specs.Pos.{mem}
 use Rattle.othello_bits.specs.Shifts.{line}
-use Rattle.othello_bits.specs.declared.headings.Heading.{Heading}
-use Rattle.othello_bits.specs.declared.headings.Heading.TheVariants.{North, NorthEast, East, SouthEast, South, SouthWest, West, NorthWest}
+use Rattle.othello_bits.specs.declared.mobility.Heading.{Heading}
+use Rattle.othello_bits.specs.declared.mobility.Heading.TheVariants.{North, NorthEast, East, SouthEast, South, SouthWest, West, NorthWest}
 use Rattle.othello_bits.proofs.RayMasks.{four}
 use Rattle.othello_bits.proofs.Bits.{in_mask-or, in_mask-zero, hit, miss}
 use Rattle.othello_bits.proofs.moves.flips.Goals as goal

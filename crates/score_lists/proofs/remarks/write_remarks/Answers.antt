@@ -1,4 +1,5 @@
 use Rattle.std.proofs.Common.{◌≡◌, ◌∷◌, [], rules}
+use Rattle.score_lists.specs.Remarks.{remark_of}
 use Rattle.score_lists.proofs.RemarkSteps.{found_end, found_more, remark_end, remark_more}
 use Rattle.score_lists.proofs.remarks.write_remarks.Goals as goal
 
@@ -12,19 +13,19 @@ loop-piece-preserved g c =
     let cut : left ≡ piece ∷ pieces = search rules in
     let w = c.in_ok-found.ensures in
     record {
-      text = remark_more _ _ _ scores left pieces piece c.loop-piece.found _ _ cut w.found kept.text
+      text = remark_more (remark_of scores) _ _ _ left pieces piece c.loop-piece.found _ _ cut w.found kept.text
           w.written;
-      found = found_more scores left pieces piece c.loop-piece.found _ _ cut w.found kept.found;
+      found = found_more (remark_of scores) left pieces piece c.loop-piece.found _ _ cut w.found kept.found;
     }
 
 pub returns-clause-written : goal.returns-clause-written
 returns-clause-written g c =
     let none : c.loop-piece.piece-iterator ≡ [] = search rules in
-    remark_end _ _ c.args.scores.now c.loop-piece.piece-iterator c.loop-piece.found _ none
+    remark_end (remark_of c.args.scores.now) _ _ c.loop-piece.piece-iterator c.loop-piece.found _ none
     c.loop-piece.invariant.text
 
 pub returns-clause-found : goal.returns-clause-found
 returns-clause-found g c =
     let none : c.loop-piece.piece-iterator ≡ [] = search rules in
-    found_end c.args.scores.now c.loop-piece.piece-iterator c.loop-piece.found _ none
+    found_end (remark_of c.args.scores.now) c.loop-piece.piece-iterator c.loop-piece.found _ none
     c.loop-piece.invariant.found

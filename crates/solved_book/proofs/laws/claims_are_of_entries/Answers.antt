@@ -1,5 +1,5 @@
-use Rattle.solved_book.proofs.LineLaws.{entries_are}
+use Rattle.solved_book.proofs.BookTexts.{book_text, each_claim}
 use Rattle.solved_book.proofs.laws.claims_are_of_entries.Goals as goal
 
 pub returns : goal.returns
-returns c = entries_are
+returns c = record { text = book_text; each = each_claim }

@@ -1,6 +1,6 @@
 use Rattle.std.proofs.Common.{◌≡◌}
 use Rattle.obf_text.specs.LineText.{texts_of}
-use Rattle.suite_runs.specs.declared.faults.RunFault.TheVariants.{Mixed}
+use Rattle.suite_runs.specs.declared.run_fault.RunFault.TheVariants.{Mixed}
 use Rattle.suite_runs.proofs.RunLemmas.{refused_answers, refused_unmixed}
 use Rattle.suite_runs.proofs.runs.run_files.Goals as goal
 

@@ -8,5 +8,5 @@ invariant-loop-file g l = record {
   sender : l.sender ≡ l.file-index;
   room : length l.files ≤ vec_capacity l.clients;
   count : vec_len l.clients ≡ l.file-index;
-  started : l.clients.items ≡ map (started_view l.shared.table.scoring l.shared.settings.max_empties) (texts_of (take l.file-index l.files));
+  started : l.clients.items ≡ map (started_view l.crew.shared.now.table.scoring l.crew.shared.now.settings.max_empties) (texts_of (take l.file-index l.files));
 }

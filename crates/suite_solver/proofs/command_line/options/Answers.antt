@@ -1,13 +1,16 @@
 use Rattle.std.proofs.Common.{◌≡◌, ◌∙◌, List, [], Option, ap, inl, inr, map, refl, subst, sym, true, codes}
-use Rattle.std.specs.Prelude.{unwrap_or}
+use Rattle.std.specs.Prelude.{IfSome, unwrap_or}
 use Rattle.std.specs.Borrow.{Bor}
+use Rattle.std.specs.List.{list_all}
 use Rattle.std.proofs.lemmas.Result.{err_from_is_err_and}
-use Rattle.clap.specs.Words.{App, Row, Text, all_of, first_of, found_of, fault_of, is_simple, is_simple_and_free, matches_of, rows_of, takes}
+use Rattle.clap.specs.Words.{App, Row, Text, all_of, first_of, found_of, fault_of, is_simple, is_simple_and_free, matches_of, one_of, rows_of, takes}
 use Rattle.clap.specs.Kinds.{HasKind}
+use Rattle.clap.specs.Simple.{HasReadyLeaves, is_ready_leaf}
 use Rattle.clap.proofs.OnLiterals.{clap_on_literals}
-use Rattle.clap.proofs.WalkLemmas.{first_value-rows, raw_values-rows}
+use Rattle.clap.proofs.WalkLemmas.{first_value-rows, one_text-rows, raw_values-rows}
+use Rattle.suite_solver.proofs.SettingsLemmas.{HasSettingsRules, settings_given}
 use Rattle.suite_solver.specs.CommandLine.{HasSettings, IsFaultOf, NameList, NamesScorings, ffosolve}
-use Rattle.suite_solver.specs.declared.requests.OptionFault.{OptionFault}
+use Rattle.suite_solver.specs.declared.option_fault.OptionFault.{OptionFault}
 use Rattle.suite_solver.proofs.command_line.options.Goals as goal
 
 simple : (names : NameList) → is_simple (ffosolve names) ≡ true
@@ -17,6 +20,30 @@ simple names = refl
 free : (names : NameList) → is_simple_and_free (ffosolve names) ≡ true
 unfolding clap_on_literals
 free names = refl
+
+settings_rules : (names : NameList) → HasSettingsRules names (ffosolve names).top
+unfolding clap_on_literals
+settings_rules names = record {
+  ready = refl;
+  max_empties = refl;
+  workers = refl;
+  table = refl;
+  scoring = refl;
+  one_max_empties = refl;
+  one_workers = refl;
+  one_table = refl;
+  one_scoring = refl;
+}
+
+pub unwrap-settings-requires : goal.unwrap-settings-requires
+unwrap-settings-requires c =
+    let names = c.as_slice.result in
+    let named : NamesScorings names = ap (map (λ (name : Bor Text). name.now)) c.as_slice.ensures ∙ c.names-names.ensures in
+    let app = c.in_ok-command.ensures in
+    let leaves : HasReadyLeaves c.in_ok-command.command = ap (λ (a : App). list_all is_ready_leaf a.subs) app in
+    let rules = subst (λ (a : App). HasSettingsRules names a.top) (sym app) (settings_rules names) in
+    let given = settings_given c.in_ok-command.command c.in_ok-matches.matches names c.in_ok-matches.ensures.parsed leaves named rules in
+    c.settings_of.ensures.found given.0 given.1 given.2
 
 pub returns-clause-asked : goal.returns-clause-asked
 returns-clause-asked c =
@@ -30,9 +57,14 @@ returns-clause-asked c =
       names = names;
       named = ap (map (λ (name : Bor Text). name.now)) c.as_slice.ensures ∙ c.names-names.ensures;
       faultless = ap (λ (a : App). fault_of a words) (sym app) ∙ c.in_ok-matches.ensures.kinds (ap is_simple_and_free app ∙ free names);
-      settings = subst (λ (r : List Row). HasSettings c.in-Some.settings r) rows c.in-Some.ensures;
+      settings = subst (λ (r : List Row). HasSettings c.unwrap-settings.result r) rows
+          (subst (λ o. IfSome o (λ s. HasSettings s (rows_of found))) c.unwrap-settings.ensures c.settings_of.ensures.value);
       book_in = c.in_ok-book_in.ensures ∙ first_value-rows found (codes "book-in") ∙ ap (first_of (codes "book-in")) rows;
       book_out = c.in_ok-book_out.ensures ∙ first_value-rows found (codes "book-out") ∙ ap (first_of (codes "book-out")) rows;
+      progress = record {
+        set = λ e. c.get_flag.ensures.value (one_text-rows found (codes "progress") ∙ ap (one_of (codes "progress")) rows ∙ e);
+        unset = λ e. c.get_flag.ensures.other (one_text-rows found (codes "progress") ∙ ap (one_of (codes "progress")) rows ∙ e);
+      };
       listed = c.in_ok-files.ensures ∙ ap (λ (o : Option (List Text)). unwrap_or o []) (raw_values-rows found (codes "FILES") ∙ ap (all_of (codes "FILES")) rows);
     }
 

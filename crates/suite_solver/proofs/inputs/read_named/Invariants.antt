@@ -1,6 +1,7 @@
-use Rattle.std.proofs.Common.{◌≡◌, length, min}
+use Rattle.std.proofs.Common.{◌≡◌, ◌+◌, length, min}
+use Rattle.suite_runs.specs.declared.settings.TheConstants.{MOST_FILES}
 use Rattle.suite_solver.proofs.inputs.read_named.Given as goal
 
--- a text for each name so far, up to the 65th
+-- a text for each name so far, up to one more than a run may have
 abbrev pub invariant-loop-name : goal.invariant-loop-name
-invariant-loop-name g l = length l.files.items ≡ min 65 l.name-index
+invariant-loop-name g l = length l.files.items ≡ min (MOST_FILES + 1) l.name-index

@@ -1,7 +1,7 @@
 use Rattle.std.proofs.Common.{◌∙◌, ap, None, Some}
 use Rattle.othello_bits.specs.Symmetries.{best_image}
 use Rattle.othello_rules.specs.declared.discs.Side.TheVariants.{Black}
-use Rattle.endgame_search.specs.declared.solutions.Claim.{Claim}
+use Rattle.endgame_search.specs.declared.solved.Claim.{Claim}
 use Rattle.solved_book.proofs.ClaimSteps.{found_claim}
 use Rattle.solved_book.proofs.claims.Claims.find.Goals as goal
 

@@ -2,7 +2,7 @@ use Rattle.std.proofs.Common.{◌≡◌, ℤ, Some, Option, IfSome, rules, SFits
 use Rattle.std.specs.Int.Signed.{≤ℤ_refl}
 use Rattle.std.proofs.lemmas.Int.{to_z-of_z}
 use Rattle.othello_rules.specs.declared.discs.Side.TheVariants.{Black}
-use Rattle.othello_rules.specs.declared.scorings.Scoring.TheVariants.{Winner}
+use Rattle.othello_rules.specs.declared.scoring.Scoring.TheVariants.{Winner}
 use Rattle.othello_rules.specs.Rules.{GridView}
 use Rattle.othello_rules.specs.Value as worth
 use Rattle.othello_bits.specs.Pos.{PosView, position_of, value_of}

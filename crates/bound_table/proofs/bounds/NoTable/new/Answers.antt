@@ -1,0 +1,5 @@
+use Rattle.std.proofs.Common.{refl}
+use Rattle.bound_table.proofs.bounds.NoTable.new.Goals as goal
+
+pub returns : goal.returns
+returns c = refl

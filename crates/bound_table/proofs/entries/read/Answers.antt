@@ -1,4 +1,0 @@
-use Rattle.bound_table.proofs.entries.read.Goals as goal
-
-pub done-requires : goal.done-requires
-done-requires c = c.turn-found.ensures.1 c.if-found-word.true

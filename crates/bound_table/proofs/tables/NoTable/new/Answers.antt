@@ -1,5 +1,0 @@
-use Rattle.std.proofs.Common.{refl}
-use Rattle.bound_table.proofs.tables.NoTable.new.Goals as goal
-
-pub returns : goal.returns
-returns c = refl

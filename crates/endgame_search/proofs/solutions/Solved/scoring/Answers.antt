@@ -1,4 +1,0 @@
-use Rattle.endgame_search.proofs.solutions.Solved.scoring.Goals as goal
-
-pub returns : goal.returns
-returns c = search depth 0

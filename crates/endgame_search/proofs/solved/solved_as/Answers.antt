@@ -1,0 +1,22 @@
+use Rattle.std.proofs.Common.{◌≡◌, ◌∙◌, sym, subst, arith}
+use Rattle.std.proofs.lemmas.Int.{ints}
+use Rattle.othello_rules.specs.Answer.{IsBest}
+use Rattle.othello_bits.proofs.GameLaws.{value_score}
+use Rattle.endgame_search.proofs.Windows.{shown}
+use Rattle.endgame_search.proofs.BestOf.{best_of-IsBest, answer_told}
+use Rattle.endgame_search.proofs.solved.solved_as.Goals as goal
+
+pub invariant_of-result : goal.invariant_of-result
+invariant_of-result c =
+    let v = value_score c.args.task.scoring c.args.task.position in
+    let l = v.low in
+    let h = v.high in
+    let e = c.requires.value in (
+      record { low = omega (arith, ints, l, h, e); high = omega (arith, ints, l, h, e) },
+      subst IsBest (sym c.requires.best) (best_of-IsBest _ _),
+    )
+
+pub invariant_of-result-2 : goal.invariant_of-result-2
+invariant_of-result-2 c =
+    let s : shown c.args.score ≡ c.args.score = omega (arith, ints) in
+    answer_told c.args.task.scoring c.scoring.result c.args.task.position c.pos.result _ _ (sym c.scoring.ensures) (sym c.pos.ensures.value) (s ∙ c.requires.value) c.requires.best

@@ -1,4 +1,0 @@
-use Rattle.endgame_search.proofs.tasks.Task.scoring.Goals as goal
-
-pub returns : goal.returns
-returns c = search depth 0

@@ -1,0 +1,235 @@
+//! Positions with their answers.
+
+ghost use Rattle.std.specs.Prelude.{◌≡◌, ◌≢◌, ◌↔◌, ◌≤ℤ◌, neg_ℤ, IsTrue};
+ghost use Rattle.othello_rules.specs.declared.scoring.Scoring.TheVariants.{Sign};
+ghost use Rattle.othello_rules.specs.Answer.{IsScore};
+ghost use Rattle.std.proofs.Common.{sym};
+ghost use Rattle.endgame_search.specs.Task.{TaskView};
+ghost use Rattle.othello_bits.specs.Pos.{moves_of, play_of, value_of, answer_of, best_answer};
+ghost use Rattle.othello_bits.specs.Pos.{is_best_move, mask_where, IsMove};
+
+use crate::alpha_beta::search_scores;
+use crate::hash_cutoff::{ABOVE_ALL_SCORES, BELOW_ALL_SCORES, decide, score_limit, store_if_deep};
+use crate::root::leading_moves;
+use crate::task::Task;
+use bound_table::Bounds;
+use othello_bits::{Pos, without};
+use othello_rules::{Answer, Best, GREATEST_SCORE, Scoring, Square, squares_in};
+use std::marker::Model;
+
+/// A position with its answer under a scoring. Only `solve` and `confirm` make one. Its answer is
+/// the one of the definitions, by the invariant of this type. Contracts see the position and the
+/// scoring.
+#[derive(Clone, Copy, PartialEq, Eq, Debug)]
+pub struct Solved {
+    position: Pos,
+    scoring: Scoring,
+    answer: Answer,
+}
+
+impl Model for Solved {
+    ghost Value = { TaskView };
+
+    ghost view = { λ solved. record { position = solved.position; scoring = solved.scoring } };
+
+    ghost invariant = { λ solved. solved.answer ≡ answer_of solved.scoring solved.position };
+
+    ghost inverse = { λ problem. record {
+      position = problem.position;
+      scoring = problem.scoring;
+      answer = answer_of problem.scoring problem.position;
+    } };
+
+    ghost inverse_ok = { λ solved exact. λ k. record {
+      position = solved.position;
+      scoring = solved.scoring;
+      answer = sym exact k;
+    } };
+}
+
+impl Solved {
+    /// The position that is solved.
+    pub fn pos(self) -> Pos
+        ensures { result ≡ self.position }
+    {
+        self.position
+    }
+
+    /// The scoring under which the position is solved.
+    pub fn scoring(self) -> Scoring
+        ensures { result ≡ self.scoring }
+    {
+        self.scoring
+    }
+
+    /// The value of the position as the mover sees it, in discs, or 1, 0 or -1 under `Sign`; and
+    /// what attains it: all best moves as a mask, in which A1 is bit 0, or a pass, or the end of
+    /// the game.
+    pub fn answer(self) -> Answer
+        ensures { result ≡ answer_of self.scoring self.position }
+    {
+        self.answer
+    }
+
+    /// 1, 0 or -1 as the mover wins, draws or loses, whatever the scoring.
+    pub fn outcome(self) -> i8
+        ensures { result ≡ value_of Sign self.position }
+    {
+        self.answer().score.signum()
+    }
+}
+
+/// An answer that is not trusted: the score of a position as the mover sees it, in discs, or 1, 0
+/// or -1 under `Sign`, and what attains it. Any score and any mask are allowed.
+#[derive(Clone, Copy, PartialEq, Eq, Debug)]
+pub struct Claim {
+    pub score: i8,
+    pub best: Best,
+}
+
+/// The value of a position under the table's scoring, as the mover sees it: in discs from -64 to
+/// 64, or 1, 0 or -1 under `Sign`. Positions with fewer than 9 empty squares are not stored.
+pub fn exact_value<T: Bounds>(table: &T, position: Pos) -> i8
+    ensures value { result ≡ value_of (T.scoring table.now) position }
+    ensures in_range { IsScore result }
+{
+    search_scores(table, position, BELOW_ALL_SCORES, ABOVE_ALL_SCORES)
+}
+
+/// Solves a task: its position with the exact value and all moves that attain it. The table has the
+/// scoring of the task.
+pub fn solve<T: Bounds>(table: &T, task: Task) -> Solved
+    requires { task.scoring ≡ T.scoring table.now }
+    ensures { result ≡ task }
+{
+    let moves = task.pos().moves();
+    if moves != 0 {
+        return solve_moves(table, task, moves);
+    }
+    let score = exact_value(table, task.pos());
+    solved_at(table, task, score)
+}
+
+// Solves a task whose mover has a move. One pass over the moves finds the value and the moves that
+// attain it. Where the table shows the value, null windows find the moves.
+fn solve_moves<T: Bounds>(table: &T, task: Task, moves: u64) -> Solved
+    requires scoring { task.scoring ≡ T.scoring table.now }
+    requires moves { moves ≡ moves_of task.position }
+    requires some { moves ≢ 0 }
+    ensures { result ≡ task }
+{
+    let position = task.pos();
+    let most = score_limit(table.scoring());
+    if let Some(score) = decide(table, position, -most, most) {
+        return solved_at(table, task, score);
+    }
+    let leaders = leading_moves(table, position, moves);
+    let score = store_if_deep(
+        table,
+        position,
+        BELOW_ALL_SCORES,
+        ABOVE_ALL_SCORES,
+        leaders.score,
+    );
+    solved_as(task, score, Best::Moves(leaders.moves))
+}
+
+/// Solves a task by tests of a claim. The result is that of `solve` whatever the claim is, and
+/// comes sooner where the claim is right. Two null windows test the score, and one tests each move.
+/// Where a test fails, `solve` finds the answer. The table has the scoring of the task.
+pub fn confirm<T: Bounds>(table: &T, task: Task, claim: Claim) -> Solved
+    requires { task.scoring ≡ T.scoring table.now }
+    ensures { result ≡ task }
+{
+    if is_value(table, task.pos(), claim.score) {
+        let solved = solved_at(table, task, claim.score);
+        if solved.answer().best == claim.best {
+            return solved;
+        }
+    }
+    solve(table, task)
+}
+
+// Whether a number is the value of the position, by two null windows.
+fn is_value<T: Bounds>(table: &T, position: Pos, score: i8) -> bool
+    ensures { IsTrue result ↔ (score ≡ value_of (T.scoring table.now) position) }
+{
+    if score < -GREATEST_SCORE {
+        return false;
+    }
+    if score > GREATEST_SCORE {
+        return false;
+    }
+    if search_scores(table, position, score - 1, score) < score {
+        return false;
+    }
+    search_scores(table, position, score, score + 1) <= score
+}
+
+// The solved position of a task whose value is known: null windows find what attains it.
+fn solved_at<T: Bounds>(table: &T, task: Task, score: i8) -> Solved
+    requires scoring { task.scoring ≡ T.scoring table.now }
+    requires value { score ≡ value_of task.scoring task.position }
+    ensures { result ≡ task }
+{
+    let best = best_from(table, task.pos(), score);
+    solved_as(task, score, best)
+}
+
+// The solved position of a task whose value is known, and what attains it.
+fn solved_as(task: Task, score: i8, best: Best) -> Solved
+    requires value { score ≡ value_of task.scoring task.position }
+    requires best { best ≡ best_answer task.scoring task.position }
+    ensures { result ≡ task }
+{
+    Solved {
+        position: task.pos(),
+        scoring: task.scoring(),
+        answer: Answer { score, best },
+    }
+}
+
+// What attains the value `score` of the position: its best moves, a pass, or the end of the game.
+fn best_from<T: Bounds>(table: &T, position: Pos, score: i8) -> Best
+    requires { score ≡ value_of (T.scoring table.now) position }
+    ensures { result ≡ best_answer (T.scoring table.now) position }
+{
+    let moves = position.moves();
+    if moves != 0 {
+        return Best::Moves(best_moves(table, position, moves, score));
+    }
+    if position.is_over() {
+        Best::Over
+    } else {
+        Best::Pass
+    }
+}
+
+// The mask of the moves that attain the value `score` of the position, by one null window for each
+// move.
+fn best_moves<T: Bounds>(table: &T, position: Pos, moves: u64, score: i8) -> u64
+    requires moves { moves ≡ moves_of position }
+    requires value { score ≡ value_of (T.scoring table.now) position }
+    ensures { result ≡ mask_where (is_best_move (T.scoring table.now) position) }
+{
+    let mut best = moves;
+    let squares = squares_in(moves);
+    for square in squares.iter() {
+        if gives(table, position, *square, score) {
+            continue;
+        }
+        best = without(best, *square);
+    }
+    best
+}
+
+// Whether a move is worth at least the score, by a null window.
+fn gives<T: Bounds>(table: &T, position: Pos, square: Square, score: i8) -> bool
+    requires legal { IsMove position square }
+    requires in_range { IsScore score }
+    ensures { IsTrue result
+        ↔ (score ≤ℤ neg_ℤ (value_of (T.scoring table.now) (play_of position square))) }
+{
+    let after = position.after(square, position.flips(square));
+    search_scores(table, after, -score, 1 - score) <= -score
+}

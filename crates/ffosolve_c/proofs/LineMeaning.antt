@@ -1,0 +1,32 @@
+-- What a call of the reader tells is what the line says.
+use Rattle.std.proofs.Common.{◌≡◌, ℕ, Err, inl, inr, refl, sym, ap}
+use Rattle.obf_text.specs.Obf.{Entry, Faulty, Gives, Holds, Meaning, Skipped, place_of}
+use Rattle.obf_text.specs.declared.line_fault.LineFault.{LineFault}
+use Rattle.obf_text.specs.declared.line_fault.LineFault.TheVariants.{Short, BadCell, BadSide, Memory}
+use Rattle.ffosolve_c.specs.Lines.{fault_status, IsOfLine}
+
+-- the entry of a meaning, and another where it has none
+abbrev entry_or : Entry → Meaning → Entry
+entry_or other (Holds entry) = entry
+entry_or other Skipped = other
+entry_or other (Faulty fault) = other
+
+abbrev place_in : Meaning → ℕ
+place_in (Holds entry) = 0
+place_in Skipped = 0
+place_in (Faulty fault) = place_of fault
+
+pub same_entry : (told entry : Entry) → Holds entry ≡ Holds told → told ≡ entry
+same_entry told entry same = let e : entry ≡ told = ap (entry_or told) same in sym e
+
+pub same_place : (told fault : LineFault) → Gives (Err told) (Faulty fault) → place_of told ≡ place_of fault
+same_place (Short n) fault same = sym (ap place_in same)
+same_place (BadCell n) fault same = sym (ap place_in same)
+same_place (BadSide n) fault same = sym (ap place_in same)
+same_place Memory fault none = absurd none
+
+pub told_of_line : (told fault : LineFault) → Gives (Err told) (Faulty fault) → IsOfLine (fault_status told)
+told_of_line (Short n) fault same = inl refl
+told_of_line (BadCell n) fault same = inr (inl refl)
+told_of_line (BadSide n) fault same = inr (inr refl)
+told_of_line Memory fault none = absurd none

@@ -1,6 +1,0 @@
-use Rattle.std.proofs.Common.{ap, sym}
-use Rattle.ffosolve_c.specs.Exports.{kind_of}
-use Rattle.ffosolve_c.proofs.answers.kind_of.Goals as goal
-
-pub returns-in-Pass : goal.returns-in-Pass
-returns-in-Pass c = sym (ap kind_of c.in-Pass.is)

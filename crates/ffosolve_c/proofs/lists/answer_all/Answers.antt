@@ -1,4 +1,0 @@
-use Rattle.ffosolve_c.proofs.lists.answer_all.Goals as goal
-
-pub returns-in-Some-clause-at : goal.returns-in-Some-clause-at
-returns-in-Some-clause-at c _ = c.in-Some.ensures.at

@@ -1,0 +1,6 @@
+use Rattle.std.proofs.Common.{◌≡◌, map, take}
+use Rattle.ffosolve_c.specs.Answers.{scores_at}
+use Rattle.ffosolve_c.proofs.many_positions.fill_scores.Given as goal
+
+abbrev pub invariant-loop-i : goal.invariant-loop-i
+invariant-loop-i l = take l.i l.found ≡ map (scores_at l.table.scoring) (take l.i l.positions)

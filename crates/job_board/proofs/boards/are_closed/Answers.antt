@@ -1,5 +1,0 @@
-use Rattle.std.proofs.Common.{rules}
-use Rattle.job_board.proofs.boards.are_closed.Goals as goal
-
-pub returns : goal.returns
-returns c = search rules

@@ -1,5 +1,0 @@
-use Rattle.std.proofs.Common.{rules}
-use Rattle.job_board.proofs.clients.Client.sent.Goals as goal
-
-pub returns : goal.returns
-returns c = search rules

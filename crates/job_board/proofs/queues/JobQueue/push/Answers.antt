@@ -1,6 +1,0 @@
-use Rattle.std.proofs.lemmas.List.Sorted.{IsPermutation-map}
-use Rattle.job_board.specs.declared.queues.Entry.{Entry}
-use Rattle.job_board.proofs.queues.JobQueue.push.Goals as goal
-
-pub returns-clause-jobs : goal.returns-clause-jobs
-returns-clause-jobs c = rw (← c.self.view_is) (IsPermutation-map (λ (entry : Entry). entry.id.0) _ _ c.in-Ok.ensures.permutation)

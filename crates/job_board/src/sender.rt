@@ -1,0 +1,187 @@
+//! The jobs of one sender at a board.
+
+ghost use Rattle.std.specs.Prelude.{◌≡◌, ◌<◌, ◌≤◌, Some, length, slice_get, not, OnOk, OnErr};
+ghost use Rattle.job_board.specs.declared.jobs.Stage.TheVariants.{Waiting, Taken, Finished};
+
+use crate::faults::{JobFault, SubmitFault};
+use crate::jobs::{Delivery, Handed, Stage, is_answer_of};
+use endgame_search::{Solved, Task};
+use std::alloc::{AllocError, Global};
+use std::marker::Model;
+
+// The most jobs of one sender.
+const MOST_JOBS: usize = 65_535;
+
+/// The jobs of one sender, numbered from 0: the task and the stage of each, how many answers were
+/// delivered, and whether the sender is closed.
+#[derive(Drop)]
+pub(crate) struct Sender {
+    tasks: Vec<Task>,
+    stages: Vec<Stage>,
+    handed: u32,
+    closed: bool,
+}
+
+impl Model for Sender {
+    ghost use Rattle.job_board.specs.Senders.{SenderView};
+
+    ghost Value = { SenderView };
+
+    ghost view = { λ s. record {
+      tasks = s.tasks.items;
+      stages = s.stages.items;
+      handed = s.handed;
+      closed = s.closed;
+    } };
+}
+
+impl Sender {
+    ghost use Rattle.job_board.specs.Senders.{empty_state, with_stage, with_task, closed_state};
+    ghost use Rattle.job_board.specs.Replies.{submit_refusal, FinishAs, give_back_reply_at};
+    ghost use Rattle.job_board.specs.Replies.{deliver_reply_of, state_after_handed, answer_in};
+
+    pub(crate) fn new(alloc: Global) -> Sender
+        ensures { result ≡ empty_state }
+    {
+        Sender {
+            tasks: Vec::new(alloc),
+            stages: Vec::new(alloc),
+            handed: 0,
+            closed: false,
+        }
+    }
+
+    /// The task of job `number`. None where the sender has no such job.
+    pub(crate) fn task(&self, number: u32) -> Option<Task>
+        ensures { result ≡ slice_get self.now.tasks number }
+    {
+        self.tasks.get(number as usize).copied()
+    }
+
+    /// The stage of job `number`. None where the sender has no such job.
+    pub(crate) fn stage(&self, number: u32) -> Option<Stage>
+        ensures { result ≡ slice_get self.now.stages number }
+    {
+        self.stages.get(number as usize).copied()
+    }
+
+    /// How many jobs the sender has.
+    pub(crate) fn len(&self) -> usize
+        ensures { result ≡ length self.now.tasks }
+    {
+        self.tasks.len()
+    }
+
+    pub(crate) fn is_closed(&self) -> bool
+        ensures { result ≡ self.now.closed }
+    {
+        self.closed
+    }
+
+    /// Why the sender accepts no task: `Closed`, else `Full`. None where it accepts one, if there
+    /// is memory.
+    pub(crate) fn refusal(&self) -> Option<SubmitFault>
+        ensures { result ≡ submit_refusal (Some self.now) }
+    {
+        if self.closed {
+            return Some(SubmitFault::Closed);
+        }
+        if self.tasks.len() >= MOST_JOBS {
+            return Some(SubmitFault::Full);
+        }
+        None
+    }
+
+    /// Adds a job, which waits. `Err` leaves the sender as it was.
+    pub(crate) fn push(&mut self, task: Task) -> Result<(), AllocError>
+        ensures ok { OnOk result (self.new ≡ with_task task self.old) }
+        ensures err { OnErr result (self.new ≡ self.old) }
+    {
+        self.tasks.reserve(1)?;
+        self.stages.reserve(1)?;
+        self.tasks.push_reserved(task);
+        self.stages.push_reserved(Stage::Waiting);
+        Ok(())
+    }
+
+    /// Sets the stage of job `number`.
+    pub(crate) fn set_stage(&mut self, number: u32, stage: Stage)
+        requires { number < length self.old.stages }
+        ensures { self.new ≡ with_stage number stage self.old }
+    {
+        self.stages[number as usize] = stage;
+    }
+
+    /// Finishes a taken job by the answer of its own task. `NotTaken` where job `number` is
+    /// unknown, waits or is finished; `OtherPosition` where the answer is not that of its task.
+    pub(crate) fn finish(&mut self, number: u32, solved: Solved) -> Result<(), JobFault>
+        ensures reply { FinishAs
+            (slice_get self.old.stages number) (slice_get self.old.tasks number) solved result }
+        ensures ok { OnOk result (self.new ≡ with_stage number (Finished solved) self.old) }
+        ensures err { OnErr result (self.new ≡ self.old) }
+    {
+        let Some(Stage::Taken) = self.stage(number) else {
+            return Err(JobFault::NotTaken);
+        };
+        match self.task(number) {
+            Some(task) if is_answer_of(solved, task) => {
+                self.set_stage(number, Stage::Finished(solved));
+                Ok(())
+            }
+            _ => Err(JobFault::OtherPosition),
+        }
+    }
+
+    /// Lets a taken job wait again. `NotTaken` where job `number` is unknown, waits or is finished.
+    pub(crate) fn give_back(&mut self, number: u32) -> Result<(), JobFault>
+        ensures reply { result ≡ give_back_reply_at (slice_get self.old.stages number) }
+        ensures ok { OnOk result (self.new ≡ with_stage number Waiting self.old) }
+        ensures err { OnErr result (self.new ≡ self.old) }
+    {
+        let Some(Stage::Taken) = self.stage(number) else {
+            return Err(JobFault::NotTaken);
+        };
+        self.set_stage(number, Stage::Waiting);
+        Ok(())
+    }
+
+    /// The answer of job `number`. None where the job is unknown or not finished.
+    fn answer(&self, number: u32) -> Option<Solved>
+        ensures { result ≡ answer_in (slice_get self.now.stages number) }
+    {
+        match self.stages.get(number as usize) {
+            Some(Stage::Finished(solved)) => Some(*solved),
+            _ => None,
+        }
+    }
+
+    /// Returns the next answer, in the order of the submits, and counts it. `Waiting` where the
+    /// next job is not finished, or where there is none and the sender is open; `Drained` where
+    /// there is none and the sender is closed.
+    pub(crate) fn deliver(&mut self) -> Handed
+        requires { self.old.handed ≤ 65535 }
+        ensures reply { result ≡ deliver_reply_of self.old }
+        ensures state { self.new ≡ state_after_handed self.old result }
+    {
+        let number = self.handed;
+        if let Some(solved) = self.answer(number) {
+            self.handed += 1;
+            return Handed::Next(Delivery { number, solved });
+        }
+        if self.closed && number as usize == self.tasks.len() {
+            Handed::Drained
+        } else {
+            Handed::Waiting
+        }
+    }
+
+    /// Closes the sender. True where it was open.
+    pub(crate) fn close(&mut self) -> bool
+        ensures was { result ≡ not self.old.closed }
+        ensures state { self.new ≡ closed_state self.old }
+    {
+        let was_open = !self.closed;
+        self.closed = true;
+        was_open
+    }
+}

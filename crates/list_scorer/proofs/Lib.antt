@@ -1,0 +1,2 @@
+-- Lemmas about how the printing of lists ends.
+pub mod ListEndings

@@ -1,0 +1,15 @@
+use Rattle.std.proofs.Common.{rules}
+use Rattle.suite_solver.proofs.ProgramLemmas.{in_range_of, not_one}
+use Rattle.list_scorer.proofs.ffoscores.list_program.Goals as goal
+
+pub returns : goal.returns
+returns g c = record {
+  ends = record {
+    in_range = in_range_of _ c.end_without_options.ensures.status;
+    done = search rules;
+    taken = search rules;
+    refused = search rules;
+  };
+  wrong = not_one _ _ c.end_without_options.ensures.status;
+  stopped = search rules;
+}

@@ -1,0 +1,20 @@
+//! The program `ffoscores` over its words, files and streams, above the lists of `score_lists`.
+//!
+//! ```rust
+//! use list_scorer::list_program;
+//!
+//! let words = ["ffoscores", "--workers", "0"];
+//! let status = list_program(&rt, alloc, &words, &mut input, &mut output, &mut errors);
+//! ```
+#![tactic(auto)]
+
+mod command_line;
+mod ended;
+mod ffoscores;
+
+pub use command_line::{ListOptions, list_options};
+pub use ended::{Ended, list_program_at};
+pub use ffoscores::{list_program, list_program_of};
+
+#[cfg(test)]
+mod tests;

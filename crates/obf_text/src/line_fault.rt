@@ -1,0 +1,68 @@
+//! Why a line is refused, and the words for it.
+
+ghost use Rattle.std.specs.Prelude.{◌≡◌, OnOk, Some};
+ghost use Rattle.std.specs.Io.KnownBytes.{Appends};
+ghost use Rattle.obf_text.specs.Faults.{line_fault_text, too_many_text};
+ghost use Rattle.obf_text.specs.declared.line_fault.LineFault.TheVariants.{Memory};
+
+use std::alloc::AllocError;
+use std::error::Error;
+use std::io::Write;
+use std::{fmt, io};
+
+/// Why a line can't be read. A column is the place of a byte in the line, counted from 1. A report
+/// prints the text of a fault as its reason.
+#[derive(Clone, Copy, PartialEq, Eq, Debug, Drop)]
+pub enum LineFault {
+    /// The line ends behind this number of squares, from 1 to 63.
+    Short(usize),
+    /// The byte at this column stands in a square's place and is no square.
+    BadCell(usize),
+    /// The side to move is missing at this column: another byte stands there, or the line ends
+    /// before it.
+    BadSide(usize),
+    /// Memory for the listed moves was refused.
+    Memory,
+}
+
+impl fmt::Display for LineFault {
+    ghost output = { λ fault. Some (line_fault_text fault) };
+
+    #[tactic(auto, unfolding(crate::specs::Faults::line_fault_text))]
+    fn fmt<W: fmt::Write>(&self, f: &mut fmt::Formatter<W>) -> fmt::Result {
+        match self {
+            LineFault::Short(found) => write!(f, "board has {found} of 64 squares"),
+            LineFault::BadCell(column) => write!(f, "bad square at column {column}"),
+            LineFault::BadSide(column) => write!(f, "bad side at column {column}"),
+            LineFault::Memory => f.write_str("out of memory"),
+        }
+    }
+}
+
+impl Error for LineFault {}
+
+impl From<AllocError> for LineFault {
+    ghost from_gives = { λ _ fault. fault ≡ Memory };
+
+    fn from(_error: AllocError) -> LineFault {
+        LineFault::Memory
+    }
+}
+
+/// Writes the text of a fault, as reports and lists have it. The error is that of the writer.
+pub fn write_fault<W: Write>(writer: &mut W, fault: LineFault) -> io::Result<()>
+    ensures { OnOk result
+        (Appends (W.contents writer.old) (W.contents writer.new) (line_fault_text fault)) }
+{
+    write!(writer, "{fault}")
+}
+
+/// Writes that a position has `found` empty squares, more than the limit, as reports and lists have
+/// it. The error is that of the writer.
+#[tactic(auto, unfolding(crate::specs::Faults::too_many_text))]
+pub fn write_too_many<W: Write>(writer: &mut W, found: u8, limit: u8) -> io::Result<()>
+    ensures { OnOk result
+        (Appends (W.contents writer.old) (W.contents writer.new) (too_many_text found limit)) }
+{
+    write!(writer, "{found} empties, limit {limit}")
+}

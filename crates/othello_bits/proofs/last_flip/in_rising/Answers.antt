@@ -1,0 +1,5 @@
+use Rattle.othello_bits.proofs.LineCounts.{in_rising}
+use Rattle.othello_bits.proofs.last_flip.in_rising.Goals as goal
+
+pub returns : goal.returns
+returns c = in_rising c.args.square c.args.own c.requires.on_board c.ranges.own.fits c.requires.free

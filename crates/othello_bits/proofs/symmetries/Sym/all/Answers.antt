@@ -1,7 +1,0 @@
-use Rattle.std.proofs.Common.{refl}
-use Rattle.othello_bits.specs.Symmetries.{others}
-use Rattle.othello_bits.proofs.symmetries.Sym.all.Goals as goal
-
-pub returns : goal.returns
-unfolding others
-returns c = refl

@@ -1,5 +1,0 @@
-use Rattle.std.proofs.Common.{rules}
-use Rattle.othello_bits.proofs.symmetries.Sym.square.Goals as goal
-
-pub returns : goal.returns
-returns c = search rules

@@ -1,7 +1,0 @@
-use Rattle.othello_bits.specs.Shifts.{line}
-use Rattle.othello_bits.specs.declared.headings.Heading.TheVariants.{East}
-use Rattle.othello_bits.proofs.RayMasks.{east}
-use Rattle.othello_bits.proofs.turned_discs.to_east.Goals as goal
-
-pub returns : goal.returns
-returns c = c.flips_ahead.ensures (line East c.args.square) (east c.args.square c.requires)

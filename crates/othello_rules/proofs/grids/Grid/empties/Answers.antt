@@ -1,4 +1,0 @@
-use Rattle.othello_rules.proofs.grids.Grid.empties.Goals as goal
-
-pub returns-clause-value : goal.returns-clause-value
-returns-clause-value c = c.count.ensures.value

@@ -1,5 +1,0 @@
-use Rattle.std.proofs.Common.{rules}
-use Rattle.othello_rules.proofs.grids.Grid.pass.Goals as goal
-
-pub returns : goal.returns
-returns c = search rules

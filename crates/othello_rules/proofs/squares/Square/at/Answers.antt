@@ -1,5 +1,0 @@
-use Rattle.std.proofs.Common.{refl}
-use Rattle.othello_rules.proofs.squares.Square.at.Goals as goal
-
-pub returns : goal.returns
-returns c = refl

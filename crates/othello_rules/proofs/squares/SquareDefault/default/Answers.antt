@@ -1,4 +1,0 @@
-use Rattle.othello_rules.proofs.squares.SquareDefault.default.Goals as goal
-
-pub returns : goal.returns
-returns c = c.at.ensures

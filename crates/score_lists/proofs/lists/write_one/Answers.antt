@@ -1,0 +1,6 @@
+use Rattle.score_lists.proofs.Prints.{front_none}
+use Rattle.score_lists.proofs.Results.{on_err}
+use Rattle.score_lists.proofs.lists.write_one.Goals as goal
+
+pub returns-in_err-found-clause-front : goal.returns-in_err-found-clause-front
+returns-in_err-found-clause-front g c = on_err c.from_residual.result _ (front_none _ _)

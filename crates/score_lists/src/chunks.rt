@@ -1,0 +1,93 @@
+//! Texts cut into chunks: whole lines that are scored together.
+
+ghost use Rattle.std.specs.Prelude.{◌≡◌, ◌<◌, ◌++◌, length};
+ghost use Rattle.obf_text.specs.LineText.{lines_of};
+ghost use Rattle.score_lists.specs.Chunks.{EndsLine};
+
+// A line of at most so many empty squares is scored in less time than a thread is started.
+const FEW_EMPTIES: usize = 7;
+
+// A line of so many empty squares is a chunk of its own.
+const MANY_EMPTIES: usize = 12;
+
+// The greatest number of lines of a chunk. A thread scores eight lines of 10 empty squares in some 8
+// milliseconds.
+const MOST_LINES: u32 = 8;
+
+/// The first lines of a text, and the text behind them.
+#[derive(Clone, Copy)]
+pub(crate) struct Chunk<'a> {
+    pub front: &'a [u8],
+    pub rest: &'a [u8],
+    /// Whether the lines are scored in less time than a thread is started.
+    pub is_short: bool,
+}
+
+// The number of bytes of a text's first line, with its end.
+fn line_len(text: &[u8]) -> usize
+    requires { 0 < length text.now }
+    ensures ended { EndsLine text.now result }
+    ensures some { 0 < result }
+{
+    for (at, byte) in text.iter().enumerate() {
+        if *byte == b'\n' {
+            return at + 1;
+        }
+    }
+    text.len()
+}
+
+// The bytes for empty squares among the first 64 of a text's first line; none where they are more
+// than the limit, since such a line is refused.
+fn empties_in(text: &[u8], limit: u8) -> usize {
+    let mut empties = 0usize;
+    for byte in &text[..text.len().min(64)] {
+        match byte {
+            b'-' | b'.' => empties = empties.saturating_add(1),
+            b'\n' => break,
+            _ => {}
+        }
+    }
+    if empties <= usize::from(limit) {
+        empties
+    } else {
+        0
+    }
+}
+
+// The number of bytes of a text's first chunk: of one line where it is short or has many empty
+// squares, and else of several, up to a line of many.
+fn chunk_len(text: &[u8], limit: u8, is_short: bool) -> usize
+    requires { 0 < length text.now }
+    ensures ended { EndsLine text.now result }
+    ensures some { 0 < result }
+{
+    let mut end = line_len(text);
+    if is_short || empties_in(text, limit) >= MANY_EMPTIES {
+        return end;
+    }
+    for _ in 1..MOST_LINES {
+        let rest = &text[end..];
+        if rest.is_empty() || empties_in(rest, limit) >= MANY_EMPTIES {
+            return end;
+        }
+        end += line_len(rest);
+    }
+    end
+}
+
+/// The first chunk of a text that is not empty: one line, or several where a thread is to score
+/// them and each takes little time.
+pub(crate) fn first_chunk(text: &[u8], limit: u8, is_alone: bool) -> Chunk<'_>
+    requires { 0 < length text.now }
+    ensures lines { lines_of text.now ≡ lines_of result.front.now ++ lines_of result.rest.now }
+    ensures less { length result.rest.now < length text.now }
+{
+    let is_short = is_alone || empties_in(text, limit) <= FEW_EMPTIES;
+    let end = chunk_len(text, limit, is_short);
+    Chunk {
+        front: &text[..end],
+        rest: &text[end..],
+        is_short,
+    }
+}

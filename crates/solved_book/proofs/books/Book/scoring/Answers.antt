@@ -1,5 +1,0 @@
-use Rattle.std.proofs.Common.{refl}
-use Rattle.solved_book.proofs.books.Book.scoring.Goals as goal
-
-pub returns : goal.returns
-returns c = search refl

@@ -1,0 +1,23 @@
+use Rattle.std.proofs.Common.{◌∷◌, [], ◌∙◌, length, map, ap, ap₂, arith}
+use Rattle.std.proofs.lemmas.List.{map-append}
+use Rattle.suite_runs.specs.Part.{part_view, part_view_of}
+use Rattle.suite_runs.proofs.PartLemmas.{views_step}
+use Rattle.suite_runs.proofs.RunLemmas.{small_at}
+use Rattle.suite_runs.proofs.serial.solve_texts.Goals as goal
+
+pub solve_text-requires-clause-short : goal.solve_text-requires-clause-short
+solve_text-requires-clause-short c =
+    let small = small_at c.args.files.now c.loop-file.file-index c.file-item.result c.requires c.loop-file-test.true in
+    let same = ap (λ v. length v.items) c.file-item.is in
+    rw c.deref.ensures.value (omega arith)
+
+pub loop-file-preserved : goal.loop-file-preserved
+loop-file-preserved c =
+    let s = c.args.settings.now in
+    let f = part_view s.scoring s.max_empties in
+    let made = c.in_ok-solve_text.ensures
+    ∙ ap₂ (λ g limit. part_view g limit c.deref.result.now) (ap (λ t. t.scoring) c.new-solver.ensures ∙ c.in_ok-table.ensures) c.max_empties.ensures.value
+    ∙ ap f (c.deref.ensures.value ∙ ap (λ v. v.items) c.file-item.is) in
+    rw c.in_ok-push.ensures.items (map-append part_view_of c.loop-file.parts.items (c.in_ok-solve_text.field-0 ∷ [])
+    ∙ views_step f c.args.files.now c.loop-file.file-index c.file-item.result (map part_view_of c.loop-file.parts.items) (part_view_of c.in_ok-solve_text.field-0)
+    c.loop-file-test.true c.loop-file.invariant made)

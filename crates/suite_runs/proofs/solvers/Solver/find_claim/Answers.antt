@@ -1,5 +1,0 @@
-use Rattle.std.proofs.Common.{rules}
-use Rattle.suite_runs.proofs.solvers.Solver.find_claim.Goals as goal
-
-pub returns : goal.returns
-returns g c = search rules

@@ -1,0 +1,35 @@
+-- The part of each file in a run: its rows and its solved positions.
+use Rattle.std.specs.Prelude.{◌≡◌, ◌⊎◌, ℕ, List, map, Result, Ok, Err, Vec}
+use Rattle.std.specs.declared.alloc.Global.{Global}
+use Rattle.othello_rules.specs.declared.scoring.Scoring.{Scoring}
+use Rattle.endgame_search.specs.Task.{TaskView}
+use Rattle.suite_runs.specs.Rows.{rows, tasks}
+use Rattle.suite_runs.specs.declared.part.Part.{Part}
+use Rattle.suite_runs.specs.declared.report_row.ReportRow.{ReportRow}
+use Rattle.suite_runs.specs.declared.run_fault.RunFault.{RunFault}
+use Rattle.suite_runs.specs.declared.run_fault.RunFault.TheVariants.{Memory, Mixed}
+
+-- the rows of a text, and its solved positions
+abbrev pub PartView : Type 0
+PartView = List ReportRow × List TaskView
+
+abbrev pub part_view_of : Part → PartView
+part_view_of part = (part.rows.items, part.solved.items)
+
+-- the part that a text defines
+abbrev pub part_view : Scoring → ℕ → List ℕ → PartView
+part_view g limit text = (rows g limit text, tasks g limit text)
+
+-- the faults that a part may have
+abbrev pub IsPartFault : RunFault → Type 0
+IsPartFault fault = (fault ≡ Memory) ⊎ (fault ≡ Mixed)
+
+-- the result is the part of the text, or the fault of memory or of a desk
+abbrev pub GivesPart : Scoring → ℕ → List ℕ → Result Part RunFault → Type 0
+GivesPart g limit text (Ok part) = part_view_of part ≡ part_view g limit text
+GivesPart g limit text (Err fault) = IsPartFault fault
+
+-- the results are the parts of the texts, in their order, or the fault of memory or of a desk
+abbrev pub GivesParts : Scoring → ℕ → List (List ℕ) → Result (Vec Part Global) RunFault → Type 0
+GivesParts g limit texts (Ok parts) = map part_view_of parts.items ≡ map (part_view g limit) texts
+GivesParts g limit texts (Err fault) = IsPartFault fault

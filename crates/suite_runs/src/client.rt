@@ -1,0 +1,144 @@
+//! The part of one client: it sends the tasks of a text to a desk, and receives their answers.
+
+ghost use Rattle.std.specs.Prelude.{◌≡◌, ◌≤◌, ◌++◌, length, Ok, IfOk, IfErr, OnOk, IsErr, IsErrOf};
+ghost use Rattle.suite_runs.specs.ParsedLine.{tasks_in};
+ghost use Rattle.suite_runs.specs.Part.{IsPartFault};
+ghost use Rattle.suite_runs.specs.Rows.{rows, tasks};
+ghost use Rattle.suite_runs.specs.declared.run_fault.RunFault.TheVariants.{Memory, Mixed};
+
+use crate::gate::Gate;
+use crate::numbered_line::{NumberedLine, parse_lines, rows_of};
+use crate::part::Part;
+use crate::run_fault::{RunFault, worse_fault};
+use crate::settings::{MOST_BYTES, MOST_EMPTIES};
+use crate::solver::Solver;
+use crate::worker::Worker;
+use bound_table::Bounds;
+use endgame_search::Solved;
+use job_board::{Client, Desk, Turn};
+use solved_book::Claims;
+use std::alloc::{AllocError, Global};
+use std::sync::Wait;
+
+// Submits the task of each line that has one, in the order of the lines.
+fn send_all<R: Wait>(
+    rt: &R,
+    desk: &Desk,
+    client: &mut Client,
+    lines: &[NumberedLine],
+) -> Result<(), RunFault>
+    ensures sent { OnOk result (client.new
+        ≡ record client.old { sent = client.old.sent ++ tasks_in lines.now }) }
+    ensures faults { IfErr result IsPartFault }
+{
+    for line in lines {
+        if let Some(task) = line.task() {
+            desk.submit(rt, client, task)?;
+        }
+    }
+    Ok(())
+}
+
+// Receives the answers of all tasks that the client sent, in the order of the tasks. Between two
+// answers the thread solves the jobs that it takes. `Memory` where the list can't grow; `Mixed`
+// where the desk or a job is refused.
+fn receive_all<R: Wait, T: Bounds, G: Gate>(
+    rt: &R,
+    alloc: Global,
+    client: &mut Client,
+    worker: &Worker<'_, T, G>,
+) -> Result<Vec<Solved>, RunFault>
+    requires { client.old.received ≡ 0 }
+    ensures answers { IfOk result (λ solved. solved.items ≡ client.old.sent) }
+    ensures faults { IfErr result IsPartFault }
+{
+    let mut solved = Vec::new(alloc);
+    for _ in rt.forever() {
+        match worker.desk.turn(rt, client) {
+            Ok(Turn::Next(delivery)) => {
+                let Ok(()) = solved.push(delivery.solved) else {
+                    return Err(RunFault::Memory);
+                };
+            }
+            Ok(Turn::Work(job)) => {
+                let Ok(()) = worker.solve_job(rt, job) else {
+                    return Err(RunFault::Mixed);
+                };
+            }
+            Ok(Turn::Drained) => return Ok(solved),
+            Err(_) => return Err(RunFault::Mixed),
+        }
+    }
+    unreachable!()
+}
+
+/// Submits the tasks of the lines, and then closes the client's sender in any case, since
+/// workers wait until each sender is closed. It gives the lines back. `Memory` where `read` is
+/// an error, or where a submit was refused for memory; `Mixed` for any other refusal of the desk.
+pub fn send_and_close<R: Wait>(
+    rt: &R,
+    desk: &Desk,
+    client: &mut Client,
+    read: Result<Vec<NumberedLine>, AllocError>,
+) -> Result<Vec<NumberedLine>, RunFault>
+    ensures read { IfOk result (λ lines. read ≡ Ok lines) }
+    ensures sent { IfOk result (λ lines. client.new
+        ≡ record client.old { sent = client.old.sent ++ tasks_in lines.items }) }
+    ensures wanting { IsErr read → IsErrOf result Memory }
+    ensures faults { IfErr result IsPartFault }
+{
+    let sent = match read {
+        Ok(lines) => match send_all(rt, desk, client, &lines) {
+            Ok(()) => Ok(lines),
+            Err(fault) => Err(fault),
+        },
+        Err(_) => Err(RunFault::Memory),
+    };
+    match desk.close(rt, client) {
+        Ok(_) => sent,
+        Err(_) => Err(worse_fault(sent.err(), RunFault::Mixed)),
+    }
+}
+
+/// Does the whole part of one client. It submits the tasks of the text's lines for `sender`, which
+/// counts from 0, and closes that sender. Then it solves the jobs that it takes until all of its
+/// own answers came back. A position with more than `limit` empty squares is refused; the tasks are
+/// under the scoring of the table.
+///
+/// Where the result is Ok, its rows are those of the text, and its solved positions are those of
+/// the text's lines, in their order: at any desk, for any claims, and whatever other threads do
+/// there. `Memory` comes where memory was refused; `Mixed` where the desk refused a step for
+/// another reason, or where a job under another scoring was taken. After a fault the desk keeps the
+/// steps that were made, and the sender is closed. The call may wait for other threads.
+pub fn client_part<R: Wait, T: Bounds, G: Gate>(
+    rt: &R,
+    alloc: Global,
+    text: &[u8],
+    sender: u32,
+    limit: u8,
+    desk: &Desk,
+    table: &T,
+    claims: Option<&Claims>,
+    gate: &G,
+) -> Result<Part, RunFault>
+    requires few_empties { limit ≤ MOST_EMPTIES }
+    requires short { length text.now ≤ MOST_BYTES }
+    ensures rows { IfOk result
+        (λ part. part.rows.items ≡ rows (T.scoring table.now) limit text.now) }
+    ensures solved { IfOk result
+        (λ part. part.solved.items ≡ tasks (T.scoring table.now) limit text.now) }
+    ensures faults { IfErr result IsPartFault }
+{
+    let worker = Worker {
+        desk,
+        solver: Solver::new(table, claims),
+        gate,
+    };
+    let mut client = Client::new(alloc, sender);
+    let read = parse_lines(alloc, limit, table.scoring(), text);
+    let lines = send_and_close(rt, desk, &mut client, read)?;
+    gate.submitted(rt, sender, client.sent().len());
+    let solved = receive_all(rt, alloc, &mut client, &worker)?;
+    let rows = rows_of(alloc, &lines, &solved)?;
+    Ok(Part { rows, solved })
+}

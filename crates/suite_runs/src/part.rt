@@ -1,0 +1,13 @@
+//! The part of one file in a run.
+
+use crate::report_row::ReportRow;
+use endgame_search::Solved;
+
+/// The part of one file in a run.
+#[derive(Debug, Drop)]
+pub struct Part {
+    /// A row for each line that is not skipped, in the order of the lines.
+    pub rows: Vec<ReportRow>,
+    /// The solved positions with their answers, in the order of their lines.
+    pub solved: Vec<Solved>,
+}

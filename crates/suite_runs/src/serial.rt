@@ -1,0 +1,74 @@
+//! The parts of the files, solved on the calling thread.
+
+ghost use Rattle.std.specs.Prelude.{◌≡◌, ◌≤◌, length, All, IfOk, None};
+ghost use Rattle.endgame_search.specs.Task.{TaskView};
+ghost use Rattle.suite_runs.specs.Part.{part_view, part_view_of};
+ghost use Rattle.suite_runs.specs.ParsedLine.{tasks_in};
+ghost use Rattle.obf_text.specs.LineText.{texts_of};
+ghost use Rattle.suite_runs.specs.Runs.{ArePartsOf, first_large};
+
+use crate::numbered_line::{NumberedLine, parse_lines, rows_of};
+use crate::part::Part;
+use crate::settings::{MOST_BYTES, MOST_EMPTIES, Settings};
+use crate::solver::{Solver, new_table};
+use bound_table::Bounds;
+use endgame_search::Solved;
+use solved_book::Claims;
+use std::alloc::{AllocError, Global};
+
+// Solves the tasks of the lines, in the order of the lines.
+fn solve_all<T: Bounds>(
+    alloc: Global,
+    solver: &Solver<'_, T>,
+    lines: &[NumberedLine],
+) -> Result<Vec<Solved>, AllocError>
+    requires { All (λ (task : TaskView). task.scoring ≡ T.scoring solver.now.table.now)
+        (tasks_in lines.now) }
+    ensures { IfOk result (λ solved. solved.items ≡ tasks_in lines.now) }
+{
+    let mut solved = Vec::new(alloc);
+    for line in lines {
+        if let Some(task) = line.task() {
+            solved.push(solver.answer(task))?;
+        }
+    }
+    Ok(solved)
+}
+
+// The part of a text, whose positions are solved one after the other.
+fn solve_text<T: Bounds>(
+    alloc: Global,
+    text: &[u8],
+    limit: u8,
+    solver: &Solver<'_, T>,
+) -> Result<Part, AllocError>
+    requires few_empties { limit ≤ MOST_EMPTIES }
+    requires short { length text.now ≤ MOST_BYTES }
+    ensures { IfOk result
+        (λ part. part_view_of part ≡ part_view (T.scoring solver.now.table.now) limit text.now) }
+{
+    let lines = parse_lines(alloc, limit, solver.scoring(), text)?;
+    let solved = solve_all(alloc, solver, &lines)?;
+    let rows = rows_of(alloc, &lines, &solved)?;
+    Ok(Part { rows, solved })
+}
+
+/// The parts of the files, solved on the calling thread, one file after the other, over one table
+/// of bounds. No file has more than `MOST_BYTES` bytes. The error is want of memory.
+pub(crate) fn solve_texts(
+    alloc: Global,
+    files: &[Vec<u8>],
+    settings: &Settings,
+    claims: Option<&Claims>,
+) -> Result<Vec<Part>, AllocError>
+    requires { first_large (texts_of files.now) ≡ None }
+    ensures { IfOk result (λ parts. ArePartsOf settings.now (texts_of files.now) parts.items) }
+{
+    let table = new_table(alloc, settings)?;
+    let solver = Solver::new(&table, claims);
+    let mut parts = Vec::new(alloc);
+    for file in files {
+        parts.push(solve_text(alloc, file, settings.max_empties(), &solver)?)?;
+    }
+    Ok(parts)
+}

@@ -1,6 +1,0 @@
-use Rattle.std.proofs.Common.{◌≡◌, map, take}
-use Rattle.suite_solver.specs.CommandLine.{names_of}
-use Rattle.suite_solver.proofs.command_line.copy_names.Given as goal
-
-abbrev pub invariant-loop-name : goal.invariant-loop-name
-invariant-loop-name l = names_of l.all.items ≡ map (λ name. name.now) (take l.name-index l.names)

@@ -1,0 +1,13 @@
+-- The line that tells how far a run is.
+use Rattle.std.specs.Prelude.{ℕ, List, [], ◌∷◌, ◌++◌, Option, Some, None, codes}
+use Rattle.std.specs.Fmt.{decimal}
+
+-- how many positions there are in all, where that is known
+unfoldable pub total_text : Option ℕ → List ℕ
+total_text None = []
+total_text (Some total) = codes " of " ++ decimal total
+
+unfoldable pub progress_text : ℕ → Option ℕ → ℕ → List ℕ
+progress_text solved total seconds =
+    codes "ffosolve: solved " ++ (decimal solved ++ (total_text total
+    ++ (codes " in " ++ (decimal seconds ++ (codes " s" ++ 10 ∷ [])))))

@@ -1,0 +1,181 @@
+//! The program `ffosolve`.
+
+ghost use Rattle.std.specs.Prelude.{◌≡◌, ◌⊎◌, map, Some, OnOk, IfOk, IfErr, IsErr, IsErrOf};
+ghost use Rattle.std.specs.List.{concat};
+ghost use Rattle.std.specs.Io.KnownBytes.{Appends};
+ghost use Rattle.suite_solver.specs.CommandLine.{names_of};
+ghost use Rattle.suite_solver.specs.Programs.{EndsFfosolve, EndsUnread, IsSilent, Prints};
+ghost use Rattle.suite_solver.specs.Programs.{PrintsReports, status_of};
+ghost use Rattle.suite_solver.specs.declared.program_error.ProgramError.TheVariants.{Run};
+ghost use Rattle.obf_text.specs.LineText.{texts_of};
+ghost use Rattle.suite_runs.specs.Runs.{refusal_of};
+ghost use Rattle.suite_runs.specs.declared.run_fault.RunFault.{RunFault};
+
+use crate::book_place::check_place;
+use crate::books::{read_claims, ready_book, write_book};
+use crate::command_line::options;
+use crate::inputs::read_files;
+use crate::new_file::NewFile;
+use crate::option_fault::OptionFault;
+use crate::program_error::{ProgramError, words_error};
+use crate::progress::run_asked;
+use crate::run_options::Options;
+use crate::streams::{borrow_words, end_without_options};
+use solved_book::Claims;
+use std::alloc::Global;
+use std::io;
+use std::io::{Read, Write};
+use std::marker::{Send, Sync};
+use std::rt::{Clock, Files};
+use std::sync::Wait;
+use std::thread::Threads;
+use suite_runs::{RunFault, check_files};
+
+// Writes the reports one after the other.
+fn write_reports<W: Write>(output: &mut W, reports: &[Vec<u8>]) -> io::Result<()>
+    ensures { OnOk result
+        (Appends (W.contents output.old) (W.contents output.new) (concat (texts_of reports.now))) }
+{
+    for report in reports {
+        output.write_all(report)?;
+    }
+    output.flush()
+}
+
+// Solves the positions of the files, whose texts these are, and prints the reports. The text of the
+// book to be written is made before the reports are printed, so that no want of memory comes once
+// anything was printed.
+fn solve_files<'a, T: Files + Clock + Threads + Wait + Sync, W: Write, E: Write + Send>(
+    rt: &T,
+    alloc: Global,
+    asked: &'a Options,
+    texts: &[Vec<u8>],
+    claims: Option<&Claims>,
+    output: &mut W,
+    errors: &mut E,
+) -> Result<Option<NewFile<'a>>, ProgramError<'a>>
+    ensures reported { OnOk result (PrintsReports asked.now.settings (texts_of texts.now)
+        (W.contents output.old) (W.contents output.new)) }
+    ensures silent { IfErr result
+        (λ error. IsSilent error → W.contents output.new ≡ W.contents output.old) }
+    ensures unwritten { IfErr result
+        (λ error. status_of error ≡ 1 → W.contents output.new ≡ W.contents output.old) }
+    ensures status { IfErr result (λ error. (status_of error ≡ 1) ⊎ (status_of error ≡ 3)) }
+{
+    let outcome = run_asked(rt, alloc, asked, texts, claims, errors)?;
+    let book = ready_book(rt, alloc, &asked.book_out, &outcome.book)?;
+    match write_reports(output, &outcome.reports) {
+        Ok(()) => Ok(book),
+        Err(_) => Err(ProgramError::CannotWrite("standard output")),
+    }
+}
+
+// Refuses files that are too many or too large, as the run does, and then a place where the book
+// that is to be written can't be put or would destroy what is there.
+fn check_run<'a, T: Files>(
+    rt: &T,
+    alloc: Global,
+    asked: &'a Options,
+    texts: &[Vec<u8>],
+) -> Result<(), ProgramError<'a>>
+    ensures files { (fault : RunFault) → refusal_of (texts_of texts.now) ≡ Some fault
+        → IsErrOf result (Run fault) }
+    ensures silent { IfErr result IsSilent }
+    ensures status { IfErr result (λ error. (status_of error ≡ 1) ⊎ (status_of error ≡ 3)) }
+{
+    check_files(texts)?;
+    check_place(rt, alloc, &asked.book_out, &asked.book_in, &asked.files)
+}
+
+// Reads the book and then the files, tests them and the place of the book to be written, solves,
+// prints the reports, and writes the book.
+fn carry_out<'a, T: Files + Clock + Threads + Wait + Sync, R: Read, W: Write, E: Write + Send>(
+    rt: &T,
+    alloc: Global,
+    asked: &'a Options,
+    input: &mut R,
+    output: &mut W,
+    errors: &mut E,
+) -> Result<(), ProgramError<'a>>
+    ensures reported { OnOk result (Prints asked.now.settings (names_of asked.now.files.items)
+        (R.remaining input.old) (W.contents output.old) (W.contents output.new)) }
+    ensures silent { IfErr result
+        (λ error. IsSilent error → W.contents output.new ≡ W.contents output.old) }
+    ensures unwritten { IfErr result
+        (λ error. status_of error ≡ 1 → W.contents output.new ≡ W.contents output.old) }
+    ensures status { IfErr result (λ error. (status_of error ≡ 1) ⊎ (status_of error ≡ 3)) }
+{
+    let claims = read_claims(rt, alloc, &asked.book_in)?;
+    let texts = read_files(rt, alloc, &asked.files, input)?;
+    check_run(rt, alloc, asked, &texts)?;
+    match solve_files(rt, alloc, asked, &texts, claims.as_ref(), output, errors) {
+        Ok(book) => write_book(rt, &book),
+        Err(error) => Err(error),
+    }
+}
+
+// Prints the error that ends the program, and gives the exit status. A failure of standard error
+// changes nothing.
+fn print_error<E: Write>(error: &ProgramError<'_>, errors: &mut E) -> u8
+    ensures { result ≡ status_of error.now }
+{
+    let _ = error.print("ffosolve", errors);
+    error.status()
+}
+
+/// The whole program `ffosolve` over the words of its command line, the program's name first. It
+/// reads the book and the files that the words name, or standard input. It prints the files'
+/// reports, in the order of the files, on standard output. Then it writes the book that the words
+/// name.
+///
+/// The status is 0 where all is done, or where help or the version was asked for and printed; 1
+/// where the run is refused, for memory or for the number or size of its files; 2 where the command
+/// line is refused; 3 where a file can't be read or is no book, or where standard output or the
+/// book can't be written or would destroy another file or the book that is read. An error that ends
+/// the program early is printed on standard error, as one line or as clap's text; a failure of
+/// standard error changes nothing. The call may wait for its threads.
+pub fn program<T: Files + Clock + Threads + Wait + Sync, R: Read, W: Write, E: Write + Send>(
+    rt: &T,
+    alloc: Global,
+    words: &[&str],
+    input: &mut R,
+    output: &mut W,
+    errors: &mut E,
+) -> u8
+    ensures { EndsFfosolve (map (λ word. word.now) words.now)
+        (R.remaining input.old) (W.contents output.old) (W.contents output.new) result }
+{
+    match options(alloc, words) {
+        Ok(asked) => match carry_out(rt, alloc, &asked, input, output, errors) {
+            Ok(()) => 0,
+            Err(error) => print_error(&error, errors),
+        },
+        Err(OptionFault::Memory) => print_error(&ProgramError::Run(RunFault::Memory), errors),
+        Err(OptionFault::Refused(error)) => end_without_options("ffosolve", &error, output, errors),
+    }
+}
+
+/// The whole program, as `program`, over the words as `env::args` gives them. The status is 2 where
+/// a word is no text, and 1 where there was no memory for the words.
+pub fn program_of<T: Files + Clock + Threads + Wait + Sync, R: Read, W: Write, E: Write + Send>(
+    rt: &T,
+    alloc: Global,
+    words: io::Result<Vec<String>>,
+    input: &mut R,
+    output: &mut W,
+    errors: &mut E,
+) -> u8
+    ensures read { IfOk words (λ all. EndsFfosolve (names_of all.items)
+        (R.remaining input.old) (W.contents output.old) (W.contents output.new) result) }
+    ensures unread { IsErr words
+        → EndsUnread 1 (W.contents output.old) (W.contents output.new) result }
+{
+    let words = match words {
+        Ok(words) => words,
+        Err(fault) => return print_error(&words_error(&fault), errors),
+    };
+    match borrow_words(alloc, &words) {
+        Ok(borrowed) => program(rt, alloc, &borrowed, input, output, errors),
+        Err(_) => print_error(&ProgramError::Run(RunFault::Memory), errors),
+    }
+}

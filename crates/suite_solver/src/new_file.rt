@@ -1,0 +1,89 @@
+//! Writes a file as a whole: a regular file of its name stays as it is until the new one takes its
+//! place.
+
+use crate::book_place::{gives_way, name_beside};
+use std::alloc::{AllocError, Global};
+use std::fs::{OpenFile, OpenOptions};
+use std::io::Write;
+use std::rt::Files;
+use std::{fs, io};
+
+/// A text that is to be written as the file of a name. The write takes no more memory.
+#[derive(Drop)]
+pub(crate) struct NewFile<'a> {
+    pub(crate) name: &'a str,
+    // The name of a file beside, which didn't exist when it was chosen.
+    beside: String,
+    text: Vec<u8>,
+}
+
+impl<'a> NewFile<'a> {
+    /// Chooses the name of the file beside. Nothing is opened. The error is want of memory.
+    pub(crate) fn new<T: Files>(
+        rt: &T,
+        alloc: Global,
+        name: &'a str,
+        text: Vec<u8>,
+    ) -> Result<NewFile<'a>, AllocError> {
+        let beside = name_beside(rt, alloc, name)?;
+        Ok(NewFile { name, beside, text })
+    }
+
+    /// Writes the text under the file's name. A regular file, and a file that doesn't exist yet, is
+    /// written beside and renamed. Any other, as a device, a pipe or a link, is opened and written.
+    /// A file that is neither empty nor a book by now stays, and the write fails.
+    pub(crate) fn write<T: Files>(&self, rt: &T) -> io::Result<()> {
+        if !gives_way(rt, self.name)? {
+            return Err(io::Error::from(io::ErrorKind::AlreadyExists));
+        }
+        match fs::symlink_metadata(rt, self.name) {
+            Ok(found) => {
+                if found.is_file() {
+                    self.replace(rt, Some(found.permissions()))
+                } else {
+                    write_all(&mut fs::create(rt, self.name)?, &self.text)
+                }
+            }
+            Err(fault) => match fault.kind() {
+                io::ErrorKind::NotFound => self.replace(rt, None),
+                _ => Err(fault),
+            },
+        }
+    }
+
+    // Writes a file beside, gives it the permissions of the old file, and renames it. An old file
+    // that may not be written is not replaced. A file beside that another program made in the
+    // meantime is left alone.
+    fn replace<T: Files>(&self, rt: &T, permissions: Option<fs::Permissions>) -> io::Result<()> {
+        if permissions.is_some() {
+            OpenOptions::new().write(true).open(rt, self.name)?;
+        }
+        let mut beside = fs::File::create_new(rt, self.beside.as_str())?;
+        let placed = match self.fill::<T>(&mut beside, permissions) {
+            Ok(()) => fs::rename(rt, self.beside.as_str(), self.name),
+            Err(fault) => Err(fault),
+        };
+        if placed.is_err() {
+            let _ = fs::remove_file(rt, self.beside.as_str());
+        }
+        placed
+    }
+
+    // Writes the text into the file, sets the permissions, and synchronizes the file.
+    fn fill<T: Files>(
+        &self,
+        file: &mut T::File,
+        permissions: Option<fs::Permissions>,
+    ) -> io::Result<()> {
+        write_all(file, &self.text)?;
+        if let Some(permissions) = permissions {
+            file.set_permissions(permissions)?;
+        }
+        file.sync_all()
+    }
+}
+
+fn write_all<W: Write>(writer: &mut W, text: &[u8]) -> io::Result<()> {
+    writer.write_all(text)?;
+    writer.flush()
+}

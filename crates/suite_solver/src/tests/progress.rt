@@ -1,0 +1,215 @@
+//! Lines that tell how far a run is.
+
+use super::runs::{files_of, settings_of};
+use super::{BOTH, FailingWriter, ONE, TWO};
+use crate::program;
+use crate::progress::ProgressGate;
+use std::alloc::Global;
+use std::io::Write;
+use std::rt::Clock;
+use std::sync::Wait;
+use std::sync::atomic::{AtomicBool, AtomicU64, Ordering};
+use std::test::Fail;
+use std::thread::Threads;
+use std::time::Duration;
+use std::{io, thread};
+use suite_runs::Gate;
+
+// A clock that a test moves, and that can be read so many times.
+#[derive(Drop)]
+struct MovedClock {
+    millis: AtomicU64,
+    reads_left: AtomicU64,
+}
+
+impl MovedClock {
+    fn new(millis: u64, reads_left: u64) -> MovedClock {
+        MovedClock {
+            millis: AtomicU64::new(millis),
+            reads_left: AtomicU64::new(reads_left),
+        }
+    }
+
+    fn move_on(&self, millis: u64) {
+        self.millis.fetch_add(millis, Ordering::SeqCst);
+    }
+}
+
+impl Clock for MovedClock {
+    fn monotonic(&self) -> io::Result<Duration> {
+        if self.reads_left.load(Ordering::SeqCst) == 0 {
+            return Err(io::Error::from(io::ErrorKind::Unsupported));
+        }
+        self.reads_left.fetch_sub(1, Ordering::SeqCst);
+        Ok(Duration::from_millis(self.millis.load(Ordering::SeqCst)))
+    }
+
+    fn since_1970(&self) -> io::Result<Duration> {
+        Err(io::Error::from(io::ErrorKind::Unsupported))
+    }
+}
+
+// How many milliseconds after the one before it each job ends. Three jobs end less than five
+// seconds after a line, two of them in its fifth second or later as whole seconds are counted.
+const PAUSES: [u64; 11] = [4_999, 1, 1, 4_998, 901, 4_200, 799, 1, 24_100, 1, 9_999];
+
+const TOLD: &[u8] = b"\
+ffosolve: solved 2 in 5 s
+ffosolve: solved 5 in 10 s
+ffosolve: solved 8 of 11 in 15 s
+ffosolve: solved 9 of 11 in 40 s
+ffosolve: solved 11 of 11 in 50 s
+";
+
+// A line comes no sooner than five seconds after the last, but for the line at the end, which alone
+// tells that all are solved. The number of all jobs is known once both files are submitted.
+#[test]
+fn tells_each_five_seconds(rt: HostRuntime) {
+    let clock = MovedClock::new(3_100, 100);
+    let mut errors = Vec::new(rt.alloc());
+    let gate = ProgressGate::new(&clock, 2, &mut errors);
+    gate.submitted(&rt, 1, 5);
+    let mut number: u32 = 0;
+    for pause in PAUSES {
+        if number == 5 {
+            gate.submitted(&rt, 0, 6);
+        }
+        gate.enter(&rt, 0, number);
+        clock.move_on(pause);
+        gate.leave(&rt, 0, number);
+        number = number.wrapping_add(1);
+    }
+    clock.move_on(400);
+    gate.end();
+    assert!(rt; errors.as_slice() == TOLD);
+}
+
+// What a run over both texts tells by a clock that stands still, and can be read so many times.
+fn told_of_both<R: Threads + Wait + Sync>(
+    rt: &R,
+    alloc: Global,
+    workers: u8,
+    reads_left: u64,
+) -> Result<Vec<u8>, Fail> {
+    let files = files_of(alloc, &[ONE, TWO])?;
+    let clock = MovedClock::new(0, reads_left);
+    let mut errors = Vec::new(alloc);
+    let gate = ProgressGate::new(&clock, 2, &mut errors);
+    let outcome = crate::run(rt, alloc, &files, &settings_of(workers, 16), None, &gate)?;
+    gate.end();
+    let reports = outcome.reports.concat(alloc)?;
+    if reports.as_slice() != BOTH {
+        errors.clear();
+        errors.extend_from_slice(b"other reports")?;
+    }
+    Ok(errors)
+}
+
+// Each job counts once. The clock is read as a run begins, after each of the six jobs and at the
+// end; where it can't be read, nothing is told, and the reports are the same.
+#[test]
+fn tells_by_its_clock(rt: HostRuntime) -> Result<(), Fail> {
+    let all: &[u8] = b"ffosolve: solved 6 of 6 in 0 s\n";
+    for workers in [0, 3] {
+        for reads in 0..8 {
+            assert!(rt; told_of_both(&rt, rt.alloc(), workers, reads)?.is_empty());
+        }
+        assert!(rt; told_of_both(&rt, rt.alloc(), workers, 8)?.as_slice() == all);
+    }
+    Ok(())
+}
+
+// What a writer and a test tell each other.
+#[derive(Drop)]
+struct Signals {
+    is_writing: AtomicBool,
+    may_end: AtomicBool,
+}
+
+// Waits for a signal, for so many turns at most. The result says whether it came.
+fn wait_for(signal: &AtomicBool) -> bool {
+    for _ in 0..u32::MAX {
+        if signal.load(Ordering::SeqCst) {
+            return true;
+        }
+    }
+    false
+}
+
+// A writer whose first write ends once a signal comes.
+#[derive(Drop)]
+struct HeldWriter<'a> {
+    signals: &'a Signals,
+    was_freed: bool,
+}
+
+impl Write for HeldWriter<'_> {
+    fn write(&mut self, buf: &[u8]) -> io::Result<usize> {
+        self.signals.is_writing.store(true, Ordering::SeqCst);
+        self.was_freed = wait_for(&self.signals.may_end);
+        Ok(buf.len())
+    }
+
+    fn flush(&mut self) -> io::Result<()> {
+        Ok(())
+    }
+}
+
+// The end of a job whose line the writer holds, or of another job in the meantime, after which the
+// writer may go on.
+fn end_job<R: Wait, G: Gate>(rt: &R, gate: &G, signals: &Signals, thread: usize) -> bool {
+    if thread == 0 {
+        gate.leave(rt, 0, 0);
+        return true;
+    }
+    let writes = wait_for(&signals.is_writing);
+    gate.leave(rt, 0, 1);
+    signals.may_end.store(true, Ordering::SeqCst);
+    writes
+}
+
+// A thread that ends a job goes on while another one writes a line.
+#[test]
+fn waits_for_no_stream(rt: HostRuntime) -> Result<(), Fail> {
+    let signals = Signals {
+        is_writing: AtomicBool::new(false),
+        may_end: AtomicBool::new(false),
+    };
+    let mut errors = HeldWriter {
+        signals: &signals,
+        was_freed: false,
+    };
+    let clock = MovedClock::new(0, 100);
+    let gate = ProgressGate::new(&clock, 1, &mut errors);
+    clock.move_on(5_000);
+    let ended = thread::map_indices(
+        &rt,
+        rt.alloc(),
+        2,
+        &|i| { end_job(&rt, &gate, &signals, i) },
+    )?;
+    gate.end();
+    assert!(rt; ended.as_slice() == [true, true].as_slice() && errors.was_freed);
+    Ok(())
+}
+
+// Standard error that fails changes nothing of a run that tells its progress, and without the flag
+// nothing is told.
+#[test]
+fn tells_nobody(rt: HostRuntime) {
+    let alloc = rt.alloc();
+    let words = ["ffosolve", "--progress"];
+    let (mut told, mut plain, mut silent) = (Vec::new(alloc), Vec::new(alloc), Vec::new(alloc));
+    let mut errors = FailingWriter { calls_left: 1 };
+    let (mut first, mut second) = (ONE, ONE);
+    let status = program(&rt, alloc, &words, &mut first, &mut told, &mut errors);
+    let same = program(
+        &rt,
+        alloc,
+        &["ffosolve"],
+        &mut second,
+        &mut plain,
+        &mut silent,
+    );
+    assert!(rt; status == same && told == plain && errors.calls_left == 0 && silent.is_empty());
+}

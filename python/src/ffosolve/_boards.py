@@ -1,0 +1,91 @@
+"""Pictures of boards."""
+from typing import Dict, Iterator, Mapping, Optional, Tuple
+
+from ._squares import NAMES, square_name, square_number
+
+SIDES = {"X": "Black", "O": "White"}
+SQUARE, MARGIN, FOOT = 44, 22, 34  # pixels
+BOARD = 8 * SQUARE
+COLOURS = {"X": "#111111", "O": "#fafafa"}
+GREEN, LINES, INK, MARK = "#2f8f5b", "#14472c", "#333333", "#ffd54a"
+
+
+class Board:
+    """A position as it is looked at: a picture where a notebook shows it, and a text where it is printed.
+
+    `own` and `opp` are the masks of the mover's discs and the other side's, and `side` is the mover's colour, "X" for
+    Black or "O" for White. `scores` are written into their squares, by the squares' names; the greatest are marked.
+    Raises ValueError for another side, and for a score where no square is empty."""
+
+    def __init__(self, own: int, opp: int, side: str, scores: Optional[Mapping[str, int]] = None) -> None:
+        if side not in SIDES:
+            raise ValueError(f"the side to move is 'X' or 'O', and not {side!r}")
+        other = "O" if side == "X" else "X"
+        self.side = side
+        self.letters = [side if own >> at & 1 else other if opp >> at & 1 else "-" for at in range(64)]
+        self.scores: Dict[int, int] = {square_number(name): score for name, score in (scores or {}).items()}
+        self.best = max(self.scores.values(), default=None)
+        for at in self.scores:
+            if self.letters[at] != "-":
+                raise ValueError(f"{square_name(at)} has a score, and is not empty")
+
+    def __str__(self) -> str:
+        width = 4 if self.scores else 1
+        rows = ["  " + " ".join(f"{column:>{width}}" for column in "ABCDEFGH")]
+        for row in range(8):
+            rows.append(f"{row + 1} " + " ".join(f"{self._text(8 * row + column):>{width}}" for column in range(8)))
+        return "\n".join([*rows, f"{self.side} is to move"])
+
+    __repr__ = __str__
+
+    def _text(self, at: int) -> str:
+        """What a text has at a square: a letter, or its score, with a star where that is best."""
+        if at not in self.scores:
+            return self.letters[at]
+        return f"{self.scores[at]:+}" + "*" * (self.scores[at] == self.best)
+
+    def _repr_svg_(self) -> str:
+        width, height = BOARD + 2 * MARGIN, BOARD + MARGIN + FOOT
+        told = f"{SIDES[self.side]} to move"
+        return "\n".join([
+            f'<svg xmlns="http://www.w3.org/2000/svg" width="{width}" height="{height}" viewBox="0 0 {width} {height}"'
+            f' font-family="sans-serif" font-size="13" text-anchor="middle">',
+            f"<title>Othello board, {told}</title>",
+            f'<rect width="{width}" height="{height}" fill="#ffffff"/>',
+            f'<rect x="{MARGIN}" y="{MARGIN}" width="{BOARD}" height="{BOARD}" fill="{GREEN}"/>',
+            *(part for at in range(64) for part in self._square(at)),
+            *self._lines(),
+            disc(self.side, MARGIN + 10, height - FOOT // 2, 9),
+            f'<text x="{MARGIN + 26}" y="{height - FOOT // 2 + 5}" text-anchor="start" fill="{INK}">{told}</text>',
+            "</svg>",
+        ])
+
+    def _square(self, at: int) -> Iterator[str]:
+        x, y = centre(at)
+        if self.letters[at] != "-":
+            yield disc(self.letters[at], x, y, SQUARE * 2 // 5)
+        elif at in self.scores:
+            is_best = self.scores[at] == self.best
+            if is_best:
+                yield f'<rect x="{x - SQUARE // 2}" y="{y - SQUARE // 2}" width="{SQUARE}" height="{SQUARE}" fill="{MARK}"/>'
+            how = f'fill="{INK}" font-weight="bold"' if is_best else 'fill="#ffffff"'
+            yield f'<text x="{x}" y="{y + 5}" {how}>{self.scores[at]:+}</text>'
+
+    def _lines(self) -> Iterator[str]:
+        """The lines between squares, and the names of columns and rows."""
+        for place in range(9):
+            at, end = MARGIN + place * SQUARE, MARGIN + BOARD
+            yield f'<path d="M{at} {MARGIN}V{end}M{MARGIN} {at}H{end}" stroke="{LINES}"/>'
+        for place in range(8):
+            (x, _), (_, y) = centre(place), centre(8 * place)
+            yield f'<text x="{x}" y="{MARGIN - 7}" fill="{INK}">{NAMES[place][0]}</text>'
+            yield f'<text x="{MARGIN // 2}" y="{y + 5}" fill="{INK}">{place + 1}</text>'
+
+
+def centre(at: int) -> Tuple[int, int]:
+    """The middle of a square, in pixels from the left and from the top."""
+    return MARGIN + at % 8 * SQUARE + SQUARE // 2, MARGIN + at // 8 * SQUARE + SQUARE // 2
+
+
+def disc(side: str, x: int, y: int, radius: int) -> str:
+    return f'<circle cx="{x}" cy="{y}" r="{radius}" fill="{COLOURS[side]}" stroke="{LINES}"/>'

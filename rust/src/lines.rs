@@ -1,0 +1,119 @@
+//! Lines of OBF text.
+use crate::raw;
+use crate::{ObfError, Position, Square};
+use std::fmt;
+
+/// The colour of the side to move.
+#[derive(Clone, Copy, PartialEq, Eq, Hash, Debug)]
+pub enum Side {
+    Black,
+    White,
+}
+
+/// What a line lists. It prints as the line has it: `H1`, `PS` or `--`.
+#[derive(Clone, Copy, PartialEq, Eq, Hash, Debug)]
+pub enum Listed {
+    /// A move.
+    Move(Square),
+    /// A pass.
+    Pass,
+    /// The end of the game.
+    Over,
+}
+
+impl fmt::Display for Listed {
+    fn fmt(&self, f: &mut fmt::Formatter<'_>) -> fmt::Result {
+        match self {
+            Listed::Move(square) => fmt::Display::fmt(square, f),
+            Listed::Pass => f.write_str("PS"),
+            Listed::Over => f.write_str("--"),
+        }
+    }
+}
+
+/// What a line of OBF text says.
+#[derive(Clone, PartialEq, Eq, Hash, Debug)]
+pub struct Line {
+    /// The position, whose mover is the side to move.
+    pub position: Position,
+    /// The side to move.
+    pub side: Side,
+    /// The moves that the line lists, in their order, each with its score from -64 to 64: as the line has them, right or
+    /// wrong.
+    pub listed: Vec<(Listed, i8)>,
+}
+
+impl Line {
+    /// Reads a line of OBF text, with its end or without: 64 squares from A1 on, the side to move, and fields such as
+    /// `H1:+62;`. Black is one of `X x * B b`, white one of `O o W w`, an empty square `-` or `.`. Blanks before the
+    /// squares and before the side are skipped.
+    ///
+    /// # Errors
+    /// `NoPosition` where the line is blank or a comment, else the first fault from the left; `NoMemory`.
+    pub fn from_obf<T: AsRef<[u8]> + ?Sized>(text: &T) -> Result<Line, ObfError> {
+        let text = without_end(text.as_ref());
+        let mut listed = [raw::Listed::default(); 16];
+        let line = read_line(text, &mut listed)?;
+        let listed = match listed.get(..line.listed) {
+            Some(listed) => listed.iter().map(listed_of).collect(),
+            None => {
+                let mut listed = vec![raw::Listed::default(); line.listed];
+                read_line(text, &mut listed)?;
+                listed.iter().map(listed_of).collect()
+            }
+        };
+        let side = if line.side == 0 { Side::Black } else { Side::White };
+        Ok(Line { position: Position::of_raw(line.position), side, listed })
+    }
+}
+
+impl std::str::FromStr for Line {
+    type Err = ObfError;
+
+    fn from_str(text: &str) -> Result<Line, ObfError> {
+        Line::from_obf(text)
+    }
+}
+
+fn listed_of(listed: &raw::Listed) -> (Listed, i8) {
+    let what = match (listed.kind, Square::new(listed.square)) {
+        (0, Some(square)) => Listed::Move(square),
+        (1, _) => Listed::Pass,
+        _ => Listed::Over,
+    };
+    (what, listed.score as i8)
+}
+
+/// A line without its end: an LF, and a CR before it.
+pub(crate) fn without_end(line: &[u8]) -> &[u8] {
+    let line = line.strip_suffix(b"\n").unwrap_or(line);
+    line.strip_suffix(b"\r").unwrap_or(line)
+}
+
+/// What a line says; of the moves that it lists, as many as there is room for are written.
+pub(crate) fn read_line(text: &[u8], listed: &mut [raw::Listed]) -> Result<raw::Line, ObfError> {
+    let (mut line, mut at) = (raw::Line::default(), 0);
+    let (to, room) = (listed.as_mut_ptr(), listed.len());
+    // SAFETY: the text has so many bytes, and there is room for so many moves; what is written is this call's own.
+    let status = unsafe { raw::ffosolve_read_line(text.as_ptr(), text.len(), &mut line, to, room, &mut at) };
+    match status {
+        0 => Ok(line),
+        _ => Err(error_of(status, at)),
+    }
+}
+
+fn error_of(status: i32, at: usize) -> ObfError {
+    match status {
+        7 => ObfError::NoMemory,
+        8 => ObfError::NoPosition,
+        9 => ObfError::ShortBoard { squares: at },
+        10 => ObfError::BadSquare { column: at },
+        _ => ObfError::BadSide { column: at },
+    }
+}
+
+/// Want of memory comes of no call that a test can make.
+#[test]
+fn tells_want_of_memory() {
+    assert_eq!(error_of(7, 5), ObfError::NoMemory);
+}

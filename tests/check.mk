@@ -1,0 +1,36 @@
+# Runs the tests, each module of tests/ by itself, as many side by side as make is told by -j, or as there are processors.
+# Of each it prints how many passed, of one that failed what it printed too, and as the last line the sum of all. That the
+# checkout is left as git found it is one test more.
+#
+#     make -f tests/check.mk                          all, as make check does once all is built
+#     make -f tests/check.mk TESTS='books many'       tests/test_books.py and tests/test_many.py
+ifeq ($(filter -j% --jobserver%,$(MAKEFLAGS)),)
+MAKEFLAGS += -j$(shell nproc)
+endif
+TESTS = $(patsubst tests/test_%.py,%,$(wildcard tests/test_*.py))
+TEST_SECONDS = 3000# after which a module is ended
+PYTHON = python3
+modules = $(TESTS:%=test_%)
+at = out/tests/$(@:test_%=%)
+
+check: begin $(modules)
+	@git status --porcelain >out/tests/after 2>&1; \
+	diff out/tests/before out/tests/after; echo "0 passed, $$? failed" >out/tests/git.count; \
+	awk '{ passed += $$1; failed += $$3; skipped += $$5 } \
+	     END { print passed " passed, " failed " failed" (skipped ? ", " skipped " skipped" : ""); \
+	           exit failed || !(passed + skipped) }' out/tests/*.count
+
+$(modules): begin
+	@begun=$$(date +%s); \
+	setpriv --pdeathsig INT timeout --foreground --signal=INT --kill-after=10 $(TEST_SECONDS) \
+	    env -u MAKEFLAGS -u MFLAGS -u MAKELEVEL --default-signal=INT $(PYTHON) -m unittest -v tests.$@ \
+	    >$(at).log 2>&1 </dev/null; \
+	status=$$?; [ $$status -ne 124 ] || echo "ended, since it took longer than $(TEST_SECONDS) seconds" >>$(at).log; \
+	awk -v status=$$status -f tests/count.awk $(at).log >$(at).count; \
+	grep -q ' 0 failed' $(at).count || cat $(at).log; \
+	echo "tests.$@: $$(cat $(at).count), in $$(($$(date +%s) - begun)) s"
+
+begin:
+	@rm -rf out/tests && mkdir -p out/tests && { git status --porcelain >out/tests/before 2>&1 || :; }
+
+.PHONY: check begin $(modules)

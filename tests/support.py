@@ -1,0 +1,139 @@
+"""What the tests share: the checkout, the programs, what a test needs, runs with a limit of time, and processes."""
+import os
+import re
+import resource
+import shutil
+import signal
+import subprocess
+import tempfile
+import time
+import unittest
+from pathlib import Path
+
+ROOT = Path(__file__).resolve().parent.parent
+SECONDS = 55  # the longest that a test waits for anything, where it names no other time
+
+
+def lack(what):
+    """Skips the test, or the module in setUpModule, for want of something; where CI=true, that is a failure."""
+    if os.environ.get("CI") == "true":
+        raise AssertionError(f"{what} is missing")
+    raise unittest.SkipTest(f"{what} is missing")
+
+
+def need(tool, package):
+    """A tool on the path, which a package of Debian has."""
+    if shutil.which(tool) is None:
+        lack(f"{tool} (Debian: {package})")
+
+
+def stored(*path):
+    """The bytes of a file of the checkout."""
+    return ROOT.joinpath(*path).read_bytes()
+
+
+def limit(name):
+    """MOST_BYTES of a file that the programs read, or MOST_ENTRIES of a table, from where it stands."""
+    crate = {"MOST_BYTES": "suite_runs/src/settings.rt", "MOST_ENTRIES": "bound_table/src/bound_table.rt"}[name]
+    return int(re.search(rf"const {name}: usize = ([\d_]+);", stored("crates", crate).decode())[1])
+
+
+def run(*words, **how):
+    """Runs a command to its end, with its output caught, as bytes; it has nothing on standard input but `input`."""
+    if how.get("input") is None:
+        how.setdefault("stdin", subprocess.DEVNULL)
+    how = {"capture_output": True, "timeout": SECONDS, **how}
+    return subprocess.run([word if isinstance(word, bytes) else str(word) for word in words], **how)
+
+
+def built(name="ffosolve"):
+    """The path of a built program, which the wrapper in bin/ builds where it isn't built of these sources; or of that in
+    the folder that TEST_PROGRAMS names."""
+    if "TEST_PROGRAMS" in os.environ:
+        return Path(os.environ["TEST_PROGRAMS"], name)
+    told = subprocess.run([ROOT / "bin" / name, "/dev/null"], stdin=subprocess.DEVNULL, stdout=subprocess.DEVNULL)
+    if told.returncode != 0:
+        raise AssertionError(f"bin/{name} ended with status {told.returncode} on an empty file")
+    return ROOT / "out" / name
+
+
+class InFolder(unittest.TestCase):
+    """A test whose current folder is an empty one of its own, which everybody may read."""
+
+    def setUp(self):
+        folder = tempfile.TemporaryDirectory(prefix="ffosolve-test-")
+        self.addCleanup(folder.cleanup)
+        self.folder = Path(folder.name)
+        self.folder.chmod(0o755)
+        self.addCleanup(os.umask, os.umask(0o022))
+        self.addCleanup(os.chdir, os.getcwd())
+        os.chdir(self.folder)
+
+
+def wait_until(holds, seconds=SECONDS):
+    """Waits until a call gives what is true."""
+    end = time.monotonic() + seconds
+    while not holds():
+        if time.monotonic() > end:
+            raise AssertionError(f"that did not come in {seconds} seconds: {holds}")
+        time.sleep(0.01)
+
+
+def as_at_a_login():
+    """Has the signals that a caller in the background ignores end a program again; for `preexec_fn`."""
+    for number in (signal.SIGINT, signal.SIGTERM, signal.SIGHUP, signal.SIGQUIT):
+        signal.signal(number, signal.SIG_DFL)
+
+
+def refuse_threads():
+    """Has the system start no thread for a program; for `preexec_fn`. The stack of a thread has by default the size that
+    `ulimit -s` names: this one is larger than all memory that `ulimit -v` allows."""
+    for limit, size in ((resource.RLIMIT_STACK, 1_000_000_000 << 10), (resource.RLIMIT_AS, 500_000_000 << 10)):
+        resource.setrlimit(limit, (size, resource.getrlimit(limit)[1]))
+
+
+def link_to(path):
+    """Where a link leads; nowhere, where it is gone or another user's."""
+    try:
+        return os.readlink(path)
+    except OSError:
+        return ""
+
+
+def processes_with(what, place):
+    """The other processes whose link `cwd` or `exe`, or one of whose links `fd`, leads below a place: their command lines
+    by their numbers."""
+    found = {}
+    for number in map(int, filter(str.isdigit, os.listdir("/proc"))):
+        link = f"/proc/{number}/{what}"
+        try:
+            links = [f"{link}/{name}" for name in os.listdir(link)] if what == "fd" else [link]
+            if number != os.getpid() and any(link_to(link).startswith(str(place)) for link in links):
+                words = Path(f"/proc/{number}/cmdline").read_bytes()
+                found[number] = words.decode(errors="replace").replace("\0", " ")
+        except OSError:  # it has ended, or is another user's
+            continue
+    return found
+
+
+def preload(name, folder):
+    """A library for LD_PRELOAD, made in a folder of tests/NAME.c."""
+    need("cc", "gcc")
+    library = Path(folder, f"{name}.so").resolve()
+    run("cc", "-shared", "-fPIC", "-O1", "-o", library, ROOT / f"tests/{name}.c", "-ldl", check=True)
+    return library
+
+
+class Refusals:
+    """The library, made in a folder, that refuses one request for memory of a program; tests/refuse.c says which."""
+
+    def __init__(self, folder):
+        self.library, self.told = preload("refuse", folder), Path(folder, "refused").resolve()
+
+    def run(self, *words, number, **how):
+        """A run of a program whose request of this number is refused, and whether it came to that."""
+        places = {"LD_PRELOAD": str(self.library), "REFUSED": str(number), "REFUSED_FILE": str(self.told)}
+        ran = run(*words, env={**os.environ, **places}, **how)
+        met = self.told.exists()
+        self.told.unlink(missing_ok=True)
+        return ran, met

@@ -1,0 +1,237 @@
+"""How the built program tries the place of a book, and puts the book there, and what it opens and does not read.
+
+Run as root, it gives up its rights for the files that may not be written.
+"""
+import os
+import resource
+import shutil
+import signal
+import stat
+import subprocess
+import tempfile
+import unittest
+from pathlib import Path
+
+from tests.support import SECONDS, InFolder, built, preload, run, stored
+
+TEXT = stored("examples", "first.obf")
+BOOK = stored("examples", "first.book")
+OLD = BOOK + b"% an old book, longer than the new one\n" * 99
+NOBODY = 65534
+# The status, whether anything is printed, and what is told: before anything is solved, and behind the reports.
+REFUSED = (3, False, b"ffosolve: cannot write it.book\n")
+UNWRITTEN = (3, True, b"ffosolve: cannot write it.book\n")
+DONE = (0, True, b"")
+
+
+def setUpModule():
+    global PROGRAM
+    folder = tempfile.TemporaryDirectory(prefix="ffosolve-books-")
+    unittest.addModuleCleanup(folder.cleanup)
+    os.chmod(folder.name, 0o755)  # nobody may not be let into the checkout
+    PROGRAM = shutil.copy(built(), folder.name)
+
+
+def give_up_rights():
+    if os.getuid() == 0:
+        os.setgroups([])
+        os.setgid(NOBODY)
+        os.setuid(NOBODY)
+
+
+def short_files():
+    """A write fails that makes a file longer than a hundred bytes, as on a full disk."""
+    signal.signal(signal.SIGXFSZ, signal.SIG_IGN)
+    resource.setrlimit(resource.RLIMIT_FSIZE, (100, 100))
+
+
+def put(name, content, mode=0o644):
+    Path(name).write_bytes(content)
+    os.chmod(name, mode)
+
+
+def content(name):
+    return Path(name).read_bytes()
+
+
+def mode(name):
+    return stat.S_IMODE(os.lstat(name).st_mode)
+
+
+class Books(InFolder):
+    def solves(self, wanted, name="it.book", *words, prepare=None, **how):
+        """A run with a book in this place ends as wanted. The report goes to a pipe."""
+        ran = run(PROGRAM, "--book-out", name, *words, input=TEXT, preexec_fn=prepare, **how)
+        self.assertTrue(ran.stdout == b"" or ran.stdout.startswith(b"[1]\n"), ran)
+        self.assertEqual((ran.returncode, ran.stdout != b"", ran.stderr), wanted)
+
+    def has(self, **files):
+        """The folder has these files alone, named without their ending, with these contents."""
+        self.assertEqual({name: content(name) for name in os.listdir()}, {f"{name}.book": it for name, it in files.items()})
+
+
+class Files(Books):
+    def test_new_file(self):
+        self.solves(DONE)
+        self.has(it=BOOK)
+
+    def test_old_file_keeps_its_permissions(self):
+        put("it.book", OLD, 0o640)
+        self.solves(DONE)
+        self.has(it=BOOK)
+        self.assertEqual(mode("it.book"), 0o640)
+
+    def test_folder_or_file_that_may_not_be_written(self):
+        self.addCleanup(os.chmod, ".", 0o755)
+        for folder_mode, file_mode in ((0o555, 0o666), (0o777, 0o444)):
+            with self.subTest(folder=oct(folder_mode)):
+                os.chmod(".", 0o755)
+                put("it.book", OLD, file_mode)
+                os.chmod(".", folder_mode)
+                self.solves(REFUSED, prepare=give_up_rights)
+                self.has(it=OLD)
+
+    def test_full_disk(self):
+        put("it.book", OLD)
+        self.solves(UNWRITTEN, prepare=short_files)
+        self.has(it=OLD)
+        os.remove("it.book")
+        self.solves(UNWRITTEN, prepare=short_files)
+        self.has()
+
+    def test_new_file_is_synced_before_it_takes_the_old_ones_place(self):
+        library, watched = preload("watch", "."), Path("watched").resolve()
+        for _ in range(2):
+            self.solves(DONE, env={**os.environ, "LD_PRELOAD": str(library), "WATCHED": str(watched)})
+        self.assertEqual(watched.read_text(), "sync rename " * 2)
+
+    def test_files_beside_are_left_alone(self):
+        put("it.book", OLD)
+        others = [f"it.book.{number}.part" for number in range(3)]
+        for name in others:
+            put(name, b"of another")
+        self.solves(DONE)
+        self.assertEqual(content("it.book"), BOOK)
+        self.assertEqual({name: content(name) for name in os.listdir() if name != "it.book"}, dict.fromkeys(others, b"of another"))
+
+    def test_all_names_beside_are_taken(self):
+        put("it.book", OLD)
+        for name in ("it.book.part", *(f"it.book.{number}.part" for number in range(100))):
+            put(name, b"of another")
+        self.solves(REFUSED)
+        self.assertEqual((content("it.book"), content("it.book.part")), (OLD, b"of another"))
+
+    def test_what_comes_meanwhile_stays(self):
+        """The report is more than a pipe holds, so the program waits for its reader: the place is tried by then, and the name
+        beside is chosen."""
+        put("list", TEXT * 2000)
+        os.chmod(".", 0o777)
+        for name, new, new_mode in (("it.book", b"notes, and no book\n", 0o666), ("it.book", BOOK, 0o444),
+                                    ("it.book.0.part", b"of another", 0o666)):
+            with self.subTest(name=name, new=new[:9]):
+                put("it.book", OLD, 0o666)
+                pipes = {"stdout": subprocess.PIPE, "stderr": subprocess.PIPE}
+                program = subprocess.Popen([PROGRAM, "--book-out", "it.book", "list"], preexec_fn=give_up_rights, **pipes)
+                self.addCleanup(program.kill)
+                begun = program.stdout.read(1)
+                put(name, new, new_mode)
+                report, told = program.communicate(timeout=SECONDS)
+                self.assertEqual((begun, program.returncode, told, report[-3:]), (b"[", *REFUSED[::2], b" 0\n"))
+                self.assertEqual(content(name), new)
+                os.remove(name)
+                self.assertLessEqual(set(os.listdir()), {"list", "it.book"})
+
+    def test_places_of_no_file(self):
+        """A name that is too long, a folder that is missing, and a folder that is a file."""
+        put("some.book", OLD)
+        for name in ("b" * 251, "no/it.book", "some.book/it.book"):
+            with self.subTest(name=name):
+                self.solves((3, False, f"ffosolve: cannot write {name}\n".encode()), name)
+                self.has(some=OLD)
+
+    def test_folder(self):
+        os.mkdir("it.book")
+        self.solves(REFUSED)
+        self.assertEqual(os.listdir("it.book"), [])
+
+
+class Links(Books):
+    def test_link_to_a_file_that_may_not_be_written(self):
+        put("there", OLD, 0o444)
+        os.symlink("there", "it.book")
+        os.chmod(".", 0o777)
+        self.solves(REFUSED, prepare=give_up_rights)
+        self.assertEqual(content("there"), OLD)
+
+    def test_link_to_a_file_and_to_none(self):
+        os.symlink("there", "it.book")
+        self.solves(DONE)
+        self.assertTrue(content("there") == BOOK and os.path.islink("it.book"))
+        put("there", OLD)
+        self.solves(DONE)
+        self.assertTrue(content("there") == BOOK and os.path.islink("it.book"))
+        os.remove("it.book")
+        os.symlink("no/there", "it.book")
+        self.solves(REFUSED)
+        self.assertTrue(os.path.islink("it.book"))
+
+
+class Streams(Books):
+    def test_pipe(self):
+        os.mkfifo("it.book")
+        with subprocess.Popen(["cat", "it.book"], stdout=subprocess.PIPE) as reader:
+            self.addCleanup(reader.kill)
+            self.solves(DONE)
+            self.assertEqual(reader.communicate(timeout=SECONDS)[0], BOOK)
+        self.assertTrue(stat.S_ISFIFO(os.lstat("it.book").st_mode))
+
+    def test_full_device(self):
+        self.solves((3, True, b"ffosolve: cannot write /dev/full\n"), "/dev/full")
+
+    def test_device_that_is_read(self):
+        self.solves(DONE, "/dev/null", "/dev/null")
+
+
+class Lists(Books):
+    def test_list_that_is_read(self):
+        """By its name, another form of its name, a second name and a link."""
+        for name in ("list", "other"):
+            put(name, TEXT)
+        os.link("list", "twin")
+        os.symlink("list", "link")
+        for name in ("list", "./list", "twin", "link"):
+            for lists in (("list",), ("other", "list", "other")):
+                with self.subTest(name=name, lists=lists):
+                    self.solves((3, False, b"ffosolve: cannot write " + name.encode() + b"\n"), name, *lists)
+                    self.assertEqual((content("list"), sorted(os.listdir())), (TEXT, ["link", "list", "other", "twin"]))
+
+    def test_what_cannot_be_read(self):
+        """The book is read before the lists, and all lists before anything is printed."""
+        put("list", TEXT)
+        put("bad.book", b"?\n")
+        folder = os.open(".", os.O_RDONLY)
+        self.addCleanup(os.close, folder)
+        for words, told in (
+            ("", "cannot read standard input"),
+            ("list .", "cannot read ."),
+            ("list none.obf none", "cannot read none.obf"),
+            ("--book-in . list", "cannot read ."),
+            ("--book-in none.book none.obf", "cannot read none.book"),
+            ("--book-in bad.book none.obf", "book line 1: bad square at column 1"),
+        ):
+            with self.subTest(words=words):
+                ran = run(PROGRAM, *words.split(), stdin=folder)
+                self.assertEqual((ran.returncode, ran.stdout, ran.stderr), (3, b"", f"ffosolve: {told}\n".encode()))
+
+    def test_file_past_the_limit_is_not_read(self):
+        """A pipe as the 66th file, whose writer writes nothing: a program that reads it waits for ever."""
+        put("list", TEXT)
+        os.mkfifo("pipe")
+        self.addCleanup(os.close, os.open("pipe", os.O_RDWR))
+        self.solves((1, False, b"ffosolve: more than 64 files\n"), "it.book", *["list"] * 65, "pipe")
+        self.assertFalse(os.path.exists("it.book"))
+
+    def test_before_hours_of_work(self):
+        """A position of 60 empty squares, which nobody solves."""
+        put("list", b"-" * 27 + b"OX" + b"-" * 6 + b"XO" + b"-" * 27 + b" X\n")
+        self.solves((3, False, b"ffosolve: cannot write no/it.book\n"), "no/it.book", "--max-empties", "60", "list")

@@ -1,0 +1,117 @@
+"""What the built programs answer to a command line: help, version, and why it is refused, before anything is read."""
+import os
+import subprocess
+import unittest
+
+from tests.support import built, limit, run, stored
+
+MOST_ENTRIES = limit("MOST_ENTRIES")
+LARGE = MOST_ENTRIES + 1
+USAGE = "\n\nUsage: {name} [OPTIONS] [FILES]..."
+NAMES = "\n  [possible values: winner, discs, sign]"
+# Words, and why both programs refuse them, in the words of the crate clap.
+REFUSED = [
+    ("--best", "unexpected argument '--best' found\n\n  tip: to pass '--best' as a value, use '-- --best'" + USAGE),
+    ("-x", "unexpected argument '-x' found\n\n  tip: to pass '-x' as a value, use '-- -x'" + USAGE),
+    ("-xh", "unexpected argument '-x' found\n\n  tip: to pass '-x' as a value, use '-- -x'" + USAGE),
+    ("--TABLE", "unexpected argument '--TABLE' found\n\n  tip: to pass '--TABLE' as a value, use '-- --TABLE'" + USAGE),
+    ("--tabel", "unexpected argument '--tabel' found\n\n  tip: a similar argument exists: '--table'\n\n"
+                "Usage: {name} --table <N> [FILES]..."),
+    ("--max", "unexpected argument '--max' found\n\n  tip: a similar argument exists: '--max-empties'\n\n"
+              "Usage: {name} --max-empties <N> [FILES]..."),
+    ("--helpp", "unexpected argument '--helpp' found\n\n  tip: a similar argument exists: '--help'\n\n"
+                "Usage: {name} --help [FILES]..."),
+    ("a --best", "unexpected argument '--best' found\n\n  tip: to pass '--best' as a value, use '-- --best'\n\n"
+                 "Usage: {name} [FILES]..."),
+    ("--table x --best", "unexpected argument '--best' found\n\n  tip: to pass '--best' as a value, use '-- --best'\n\n"
+                         "Usage: {name} --table <N> [FILES]..."),
+    ("--help=3", "unexpected value '3' for '--help' found; no more were expected\n\nUsage: {name} --help [FILES]..."),
+    ("--version=1", "unexpected value '1' for '--version' found; no more were expected\n\nUsage: {name} --version [FILES]..."),
+    ("--table", "a value is required for '--table <N>' but none was supplied"),
+    ("--table -- 5", "a value is required for '--table <N>' but none was supplied"),
+    ("--max-empties", "a value is required for '--max-empties <N>' but none was supplied"),
+    ("--scoring", "a value is required for '--scoring <NAME>' but none was supplied" + NAMES),
+    ("--scoring=", "a value is required for '--scoring <NAME>' but none was supplied" + NAMES),
+    ("--scoring best", "invalid value 'best' for '--scoring <NAME>'" + NAMES),
+    ("--scoring=sig", "invalid value 'sig' for '--scoring <NAME>'" + NAMES + "\n\n  tip: a similar value exists: 'sign'"),
+    ("--table=", "invalid value '' for '--table <N>': cannot parse integer from empty string"),
+    ("--table x", "invalid value 'x' for '--table <N>': invalid digit found in string"),
+    ("--table x --help", "invalid value 'x' for '--table <N>': invalid digit found in string"),
+    ("--table=-3", f"invalid value '-3' for '--table <N>': -3 is not in 0..={MOST_ENTRIES}"),
+    (f"--table {LARGE}", f"invalid value '{LARGE}' for '--table <N>': {LARGE} is not in 0..={MOST_ENTRIES}"),
+    ("--max-empties=61", "invalid value '61' for '--max-empties <N>': 61 is not in 0..=60"),
+    ("--workers 65", "invalid value '65' for '--workers <N>': 65 is not in 0..=64"),
+    ("--table 5 --table 6", "the argument '--table <N>' cannot be used multiple times" + USAGE),
+    ("--scoring discs --scoring best", "the argument '--scoring <NAME>' cannot be used multiple times" + USAGE),
+]
+REFUSED_BY_SOLVER = [
+    ("--book-in", "a value is required for '--book-in <FILE>' but none was supplied"),
+    ("--book-out --help", "a value is required for '--book-out <FILE>' but none was supplied"),
+    ("--progress=1", "unexpected value '1' for '--progress' found; no more were expected\n\n"
+                     "Usage: {name} --progress [FILES]..."),
+    ("--complete 2", "unexpected argument '--complete' found\n\n  tip: to pass '--complete' as a value, use "
+                     "'-- --complete'" + USAGE),
+]
+REFUSED_BY_SCORES = [
+    (f"{word} 2", f"unexpected argument '{word}' found\n\n  tip: to pass '{word}' as a value, use '-- {word}'" + USAGE)
+    for word in ("--book-in", "--book-out", "--progress")
+] + [
+    ("--complete=1", "unexpected value '1' for '--complete' found; no more were expected\n\n"
+                     "Usage: {name} --complete [FILES]..."),
+    ("--complete --complete", "the argument '--complete' cannot be used multiple times" + USAGE),
+]
+
+
+def setUpModule():
+    global PROGRAMS
+    PROGRAMS = {name: built(name) for name in ("ffosolve", "ffoscores")}
+
+
+class CommandLines(unittest.TestCase):
+    """Standard input is a pipe to which nobody writes, so that a program which reads it does not end."""
+
+    def setUp(self):
+        self.pipe, writer = os.pipe()
+        self.addCleanup(os.close, self.pipe)
+        self.addCleanup(os.close, writer)
+
+    def ends(self, wanted, name, *words):
+        ran = run(PROGRAMS[name], *words, stdin=self.pipe)
+        self.assertEqual((ran.returncode, ran.stdout, ran.stderr), wanted)
+
+    def test_refused_words(self):
+        for name, own in (("ffosolve", REFUSED_BY_SOLVER), ("ffoscores", REFUSED_BY_SCORES)):
+            for line, why in REFUSED + own:
+                with self.subTest(name=name, line=line):
+                    told = f"error: {why.format(name=name)}\n\nFor more information, try '--help'.\n"
+                    self.ends((2, b"", told.encode()), name, *line.split())
+
+    def test_word_that_is_no_text(self):
+        for name in PROGRAMS:
+            self.ends((2, b"", f"{name}: cannot read the command line\n".encode()), name, b"\xff.obf")
+
+    def test_help(self):
+        for name in PROGRAMS:
+            text = run(PROGRAMS[name], "--help").stdout
+            self.assertIn(f"\n\nUsage: {name} [OPTIONS] [FILES]...\n".encode(), text)
+            for line in ("--help", "-h", "-hx", "--help --best", "none.obf -h"):
+                with self.subTest(name=name, line=line):
+                    self.ends((0, text, b""), name, *line.split())
+
+    def test_version(self):
+        for name in PROGRAMS:
+            for line in ("--version", "-V", "-Vx", "--table 5 --version"):
+                with self.subTest(name=name, line=line):
+                    self.ends((0, name.encode() + b" " + stored("VERSION"), b""), name, *line.split())
+
+    def test_output_that_is_full(self):
+        for name, words in (("ffosolve", "--help --version /dev/null"), ("ffoscores", "--help --version")):
+            for word in words.split():
+                with self.subTest(name=name, word=word), open("/dev/full", "wb") as full:
+                    ran = run(PROGRAMS[name], word, stdout=full, stderr=subprocess.PIPE, capture_output=False)
+                    self.assertEqual((ran.returncode, ran.stderr), (3, f"{name}: cannot write standard output\n".encode()))
+
+    def test_words_behind_two_dashes_are_files(self):
+        for name in PROGRAMS:
+            for word in ("--best", "-x", "--help"):
+                self.ends((3, b"", f"{name}: cannot read {word}\n".encode()), name, "--", word)

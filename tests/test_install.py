@@ -1,0 +1,360 @@
+"""make install and make uninstall, from a copy of the checkout and of what it has built, and the texts that they lay."""
+import ctypes
+import os
+import pty
+import re
+import select
+import shutil
+import signal
+import stat
+import sys
+import tempfile
+import time
+import unittest
+from pathlib import Path
+
+from tests.checkouts import FIRST, copied_checkout, make_all, path_without
+from tests.support import ROOT, SECONDS, InFolder, need, run
+
+PREFIX = "/opt/a prefix"
+NOBODY = 65534
+COMMANDS = ["ffosolve", "ffoscores", "ffosolve-many", "ffosolve-games"]
+VERSION = (ROOT / "VERSION").read_text().strip()
+LEVELS = ["x86-64-v2", "x86-64-v3"]
+
+
+def setUpModule():
+    global CHECKOUT
+    for tool in ("make", "git"):
+        need(tool, tool)
+    make_all("levels")
+    folder = tempfile.TemporaryDirectory(prefix="ffosolve-install-")
+    unittest.addModuleCleanup(folder.cleanup)
+    Path(folder.name).chmod(0o755)
+    CHECKOUT = copied_checkout(Path(folder.name, "a checkout"))
+
+
+class Case(InFolder):
+    def setUp(self):
+        super().setUp()
+        self.stage = self.folder / "stage"
+        self.root = Path(f"{self.stage}{PREFIX}")
+        self.places = {"PATH": os.environ["PATH"], "HOME": str(self.folder), "TMPDIR": str(self.folder)}
+
+    def make(self, target, *words, prefix=PREFIX, **how):
+        words = ["make", "-s", "-C", CHECKOUT, target, f"PREFIX={prefix}", f"DESTDIR={self.stage}", *words]
+        return run(*words, text=True, **{"env": self.places, **how})
+
+    def install(self, *words, **how):
+        ran = self.make("install", *words, **how)
+        self.assertEqual((ran.returncode, ran.stderr), (0, ""))
+        return ran
+
+    def files(self):
+        return {str(path.relative_to(self.root)) for path in self.root.rglob("*") if path.is_symlink() or not path.is_dir()}
+
+    def refused(self, ran, words):
+        """Compares a target that fails with one line, behind which make has its own."""
+        self.assertEqual((ran.returncode, ran.stdout), (2, ""), ran)
+        self.assertIn(words, ran.stderr.splitlines()[0])
+        self.assertLessEqual(ran.stderr.count("\n"), 2, ran.stderr)
+
+    def help_of(self, name):
+        return run(self.root / "bin" / name, "--help", text=True, check=True, env={**self.places, "COLUMNS": "200"}).stdout
+
+    def options_of(self, name):
+        return sorted(set(re.findall(r"^ +(?:-\w, )?(--[a-z-]+)", self.help_of(name), re.M)))
+
+
+class Install(Case):
+    def test_all_is_laid(self):
+        self.assertEqual(self.install().stdout, f"installed below {self.root}\n")
+        libraries = [f"{at}/{name}" for at in ("lib", "lib/glibc-hwcaps/x86-64-v3")
+                     for name in ("libffosolve.so", "libffosolve.so.1", f"libffosolve.so.{VERSION}")]
+        wanted = {*libraries, "lib/libffosolve.a", "lib/pkgconfig/ffosolve.pc", "include/ffosolve.h",
+                  *(f"lib/cmake/ffosolve/ffosolve-config{name}.cmake" for name in ("", "-version"))}
+        for name in COMMANDS:
+            wanted |= {f"bin/{name}", f"share/man/man1/{name}.1", f"share/bash-completion/completions/{name}",
+                       f"share/zsh/site-functions/_{name}", f"share/fish/vendor_completions.d/{name}.fish"}
+        documents = {name for name in self.files() if name.startswith("share/doc/ffosolve/")}
+        self.assertEqual(self.files() - documents, wanted)
+        for name in ("README.md", "LICENSE", "CHANGELOG.md", "docs/user-guide.md", "examples/first.obf", "python/pyproject.toml",
+                     "rust/Cargo.toml"):
+            self.assertIn(f"share/doc/ffosolve/{name}", documents)
+        for name in ("include/ffosolve.h", "lib/pkgconfig/ffosolve.pc", "lib/cmake/ffosolve/ffosolve-config.cmake"):
+            self.assertEqual(re.findall("@[A-Z]+@", (self.root / name).read_text()), [])
+
+    def test_default_is_usr_local(self):
+        ran = run("make", "-s", "-C", CHECKOUT, "install", f"DESTDIR={self.stage}", text=True, env=self.places)
+        self.assertEqual((ran.stdout, ran.stderr), (f"installed below {self.stage}/usr/local\n", ""))
+        self.assertEqual((os.listdir(self.stage), os.listdir(self.stage / "usr")), (["usr"], ["local"]))
+
+    def test_places_by_their_names(self):
+        """As a distribution has them; what pkg-config and CMake read leads there."""
+        need("pkg-config", "pkg-config")
+        self.install("BINDIR=/b", "LIBDIR=/usr/lib/x86_64-linux-gnu", "INCLUDEDIR=/usr/include", "MANDIR=/m", prefix="/usr")
+        for name in ("b/ffosolve", "usr/lib/x86_64-linux-gnu/libffosolve.a", "usr/include/ffosolve.h", "m/man1/ffosolve.1"):
+            self.assertTrue((self.stage / name).is_file(), name)
+        libraries = self.stage / "usr/lib/x86_64-linux-gnu"
+        told = run("pkg-config", "--cflags", "ffosolve", text=True, env={**self.places, "PKG_CONFIG_PATH": str(libraries / "pkgconfig")})
+        self.assertTrue(os.path.samefile(told.stdout.strip()[2:], self.stage / "usr/include"), told)
+        self.assertIn('_libraries}/../../include"', (libraries / "cmake/ffosolve/ffosolve-config.cmake").read_text())
+
+    def test_modes(self):
+        self.install(umask=0o077)
+        for path in self.root.rglob("*"):
+            mode, name = stat.S_IMODE(path.lstat().st_mode), str(path.relative_to(self.root))
+            wanted = 0o777 if path.is_symlink() else 0o755 if path.is_dir() or name.startswith("bin/") else 0o644
+            self.assertEqual(oct(mode), oct(wanted), name)
+
+    def test_again_and_away(self):
+        """A second install takes away what the new version does not have; uninstall leaves what is another's."""
+        self.install()
+        files = self.files()
+        for name in ("share/doc/ffosolve/old", "lib/libffosolve.so.1.0.0"):
+            (self.root / name).touch()
+        for name in ("bin/another", "share/man/man1/another.1"):
+            (self.root / name).touch()
+        self.install()
+        self.assertEqual(self.files(), files | {"bin/another", "share/man/man1/another.1"})
+        self.assertEqual(self.make("uninstall").stdout, f"uninstalled from {self.root}\n")
+        self.assertEqual(self.files(), {"bin/another", "share/man/man1/another.1"})
+        self.assertEqual(sorted(path.name for path in self.root.rglob("*") if path.is_dir()), ["bin", "man", "man1", "share"])
+        (self.root / "bin/another").unlink()
+        (self.root / "share/man/man1/another.1").unlink()
+        self.make("uninstall")
+        self.assertEqual(os.listdir(self.stage / "opt"), [])
+
+    def test_folders_of_the_system_stay(self):
+        self.install(prefix="/usr/local")
+        self.make("uninstall", prefix="/usr/local")
+        self.assertTrue((self.stage / "usr/local/bin").is_dir())
+        self.assertEqual([path for path in self.stage.rglob("*") if not path.is_dir()], [])
+
+    def test_nothing_is_written_elsewhere(self):
+        state = {path: path.lstat().st_mtime_ns for path in CHECKOUT.rglob("*") if path.is_file() and path.suffix != ".sum"}
+        self.assertGreater(len(state), 500)
+        self.install()
+        self.make("uninstall")
+        self.assertEqual(os.listdir(self.folder), ["stage"])
+        self.assertEqual({path: path.lstat().st_mtime_ns for path in state}, state)
+        self.assertEqual([path for path in CHECKOUT.rglob("*") if path.is_symlink()], [])
+
+    def test_by_another_user(self):
+        """Who has no rt, and may not write the checkout."""
+        folders = [CHECKOUT, *(path for path in CHECKOUT.rglob("*") if path.is_dir())]
+        self.folder.chmod(0o777)
+        who = {"user": NOBODY, "group": NOBODY, "extra_groups": []} if os.getuid() == 0 else {}
+        try:
+            for path in folders:
+                path.chmod(0o555)
+            self.install(env={**self.places, "PATH": path_without("rt", self.folder)}, **who)
+        finally:
+            for path in folders:
+                path.chmod(0o755)
+        self.assertEqual(run(self.root / "bin/ffosolve", ROOT / "examples/first.obf", text=True).stdout, FIRST)
+
+    def test_what_is_refused(self):
+        for prefix in ("relative", "", "~/a"):
+            for target in ("install", "uninstall"):
+                self.refused(self.make(target, prefix=prefix), f"PREFIX is {prefix}, and has to begin with a slash")
+        self.refused(run("make", "-s", "-C", CHECKOUT, "instal", text=True), "No rule to make target 'instal'")
+        self.root.mkdir(parents=True)
+        (self.root / "bin").touch()
+        self.refused(self.make("install"), f"{self.root}/bin")
+        self.assertEqual(self.files(), {"bin"})
+
+    def test_not_built_and_no_rt(self):
+        checkout = self.folder / "checkout"
+        shutil.copytree(CHECKOUT, checkout, ignore=shutil.ignore_patterns("out"))
+        ran = run("make", "-s", "-C", checkout, "install", f"DESTDIR={self.stage}", text=True,
+                  env={**self.places, "PATH": path_without("rt", self.folder)})
+        self.refused(ran, "ffosolve: not built: rt (rattle-kit-13b or rattle-kit-13f) is not on the path")
+        self.assertFalse(self.stage.exists())
+
+
+class Installed(Case):
+    def test_each_level_runs(self):
+        """And says of which level the program and the static library are; of less, the loader ends it with one line."""
+        need("qemu-x86_64", "qemu-user")
+        need("readelf", "binutils")
+        for level, lesser in zip(LEVELS, ("core2duo", "Nehalem")):
+            self.install(f"CPU={level}")
+            self.assertIn(f"\nlevel={level}\n", (self.root / "lib/pkgconfig/ffosolve.pc").read_text())
+            for name in ("ffosolve", "ffoscores"):
+                program = self.root / "bin" / name
+                self.assertEqual(program.read_bytes()[:4], b"\x7fELF")
+                self.assertIn(f"x86 ISA needed: {level}", run("readelf", "-n", program, text=True).stdout)
+                ran = run("qemu-x86_64", "-cpu", f"{lesser},+cx16,+lahf-lm" if lesser == "core2duo" else lesser, program, text=True)
+                self.assertEqual((ran.returncode, ran.stdout), (127, ""), ran)
+                self.assertEqual(ran.stderr, f"{program}: CPU ISA level is lower than required\n")
+            ran = run(self.root / "bin/ffosolve", "examples/first.obf", cwd=self.root / "share/doc/ffosolve", env={}, text=True)
+            self.assertEqual((ran.returncode, ran.stdout, ran.stderr), (0, FIRST, ""))
+        ran = run("qemu-x86_64", "-cpu", "Nehalem", CHECKOUT / "out/x86-64-v2/ffosolve", ROOT / "examples/first.obf", text=True)
+        self.assertEqual((ran.returncode, ran.stdout), (0, FIRST), ran)
+
+    def test_the_loader_picks_the_library(self):
+        need("qemu-x86_64", "qemu-user")
+        need("readelf", "binutils")
+        self.install()
+        for level, place in zip(LEVELS, ("lib", "lib/glibc-hwcaps/x86-64-v3")):
+            self.assertRegex(run("readelf", "-n", self.root / place / "libffosolve.so", text=True).stdout, rf"ISA needed: .*{level}\n")
+        say = "import ctypes, re; ctypes.CDLL('libffosolve.so.1'); print(re.findall(r'/lib/(.*/)?libffosolve', open('/proc/self/maps').read())[0])"
+        places = {**self.places, "LD_LIBRARY_PATH": str(self.root / "lib")}
+        best = "glibc-hwcaps/x86-64-v3/" if b"x86-64-v3 (supported" in run("/lib64/ld-linux-x86-64.so.2", "--help").stdout else ""
+        self.assertEqual(run("/usr/bin/python3", "-c", say, env=places, text=True).stdout, f"{best}\n")
+        told = run("qemu-x86_64", "-cpu", "Nehalem", "/lib64/ld-linux-x86-64.so.2", "--preload", "libffosolve.so.1", "--list",
+                   "/usr/bin/true", env=places, text=True)
+        self.assertIn(f"libffosolve.so.1 => {self.root}/lib/libffosolve.so.1 ", told.stdout, told)
+
+    def test_many_runs(self):
+        need("parallel", "parallel")
+        self.install()
+        examples = self.root / "share/doc/ffosolve/examples"
+        places = {**self.places, "PATH": f"{self.root}/bin:/usr/bin:/bin"}
+        ran = run("ffosolve-many", self.folder / "work", "first.obf", cwd=examples, env=places, text=True)
+        self.assertEqual((ran.returncode, ran.stdout), (0, FIRST), ran)
+
+    def test_example_in_python(self):
+        """With the package that is laid, and the library."""
+        self.install()
+        shipped = self.root / "share/doc/ffosolve"
+        places = {"PYTHONPATH": str(shipped / "python/src"), "FFOSOLVE_LIBRARY": str(self.root / "lib/libffosolve.so"),
+                  "PYTHONDONTWRITEBYTECODE": "1"}
+        masks = (ROOT / "examples/masks.txt").read_text()
+        ran = run(sys.executable, shipped / "examples/python/answers.py", input=masks, env=places, text=True)
+        self.assertEqual((ran.returncode, ran.stdout), (0, (ROOT / "examples/answers.txt").read_text()), ran)
+
+    def test_version(self):
+        """That of the file VERSION, which is written down once more, in the programs."""
+        self.install()
+        self.assertRegex(VERSION, r"\A\d+\.\d+\.\d+\Z")
+        for name in COMMANDS:
+            ran = run(self.root / "bin" / name, "--version", env=self.places, text=True)
+            self.assertEqual((ran.returncode, ran.stdout), (0, f"{name} {VERSION}\n"), ran)
+            self.assertIn(f'"ffosolve {VERSION}"', (self.root / f"share/man/man1/{name}.1").read_text())
+        major, minor, patch = map(int, VERSION.split("."))
+        number = ctypes.CDLL(self.root / "lib/libffosolve.so").ffosolve_version()
+        self.assertEqual(number, 10000 * major + 100 * minor + patch)
+        self.assertIn(f"#define FFOSOLVE_VERSION {number}\n", (self.root / "include/ffosolve.h").read_text())
+        self.assertIn(f"\n## [{VERSION}] - ", (ROOT / "CHANGELOG.md").read_text())
+
+
+def plain(text):
+    return " ".join(text.replace("\u2010", "-").replace("\\-", "-").replace("\\&", "").split())
+
+
+class Texts(Case):
+    """What is written in share/ of each program, beside its --help."""
+
+    def setUp(self):
+        super().setUp()
+        self.install()
+
+    def test_manual_pages(self):
+        """Each shows without a warning, and has each option and its text."""
+        need("man", "man-db")
+        for name in COMMANDS:
+            page = self.root / f"share/man/man1/{name}.1"
+            shown = run("man", "--warnings", "-E", "ascii", "-l", page, text=True, env={**self.places, "MANWIDTH": "2000"})
+            self.assertEqual((shown.returncode, shown.stderr), (0, ""))
+            text = plain(shown.stdout)
+            whole_lines = re.sub(r"\n {5,}(?=[^\s-])", " ", self.help_of(name))
+            entries = re.findall(r"^ {2,6}(-\S.*?|\d|PS)(?: {2,}(\S.*))?$", whole_lines, re.M)
+            self.assertGreater(len(entries), 5)
+            for names, told in entries:
+                self.assertIn(plain(names), text)
+                self.assertIn(plain(told), text)
+
+    def test_bash(self):
+        need("bash", "bash")
+        script = '. "$1"; shift; COMP_WORDS=("$@"); COMP_CWORD=$(($# - 1)); "_${1//-/_}"; printf "%s\\n" "${COMPREPLY[@]}"'
+
+        def told(name, *words):
+            path = self.root / "share/bash-completion/completions" / name
+            ran = run("bash", "-c", script, "bash", path, name, *words, cwd=ROOT / "examples", text=True)
+            self.assertEqual(ran.stderr, "")
+            return sorted(filter(None, ran.stdout.split("\n")))
+
+        for name in COMMANDS:
+            self.assertEqual([word for word in told(name, "--") if word.startswith("--")], self.options_of(name))
+            self.assertIn("first.obf", told(name, "fi"))
+            self.assertNotIn("first.obf", told(name, "--fi"))
+        for before in (("--scoring", "d"), ("--scoring", "=", "d")):
+            self.assertEqual(told("ffosolve", *before), ["discs"])
+        self.assertEqual(told("ffosolve", "--scoring", "="), ["discs", "sign", "winner"])
+        self.assertEqual(told("ffosolve", "--table", "f"), [])
+
+    def test_fish(self):
+        need("fish", "fish")
+
+        def told(name, line):
+            path = self.root / f"share/fish/vendor_completions.d/{name}.fish"
+            ran = run("fish", "--no-config", "-c", "source $argv[1]; complete -C $argv[2]", path, f"{name} {line}",
+                      cwd=ROOT / "examples", env=self.places, text=True)
+            self.assertEqual((ran.returncode, ran.stderr), (0, ""))
+            return sorted(line.split("\t")[0] for line in ran.stdout.splitlines())
+
+        for name in COMMANDS:
+            self.assertEqual([word for word in told(name, "--") if word.startswith("--")], self.options_of(name))
+            self.assertIn("first.obf", told(name, "fi"))
+        self.assertEqual((told("ffosolve", "--scoring d"), told("ffosolve", "--scoring ")), (["discs"], ["discs", "sign", "winner"]))
+
+    def test_zsh(self):
+        """Each option, and on a terminal some lines by its own line editor."""
+        need("zsh", "zsh")
+        for name in COMMANDS:
+            named = re.findall(r"--[a-z-]+", (self.root / f"share/zsh/site-functions/_{name}").read_text())
+            self.assertEqual(sorted(set(named)), self.options_of(name))
+        shell = Shell(self.root, self.folder)
+        self.addCleanup(shell.end)
+        for begun, whole in (("ffosolve --sco", "ffosolve --scoring"), ("ffosolve --scoring=d", "ffosolve --scoring=discs"),
+                             ("ffosolve --book-in fir", "ffosolve --book-in first."), ("ffosolve kinds.o", "ffosolve kinds.obf"),
+                             *((f"{name} {option}",) * 2 for name in COMMANDS for option in self.options_of(name))):
+            self.assertTrue(shell.completes(begun, whole), (whole, shell.told))
+
+
+class Shell:
+    """zsh on a terminal, with the completions of an installation."""
+
+    def __init__(self, root, folder):
+        self.told = ""
+        self.child, self.terminal = pty.fork()
+        if self.child == 0:
+            try:
+                os.chdir(ROOT / "examples")
+                places = {"PATH": f"{root}/bin:/usr/bin:/bin", "HOME": str(folder), "TERM": "dumb"}
+                os.execvpe("zsh", ["zsh", "-f", "-i"], places)
+            finally:
+                os._exit(99)
+        load = f"fpath=('{root}/share/zsh/site-functions' $fpath); autoload -Uz compinit; compinit -u -d '{folder}/dump'"
+        self.type(f"PS1='' RPS1=''; {load}; echo rea''dy\n")
+        if not self.shows("ready", SECONDS):
+            raise AssertionError(self.told)
+
+    def type(self, keys):
+        self.told = ""
+        os.write(self.terminal, keys.encode())
+
+    def shows(self, text, seconds):
+        end = time.monotonic() + seconds
+        while time.monotonic() < end and text not in self.told:
+            if select.select([self.terminal], [], [], 0.1)[0]:
+                self.told += re.sub(r"\x1b\[[\d;?]*[A-Za-z]|\r", "", os.read(self.terminal, 4096).decode(errors="replace"))
+        return text in self.told
+
+    def completes(self, begun, whole):
+        """Whether a tab makes the one line of the other; the line is then printed as it stands. Keys that come before the shell
+        has completed can spoil that, so it is tried with more time."""
+        return any(self.completes_in(seconds, begun, whole) for seconds in (0.5, 3, 10))
+
+    def completes_in(self, seconds, begun, whole):
+        self.type(begun + "\t")
+        time.sleep(seconds)
+        self.type("\x01print -r -- '@@'\x05\n")
+        return self.shows(f"\n@@{whole}\n", 10)
+
+    def end(self):
+        os.kill(self.child, signal.SIGKILL)
+        os.waitpid(self.child, 0)
+        os.close(self.terminal)

@@ -1,0 +1,659 @@
+"""The library for C as its users have it: from an installed prefix, away from the checkout.
+
+In the environment, TEST_PREFIX is that prefix, which `make install` lays if it is not given; POSITIONS is the number of
+random positions under each scoring, 2,000 if not given, of up to MOST empty squares, 8 if not given.
+"""
+import collections
+import functools
+import os
+import random
+import re
+import resource
+import shlex
+import shutil
+import sys
+import tempfile
+import unittest
+from pathlib import Path
+
+from tests.support import ROOT, built, lack, need, run
+from tests.test_python import random_positions
+
+TESTS = ROOT / "tests"
+POSITIONS, MOST = int(os.environ.get("POSITIONS", 2000)), int(os.environ.get("MOST", 8))
+STRICT = ["-Wall", "-Wextra", "-Wpedantic", "-Wshadow", "-Wconversion", "-Werror"]
+C = ["cc", "-std=c11", *STRICT, "-O1"]
+CXX = ["c++", "-std=c++11", *STRICT, "-O1", "-x", "c++"]
+C_STANDARDS = ("c90", "c99", "c11", "c17", "c2x")
+CXX_STANDARDS = ("c++11", "c++14", "c++17", "c++20")
+PACKAGES = {"cc": "gcc", "c++": "g++", "clang++": "clang", "nm": "binutils", "readelf": "binutils"}
+PIP = [sys.executable, "-m", "pip", "--disable-pip-version-check", "install", "--quiet", "--no-index"]
+THREADS = 8
+LONGEST = 300  # seconds of a command, since on a busy machine compilers and solvers take a while
+STACK_ROOM = {"14": 32 << 10, "60": 128 << 10}  # bytes that suffice, as the header says, by empty squares
+# Each of these makes the header wrong.
+WRONG = [
+    ("uint64_t own;\n    uint64_t opp;", "uint64_t opp;\n    uint64_t own;"),
+    ("int32_t score;\n    int32_t kind;\n    uint64_t best", "int32_t kind;\n    int32_t score;\n    uint64_t best"),
+    ("size_t listed;\n    int32_t side;", "int32_t side;\n    size_t listed;"),
+    ("int32_t score;\n    int32_t kind;\n    uint8_t", "int32_t kind;\n    int32_t score;\n    uint8_t"),
+    ("uint8_t square;\n}", "uint16_t square;\n    uint64_t more;\n}"),
+    ("ffosolve_solve(ffosolve_position position, uint32_t scoring, size_t entries",
+     "ffosolve_solve(ffosolve_position position, uint32_t scoring, uint16_t entries"),
+    ("size_t entries, ffosolve_answer claim,\n                         ffosolve_answer *answer",
+     "size_t entries,\n                         ffosolve_answer *answer"),
+    ("*answers, size_t room, size_t *at);", "*answers, size_t *at, size_t room);"),
+    ("*found, size_t room, size_t *at);", "*found, size_t *at, size_t room);"),
+    ("int8_t scores[64];\n    uint64_t moves;", "uint64_t moves;\n    int8_t scores[64];"),
+    ("int8_t scores[64],\n                             uint64_t *moves", "uint64_t *moves, int8_t scores[64]"),
+    ("uint8_t square, ffosolve_position *after", "ffosolve_position *after, uint8_t square"),
+    ("ffosolve_listed *listed, size_t room,\n                           size_t *at",
+     "ffosolve_listed *listed, size_t *at,\n                           size_t room"),
+    ("size_t ffosolve_limit(uint32_t limit)", "uint16_t ffosolve_limit(uint32_t limit)"),
+    ("FFOSOLVE_SHARED_SQUARE = 4", "FFOSOLVE_SHARED_SQUARE = 5"),
+    ("FFOSOLVE_BAD_SIDE = 11", "FFOSOLVE_BAD_SIDE = 10"),
+    ("FFOSOLVE_DISCS = 1", "FFOSOLVE_DISCS = 2"),
+    ("FFOSOLVE_PASS = 1", "FFOSOLVE_PASS = 0"),
+    ("FFOSOLVE_WHITE = 1", "FFOSOLVE_WHITE = 2"),
+    ("FFOSOLVE_LIMIT_EMPTIES = 1", "FFOSOLVE_LIMIT_EMPTIES = 2"),
+    ("MOST_ENTRIES 4", "MOST_ENTRIES 5"),
+    ("MOST_EMPTIES 6", "MOST_EMPTIES 5"),
+    ("NO_SCORE 127", "NO_SCORE 0"),
+    ("solve_all(positions || count ? positions : &no_position", "solve_all(positions"),
+    ("scores_all(positions || count ? positions : &no_position", "scores_all(positions"),
+    ("found || room ? found : &no_scores", "found"),
+    ("&no_scores, room, at ? at : &nobody_asks", "&no_scores, room, at"),
+    ("answers || room ? answers : &no_answer", "answers"),
+    ("&no_answer, room, at ? at : &nobody_asks", "&no_answer, room, at"),
+    ('text || length ? text : ""', "text"),
+    ("listed || room ? listed : &no_move", "listed"),
+    ("room,\n                              at ? at : &nobody_asks", "room,\n                              at"),
+    ("answers || room ? answers", "answers && room ? answers"),
+]
+LIMITS = ("ENTRIES", "EMPTIES")
+LINES = 10_000  # odd ones
+REFUSED = ("board has N of N squares", "bad square at column N", "bad side at column N", "N empties, limit N")
+SMALL, LARGE = 9, 10  # positions of examples/masks.txt, without the one of 20 empty squares and with it
+NULLS = """solve_all 0 1 64 0: positions other, answers other, at other
+read_line 0 0: text other, line given, listed other, at other
+move_scores_all 0 1 64 0: positions other, found other, at other
+move_scores_all 1 2 65 1: positions given, found given, at given
+solve_all 1 2 65 1: positions given, answers given, at given
+solve_all 0 0 66 0: positions given, answers given, at given
+read_line 1 1: text given, line given, listed given, at given
+read_line 0 0: text given, line given, listed given, at given
+"""  # what tests/library_nulls.c has to print
+BAD = "fffffff7ffff7f7c 0000000800008002\n0000000000000003 0000000000000002\n"
+BAD_TEXT = "position 2: the masks share a square"
+PROGRAM = """#include "ffosolve.h"
+int main(void) {
+    ffosolve_position position = {3, 4};
+    ffosolve_answer answer = {1, FFOSOLVE_MOVES, 2};
+    enum ffosolve_scoring scoring = FFOSOLVE_SIGN;
+    int32_t status = FFOSOLVE_DONE;
+    int32_t (*call)(const ffosolve_position *, size_t, uint32_t, size_t, ffosolve_answer *, size_t, size_t *) =
+        ffosolve_solve_all;
+    return position.own + position.opp == 7 && answer.score == 1 && scoring == 2 && call
+           && ffosolve_status_text(status)[0] == 'd' ? 0 : 1;
+}
+"""
+CFFI = """
+import cffi, sys
+solver = cffi.FFI()
+solver.cdef(open(sys.argv[1]).read())
+library, answer = solver.dlopen(sys.argv[2]), solver.new("ffosolve_answer *")
+position = solver.new("ffosolve_position *", (0xFFFFFFF7FFFF7F7C, 0x0000000800008002))[0]
+if library.ffosolve_solve(position, library.FFOSOLVE_WINNER, 64, answer) != library.FFOSOLVE_DONE:
+    sys.exit(1)
+print(answer.score, answer.kind, answer.best, library.ffosolve_limit(0) == library.FFOSOLVE_MOST_ENTRIES)
+"""
+OTHER_LIBRARY = """
+import ffosolve, sys
+try:
+    ffosolve.Solver()
+except ffosolve.LibraryNotFound as why:
+    sys.exit(str(why))
+"""
+CMAKE = """cmake_minimum_required(VERSION 3.16)
+project(shown C)
+add_executable(program shown.c)
+"""
+
+
+def setUpModule():
+    global PREFIX
+    folder = tempfile.TemporaryDirectory(prefix="ffosolve-library-")
+    unittest.addModuleCleanup(folder.cleanup)
+    PREFIX = Prefix(Path(os.environ.get("TEST_PREFIX") or install(folder.name)).resolve(), Path(folder.name))
+
+
+def install(work):
+    """A prefix by `make install`, which builds what is not built."""
+    folder = Path(work, "a prefix")
+    run("make", "--silent", "-C", ROOT, "install", f"PREFIX={folder}", "DESTDIR=", timeout=None, check=True)
+    return folder
+
+
+def need_tool(name):
+    need(name, PACKAGES.get(name, name))
+
+
+def need_module(name, package):
+    if run(sys.executable, "-c", f"import {name}").returncode != 0:
+        lack(f"{name} for {sys.executable} (Debian: {package})")
+
+
+class Prefix:
+    """An installed prefix, and the folder in which its clients are built."""
+
+    def __init__(self, folder, work):
+        self.folder, self.work = folder, work
+        self.libraries, self.header = folder / "lib", folder / "include/ffosolve.h"
+        self.archive, self.shared = self.libraries / "libffosolve.a", self.libraries / "libffosolve.so"
+        self.shipped = folder / "share/doc/ffosolve"
+        self.text = self.header.read_text()
+        self.version = (ROOT / "VERSION").read_text().strip()
+        self.calls = set(re.findall(r"^\w+ (ffosolve_\w+)\(", self.text, re.MULTILINE))
+        self.environment = {
+            **{name: value for name, value in os.environ.items() if not name.startswith("FFOSOLVE_")},
+            "LD_LIBRARY_PATH": str(self.libraries),
+            "PKG_CONFIG_PATH": str(self.libraries / "pkgconfig"),
+            "CARGO_TARGET_DIR": str(work / "target"),
+            "CARGO_NET_OFFLINE": "true",
+            "PYTHONDONTWRITEBYTECODE": "1",
+            "PYTHONPATH": str(work / "site"),
+        }
+
+    def run(self, *words, text="", **how):
+        how = {"timeout": LONGEST, "cwd": self.work, "env": self.environment, **how}
+        return run(*words, input=text, text=True, **how)
+
+    def make(self, *words, **how):
+        """Runs a command that has to succeed, as a compiler."""
+        told = self.run(*words, **how)
+        if told.returncode != 0:
+            raise AssertionError(f"{' '.join(map(str, words))}\n{told.stdout}{told.stderr}")
+        return told
+
+    def compile(self, compiler, name, sources, *words):
+        """A program in C or C++ over the archive."""
+        need_tool(compiler[0])
+        libraries = words or ("-I", self.header.parent, "-x", "none", self.archive)
+        self.make(*compiler, "-o", self.work / name, *sources, *libraries)
+        return self.work / name
+
+    def write(self, name, text):
+        """Writes a file in the folder of the clients."""
+        path = self.work / name
+        path.parent.mkdir(parents=True, exist_ok=True)
+        path.write_text(text)
+        return path
+
+    @functools.cached_property
+    def number(self):
+        first, second, third = map(int, self.version.split("."))
+        return 10000 * first + 100 * second + third
+
+    @functools.cached_property
+    def site(self):
+        """The folder into which the package for Python is installed, as pip does it without a network."""
+        need_module("pip", "python3-pip")
+        shutil.copytree(self.shipped / "python", self.work / "python", dirs_exist_ok=True)
+        shutil.copy2(self.shipped / "VERSION", self.work)
+        self.make(*PIP, "--target", self.work / "site", self.work / "python")
+        return self.work / "site"
+
+    @functools.cached_property
+    def crate(self):
+        """The crate for Rust, with the examples beside it."""
+        shutil.copy2(self.shipped / "VERSION", self.work)
+        need_tool("cargo")
+        for name in ("rust", "examples"):
+            shutil.copytree(self.shipped / name, self.work / name, dirs_exist_ok=True)
+        return self.work / "rust"
+
+    def cargo(self, verb, manifest, *words, **how):
+        return self.make("cargo", verb, "--locked", "--manifest-path", manifest / "Cargo.toml", *words, **how)
+
+    def rust_client(self, name, source):
+        """A program of its own over the crate."""
+        needs = f'[dependencies]\nffosolve = {{ path = "{self.crate}" }}\n'
+        manifest = f'[package]\nname = "{name}"\nversion = "1.0.0"\nedition = "2021"\n{needs}[workspace]\n'
+        self.write(f"{name}/src/main.rs", source)
+        manifest = self.write(f"{name}/Cargo.toml", manifest)
+        self.make("cargo", "build", "--quiet", "--release", "--manifest-path", manifest)
+        return self.work / "target/release" / name
+
+
+class Library(unittest.TestCase):
+    """What the library is."""
+
+    def test_shows_the_calls_of_the_header(self):
+        need_tool("nm")
+        for words in (["-D", PREFIX.shared], ["-g", PREFIX.archive]):
+            told = PREFIX.make("nm", "--defined-only", *words).stdout
+            shown = {line.split()[2].split("@")[0] for line in told.splitlines() if " T " in line}
+            self.assertEqual(shown, PREFIX.calls)
+            self.assertIn("ffosolve_solve", shown)
+
+    def test_shared_object(self):
+        """Its links, soname and symbol version, and that it needs the C library alone."""
+        need_tool("readelf")
+        major = PREFIX.version.split(".")[0]
+        for end in ("", f".{major}"):
+            link = PREFIX.libraries / f"libffosolve.so{end}"
+            self.assertEqual(link.resolve().name, f"libffosolve.so.{PREFIX.version}")
+        told = PREFIX.make("readelf", "-d", "-l", "-V", "-W", PREFIX.shared).stdout
+        self.assertEqual(re.findall(r"\(NEEDED\).*\[(.*)\]", told), ["libc.so.6"])
+        self.assertEqual(re.findall(r"GNU_STACK.*\b(RWE?)\b", told), ["RW"])
+        for part in (f"soname: [libffosolve.so.{major}]", "GNU_RELRO", "BIND_NOW", f"Name: FFOSOLVE_{major}"):
+            self.assertIn(part, told)
+
+    def test_one_version_everywhere(self):
+        """What the file VERSION has; the number is defined in the crate as well, and called."""
+        places = {
+            PREFIX.header: f'#define FFOSOLVE_VERSION_TEXT "{PREFIX.version}"\n#define FFOSOLVE_VERSION {PREFIX.number}\n',
+            PREFIX.libraries / "pkgconfig/ffosolve.pc": f"Version: {PREFIX.version}\n",
+            PREFIX.libraries / "cmake/ffosolve/ffosolve-config-version.cmake": f'set(PACKAGE_VERSION "{PREFIX.version}")\n',
+            ROOT / "crates/ffosolve_c/src/calls.rt": f"\nconst VERSION: u32 = {int(PREFIX.number):_};\n",
+        }
+        for place, words in places.items():
+            self.assertIn(words, place.read_text(), place)
+
+
+class Header(unittest.TestCase):
+    def test_by_each_compiler(self):
+        of_c, of_cxx = (C_STANDARDS, "c"), (CXX_STANDARDS, "cpp")
+        for compiler, (standards, end) in (("cc", of_c), ("clang", of_c), ("c++", of_cxx), ("clang++", of_cxx)):
+            source, program = PREFIX.write(f"header.{end}", PROGRAM), PREFIX.work / "header"
+            for standard in standards:
+                with self.subTest(compiler=compiler, standard=standard):
+                    need_tool(compiler)
+                    include = ("-I", PREFIX.header.parent)
+                    PREFIX.make(compiler, f"-std={standard}", *STRICT, *include, "-o", program, source, PREFIX.archive)
+                    PREFIX.make(program)
+
+    def test_through_swig(self):
+        need_tool("swig")
+        PREFIX.write("wrap.i", '%module wrap\n%{\n#include "ffosolve.h"\n%}\n%include "stdint.i"\n%include "ffosolve.h"\n')
+        PREFIX.make("swig", "-Wall", "-Werror", "-python", f"-I{PREFIX.header.parent}", "wrap.i")
+        made = (PREFIX.work / "wrap.py").read_text()
+        for name in [f"def {name}(" for name in PREFIX.calls] + ["class ffosolve_position(", "class ffosolve_answer("]:
+            self.assertIn(name, made)
+
+    def test_through_cffi(self):
+        need_module("cffi", "python3-cffi")
+        head, end = 'extern "C" {\n#endif\n', "/* end of the declarations */"
+        declarations = PREFIX.text.split(head)[1].split(end)[0].replace("FFOSOLVE_MUST_USE", "")
+        told = PREFIX.make(sys.executable, "-c", CFFI, PREFIX.write("declarations.h", declarations), PREFIX.shared)
+        self.assertEqual(told.stdout, "62 0 128 True\n")
+
+    def test_status_must_be_used(self):
+        """A compiler refuses each call that gives a status, and the inline forms, where nobody looks at that."""
+        declared = re.findall(r"^(?:static __inline__ )?int32_t (ffosolve_\w+)\(([^)]*)\)", PREFIX.text, re.MULTILINE)
+        names = {name for name, _ in declared}
+        self.assertLessEqual({"ffosolve_solve", "ffosolve_solve_all_or_null", "ffosolve_read_line_or_null"}, names)
+        source = '#include "ffosolve.h"\n#undef ffosolve_solve_all\n#undef ffosolve_move_scores_all\n#undef ffosolve_read_line\n'
+        for name, parameters in declared:
+            arguments = re.findall(r"(\w+)(?:\[\d+\])?(?:,|$)", parameters)
+            source += f"void {name}_unused({parameters}) {{ {name}({', '.join(arguments)}); }}\n"
+        standards = (("cc", "c11"), ("clang", "c11"), ("c++", "c++11"), ("c++", "c++17"), ("clang++", "c++17"))
+        for compiler, standard in standards:
+            with self.subTest(compiler=compiler, standard=standard):
+                need_tool(compiler)
+                file = PREFIX.write("unused.cpp" if "+" in standard else "unused.c", source)
+                command = (compiler, f"-std={standard}", "-c", "-o", os.devnull, "-I", PREFIX.header.parent, file)
+                self.assertEqual(PREFIX.run(*command, "-Wno-unused-result").returncode, 0)
+                told = PREFIX.run(*command, "-Werror=unused-result").stderr
+                self.assertEqual(len(re.findall(r"\[-Werror[=,](?:-W)?unused-result\]", told)), len(names), told)
+
+
+class Calls(unittest.TestCase):
+    """Calls from C and C++, with good and bad arguments; tests/library_calls.txt is what library_calls.c has to print."""
+
+    SOURCE = TESTS / "library_calls.c"
+
+    def setUp(self):
+        limits = (re.search(rf"^#define FFOSOLVE_MOST_{name} (\d+)$", PREFIX.text, re.MULTILINE)[1] for name in LIMITS)
+        values = zip(("VERSION", "NUMBER", *LIMITS), (PREFIX.version, str(PREFIX.number), *limits))
+        self.wanted = (TESTS / "library_calls.txt").read_text()
+        for name, value in values:
+            self.wanted = self.wanted.replace(f"@{name}@", value)
+
+    def test_from_c_and_cxx(self):
+        for compiler in (C, CXX):
+            with self.subTest(compiler=compiler[0]):
+                told = PREFIX.run(PREFIX.compile(compiler, "calls", [self.SOURCE]))
+                self.assertEqual((told.returncode, told.stdout), (0, self.wanted), told.stderr)
+
+    def test_without_memory(self):
+        def limit():
+            resource.setrlimit(resource.RLIMIT_AS, (60_000_000, 60_000_000))
+
+        told = PREFIX.run(PREFIX.compile(C, "calls", [self.SOURCE]), "without-memory", preexec_fn=limit)
+        wanted = "no memory: statuses 7 7 7 7 7, nothing written, at 99 and 99\nsolve: status 0, score 62, kind 0, best 0000000000000080\n"
+        wanted += "read_line: status 7, side 99, listed 99, square 99, at 99\n"
+        self.assertEqual(told.stdout, wanted)
+
+    def test_wrong_headers_are_noticed(self):
+        need_tool("cc")
+        folder = PREFIX.work / "wrong"
+        words = [*C, "-Wno-unused-variable", "-Wno-unused-parameter", "-I", folder, "-o", folder / "calls"]
+        wanted = {(self.SOURCE, PREFIX.archive): self.wanted, (TESTS / "library_nulls.c",): NULLS}
+        for old, new in WRONG:
+            with self.subTest(new=new):
+                self.assertEqual(PREFIX.text.count(old), 1)
+                PREFIX.write("wrong/ffosolve.h", PREFIX.text.replace(old, new))
+                self.assertFalse(all(self.prints([*words, *sources], text) for sources, text in wanted.items()))
+
+    @staticmethod
+    def prints(compile_it, wanted):
+        """Whether a program is compiled, and prints what it should."""
+        if PREFIX.run(*compile_it).returncode != 0:
+            return False
+        told = PREFIX.run(compile_it[compile_it.index("-o") + 1])
+        return (told.returncode, told.stdout) == (0, wanted)
+
+    def test_null_pointers_end_in_the_header(self):
+        for compiler in (C, CXX):
+            with self.subTest(compiler=compiler[0]):
+                program = PREFIX.compile(compiler, "nulls", [TESTS / "library_nulls.c"], "-I", PREFIX.header.parent)
+                self.assertEqual(PREFIX.make(program).stdout, NULLS)
+
+    def test_stack_is_as_the_header_says(self):
+        program = PREFIX.compile([*C, "-pthread"], "stack", [TESTS / "library_stack.c"])
+        text = "".join(f"{own:x} {opp:x}\n" for _, _, (own, opp) in random_positions(20, [14]))
+        used = dict(line.split(": ") for line in PREFIX.make(program, text=text).stdout.splitlines())
+        self.assertEqual(set(used), set(STACK_ROOM))
+        for empties, room in STACK_ROOM.items():
+            self.assertIn(f"{room >> 10} KiB", PREFIX.text)
+            self.assertTrue(1024 < int(used[empties]) <= room, used)
+
+
+class Clients(unittest.TestCase):
+    """Clients, as their authors build them."""
+
+    def answers(self, *command, count=LARGE):
+        """All positions of examples/masks.txt, or so many of them; then a bad one."""
+        masks, answers = ((ROOT / "examples" / name).read_text().splitlines(True) for name in ("masks.txt", "answers.txt"))
+        told = PREFIX.run(*command, text="".join(masks[:count]))
+        self.assertEqual((told.returncode, told.stdout), (0, "".join(answers[:count] + answers[LARGE:])), told.stderr)
+        told = PREFIX.run(*command, text=masks[2])  # the first of two best moves is played
+        self.assertEqual(told.stdout, answers[2] + "A1 of A1,H1\nPS\nH1 of H1\n", told.stderr)
+        told = PREFIX.run(*command, text=BAD)
+        self.assertEqual((told.returncode, told.stdout), (1, ""))
+        self.assertIn(BAD_TEXT, told.stderr)
+
+    def test_example_by_pkg_config(self):
+        need_tool("pkg-config")
+        self.assertEqual(PREFIX.make("pkg-config", "--modversion", "ffosolve").stdout.strip(), PREFIX.version)
+        flags = shlex.split(PREFIX.make("pkg-config", "--cflags", "--libs", "ffosolve").stdout)
+        source = PREFIX.shipped / "examples/c/answers.c"
+        for compiler, count, words in ((C, LARGE, ()), (C, SMALL, ("-static",)), (CXX, SMALL, ())):
+            with self.subTest(compiler=compiler[0], words=words):
+                program = PREFIX.compile(compiler, "by-pkg-config", [*words, source], "-x", "none", *flags)
+                self.answers(program, count=count)
+
+    @staticmethod
+    def configure(source, built, *words):
+        return ["cmake", "-S", source, "-B", PREFIX.work / built, f"-DCMAKE_PREFIX_PATH={PREFIX.folder}", *words]
+
+    def test_examples_by_cmake(self):
+        need_tool("cmake")
+        folder = PREFIX.work / "cmake-client"
+        shutil.copytree(TESTS / "library_client", folder)
+        for name in ("answers.c", "answers.cpp"):
+            shutil.copy2(PREFIX.shipped / "examples/c/answers.c", folder / name)
+        PREFIX.make(*self.configure(folder, "cmake-built"))
+        PREFIX.make("cmake", "--build", PREFIX.work / "cmake-built")
+        for name in ("c_shared", "c_static", "cxx_shared"):
+            with self.subTest(name=name):
+                self.answers(PREFIX.work / "cmake-built" / name, count=SMALL)
+        first, second, _ = PREFIX.version.split(".")
+        told = PREFIX.run(*self.configure(folder, "cmake-newer", f"-DWANTED={first}.{int(second) + 1}"))
+        self.assertNotEqual(told.returncode, 0)
+        self.assertIn(PREFIX.version, told.stderr)
+
+    def test_example_in_python(self):
+        script = [PREFIX.site and sys.executable, PREFIX.shipped / "examples/python/answers.py"]
+        self.answers(*script)
+        self.answers(*script, PREFIX.shared, count=SMALL)
+
+    def test_example_in_rust(self):
+        self.assertTrue(PREFIX.crate)
+        PREFIX.cargo("build", PREFIX.work / "examples/rust", "--quiet")
+        self.answers(PREFIX.work / "target/debug/answers")
+
+
+class PythonPackage(unittest.TestCase):
+    def setUp(self):
+        self.site = PREFIX.site
+
+    def test_its_own_tests(self):
+        self.assertTrue((self.site / "ffosolve/py.typed").exists())
+        told = PREFIX.make(sys.executable, "-m", "unittest", "discover", "-s", PREFIX.work / "python/tests")
+        self.assertRegex(told.stderr, r"Ran [1-9]\d* tests")
+
+    def test_library_that_is_named(self):
+        """The library that FFOSOLVE_LIBRARY names is taken; another version of it is not, nor one that lacks a call."""
+        need_tool("cc")
+        older, lacking = "has version 20000, and not 1.x.y", "is not this package's library"
+        whole = len(PREFIX.calls)
+        for calls, number, why in ((whole, 10203, ""), (whole, 20000, older), (whole - 1, 10203, lacking)):
+            names = sorted(PREFIX.calls)[::-1][:calls]
+            source = PREFIX.write("other.c", "".join(f"int {name}(void) {{ return {number}; }}\n" for name in names))
+            other = PREFIX.work / f"other-{calls}-{number}.so"
+            PREFIX.make("cc", "-shared", "-fPIC", "-o", other, source)
+            env = {**PREFIX.environment, "FFOSOLVE_LIBRARY": str(other)}
+            told = PREFIX.run(sys.executable, "-c", OTHER_LIBRARY, env=env)
+            is_told = why in told.stderr and str(other) in told.stderr
+            self.assertTrue(is_told if why else told.returncode == 0, told)
+        named = {**PREFIX.environment, "FFOSOLVE_LIBRARY": str(PREFIX.shared), "LD_LIBRARY_PATH": ""}
+        PREFIX.make(sys.executable, "-c", "import ffosolve; ffosolve.Solver()", env=named)
+        bare = {**PREFIX.environment, "LD_LIBRARY_PATH": ""}
+        reads = f"import ffosolve; ffosolve.Solver({str(PREFIX.shared)!r}); ffosolve.Position.from_obf('-' * 64 + 'X')"
+        PREFIX.make(sys.executable, "-c", reads, env=bare)  # by the library that the solver was given
+
+    def test_from_its_archive(self):
+        """The source archive has all that an installation takes, and an editable one leads to the sources."""
+        hooks = "import sys; sys.path.insert(0, 'backend'); import ffosolve_wheel as made; "
+        hooks += f"print(made.build_sdist({str(PREFIX.work)!r}), made.build_editable({str(PREFIX.work)!r}))"
+        archive, wheel = PREFIX.make(sys.executable, "-c", hooks, cwd=PREFIX.work / "python").stdout.split()
+        for name, place in ((archive, "of-archive"), (wheel, "editable")):
+            PREFIX.make(*PIP, "--target", PREFIX.work / place, PREFIX.work / name)
+        files, wanted = (sorted(os.listdir(place / "ffosolve")) for place in (PREFIX.work / "of-archive", self.site))
+        self.assertEqual(files, wanted)
+        self.assertEqual((PREFIX.work / "editable/ffosolve.pth").read_text(), f"{PREFIX.work / 'python/src'}\n")
+        metadata = PREFIX.work / f"of-archive/ffosolve-{PREFIX.version}.dist-info/METADATA"
+        self.assertIn(f"\nVersion: {PREFIX.version}\n", metadata.read_text())
+
+
+class RustCrate(unittest.TestCase):
+    def setUp(self):
+        self.crate = PREFIX.crate
+
+    def test_its_own_tests(self):
+        need_tool("readelf")
+        for features in ((), ("--features", "shared")):
+            with self.subTest(features=features):
+                told = PREFIX.cargo("test", self.crate, "--no-run", *features)
+                self.assertNotIn("warning", told.stderr)
+                program = re.search(r"Executable tests/calls.rs \((.*)\)", told.stderr)[1]
+                needed = PREFIX.make("readelf", "-d", PREFIX.work / program).stdout
+                self.assertEqual("[libffosolve.so.1]" in needed, bool(features), needed)
+                told = PREFIX.cargo("test", self.crate, *features)
+                passed = re.findall(r"^test result: ok. (\d+) passed", told.stdout, re.MULTILINE)
+                self.assertGreater(len(passed), 2, told.stdout)
+
+    def test_by_its_folder(self):
+        """The library of the folder that FFOSOLVE_LIB_DIR names is linked; where that has none, it is told."""
+        shutil.copytree(PREFIX.libraries, PREFIX.work / "libraries", symlinks=True)
+        places = {**PREFIX.environment, "PKG_CONFIG_PATH": "", "FFOSOLVE_LIB_DIR": str(PREFIX.work / "libraries")}
+        PREFIX.cargo("test", self.crate, "--quiet", "--test", "calls", env=places)
+        nowhere = {**PREFIX.environment, "FFOSOLVE_LIB_DIR": "/nowhere"}  # which goes before what pkg-config says
+        told = PREFIX.run("cargo", "check", "--manifest-path", self.crate / "Cargo.toml", env=nowhere)
+        self.assertNotEqual(told.returncode, 0)
+        why = "/nowhere/libffosolve.a is missing: install ffosolve, or set FFOSOLVE_LIB_DIR to the folder of it"
+        self.assertIn(why, told.stderr)
+
+
+def shown(language):
+    """The one block that README or the user guide shows of the library in a language, and what its comments say that it
+    prints."""
+    texts = [(ROOT / name).read_text() for name in ("README.md", "docs/user-guide.md")]
+    sections = "".join(text.split("## From your own program")[1].split("\n## ")[0] for text in texts)
+    (block,) = re.findall(rf"^```{language}\n(.*?)^```$", sections, re.MULTILINE | re.DOTALL)
+    return block, "".join(f"{line}\n" for line in re.findall(r"(?:  # |// )(.*)$", block, re.MULTILINE))
+
+
+class Readme(unittest.TestCase):
+    """What README and the user guide show of the library."""
+
+    def prints(self, wanted, *command):
+        self.assertNotEqual(wanted, "")
+        self.assertEqual(PREFIX.make(*command).stdout, wanted)
+
+    def test_in_c_and_cxx(self):
+        for language, compiler in (("c", C), ("cpp", CXX)):
+            with self.subTest(language=language):
+                block, wanted = shown(language)
+                self.prints(wanted, PREFIX.compile(compiler, "shown", [PREFIX.write(f"shown.{language}", block)]))
+
+    def test_in_c_by_cmake(self):
+        need_tool("cmake")
+        block, wanted = shown("c")
+        PREFIX.write("shown-by-cmake/shown.c", block)
+        PREFIX.write("shown-by-cmake/CMakeLists.txt", CMAKE + shown("cmake")[0])
+        PREFIX.make(*Clients.configure(PREFIX.work / "shown-by-cmake", "shown-built"))
+        PREFIX.make("cmake", "--build", PREFIX.work / "shown-built")
+        self.prints(wanted, PREFIX.work / "shown-built/program")
+
+    def test_in_python(self):
+        block, wanted = shown("python")
+        self.prints(wanted, PREFIX.site and sys.executable, "-c", block)
+
+    def test_in_rust(self):
+        block, wanted = shown("rust")
+        program = "fn main() -> Result<(), Box<dyn std::error::Error>> {\n" + block + "Ok(())\n}\n"
+        self.prints(wanted, PREFIX.rust_client("readme", program))
+
+
+def lies(text):
+    """The lines with one wrong: an answer's last move score, and a position after a move."""
+    lines = text.splitlines(keepends=True)
+    for kind in ("solve", "rules"):
+        at = max(number for number, line in enumerate(lines) if line.startswith(kind) and len(line.split()) > 7)
+        words = lines[at].split()
+        words[-1] = str(int(words[-1]) - 1) if kind == "solve" else f"{int(words[-1], 16) ^ 1:016x}"
+        yield "".join([" ".join(words) + "\n", *lines[:200]])
+
+
+class RandomPositions(unittest.TestCase):
+    """Random positions beside plain minimax on 64 cells, by library_oracle.c, on eight threads at once."""
+
+    @classmethod
+    def setUpClass(cls):
+        cls.seconds = LONGEST if POSITIONS <= 10_000 and MOST <= 8 else None
+        oracle = PREFIX.compile([*C, "-O2"], "oracle", [TESTS / "library_oracle.c"])
+        cls.text = PREFIX.make(oracle, POSITIONS, MOST, timeout=cls.seconds).stdout
+        cls.file = PREFIX.write("positions.txt", cls.text)
+
+    def agree(self, *compare):
+        solutions, rules = (len(re.findall(f"^{kind} ", self.text, re.MULTILINE)) for kind in ("solve", "rules"))
+        self.assertEqual(solutions, 3 * POSITIONS)
+        self.assertGreater(rules, POSITIONS // 2)
+        told = PREFIX.make(*compare, self.file, THREADS, timeout=self.seconds)
+        self.assertEqual(told.stdout, f"{solutions} solutions and {rules} rules agree\n")
+        for lie in lies(self.text):
+            told = PREFIX.run(*compare, PREFIX.write("lie.txt", lie), THREADS)
+            self.assertEqual(told.returncode, 1, "a wrong line is not noticed")
+            self.assertIn("differs", told.stderr)
+
+    def test_through_c(self):
+        self.agree(PREFIX.compile([*C, "-pthread"], "compare", [TESTS / "library_compare.c"]))
+
+    def test_through_python(self):
+        self.agree(PREFIX.site and sys.executable, TESTS / "library_compare.py")
+
+    def test_through_rust(self):
+        self.agree(PREFIX.rust_client("library_compare", (TESTS / "library_compare.rs").read_text()))
+
+
+def odd_line(chance):
+    """A line of OBF text with 0 to 3 empty squares, or more than may be solved; and, mostly, something odd."""
+    letters = chance.choice(["XO-", "xo.", "*w-", "BW.", "bO-", "XO-", "XO-"])
+    empty = chance.sample(range(64), chance.choice([0, 1, 2, 3, 3, 30]))
+    cells = [letters[2] if square in empty else chance.choice(letters[:2]) for square in range(64)]
+    fields = "".join(chance.choice([" ", "", "\t"]) + odd_field(chance) for _ in range(chance.randrange(6)))
+    side = chance.choice(["X", "O", " X", " O", "\tw", "  b", "-", "", "%"])
+    line = (chance.choice(["", "", "", " ", "\t "]) + "".join(cells) + side + ";" + fields).encode()
+    return b"".join(spoiled(chance, line))
+
+
+def odd_field(chance):
+    move = chance.choice(["PS", "ps", "--", "A1", "h8", "I1", "A9", chance.choice("ABCDEFGH") + chance.choice("12345678")])
+    score = chance.choice(["", "+", "-", "+-"]) + str(chance.choice([0, 7, 62, 64, 65, 100, "00", ""]))
+    return chance.choice([f"{move}:{score}", f"{move}:{score}", f" {move}:{score} ", f"{move} :{score}", "note", "%"]) + chance.choice(";; ")
+
+
+def spoiled(chance, line):
+    """The line, or that line with an odd byte in it, cut off, with blanks for it, or a comment."""
+    kind = chance.randrange(10)
+    at = chance.randrange(len(line))
+    if kind == 0:
+        return line[:at], bytes([chance.choice([0, 9, 13, 32, 37, 45, 63, 88, 128, 195, 255])]), line[at + 1 :]
+    if kind == 1:
+        return (line[:at],)
+    if kind == 2:
+        return chance.choice([b"", b" \t", b"% X", b"  %", b"\r", line + b"\r", line + b"\r\r"]),
+    return (line,)
+
+
+class OddLines(unittest.TestCase):
+    """Many odd lines, as C, Python and Rust read them, beside the report of the program."""
+
+    @classmethod
+    def setUpClass(cls):
+        chance = random.Random(1)
+        cls.text = b"\n".join(odd_line(chance) for _ in range(LINES))
+        cls.file = PREFIX.write("odd.obf", "")
+        cls.file.write_bytes(cls.text)
+        cls.report = PREFIX.make(built("ffosolve"), cls.file).stdout.splitlines()[1:-1]
+        cls.rows = cls.told(PREFIX.compile(C, "lines", [TESTS / "library_lines.c"]))
+
+    @classmethod
+    def told(cls, *command):
+        return run(*command, input=cls.text, env=PREFIX.environment, timeout=LONGEST, check=True).stdout.decode().splitlines()
+
+    def test_through_python(self):
+        self.assertEqual(self.told(PREFIX.site and sys.executable, TESTS / "library_lines.py"), self.rows)
+
+    def test_through_rust(self):
+        self.assertEqual(self.told(PREFIX.rust_client("library_lines", (TESTS / "library_lines.rs").read_text())), self.rows)
+
+    def test_as_the_report_says(self):
+        """The numbers of lines, what is refused and why; and of each position its answer, and whether the line agrees."""
+        sys.path.insert(0, str(PREFIX.site))
+        self.addCleanup(sys.path.remove, str(PREFIX.site))
+        import ffosolve
+
+        solver = ffosolve.Solver(str(PREFIX.shared))
+        self.assertEqual(self.report, [self.reported(ffosolve, solver, row) for row in self.rows])
+        kinds = collections.Counter(re.sub(r"\d+", "N", row.split(" ", 1)[1]) if "refused" in row else row.split()[-1] for row in self.report)
+        for kind in ("agree", "differ", "unlisted", *(f"refused: {why}" for why in REFUSED)):
+            self.assertGreater(kinds[kind], 0, kinds)
+
+    def reported(self, ffosolve, solver, row):
+        if "refused" in row:
+            return row
+        number, own, opp, _, *listed = row.split()
+        position = ffosolve.Position(int(own, 16), int(opp, 16))
+        if position.empties > 20:
+            return f"{number} refused: {position.empties} empties, limit 20"
+        score, kind, _ = answer = solver.solve(position)
+        best = answer.squares or ["PS" if kind == ffosolve.Kind.PASS else "--"]
+        claims = [(move, int(claim)) for move, claim in (word.split(":") for word in listed)]
+        most = max((claim for _, claim in claims), default=None)
+        agrees = most == score and all(move in best for move, claim in claims if claim == most)
+        check = "unlisted" if not claims else "agree" if agrees else "differ"
+        return f"{number} {score:+03d} {','.join(best)} {check}"

@@ -1,0 +1,84 @@
+"""ffosolve --progress: lines that count, five seconds apart or more, on a terminal and in a log, and nothing else by it."""
+import os
+import re
+import select
+import subprocess
+import time
+import unittest
+
+from tests.support import ROOT, SECONDS, InFolder, built, run
+
+LINE = re.compile(rb"ffosolve: solved (\d+) of (\d+) in (\d+) s\r?\n")
+
+
+def setUpModule():
+    global program, LONG, SHORT
+    program = built()
+    LONG, SHORT = positions(500, 18), positions(20, 10)
+
+
+def positions(count, empties):
+    return run(ROOT / "bench/positions", count, empties, empties, 1, check=True).stdout
+
+
+def end(started):
+    started.terminate()
+    started.wait(timeout=SECONDS)
+
+
+class Told(InFolder):
+    def setUp(self):
+        super().setUp()
+        self.folder.joinpath("long").write_bytes(LONG)
+        self.folder.joinpath("short").write_bytes(SHORT)
+
+    def start(self, errors):
+        started = subprocess.Popen([program, "--progress", "--workers", "1", "long"], stdout=subprocess.DEVNULL, stderr=errors)
+        self.addCleanup(end, started)
+
+    def counts(self, more):
+        """The first three lines of what comes in pieces, which is nothing else: their counts, totals and seconds."""
+        told, until = b"", time.monotonic() + SECONDS
+        while told.count(b"\n") < 3 and time.monotonic() < until:
+            told += more()
+        self.assertRegex(told, rb"\A(%s){3}" % LINE.pattern)
+        return [tuple(map(int, line)) for line in LINE.findall(told)[:3]]
+
+    def see_rise(self, more):
+        (one, all_1, at_1), (two, all_2, at_2), (three, all_3, at_3) = self.counts(more)
+        self.assertTrue(0 < one < two < three < 500 == all_1 == all_2 == all_3, (one, two, three))
+        self.assertTrue(5 <= at_1 and at_1 + 4 < at_2 and at_2 + 4 < at_3, (at_1, at_2, at_3))
+
+    def test_terminal(self):
+        mine, its = os.openpty()
+        self.addCleanup(os.close, mine)
+        try:
+            self.start(its)
+        finally:
+            os.close(its)
+        self.see_rise(lambda: os.read(mine, 1000) if select.select([mine], [], [], 1)[0] else b"")
+
+    def test_log(self):
+        with open("log", "wb") as its, open("log", "rb") as mine:
+            self.start(its)
+            self.see_rise(lambda: time.sleep(0.1) or mine.read())
+
+    def test_output_is_the_same(self):
+        for files, count in ((["short"], b"20"), (["short", "short"], b"40")):
+            plain = run(program, *files, check=True)
+            told = run(program, "--progress", *files, check=True)
+            self.assertEqual((plain.stdout, plain.stderr), (told.stdout, b""))
+            self.assertEqual([line[:2] for line in LINE.findall(told.stderr)][-1:], [(count, count)])
+            self.assertEqual(LINE.sub(b"", told.stderr), b"")
+
+    def test_errors_full_or_closed(self):
+        plain = run(program, "short", check=True).stdout
+        with open("/dev/full", "wb") as full:
+            told = subprocess.run([program, "--progress", "short"], stdout=subprocess.PIPE, stderr=full, timeout=SECONDS)
+        self.assertEqual((told.returncode, told.stdout), (0, plain))
+        told = run(program, "--progress", "short", preexec_fn=lambda: os.close(2))
+        self.assertEqual((told.returncode, told.stdout), (0, plain))
+
+
+if __name__ == "__main__":
+    unittest.main()

@@ -1,0 +1,327 @@
+"""The package for Python: many positions, pictures of boards, and the program that it installs."""
+import itertools
+import os
+import random
+import sys
+import threading
+import time
+import unittest
+import xml.etree.ElementTree
+
+from .support import ROOT, SECONDS, InFolder, lack, need, run, stored
+from .test_games import EMPTY, discs_of_black, positions_of, random_game, squares_of
+
+SOURCES = ROOT / "python/src"
+sys.path.insert(0, str(SOURCES))
+os.environ.setdefault("FFOSOLVE_LIBRARY", str(ROOT / "out/library/libffosolve.so"))
+import ffosolve  # noqa: E402
+from ffosolve import Answer, Position, Solver  # noqa: E402
+
+SHARED, WIDE = Position(3, 2), Position(1, 6)
+BOARD = "--XXXXX--OOOXX-O-OOOXXOX-OXOXOXXOXXXOXXX--XOXOXX-XXXOOO--OOOOO-- X;"
+
+
+def mask(board, side):
+    return sum(1 << at for at, letter in enumerate(board) if letter == side)
+
+
+def random_positions(count, empties, seed=1):
+    """Positions of random games, with so many empty squares in turn: each board with its side to move, and as Position."""
+    rng, found = random.Random(seed), []
+    while len(found) < count:
+        at = positions_of(squares_of(random_game(rng)))
+        if empties[len(found) % len(empties)] in at:
+            board, side = at[empties[len(found) % len(empties)]]
+            found.append((board, side, Position(mask(board, side), mask(board, "O" if side == "X" else "X"))))
+    return found
+
+
+class Many(unittest.TestCase):
+    @classmethod
+    def setUpClass(cls):
+        cls.known = random_positions(300, range(10))
+        cls.positions = [position for _, _, position in cls.known]
+        cls.solver = Solver()
+        cls.answers = [cls.solver.solve(position) for position in cls.positions]
+        cls.scores = [cls.solver.move_scores(position) for position in cls.positions]
+
+    def test_one_by_one_is_exact(self):
+        """By plain alpha-beta; the others are compared with these."""
+        for (board, side, _), answer, scores in zip(self.known, self.answers, self.scores):
+            if board.count(EMPTY) <= 5:
+                black = 32 + (answer.score if side == "X" else -answer.score) // 2
+                self.assertEqual(black, discs_of_black(board, side))
+                self.assertEqual([name for name in scores if scores[name] == answer.score], answer.squares)
+
+    def test_all_and_as_they_come(self):
+        for threads in (1, 2, 4):
+            for given in (list, iter, tuple):
+                self.assertEqual(self.solver.solve_all(given(self.positions), threads=threads), self.answers)
+                self.assertEqual(list(self.solver.solve_iter(given(self.positions), threads=threads)), self.answers)
+                self.assertEqual(self.solver.move_scores_all(given(self.positions), threads=threads), self.scores)
+                self.assertEqual(list(self.solver.move_scores_iter(given(self.positions), threads=threads)), self.scores)
+            for call in (self.solver.solve_all, self.solver.move_scores_all, self.solver.solve_iter):
+                self.assertEqual(list(call([], threads=threads)), [])
+
+    def test_one_that_takes_long_keeps_its_place(self):
+        long = random_positions(1, [13])[0][2]
+        positions = [long, *self.positions * 5]  # in some ten parts
+        answers = [self.solver.solve(long), *self.answers * 5]
+        for threads in (1, 3):
+            self.assertEqual(list(self.solver.solve_iter(positions, threads=threads)), answers)
+
+    def test_an_endless_iterable(self):
+        for threads in (1, 4):
+            counter = itertools.count()
+            endless = (self.positions[number % 300] for number in counter)
+            told = self.solver.solve_iter(endless, threads=threads)
+            self.assertIs(iter(told), told)
+            self.assertEqual(list(itertools.islice(told, 400)), self.answers + self.answers[:100])
+            told.close()
+            self.assertLess(next(counter), 100_000)
+
+    def test_results_come_while_positions_do(self):
+        for threads in (1, 2):
+            taken = []
+
+            def slow():
+                for position in self.positions[:50]:
+                    time.sleep(0.02)
+                    taken.append(position)
+                    yield position
+
+            told = self.solver.solve_iter(slow(), threads=threads)
+            self.assertEqual(next(told), self.answers[0])
+            self.assertLess(len(taken), 50)
+            self.assertEqual(list(told), self.answers[1:50])
+
+    def test_threads_call_at_once(self):
+        meeting = threading.Barrier(3)
+        solver, real = Solver(), self.solver._library
+
+        class Library:
+            ffosolve_solve = real.ffosolve_solve
+
+            def __getattr__(self, name):
+                def call(*words):
+                    meeting.wait(SECONDS)  # fails where no three calls are at work at once
+                    return getattr(real, name)(*words)
+
+                return call
+
+        solver._library = Library()
+        positions = [position for _, _, position in random_positions(3, [12])] * 16
+        answers, scores = self.solver.solve_all(positions), self.solver.move_scores_all(positions)
+        for call, wanted in ((solver.solve_all, answers), (solver.solve_iter, answers),
+                             (solver.move_scores_all, scores), (solver.move_scores_iter, scores)):
+            self.assertEqual(list(call(positions, threads=3)), wanted)
+
+    def test_a_close_waits_for_nothing_and_no_other_part_is_solved(self):
+        calls, ended, asked, closed = [], [], threading.Event(), threading.Event()
+
+        class Library:
+            def ffosolve_solve_all(self, *words):
+                calls.append(words)
+                ended.append((closed if len(calls) > 1 else asked).wait(SECONDS))
+                return 0
+
+        def positions():
+            for number, (_, _, position) in enumerate(random_positions(20, [20])):
+                if number == 10:
+                    asked.set()
+                yield position
+
+        solver = Solver()
+        solver._library = Library()
+        told = solver.solve_iter(positions(), threads=2)
+        next(told)
+        told.close()
+        closed.set()
+        for thread in threading.enumerate():
+            if thread.name.startswith("ThreadPoolExecutor"):
+                thread.join(SECONDS)
+        self.assertTrue(all(ended))
+        self.assertLessEqual(len(calls), 4)
+
+    def test_refusals_come_behind_the_answers_before(self):
+        for bad, error in ((SHARED, ffosolve.SharedSquare), (WIDE, ffosolve.TooManyEmpties)):
+            calls = ((self.solver.solve_iter, self.answers), (self.solver.move_scores_iter, self.scores))
+            for threads, place, (call, wanted) in itertools.product((1, 2), (0, 7, 299), calls):
+                told, found = call([*self.positions[:place], bad, *self.positions[place:], SHARED], threads=threads), []
+                with self.assertRaises(error) as refused:
+                    found.extend(answer for answer in told if found.append(answer))
+                self.assertEqual((found, refused.exception.index), (wanted[:place], place))
+
+    def test_refusals_come_before_anything_is_solved(self):
+        """The first position would take hours."""
+        hopeless = random_positions(1, [34])[0][2]
+        for bad, error in ((SHARED, ffosolve.SharedSquare), (WIDE, ffosolve.TooManyEmpties)):
+            for threads in (1, 2):
+                for call in (self.solver.solve_all, self.solver.move_scores_all):
+                    for before in ([hopeless], [hopeless, *self.positions]):  # in one part, and in some
+                        with self.assertRaises(error) as refused:
+                            call([*before, bad, SHARED], threads=threads)
+                        self.assertEqual(refused.exception.index, len(before))
+
+    def test_what_is_wrong_with_the_words(self):
+        for call in (self.solver.solve_all, self.solver.solve_iter, self.solver.move_scores_all, self.solver.move_scores_iter):
+            for threads in (0, -1):
+                with self.assertRaisesRegex(ValueError, "at least one thread"):
+                    call([], threads=threads)
+            for masks in ((-1, 0), (0, 2**64)):
+                with self.assertRaisesRegex(ValueError, "a mask is a number from 0"):
+                    list(call([Position(*masks)], threads=2))
+            with self.assertRaises(TypeError):
+                list(call([(0.5, 1)]))
+
+
+class Arrays(unittest.TestCase):
+    def setUp(self):
+        try:
+            import numpy
+        except ImportError:
+            lack("numpy (Debian: python3-numpy)")
+        self.numpy, self.solver = numpy, Solver()
+        self.positions = [position for _, _, position in random_positions(400, range(11))]
+        self.own, self.opp = numpy.array(self.positions, numpy.uint64).T
+
+    def test_answers(self):
+        answers = self.solver.solve_all(self.positions)
+        for threads in (1, 3):
+            found = self.solver.solve_arrays(self.own, self.opp, threads=threads)
+            self.assertEqual([str(array.dtype) for array in found], ["int32", "int32", "uint64"])
+            self.assertEqual([Answer(*its) for its in zip(*(array.tolist() for array in found))], answers)
+
+    def test_scores(self):
+        for threads in (1, 3):
+            found = self.solver.move_scores_arrays(self.own, self.opp, threads=threads)
+            self.assertEqual((str(found.dtype), found.shape), ("int8", (400, 64)))
+            told = [{ffosolve.square_name(at): score for at, score in enumerate(row) if score != ffosolve.NO_SCORE}
+                    for row in found.tolist()]
+            self.assertEqual(told, self.solver.move_scores_all(self.positions))
+
+    def test_what_is_asked(self):
+        """The scoring of the solver, its number of table entries, and calls of three threads at once."""
+        meeting, asked = threading.Barrier(3), []
+
+        class Library:
+            def __getattr__(self, name):
+                def call(positions, count, scoring, entries, *others):
+                    meeting.wait(SECONDS)
+                    asked.append((name, int(scoring), entries))
+                    return 0
+
+                return call
+
+        solver = Solver(scoring=ffosolve.Scoring.SIGN, entries=7)
+        solver._library = Library()
+        own, opp = self.numpy.array([position for _, _, position in random_positions(3, [17])], self.numpy.uint64).T
+        for call, name in ((solver.solve_arrays, "solve_all"), (solver.move_scores_arrays, "move_scores_all")):
+            asked.clear()
+            call(own, opp, threads=3)
+            self.assertEqual(asked, [(f"ffosolve_{name}", 2, 7)] * 3)
+
+    def test_scorings(self):
+        positions = [position.passed() for position in self.positions[:90]]
+        own, opp = self.numpy.array(positions, self.numpy.uint64).T
+        for scoring in ffosolve.Scoring:
+            solver = Solver(scoring=scoring)
+            found = solver.solve_arrays(own, opp)
+            self.assertEqual([Answer(*its) for its in zip(*(array.tolist() for array in found))], solver.solve_all(positions))
+
+    def test_none(self):
+        nothing = self.numpy.array([], self.numpy.uint64)
+        self.assertEqual([array.shape for array in self.solver.solve_arrays(nothing, nothing, threads=2)], [(0,)] * 3)
+        self.assertEqual(self.solver.move_scores_arrays(nothing, nothing).shape, (0, 64))
+
+    def test_refusals(self):
+        for call in (self.solver.solve_arrays, self.solver.move_scores_arrays):
+            for bad, error in ((SHARED, ffosolve.SharedSquare), (WIDE, ffosolve.TooManyEmpties)):
+                own, opp = self.own.copy(), self.opp.copy()
+                (own[57], opp[57]), (own[300], opp[300]) = bad, SHARED
+                with self.assertRaises(error) as refused:
+                    call(own, opp, threads=2)
+                self.assertEqual(refused.exception.index, 57)
+            with self.assertRaises(TypeError):
+                call(self.own.astype(self.numpy.int64), self.opp)
+            for own in (self.own[:-1], self.own.reshape(20, 20)):
+                with self.assertRaises(ValueError):
+                    call(own, self.opp)
+            with self.assertRaisesRegex(ValueError, "at least one thread"):
+                call(self.own, self.opp, threads=0)
+
+    def test_no_program_needs_numpy(self):
+        words = "import sys, ffosolve; ffosolve.Solver().solve_all([], threads=2); sys.exit('numpy' in sys.modules)"
+        self.assertEqual(run(sys.executable, "-c", words, env={**os.environ, "PYTHONPATH": str(SOURCES)}).returncode, 0)
+
+
+class Boards(InFolder):
+    SCORES = {"A2": 38, "b1": 36, "H8": -12, "A1": 38, "H1": 0}
+
+    def test_text(self):
+        position = Position.from_obf(BOARD)
+        rows = [f"{row + 1} {' '.join(BOARD[8 * row:8 * row + 8])}" for row in range(8)]
+        self.assertEqual(str(position).splitlines(), ["  A B C D E F G H", *rows, "X is to move"])
+        of_white = Position.from_obf(BOARD.replace(" X;", " O;"))
+        self.assertEqual(str(of_white).splitlines(), ["  A B C D E F G H", *rows, "O is to move"])
+        self.assertEqual(str(Position(*of_white)), str(of_white).translate(str.maketrans("XO", "OX")))
+        told = str(position.show(self.SCORES, side="O")).splitlines()
+        self.assertEqual(told[1], "1 +38*  +36    O    O    O    O    O   +0")
+        self.assertEqual((told[2][:6], told[8][-4:], told[-1]), ("2 +38*", " -12", "O is to move"))
+
+    def test_refused(self):
+        for scores, side in (({"C1": 3}, "X"), ({"I9": 3}, "X"), ({}, "black")):
+            with self.assertRaises(ValueError):
+                Position.from_obf(BOARD).show(scores, side)
+
+    def picture(self, svg):
+        """The picture's colours at a place from the left and from the top, in pixels."""
+        try:
+            import PIL.Image
+        except ImportError:
+            lack("PIL (Debian: python3-pil)")
+        need("rsvg-convert", "librsvg2-bin")
+        xml.etree.ElementTree.fromstring(svg)
+        (self.folder / "board.svg").write_text(svg)
+        run("rsvg-convert", "board.svg", "-o", "board.png", check=True)
+        picture = PIL.Image.open("board.png").convert("RGB")
+        return lambda x, y: "".join(f"{part:02x}" for part in picture.getpixel((x, y)))
+
+    def test_pixels(self):
+        """Squares are of 44 pixels behind a margin of 22: in their middle a disc, and in a corner what is below it."""
+        position = Position.from_obf(BOARD)
+        black, white, green, yellow = "111111", "fafafa", "2f8f5b", "ffd54a"
+        for svg, mover, other in ((position._repr_svg_(), black, white), (position.show(side="O")._repr_svg_(), white, black)):
+            at = self.picture(svg)
+            colours = {"X": mover, "O": other, EMPTY: green}
+            for place, letter in enumerate(BOARD[:64]):
+                x, y = 22 + 44 * (place % 8), 22 + 44 * (place // 8)
+                self.assertEqual((at(x + 22, y + 22), at(x + 4, y + 4)), (colours[letter], green), place)
+            self.assertEqual(at(32, 391), mover)
+        at = self.picture(position.show(self.SCORES)._repr_svg_())
+        marked = [place for place in range(64) if at(22 + 44 * (place % 8) + 4, 22 + 44 * (place // 8) + 4) == yellow]
+        self.assertEqual(marked, [0, 8])
+        for place in range(64):
+            x, y = 22 + 44 * (place % 8), 22 + 44 * (place // 8)
+            colours = {at(x + right, y + down) for right in range(8, 36) for down in range(14, 30)}
+            is_scored = ffosolve.square_name(place) in ("A1", "A2", "B1", "H1", "H8")
+            if BOARD[place] == EMPTY:
+                self.assertEqual(len(colours) > 3, is_scored, place)
+
+
+class Installed(InFolder):
+    def test_the_program_that_pip_installs(self):
+        if run(sys.executable, "-m", "pip", "--version").returncode != 0:
+            lack("pip (Debian: python3-pip)")
+        words = "install --quiet --no-index --no-deps --disable-pip-version-check --root-user-action=ignore --target site".split()
+        run("cp", "-r", ROOT / "python", ROOT / "VERSION", ".", check=True)
+        run(sys.executable, "-m", "pip", *words, "./python", check=True)
+        environment = {**os.environ, "PYTHONPATH": str(self.folder / "site")}
+        ran = run("site/bin/ffosolve-games", "--version", env=environment)
+        self.assertEqual(ran.stdout.decode(), f"ffosolve-games {stored('VERSION').decode()}", ran.stderr)
+        ran = run("site/bin/ffosolve-games", "--empties", "59", input=b"f5", env=environment)
+        self.assertRegex(ran.stdout.decode(), "^\\S{64} O; % standard input, game 1\n$", ran.stderr)
+
+
+if __name__ == "__main__":
+    unittest.main()

@@ -1,0 +1,125 @@
+"""ffoscores on threads: the same bytes whatever the workers, each line as soon as it and those before are scored, and a
+run that ends early leaves nothing."""
+import os
+import random
+import resource
+import signal
+import subprocess
+import sys
+import threading
+from pathlib import Path
+
+from tests.support import ROOT, SECONDS, InFolder, as_at_a_login, built, processes_with, run, stored
+from tests.test_threads import refuse_threads
+
+WORKERS = ("0", "1", "3", "64")
+RUNS = int(os.environ.get("RUNS", 75))
+SHORT = b"-OXXXXX-XXXXXXXOXXXXXXXXXXXXXXXXXXXOXXXXXXXXXXXXXXXXXXXXXXXXXXXX X;\n"
+SHORT_SCORED = SHORT[:-1] + b" H1:+62; A1:+52;\n"
+HOURS = b"-" * 27 + b"OX------XO" + b"-" * 27 + b" X;\n"
+
+
+def setUpModule():
+    global PROGRAM
+    PROGRAM = built("ffoscores")
+
+
+def positions(count, least, most):
+    return run(sys.executable, ROOT / "bench/positions", count, least, most, check=True).stdout.splitlines(keepends=True)
+
+
+class SameBytes(InFolder):
+    def same(self, lists, seeds=(None,), words=()):
+        """With each number of workers a run prints the same bytes with the same status."""
+        names = []
+        for number, text in enumerate(lists):
+            names.append(f"{number}.obf")
+            Path(names[-1]).write_bytes(text)
+        wanted = run(PROGRAM, "--workers", "0", *words, *names)
+        self.assertIn(wanted.returncode, (0, 1), wanted.stderr)
+        self.assertEqual(wanted.stdout.count(b"\n"), sum(len(text.splitlines()) for text in lists))
+        for workers in WORKERS[1:]:
+            with self.subTest(workers=workers, seeds=seeds):
+                found = run(PROGRAM, "--workers", workers, *words, *names)
+                self.assertEqual((found.returncode, found.stdout, found.stderr), (wanted.returncode, wanted.stdout, b""))
+
+    def test_lines_of_every_kind(self):
+        for workers in WORKERS:
+            with self.subTest(workers=workers):
+                found = run(PROGRAM, "--workers", workers, ROOT / "examples/kinds.obf")
+                self.assertEqual((found.returncode, found.stdout), (1, stored("examples", "kinds.scores")))
+
+    def test_many_files(self):
+        """Files that end in the middle of a line, blank and empty ones, and one that is a single deep position."""
+        deep, short = positions(24, 10, 13), positions(300, 1, 8)
+        kinds = stored("examples", "kinds.obf")
+        self.same([b"".join(deep)[:-1], b"", b"\n", kinds, deep[0], b"".join(short), kinds[:-1], b"".join(deep[9:])])
+
+    def test_more_lines_than_wait(self):
+        """One position that takes long, and behind it more lines than wait to be printed."""
+        self.same([positions(1, 16, 16)[0] + SHORT * 9000 + b"".join(positions(8, 10, 12))])
+
+    def test_where_no_thread_can_be_started(self):
+        """Nor where memory for a thread ends in the middle of a run."""
+        Path("list.obf").write_bytes(b"".join(positions(40, 7, 13)))
+        wanted = run(PROGRAM, "--workers", "0", "list.obf")
+        for workers in WORKERS:
+            for prepare in (refuse_threads, lambda: resource.setrlimit(resource.RLIMIT_AS, (30_000 * 1024,) * 2)):
+                with self.subTest(workers=workers):
+                    found = run(PROGRAM, "--workers", workers, "list.obf", preexec_fn=prepare)
+                    self.assertEqual((found.returncode, found.stdout, found.stderr), (0, wanted.stdout, b""))
+
+    def test_shuffled_mix(self):
+        lines = positions(40, 1, 9) + positions(24, 10, 11) + positions(6, 12, 13)
+        lines += [b"\n", b"% no position\n", b"XX\n", HOURS] * 3
+        for seed in range(RUNS // (len(WORKERS) - 1)):
+            mixed = random.Random(seed).sample(lines, len(lines))
+            cut = seed % len(lines)
+            self.same([b"".join(mixed[:cut]), b"".join(mixed[cut:])], seeds=(seed,))
+
+
+class Streams(InFolder):
+    def begin(self, text, *words, **how):
+        Path("list.obf").write_bytes(text)
+        program = subprocess.Popen([PROGRAM, "--max-empties", "60", *words, "list.obf"], stdout=subprocess.PIPE, **how)
+        limit = threading.Timer(5 * SECONDS, program.kill)  # for a line that does not come
+        limit.start()
+        self.addCleanup(limit.cancel)
+        self.addCleanup(program.wait)
+        self.addCleanup(program.kill)
+        self.addCleanup(program.stdout.close)
+        return program
+
+    def test_a_line_as_soon_as_those_before_are_scored(self):
+        for workers in WORKERS:
+            with self.subTest(workers=workers):
+                deep = positions(12, 8, 12)
+                program = self.begin(b"".join([SHORT, *deep, b"% next\n", HOURS, SHORT]), "--workers", workers)
+                printed = [program.stdout.readline() for _ in range(14)]
+                self.assertEqual([line[:66] for line in printed], [line[:66] for line in (SHORT, *deep, b"% next\n")])
+                program.send_signal(signal.SIGINT)
+                self.assertEqual((program.stdout.read(), program.wait(SECONDS)), (b"", -signal.SIGINT))
+
+    def test_a_reader_that_leaves(self):
+        """As `| head -1`: the program ends, though its threads are at positions that take hours."""
+        text = SHORT + b"".join(positions(100, 14, 15)) + HOURS * 9
+        for workers in WORKERS[1:]:
+            with self.subTest(workers=workers):
+                program = self.begin(text, "--workers", workers, stderr=subprocess.PIPE)
+                self.addCleanup(program.stderr.close)
+                self.assertEqual(program.stdout.readline(), SHORT_SCORED)
+                program.stdout.close()
+                told = program.stderr.read()
+                self.assertEqual((program.wait(SECONDS), told), (3, b"ffoscores: cannot write standard output\n"))
+
+    def test_an_interrupted_terminal(self):
+        """A signal to all that a shell has started, in the middle of positions that take hours, leaves no process."""
+        shell = f"{ROOT}/bin/ffoscores --max-empties 60 --workers 3 list.obf | cat"
+        Path("list.obf").write_bytes(SHORT + HOURS * 9)
+        begun = subprocess.Popen(["sh", "-c", shell], stdout=subprocess.PIPE, start_new_session=True, preexec_fn=as_at_a_login)
+        self.addCleanup(begun.stdout.close)
+        self.assertEqual(begun.stdout.readline(), SHORT_SCORED)
+        os.killpg(begun.pid, signal.SIGINT)
+        self.assertEqual(begun.stdout.read(), b"")
+        begun.wait(SECONDS)
+        self.assertEqual(processes_with("cwd", self.folder), {})
