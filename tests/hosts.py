@@ -159,7 +159,11 @@ class Host:
         self.do("ip", "link", "set", "lo", "up")
         self.do("ip", "addr", "add", f"10.77.0.1{self.number}/24", "dev", "eth0")
         self.do("ip", "link", "set", "eth0", "up")
-        self.room.do("ip", "neigh", "flush", "dev", "br0", "nud", "all")
+        self.forget()
+
+    def forget(self):
+        """Has the caller ask for its link's address again. Of one machine alone: two at once can't flush all."""
+        self.room.do("ip", "neigh", "flush", "to", f"10.77.0.1{self.number}", "dev", "br0", "nud", "all")
 
     def do(self, *words):
         """Runs a command on it, as root."""
@@ -179,7 +183,7 @@ class Host:
 
     def cut(self, seconds):
         """Has all packets vanish for so long, however busy this machine is."""
-        self.lose_link(f"; sleep {seconds}; ip neigh flush dev br0 nud all; ip link set {self.link} up")
+        self.lose_link(f"; sleep {seconds}; ip neigh flush to 10.77.0.1{self.number} dev br0 nud all; ip link set {self.link} up")
 
     def lose_power(self):
         """Ends it while no packet says so."""
@@ -206,7 +210,7 @@ class Host:
             self.relay = None
             self.join()
         elif self.process is not None and self.process.poll() is None:
-            self.room.do("ip", "neigh", "flush", "dev", "br0", "nud", "all")
+            self.forget()
             self.room.do("ip", "link", "set", self.link, "up")
 
 
