@@ -1,8 +1,10 @@
 -- The value of a position by the worth of its moves.
 use Rattle.std.proofs.Common.{◌≡◌, ◌≢◌, ◌⊎◌, ℕ, ◌+◌, ◌<◌, ℤ, neg_ℤ, ◌≤ℤ◌, true, List, take, length, get_or, All, Contains, inl, inr, sym, ap, ◌∙◌, subst, arith}
 use Rattle.othello_rules.specs.Masks.{in_mask}
+use Rattle.std.specs.List.Sorted.{IsPermutation}
 use Rattle.std.proofs.lemmas.Int.{ints}
 use Rattle.std.proofs.lemmas.List.Elements.{All-map, All-contains, All-more, All-weaker}
+use Rattle.std.proofs.lemmas.List.Sorted.{All-permutation, Contains-permutation, IsPermutation-map}
 use Rattle.othello_rules.specs.declared.scoring.Scoring.{Scoring}
 use Rattle.othello_bits.specs.Pos.{PosView, moves_of, play_of, pass_of, empties_of, value_of, HasNoMove}
 use Rattle.othello_bits.proofs.GameLaws.{value_above, value_reached, value-pass, empties_positive, empties-play, empties-pass}
@@ -67,6 +69,21 @@ pub best_of_all : (g : Scoring) (p : PosView) (items : List Child) (best : ℤ) 
     → value_of g p ≤ℤ best
 best_of_all g p items best some children all =
     best_of_others g p items best best some (all_others g p items best children) (omega (arith, ints)) all
+
+-- what a sort of the list leaves
+listed_sorted : (items sorted : List Child) (q : ℕ) → IsPermutation items sorted → Contains (squares_of items) q → Contains (squares_of sorted) q
+listed_sorted items sorted q permuted l = Contains-permutation (squares_of items) (squares_of sorted) q (IsPermutation-map (λ (c : Child). c.square) items sorted permuted) l
+
+pub children_sorted : (p : PosView) (items sorted : List Child) → IsPermutation items sorted → AreChildrenOf p items → AreChildrenOf p sorted
+children_sorted p items sorted permuted children =
+    record { each = All-permutation (IsChildOf p) items sorted permuted children.each; every = λ q m. listed_sorted items sorted q permuted (children.every q m) }
+
+pub others_sorted : (g : Scoring) (p : PosView) (best : ℤ) (items sorted : List Child) → IsPermutation items sorted → AreOthersOf g p best items → AreOthersOf g p best sorted
+others_sorted g p best items sorted permuted others =
+    record {
+      each = All-permutation (IsChildOf p) items sorted permuted others.each;
+      every = λ q m. elim (others.every q m) [ inl l ↦ inl (listed_sorted items sorted q permuted l) | inr w ↦ inr w ];
+    }
 
 -- the children after one without replies that was searched
 pub others_left : (g : Scoring) (p : PosView) (s : Stuck) (items more : List Child) (best : ℤ) → AreUpTo p s items → neg_ℤ (value_of g s.child.position) ≤ℤ best

@@ -1,11 +1,9 @@
 -- What taking the squares out of a mask one by one leaves, and the list of children that it fills.
 use Rattle.std.proofs.Common.{◌≡◌, ◌≢◌, ℕ, zero, suc, ◌+◌, ◌<◌, ◌≤◌, ◌^◌, ◌⊎◌, Bool, true, false, cond, not, ◌&&◌, nat_eq, List, [], ◌∷◌, ◌++◌, length, All, Contains, refl, sym, ap, ◌∙◌, subst, inl, inr, arith}
 use Rattle.std.specs.Int.Count.{ones}
-use Rattle.std.specs.List.Sorted.{IsPermutation}
 use Rattle.std.proofs.lemmas.Bool.{cases_eq, cases_lt, eq-eqb, ne_eqb, and_parts, both_ways}
 use Rattle.std.proofs.lemmas.List.{map-append}
 use Rattle.std.proofs.lemmas.List.Elements.{All-same, All-push, Contains-append_left, Contains-push}
-use Rattle.std.proofs.lemmas.List.Sorted.{All-permutation, Contains-permutation, IsPermutation-map}
 use Rattle.arrayvec.specs.ArrayVec.{ArrayVec, array_vec_len}
 use Rattle.othello_rules.specs.Masks.{in_mask}
 use Rattle.othello_bits.specs.Pos.{PosView, IsMove}
@@ -105,6 +103,9 @@ only_square old new r q none taken here =
       | inr d ↦ absurd (both_ways (in_mask new q) (none_from_zero new none q) (other (in_mask old) (in_mask new) r taken q d ∙ here))
     ]
 
+pub on_board : (m i : ℕ) → m < 2 ^ 64 → in_mask m i ≡ true → i < 64
+on_board m i fits here = elim (cases_lt i 64) [ inl l ↦ l | inr g ↦ absurd (both_ways (in_mask m i) (in_mask-above m i fits g) here) ]
+
 -- a mask of one square has no other
 pub only_one : (m t q : ℕ) → m < 2 ^ 64 → ones m ≡ 1 → in_mask m t ≡ true → in_mask m q ≡ true → q ≡ t
 only_one m t q fits one x y =
@@ -115,25 +116,16 @@ only_one m t q fits one x y =
           let g : ℕ → Bool = λ i. f i && not (nat_eq t i) in
           let h : ℕ → Bool = λ i. g i && not (nat_eq q i) in
           let a : ones m ≡ count_below 64 f = ap ones (is_number m f fits (λ i l. refl)) ∙ ones_number 64 f in
-          let b : count_below 64 g + 1 ≡ count_below 64 f = less_above f g t (λ i. refl) 64 (within t x) x in
-          let c : count_below 64 h + 1 ≡ count_below 64 g = less_above g h q (λ i. refl) 64 (within q y) (other f g t (λ i. refl) q d ∙ y) in
+          let b : count_below 64 g + 1 ≡ count_below 64 f = less_above f g t (λ i. refl) 64 (on_board m t fits x) x in
+          let c : count_below 64 h + 1 ≡ count_below 64 g = less_above g h q (λ i. refl) 64 (on_board m q fits y) (other f g t (λ i. refl) q d ∙ y) in
           absurd (omega (arith, a, b, c, one))
     ]
-  where
-    within : (i : ℕ) → in_mask m i ≡ true → i < 64
-    within i here = elim (cases_lt i 64) [ inl l ↦ l | inr g ↦ absurd (both_ways (in_mask m i) (in_mask-above m i fits g) here) ]
 
--- what a sort of the list leaves
-pub sorted_each : (P : Child → Type 0) (items sorted : List Child) → IsPermutation items sorted → All P items → All P sorted
-sorted_each P items sorted permuted h = All-permutation P items sorted permuted h
-
-pub sorted_listed : (items sorted : List Child) → IsPermutation items sorted → (rest : ℕ) → rest ≡ 0
-    → (q : ℕ) → (in_mask rest q ≡ true) ⊎ Contains (squares_of items) q → Contains (squares_of sorted) q
-sorted_listed items sorted permuted rest none q h =
-    elim h [
-      | inl b ↦ absurd (both_ways (in_mask rest q) (none_from_zero rest none q) b)
-      | inr l ↦ Contains-permutation (squares_of items) (squares_of sorted) q (IsPermutation-map (λ (c : Child). c.square) items sorted permuted) l
-    ]
+-- the list where no square is left in the mask
+pub all_listed : (items : List Child) (rest : ℕ) → rest ≡ 0
+    → (q : ℕ) → (in_mask rest q ≡ true) ⊎ Contains (squares_of items) q → Contains (squares_of items) q
+all_listed items rest none q h =
+    elim h [ inl b ↦ absurd (both_ways (in_mask rest q) (none_from_zero rest none q) b) | inr l ↦ l ]
 
 -- an empty list
 pub no_items : (v : ArrayVec Child) → v.items ≡ [] → array_vec_len v ≡ 0

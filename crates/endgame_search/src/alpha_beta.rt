@@ -10,7 +10,7 @@ ghost use Rattle.endgame_search.specs.Children.{AreOthersOf};
 use crate::hash_cutoff::{
     BELOW_ALL_SCORES, decide, probe_children, score_limit, store_always, store_if_deep,
 };
-use crate::move_order::{Child, add_children, add_until_stuck};
+use crate::move_order::{Child, add_children, add_until_stuck, sort_children};
 use crate::shallow::{is_null_of_few, search_few};
 use arrayvec::ArrayVec;
 use bound_table::Bounds;
@@ -128,6 +128,7 @@ fn search_up_to_16<T: Bounds>(table: &T, position: Pos, moves: u64, low: i8, hig
 {
     let mut children = ArrayVec::<Child, 16>::new();
     let Some(stuck) = add_until_stuck(position, moves, &mut children) else {
+        sort_children(&mut children);
         return search_children(table, position, &children, BELOW_ALL_SCORES, low, high);
     };
     let first = stuck.child;
@@ -136,6 +137,7 @@ fn search_up_to_16<T: Bounds>(table: &T, position: Pos, moves: u64, low: i8, hig
         return store_if_deep(table, position, low, high, score);
     }
     add_children(position, stuck.rest, &mut children);
+    sort_children(&mut children);
     search_children(table, position, &children, score, low, high)
 }
 
@@ -152,6 +154,7 @@ fn search_up_to_64<T: Bounds>(table: &T, position: Pos, moves: u64, low: i8, hig
 {
     let mut children = ArrayVec::<Child, 64>::new();
     let Some(stuck) = add_until_stuck(position, moves, &mut children) else {
+        sort_children(&mut children);
         return search_children(table, position, &children, BELOW_ALL_SCORES, low, high);
     };
     let first = stuck.child;
@@ -160,6 +163,7 @@ fn search_up_to_64<T: Bounds>(table: &T, position: Pos, moves: u64, low: i8, hig
         return store_if_deep(table, position, low, high, score);
     }
     add_children(position, stuck.rest, &mut children);
+    sort_children(&mut children);
     search_children(table, position, &children, score, low, high)
 }
 

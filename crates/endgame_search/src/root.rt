@@ -8,7 +8,7 @@ ghost use Rattle.endgame_search.specs.Children.{AreChildrenOf};
 
 use crate::alpha_beta::search_after;
 use crate::hash_cutoff::score_limit;
-use crate::move_order::{Child, add_children};
+use crate::move_order::{Child, add_children, sort_children};
 use arrayvec::ArrayVec;
 use bound_table::Bounds;
 use othello_bits::{Pos, including};
@@ -70,6 +70,7 @@ pub(crate) fn leading_moves<T: Bounds>(table: &T, position: Pos, moves: u64) -> 
 {
     let mut children = ArrayVec::<Child, 64>::new();
     add_children(position, moves, &mut children);
+    sort_children(&mut children);
     leaders_among(table, position, &children)
 }
 

@@ -2,17 +2,17 @@
 //! the bound, to one above it. Nothing is stored, and no child is probed before it is searched. The
 //! limit is 7 because to make a list of 8 children would take a function call.
 
-ghost use Rattle.std.specs.Prelude.{◌≡◌, ◌≢◌, ◌≤◌, ◌≤ℤ◌, ◌+ℤ◌, pos, negsuc, IsTrue};
+ghost use Rattle.std.specs.Prelude.{◌≡◌, ◌≢◌, ◌≤◌, ◌≤ℤ◌, ◌+ℤ◌, pos, negsuc, length, IsTrue};
 ghost use Rattle.othello_bits.specs.Pos.{moves_of, empties_of, value_of, HasNoMove};
 ghost use Rattle.endgame_search.specs.Windows.{IsBound, IsWindow, Places};
 ghost use Rattle.endgame_search.specs.Children.{AreOthersOf};
 
 use crate::hash_cutoff::{BELOW_ALL_SCORES, decide};
 use crate::last_two::search_two;
-use crate::move_order::{Child, add_children, add_until_stuck};
+use crate::move_order::{Child, add_children, add_until_stuck, indices_of, next_of};
 use arrayvec::ArrayVec;
 use bound_table::Bounds;
-use othello_bits::Pos;
+use othello_bits::{Pos, without};
 
 // The most empty squares of a position that this module searches.
 const MOST_FEW_EMPTIES: u8 = 7;
@@ -140,12 +140,17 @@ fn search_few_children<T: Bounds>(
     requires open { searched ≤ℤ bound }
     requires some { moves_of position ≢ 0 }
     requires few { empties_of position ≤ 7 }
+    requires room { length children.now ≤ 7 }
     requires bound { IsBound bound }
     ensures { Places bound (bound +ℤ pos 1) (value_of (T.scoring table.now) position) result }
 {
     let empties = position.empties() - 1;
     let mut best = searched;
-    for child in children {
+    let mut left = indices_of(children);
+    while left != 0 {
+        let index = next_of(children, left);
+        left = without(left, index);
+        let child = children[usize::from(index.number())];
         let score = -search_few(table, child.position, child.replies, empties, -1 - bound);
         if score > bound {
             return score;

@@ -9,7 +9,7 @@ use Rattle.othello_bits.proofs.GameLaws.{value_score, value-over}
 use Rattle.endgame_search.specs.declared.move_order.Child.{Child}
 use Rattle.endgame_search.specs.Children.{IsChildOf, AreOthersOf}
 use Rattle.endgame_search.specs.Windows.{IsWindow}
-use Rattle.endgame_search.proofs.Moves.{child_worth, child_empties, passed_worth, passed_empties, at_index, searched_more, best_of_others, others_left, all_others}
+use Rattle.endgame_search.proofs.Moves.{child_worth, child_empties, passed_worth, passed_empties, at_index, searched_more, best_of_others, others_left, others_sorted, all_others}
 use Rattle.endgame_search.proofs.Windows.{shown, exact, shown_window, turned_window, turned_whole, null_window, turned_shown, none_searched, all_searched, at_least_as, unshown, null_low, null_high, second_window, second_score, floor_window, cut_step, grows, covers, keeps_more, given_back, same_window, first_cut, first_covers, keeps_first}
 use Rattle.endgame_search.proofs.alpha_beta.+search.Goals as goal
 
@@ -104,7 +104,7 @@ search_up_to_16-search_children-requires g t c κs within =
     let r = g.T.Bounds.scoring c.args.table.now in
     let d : 8 * empties_of c.args.position + 3 ≡ t = c.decreases in
     let w : 8 * empties_of c.args.position + 2 < t = omega (arith, d) in
-    let others = all_others r c.args.position _ (negsuc 64) (c.in_default.ensures.all refl) in (
+    let others = others_sorted r c.args.position (negsuc 64) _ _ c.sort_children.ensures (all_others r c.args.position _ (negsuc 64) (c.in_default.ensures.all refl)) in (
       w,
       (
         within,
@@ -154,7 +154,7 @@ search_up_to_16-search_children-requires-2 g t c κs within =
     let d : 8 * empties_of c.args.position + 3 ≡ t = c.decreases in
     let w : 8 * empties_of c.args.position + 2 < t = omega (arith, d) in
     let covered = first_covers c.args.low c.args.high _ _ _ c.requires.window c.search_after-score.ensures above c.if-score-high.false in
-    let others = others_left r c.args.position c.in-Some.stuck _ _ _ up covered c.add_children.ensures.each c.add_children.ensures.every in (
+    let others = others_sorted r c.args.position _ _ _ c.sort_children-2.ensures (others_left r c.args.position c.in-Some.stuck _ _ _ up covered c.add_children.ensures.each c.add_children.ensures.every) in (
       w,
       (
         within,
@@ -179,7 +179,7 @@ search_up_to_64-search_children-requires g t c κs within =
     let r = g.T.Bounds.scoring c.args.table.now in
     let d : 8 * empties_of c.args.position + 3 ≡ t = c.decreases in
     let w : 8 * empties_of c.args.position + 2 < t = omega (arith, d) in
-    let others = all_others r c.args.position _ (negsuc 64) (c.in_default.ensures.all refl) in (
+    let others = others_sorted r c.args.position (negsuc 64) _ _ c.sort_children.ensures (all_others r c.args.position _ (negsuc 64) (c.in_default.ensures.all refl)) in (
       w,
       (
         within,
@@ -229,7 +229,7 @@ search_up_to_64-search_children-requires-2 g t c κs within =
     let d : 8 * empties_of c.args.position + 3 ≡ t = c.decreases in
     let w : 8 * empties_of c.args.position + 2 < t = omega (arith, d) in
     let covered = first_covers c.args.low c.args.high _ _ _ c.requires.window c.search_after-score.ensures above c.if-score-high.false in
-    let others = others_left r c.args.position c.in-Some.stuck _ _ _ up covered c.add_children.ensures.each c.add_children.ensures.every in (
+    let others = others_sorted r c.args.position _ _ _ c.sort_children-2.ensures (others_left r c.args.position c.in-Some.stuck _ _ _ up covered c.add_children.ensures.each c.add_children.ensures.every) in (
       w,
       (
         within,

@@ -1,17 +1,16 @@
 -- Goals that a search would prove are answered too: the search takes longer.
-use Rattle.std.proofs.Common.{arith, rules, refl, pos, negsuc, ◌≡◌, ◌≤◌, ◌<◌, ◌+◌, ◌*◌, neg_ℤ, ◌-ℤ◌, ◌+ℤ◌, ◌≤ℤ◌, to_z, w8, sym, ap, ◌∙◌, subst, take, take_all}
-use borrow.Author.Count.{falls}
+use Rattle.std.proofs.Common.{arith, rules, refl, pos, negsuc, ◌≡◌, ◌≤◌, ◌<◌, ◌+◌, ◌*◌, neg_ℤ, ◌-ℤ◌, ◌+ℤ◌, ◌≤ℤ◌, to_z, w8, get_or, sym, ap, ◌∙◌, subst}
 use Rattle.std.proofs.lemmas.Int.{ints}
-use Rattle.std.proofs.lemmas.List.Elements.{All-same}
 use Rattle.othello_bits.specs.Pos.{moves_of, pass_of, empties_of, final_of, value_of, HasNoMove}
 use Rattle.othello_bits.proofs.GameLaws.{value_score, value-over}
-use Rattle.endgame_search.specs.declared.move_order.Child.{Child}
 use Rattle.endgame_search.specs.Children.{IsChildOf, AreOthersOf}
 use Rattle.endgame_search.specs.Windows.{Places}
-use Rattle.endgame_search.proofs.Bounds.{shown_bound, other_bound, decided_window, decided_places, same_places, turned_above, cut_above, score_open, score_covers, best_grows, best_covers, best_open, best_least, none_above, before_first, after_first}
+use Rattle.endgame_search.proofs.Bounds.{bound_same, shown_bound, other_bound, decided_window, decided_places, same_places, turned_above, cut_above, score_open, score_covers, best_grows, best_covers, best_open, best_least, none_above, before_first, after_first}
 use Rattle.endgame_search.proofs.FreeSquares.{few_moves, some_empty}
-use Rattle.endgame_search.proofs.Moves.{child_worth, child_empties, passed_worth, passed_empties, at_index, searched_more, best_of_others, others_left, all_others}
-use Rattle.endgame_search.proofs.Windows.{shown, exact, at_least_as, unshown}
+use Rattle.endgame_search.proofs.Moves.{child_worth, child_empties, passed_worth, passed_empties, best_of_others, others_left, all_others}
+use Rattle.endgame_search.proofs.SearchedChildren.{at_left, none_searched, one_searched, all_searched_of}
+use Rattle.endgame_search.proofs.TakenSquares.{was_there, on_board, one_less}
+use Rattle.endgame_search.proofs.Windows.{shown, shown_same, exact, at_least_as, unshown}
 use Rattle.endgame_search.proofs.shallow.+few.Goals as goal
 
 pub search_few-search_few_moves-requires : goal.search_few-search_few_moves-requires
@@ -117,7 +116,7 @@ search_few_by_list-search_few_children-requires g t c κs within =
             omega (arith, ints),
             (
               before_first c.args.bound c.requires.bound,
-              (λ z. c.requires.some (c.requires.moves ∙ z), (c.requires.few, shown_bound c.args.bound c.requires.bound)),
+              (λ z. c.requires.some (c.requires.moves ∙ z), (c.requires.few, (c.deref.ensures.1, shown_bound c.args.bound c.requires.bound))),
             ),
           ),
         ),
@@ -165,7 +164,7 @@ search_few_by_list-search_few_children-requires-2 g t c κs within =
             after_first _ p.least,
             (
               score_open c.args.bound _ _ s c.requires.bound p above c.if-score-bound.false,
-              (λ z. c.requires.some (c.requires.moves ∙ z), (c.requires.few, shown_bound c.args.bound c.requires.bound)),
+              (λ z. c.requires.some (c.requires.moves ∙ z), (c.requires.few, (c.deref-2.ensures.1, shown_bound c.args.bound c.requires.bound))),
             ),
           ),
         ),
@@ -179,11 +178,29 @@ pub search_few_children-overflow_sub-empties : goal.search_few_children-overflow
 search_few_children-overflow_sub-empties g t c =
     subst (λ n. 1 ≤ n) (sym c.empties-empties.ensures.value) (some_empty c.args.position c.requires.some)
 
+pub search_few_children-loop-left-init : goal.search_few_children-loop-left-init
+search_few_children-loop-left-init g t c =
+    let all = c.indices_of-left.ensures in
+    let l = c.requires.least in
+    let m = c.requires.open in
+    let n = c.requires.bound.1 in
+    let same : shown c.args.searched ≡ c.args.searched = shown_same c.args.searched l (omega (arith, ints)) in
+    let bound : shown c.args.bound ≡ c.args.bound = bound_same c.args.bound c.requires.bound in
+    record {
+      small = c.indices_of-left.type_inv;
+      listed = λ i. (all i).0;
+      searched = none_searched (g.T.Bounds.scoring c.args.table.now) c.args.children.now _ _ (λ i. (all i).1);
+      least = omega (arith, ints);
+      open_left = omega (arith, ints);
+      grown = omega (arith, ints);
+    }
+
 pub search_few_children-search_few-score-requires : goal.search_few_children-search_few-score-requires
 search_few_children-search_few-score-requires g t c κs within =
     let d : 6 * empties_of c.args.position + 1 ≡ t = c.decreases in
-    let x = c.child-item.result in
-    let child = at_index (IsChildOf c.args.position) c.args.children.now c.loop-child.child-index x c.loop-child-test.true c.child-item.is c.requires.others.each in
+    let x = c.index-children-from.result in
+    let at = c.from.ensures ∙ c.number.ensures.value in
+    let child = at_left (IsChildOf c.args.position) c.args.children.now c.loop-left.left c.next_of-index.result c.from.result x c.loop-left.invariant.listed c.next_of-index.ensures at c.index-children-from.is c.requires.others.each in
     let e = child_empties c.args.position x child in
     let v = c.empties-empties.ensures.value in
     let w : 6 * empties_of x.position + 5 < t = omega (arith, d, e) in
@@ -191,26 +208,37 @@ search_few_children-search_few-score-requires g t c κs within =
 
 pub search_few_children-returns-then-score-bound : goal.search_few_children-returns-then-score-bound
 search_few_children-returns-then-score-bound g t c =
-    let child = at_index (IsChildOf c.args.position) c.args.children.now c.loop-child.child-index c.child-item.result c.loop-child-test.true c.child-item.is c.requires.others.each in
+    let x = c.index-children-from.result in
+    let at = c.from.ensures ∙ c.number.ensures.value in
+    let child = at_left (IsChildOf c.args.position) c.args.children.now c.loop-left.left c.next_of-index.result c.from.result x c.loop-left.invariant.listed c.next_of-index.ensures at c.index-children-from.is c.requires.others.each in
     cut_above c.args.bound _ _ (shown (pos 0 -ℤ shown c.search_few-score.result)) c.requires.bound
     (turned_above c.args.bound _ _ c.requires.bound c.search_few-score.ensures)
-    (child_worth (g.T.Bounds.scoring c.args.table.now) c.args.position c.child-item.result child) c.if-score-bound.true
+    (child_worth (g.T.Bounds.scoring c.args.table.now) c.args.position x child) c.if-score-bound.true
 
-pub search_few_children-loop-child-smaller : goal.search_few_children-loop-child-smaller
-search_few_children-loop-child-smaller g t c = falls _ _ c.loop-child-test.true
+pub search_few_children-loop-left-smaller : goal.search_few_children-loop-left-smaller
+search_few_children-loop-left-smaller g t c =
+    let small = c.loop-left.invariant.small in
+    let k = one_less _ _ _ c.next_of-index.ensures c.without-left.ensures small c.without-left.type_inv (on_board _ _ small c.next_of-index.ensures) in
+    omega (arith, k)
 
-pub search_few_children-loop-child-preserved : goal.search_few_children-loop-child-preserved
-search_few_children-loop-child-preserved g t c =
-    let kept = c.loop-child.invariant in
+pub search_few_children-loop-left-preserved : goal.search_few_children-loop-left-preserved
+search_few_children-loop-left-preserved g t c =
+    let kept = c.loop-left.invariant in
     let items = c.args.children.now in
     let r = g.T.Bounds.scoring c.args.table.now in
-    let child = at_index (IsChildOf c.args.position) items c.loop-child.child-index c.child-item.result c.loop-child-test.true c.child-item.is c.requires.others.each in
-    let above = child_worth r c.args.position c.child-item.result child in
+    let x = c.index-children-from.result in
+    let here = c.next_of-index.ensures in
+    let at = c.from.ensures ∙ c.number.ensures.value in
+    let child = at_left (IsChildOf c.args.position) items c.loop-left.left c.next_of-index.result c.from.result x kept.listed here at c.index-children-from.is c.requires.others.each in
+    let above = child_worth r c.args.position x child in
     let s = shown (pos 0 -ℤ shown c.search_few-score.result) in
     let p = turned_above c.args.bound _ _ c.requires.bound c.search_few-score.ensures in
     let more = best_grows c.args.bound _ _ s c.requires.bound p above c.if-score-bound.false _ _ kept.least kept.open_left c.max-best.ensures.value in
+    let is : x ≡ get_or items c.next_of-index.result x = subst (λ i. x ≡ get_or items i x) at c.index-children-from.is in
     record {
-      searched = searched_more r items c.loop-child.child-index c.child-item.result _ _ c.loop-child-test.true c.child-item.is more
+      small = c.without-left.type_inv;
+      listed = λ i h. kept.listed i (was_there _ _ _ here c.without-left.ensures i h);
+      searched = one_searched r items c.loop-left.left _ _ x _ _ here c.without-left.ensures is more
           (best_covers c.args.bound _ _ s c.requires.bound p above c.if-score-bound.false _ _ kept.least kept.open_left c.max-best.ensures.value)
           kept.searched;
       least = best_least c.args.bound _ _ s c.requires.bound p above c.if-score-bound.false _ _ kept.least kept.open_left c.max-best.ensures.value;
@@ -220,11 +248,10 @@ search_few_children-loop-child-preserved g t c =
 
 pub search_few_children-returns : goal.search_few_children-returns
 search_few_children-returns g t c =
-    let kept = c.loop-child.invariant in
+    let kept = c.loop-left.invariant in
     let items = c.args.children.now in
     let r = g.T.Bounds.scoring c.args.table.now in
-    let e : take c.loop-child.child-index items ≡ items = take_all c.loop-child.child-index items (omega (arith, c.loop-child-test.false)) in
-    let all = All-same (λ (x : Child). neg_ℤ (value_of r x.position) ≤ℤ to_z w8 c.loop-child.best-bits) items _ (sym e) kept.searched in
+    let all = all_searched_of r items c.loop-left.left _ c.loop-left-test.false kept.searched in
     let grown = unshown _ _ c.requires.least (at_least_as _ _ _ c.requires.open c.requires.bound.1) kept.grown in
     none_above c.args.bound _ _ c.requires.bound (value_score r c.args.position) kept.open_left
     (best_of_others r c.args.position items _ _ c.requires.some c.requires.others grown all)

@@ -1,6 +1,7 @@
-use Rattle.std.proofs.Common.{◌*◌, ◌+◌, neg_ℤ, negsuc, ◌≤ℤ◌, take, All}
-use Rattle.othello_bits.specs.Pos.{empties_of, value_of}
-use Rattle.endgame_search.specs.declared.move_order.Child.{Child}
+use Rattle.std.proofs.Common.{◌≡◌, ℕ, ◌*◌, ◌+◌, ◌<◌, ◌^◌, negsuc, ◌≤ℤ◌, true, length, count_ones}
+use Rattle.othello_rules.specs.Masks.{in_mask}
+use Rattle.othello_bits.specs.Pos.{empties_of}
+use Rattle.endgame_search.proofs.SearchedChildren.{SearchedBut}
 use Rattle.endgame_search.proofs.shallow.+few.Given as goal
 
 abbrev pub decreases-search_few : goal.decreases-search_few
@@ -18,9 +19,14 @@ decreases-search_few_by_list g l = 6 * empties_of l.position + 2
 abbrev pub decreases-search_few_children : goal.decreases-search_few_children
 decreases-search_few_children g l = 6 * empties_of l.position + 1
 
-abbrev pub invariant-search_few_children-loop-child : goal.invariant-search_few_children-loop-child
-invariant-search_few_children-loop-child g l = record {
-  searched : All (λ (c : Child). neg_ℤ (value_of (g.T.Bounds.scoring l.table) c.position) ≤ℤ l.best) (take l.child-index l.children);
+abbrev pub decreases-search_few_children-loop-left : goal.decreases-search_few_children-loop-left
+decreases-search_few_children-loop-left g l = count_ones l.left
+
+abbrev pub invariant-search_few_children-loop-left : goal.invariant-search_few_children-loop-left
+invariant-search_few_children-loop-left g l = record {
+  small : l.left < 2 ^ 64;
+  listed : (i : ℕ) → in_mask l.left i ≡ true → i < length l.children;
+  searched : SearchedBut (g.T.Bounds.scoring l.table) l.children l.left l.best;
   least : negsuc 64 ≤ℤ l.best;
   open_left : l.best ≤ℤ l.bound;
   grown : l.fn.searched ≤ℤ l.best;
