@@ -1,5 +1,5 @@
 -- The children of a list that are searched, by the mask of the indices of those that are left.
-use Rattle.std.proofs.Common.{◌≡◌, ◌⊎◌, ℕ, ◌<◌, ◌^◌, ℤ, neg_ℤ, ◌≤ℤ◌, true, not, ◌&&◌, nat_eq, List, length, get_or, All, inl, inr, sym, ap, ◌∙◌, subst, arith}
+use Rattle.std.proofs.Common.{◌≡◌, ◌⊎◌, ℕ, ◌<◌, ℤ, neg_ℤ, ◌≤ℤ◌, true, not, ◌&&◌, nat_eq, List, length, get_or, All, inl, inr, sym, ap, ◌∙◌, subst, arith}
 use Rattle.std.proofs.lemmas.Bool.{both_ways}
 use Rattle.std.proofs.lemmas.Int.{ints}
 use Rattle.std.proofs.lemmas.List.{get_or_default}

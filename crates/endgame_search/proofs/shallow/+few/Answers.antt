@@ -1,5 +1,5 @@
 -- Goals that a search would prove are answered too: the search takes longer.
-use Rattle.std.proofs.Common.{arith, rules, refl, pos, negsuc, ◌≡◌, ◌≤◌, ◌<◌, ◌+◌, ◌*◌, neg_ℤ, ◌-ℤ◌, ◌+ℤ◌, ◌≤ℤ◌, to_z, w8, get_or, sym, ap, ◌∙◌, subst}
+use Rattle.std.proofs.Common.{arith, rules, refl, pos, negsuc, ◌≡◌, ◌≤◌, ◌<◌, ◌+◌, ◌*◌, ◌-ℤ◌, ◌+ℤ◌, get_or, sym, ap, ◌∙◌, subst}
 use Rattle.std.proofs.lemmas.Int.{ints}
 use Rattle.othello_bits.specs.Pos.{moves_of, pass_of, empties_of, final_of, value_of, HasNoMove}
 use Rattle.othello_bits.proofs.GameLaws.{value_score, value-over}
