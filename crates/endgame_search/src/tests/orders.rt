@@ -1,7 +1,9 @@
 //! The order of moves.
 
-use crate::move_order::{Child, add_children};
-use crate::tests::{EQUAL_CORNERS, OPEN_CORNERS, RINGS, is_first_enough, pos_of};
+use crate::move_order::{Child, add_children, sort_children};
+use crate::tests::{
+    EQUAL_CORNERS, EQUAL_REPLIES, OPEN_CORNERS, RINGS, UNEQUAL_REPLIES, is_first_enough, pos_of,
+};
 use arrayvec::ArrayVec;
 use othello_rules::{Side, Square};
 
@@ -21,11 +23,35 @@ fn are_in_order(children: &[Child]) -> bool {
 }
 
 #[test]
-fn children_come_in_order(rt: HostRuntime) {
+fn a_sorted_list_is_in_order(rt: HostRuntime) {
     let position = pos_of(&rt, RINGS, Side::Black);
     let mut children = ArrayVec::<Child, 64>::new();
     add_children(position, position.moves(), &mut children);
+    sort_children(&mut children);
     assert!(rt; children.len() == 28 && are_in_order(&children));
+}
+
+#[test]
+fn the_next_child_has_the_fewest_replies_and_then_the_lower_square(rt: HostRuntime) {
+    // In the first position B8 leaves three replies, and G8 two. In the second G3 and A8 leave three.
+    assert!(rt;
+        is_first_enough(
+            &rt,
+            rt.alloc(),
+            UNEQUAL_REPLIES,
+            Square::at(62),
+            Square::at(57)
+        )
+    );
+    assert!(rt;
+        is_first_enough(
+            &rt,
+            rt.alloc(),
+            EQUAL_REPLIES,
+            Square::at(22),
+            Square::at(56)
+        )
+    );
 }
 
 #[test]
