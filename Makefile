@@ -83,8 +83,8 @@ fill = sed -e 's/@VERSION@/$(version)/g; s/@NUMBER@/$(number)/g; s/@MAJOR@/$(maj
 
 # The library as a program in the making takes it: two names of the shared one, and no link, which rt refuses in a checkout.
 library: out/$(CPU)/libffosolve.a out/$(CPU)/libffosolve.so ## builds libffosolve.a, libffosolve.so and ffosolve.h in out/library
-	install -D -m 644 -t out/library $^
-	install -m 644 out/$(CPU)/libffosolve.so out/library/libffosolve.so.$(major)
+	install -C -D -m 644 -t out/library $^
+	install -C -m 644 out/$(CPU)/libffosolve.so out/library/libffosolve.so.$(major)
 	$(call fill,include/ffosolve.h.in,out/library/ffosolve.h)
 
 # Both levels of all, as tests and packages take them.

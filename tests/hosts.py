@@ -40,8 +40,9 @@ class Room:
         self.home = self.folder / "me"
         self.names = [f"h{number + 1}" for number in range(count)]
         self.lay_keys()
-        words = ["unshare", "--mount", "--net", "--pid", "--fork", "--kill-child", "--mount-proc", "cat"]
-        self.keeper = subprocess.Popen(words, stdin=subprocess.PIPE)  # which ends when this process does
+        words = ["unshare", "--mount", "--net", "--pid", "--fork", "--kill-child", "--mount-proc", "sh", "-c", "echo && exec cat"]
+        self.keeper = subprocess.Popen(words, stdin=subprocess.PIPE, stdout=subprocess.PIPE)  # which ends when this process does
+        self.keeper.stdout.readline()  # its mounts are its own by then
         self.inside = child_of(self.keeper.pid)
         self.do("mount", "-t", "tmpfs", "none", "/home")
         self.do("mkdir", "/home/me")
@@ -97,6 +98,7 @@ class Room:
     def close(self):
         self.keeper.stdin.close()
         self.keeper.wait()
+        self.keeper.stdout.close()
 
 
 class Host:

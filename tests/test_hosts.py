@@ -14,7 +14,7 @@ import unittest
 from pathlib import Path
 
 from tests import support
-from tests.hosts import Host, Room
+from tests.hosts import Host, Room, child_of
 from tests.support import ROOT, SECONDS, built, need, run
 
 # Stands in the program's place on the machines, in each of which files of the home folder say what it does.
@@ -95,9 +95,14 @@ class Case(unittest.TestCase):
         return ran
 
     def end(self, ran):
-        for process in ROOM.processes():
-            with contextlib.suppress(ProcessLookupError):
-                os.kill(process, signal.SIGKILL)
+        def is_ended():
+            found = ROOM.processes()
+            for process in found:
+                with contextlib.suppress(ProcessLookupError):
+                    os.kill(process, signal.SIGKILL)
+            return not found
+
+        wait_until(is_ended)  # what is killed may have started another since it was looked for
         ran.wait()
 
     def told(self):
@@ -245,13 +250,13 @@ class Connections(Case):
 
     def test_users_own_configuration_decides(self):
         with open(ROOM.home / ".ssh/config", "a") as config:
-            config.write("Host *\n ServerAliveInterval 2\n ConnectTimeout 3\n")
+            config.write("Host *\n ServerAliveInterval 2\n ConnectTimeout 20\n")
         self.addCleanup((ROOM.home / ".ssh/config").write_text, (ROOM.home / ".ssh/config").read_text())
         for words in ({}, {"PARALLEL_SSH": "ssh -o ServerAliveInterval=1"}):
             self.whole(self.start(hosts="h1", **words))
             place = next((ROOM.home / "work").glob("run-*"))
             told = run(*ROOM.words("ssh", "-G", "-F", f"work/{place.name}/ssh_config", "h1")).stdout.decode()
-            for line in ("serveraliveinterval 2", "connecttimeout 3", "serveralivecountmax 4", "batchmode yes"):
+            for line in ("serveraliveinterval 2", "connecttimeout 20", "serveralivecountmax 4", "batchmode yes"):
                 self.assertIn(f"\n{line}\n", told)
         shutil.rmtree(ROOM.home / "work")
         self.write("mine", '#!/bin/sh\nexec ssh "$@"\n')
@@ -264,7 +269,7 @@ class Connections(Case):
             self.write("slow", "400", self.h1.home)
             ran = self.start(by="slow", hosts="2/h1\n")
             wait_until(lambda: any("sleep 400" in line for line in self.at_work(self.h1)))
-            os.kill(min(process for process, line in ROOM.processes().items() if "ffosolve-many" in line), number)
+            os.kill(child_of(ran.pid), number)
             self.wait(ran, 20 * busy())
             wait_until(lambda: not self.at_work(self.h1), 20)
             wait_until(lambda: not ROOM.processes(), 20)
@@ -305,6 +310,7 @@ class Tried(Case):
 
     def test_machine_that_fails_three_parts_in_a_row(self):
         self.write("fails", "ffosolve: out of memory\nand more\n", self.h2.home)
+        self.write("slow", "1", self.h1.home)  # so that h2 is left out before another part comes to it
         ran = self.start(by="slow", hosts="1/h1\n1/h2\n")
         self.whole(ran)
         self.assertIn("h2 is left out: 3 parts failed in a row: ffosolve: out of memory", self.told())
@@ -313,6 +319,7 @@ class Tried(Case):
 
     def test_log_keeps_all_rounds(self):
         self.write("fails", "ffosolve: out of memory\n", self.h1.home)
+        self.write("slow", "1", self.h1.home)
         ran = self.start(by="slow", hosts="1/h1\n")
         wait_until(lambda: len(self.begun("h1", "failed")) >= 2)
         (self.h1.home / "fails").unlink()
@@ -384,9 +391,9 @@ class Swept(Case):
         self.nothing_left()
 
     def test_machine_that_was_away_is_swept_by_the_next_run(self):
-        self.write("slow", "1", self.h2.home)
+        self.write("slow", "20", self.h2.home)
         ran = self.start(by="slow")
-        wait_until(lambda: self.begun("h2", "done"))
+        wait_until(lambda: any("sleep 20" in line for line in self.at_work(self.h2)))
         self.h2.lose_power()
         self.whole(ran)
         self.assertEqual(len(self.left(self.h2)), 1)

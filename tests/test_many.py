@@ -987,7 +987,7 @@ class Signals(Case):
         """A run of twelve parts, once so many are solved, and others that take 45 seconds are at work."""
         ran = self.open(SLOWLY, env={**os.environ, "LAST": str(done)})
         wait_until(lambda: self.done() >= done)
-        wait_until(lambda: "sleep 45 " in self.workers().values())
+        wait_until(lambda: [*self.workers().values()].count("sleep 45 ") == 2)  # both jobs, so that none is being started
         self.assertIsNone(ran.poll(), "it ended too early")
         return ran
 
@@ -1194,7 +1194,8 @@ class Hosts(Case):
     def test_machine_that_hangs_is_left_out(self):
         by = install("hasty")
         write(by, by.read_text().replace("HOST_SECONDS = 30", "HOST_SECONDS = 15"), 0o755)
-        self.same(*self.by("hanging", "near"), told="hanging is left out: no answer in 15 seconds", by=by, **self.how)
+        self.same(*self.by("hanging", "near"), told="hanging is left out: no answer in 15 seconds", by=by,
+                  timeout=2 * SECONDS, **self.how)
         self.assertEqual(self.solvers(), ["near"] * 3)
 
     def test_results_that_come_back_spoiled_are_not_taken(self):

@@ -110,7 +110,7 @@ class Many(unittest.TestCase):
                 return call
 
         solver._library = Library()
-        positions = [position for _, _, position in random_positions(3, [12])] * 16
+        positions = [position for _, _, position in random_positions(3, [16])]  # each is a part of its own
         answers, scores = self.solver.solve_all(positions), self.solver.move_scores_all(positions)
         for call, wanted in ((solver.solve_all, answers), (solver.solve_iter, answers),
                              (solver.move_scores_all, scores), (solver.move_scores_iter, scores)):
@@ -315,7 +315,7 @@ class Installed(InFolder):
             lack("pip (Debian: python3-pip)")
         words = "install --quiet --no-index --no-deps --disable-pip-version-check --root-user-action=ignore --target site".split()
         run("cp", "-r", ROOT / "python", ROOT / "VERSION", ".", check=True)
-        run(sys.executable, "-m", "pip", *words, "./python", check=True)
+        run(sys.executable, "-m", "pip", *words, "./python", check=True, timeout=300)
         environment = {**os.environ, "PYTHONPATH": str(self.folder / "site")}
         ran = run("site/bin/ffosolve-games", "--version", env=environment)
         self.assertEqual(ran.stdout.decode(), f"ffosolve-games {stored('VERSION').decode()}", ran.stderr)

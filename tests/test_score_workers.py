@@ -9,7 +9,7 @@ import sys
 import threading
 from pathlib import Path
 
-from tests.support import ROOT, SECONDS, InFolder, as_at_a_login, built, processes_with, run, stored
+from tests.support import ROOT, SECONDS, InFolder, as_at_a_login, built, processes_with, run, stored, wait_until
 from tests.test_threads import refuse_threads
 
 WORKERS = ("0", "1", "3", "64")
@@ -122,4 +122,4 @@ class Streams(InFolder):
         os.killpg(begun.pid, signal.SIGINT)
         self.assertEqual(begun.stdout.read(), b"")
         begun.wait(SECONDS)
-        self.assertEqual(processes_with("cwd", self.folder), {})
+        wait_until(lambda: not processes_with("cwd", self.folder))
