@@ -140,6 +140,15 @@ class Install(Case):
         self.assertEqual({path: path.lstat().st_mtime_ns for path in state}, state)
         self.assertEqual([path for path in CHECKOUT.rglob("*") if path.is_symlink()], [])
 
+    def test_library_that_is_the_same_stays(self):
+        """What `make library` lays, since a program may load it meanwhile."""
+        def times():
+            self.assertEqual(self.make("library").stderr, "")
+            return {path.name: path.stat().st_mtime_ns for path in Path(CHECKOUT, "out/library").glob("libffosolve.*")}
+
+        before = times()
+        self.assertEqual((len(before), times()), (3, before))
+
     def test_by_another_user(self):
         """Who has no rt, and may not write the checkout."""
         folders = [CHECKOUT, *(path for path in CHECKOUT.rglob("*") if path.is_dir())]
