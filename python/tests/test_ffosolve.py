@@ -223,6 +223,21 @@ class Refusals(unittest.TestCase):
             for told in (refusal(5, 3), pickle.loads(pickle.dumps(refusal(5, 3)))):
                 self.assertEqual((str(told), told.at, told.line), (f"line 3: {reason}", 5, 3))
 
+    def test_status_of_a_newer_library(self):
+        """A status that this package does not know is told by its number."""
+        class Library:
+            def ffosolve_solve(self, *asked):
+                return 12
+
+            ffosolve_solve_all = ffosolve_solve
+        solver = Solver()
+        solver._library = Library()
+        for call in (lambda: solver.solve(POSITION), lambda: solver.solve_all([POSITION])):
+            with self.assertRaisesRegex(ffosolve.OtherRefusal, "^refused with status 12$") as told:
+                call()
+            again = pickle.loads(pickle.dumps(told.exception))
+            self.assertEqual((again.status, str(again), again.index), (12, "refused with status 12", None))
+
     def test_squares(self):
         for square in ("A1", 0, 64, 255, 256, -1, 256 + 19):
             self.refused(ffosolve.NoMove, Solver().play, START, square)

@@ -18,6 +18,24 @@ pub enum Error {
     NoMove,
     /// No memory for the table; never with 0 entries.
     NoMemory,
+    /// A status of a library that is newer than this crate.
+    Other { status: i32 },
+}
+
+impl Error {
+    /// What a status says, with the index of the position that is refused.
+    pub(crate) fn of_status(status: i32, index: usize) -> Result<(), Error> {
+        match status {
+            0 => Ok(()),
+            1 => Err(Error::UnknownScoring),
+            2 => Err(Error::TooManyEntries),
+            4 => Err(Error::SharedSquare),
+            5 => Err(Error::TooManyEmpties { index }),
+            6 => Err(Error::NoMove),
+            7 => Err(Error::NoMemory),
+            _ => Err(Error::Other { status }),
+        }
+    }
 }
 
 impl fmt::Display for Error {
@@ -31,6 +49,7 @@ impl fmt::Display for Error {
             }
             Error::NoMove => f.write_str("no move"),
             Error::NoMemory => f.write_str("out of memory"),
+            Error::Other { status } => write!(f, "refused with status {status}"),
         }
     }
 }
@@ -51,6 +70,23 @@ pub enum ObfError {
     BadSide { column: usize },
     /// No memory for the moves that the line lists.
     NoMemory,
+    /// A status of a library that is newer than this crate.
+    Other { status: i32 },
+}
+
+impl ObfError {
+    /// What a status says, with what the library wrote to `at`.
+    pub(crate) fn of_status(status: i32, at: usize) -> Result<(), ObfError> {
+        match status {
+            0 => Ok(()),
+            7 => Err(ObfError::NoMemory),
+            8 => Err(ObfError::NoPosition),
+            9 => Err(ObfError::ShortBoard { squares: at }),
+            10 => Err(ObfError::BadSquare { column: at }),
+            11 => Err(ObfError::BadSide { column: at }),
+            _ => Err(ObfError::Other { status }),
+        }
+    }
 }
 
 impl fmt::Display for ObfError {
@@ -61,8 +97,19 @@ impl fmt::Display for ObfError {
             ObfError::BadSquare { column } => write!(f, "bad square at column {column}"),
             ObfError::BadSide { column } => write!(f, "bad side at column {column}"),
             ObfError::NoMemory => f.write_str("out of memory"),
+            ObfError::Other { status } => write!(f, "refused with status {status}"),
         }
     }
 }
 
 impl std::error::Error for ObfError {}
+
+/// Want of memory, and a newer library, come of no call that a test can make.
+#[test]
+fn tells_statuses_that_no_call_gives() {
+    assert_eq!(ObfError::of_status(7, 5), Err(ObfError::NoMemory));
+    let (refused, unread) = (Error::of_status(12, 0), ObfError::of_status(12, 0));
+    assert_eq!((refused, unread), (Err(Error::Other { status: 12 }), Err(ObfError::Other { status: 12 })));
+    assert_eq!(Error::Other { status: 12 }.to_string(), "refused with status 12");
+    assert_eq!(ObfError::Other { status: 12 }.to_string(), "refused with status 12");
+}

@@ -96,24 +96,6 @@ pub(crate) fn read_line(text: &[u8], listed: &mut [raw::Listed]) -> Result<raw::
     let (to, room) = (listed.as_mut_ptr(), listed.len());
     // SAFETY: the text has so many bytes, and there is room for so many moves; what is written is this call's own.
     let status = unsafe { raw::ffosolve_read_line(text.as_ptr(), text.len(), &mut line, to, room, &mut at) };
-    match status {
-        0 => Ok(line),
-        _ => Err(error_of(status, at)),
-    }
-}
-
-fn error_of(status: i32, at: usize) -> ObfError {
-    match status {
-        7 => ObfError::NoMemory,
-        8 => ObfError::NoPosition,
-        9 => ObfError::ShortBoard { squares: at },
-        10 => ObfError::BadSquare { column: at },
-        _ => ObfError::BadSide { column: at },
-    }
-}
-
-/// Want of memory comes of no call that a test can make.
-#[test]
-fn tells_want_of_memory() {
-    assert_eq!(error_of(7, 5), ObfError::NoMemory);
+    ObfError::of_status(status, at)?;
+    Ok(line)
 }

@@ -82,7 +82,7 @@ impl Solver {
         let (mut answer, entries) = (raw::Answer::default(), self.table(&[position]));
         // SAFETY: the pointer is to an answer of this call's own.
         let status = unsafe { raw::ffosolve_solve(position.raw(), self.scoring as u32, entries, &mut answer) };
-        accept(status, 0)?;
+        Error::of_status(status, 0)?;
         Ok(Answer::of_raw(answer))
     }
 
@@ -96,7 +96,7 @@ impl Solver {
         let scoring = self.scoring as u32;
         // SAFETY: the pointer is to an answer of this call's own.
         let status = unsafe { raw::ffosolve_confirm(position.raw(), scoring, entries, claim.raw(), &mut answer) };
-        accept(status, 0)?;
+        Error::of_status(status, 0)?;
         Ok(Answer::of_raw(answer))
     }
 
@@ -113,7 +113,7 @@ impl Solver {
         let status = unsafe {
             raw::ffosolve_solve_all(from, count, self.scoring as u32, entries, to, count, &mut at)
         };
-        accept(status, at)?;
+        Error::of_status(status, at)?;
         Ok(answers.into_iter().map(Answer::of_raw).collect())
     }
 
@@ -128,7 +128,7 @@ impl Solver {
         // SAFETY: the pointers are to 64 scores and a number of this call's own.
         let status =
             unsafe { raw::ffosolve_move_scores(position.raw(), scoring, entries, &mut scores, &mut moves) };
-        accept(status, 0)?;
+        Error::of_status(status, 0)?;
         let score_at = |square: Square| (square, scores[usize::from(square.number())]);
         Ok(Squares(moves).map(score_at).collect())
     }
@@ -136,16 +136,5 @@ impl Solver {
     fn table(&self, positions: &[Position]) -> usize {
         let empties = positions.iter().map(|position| position.empties().len()).max();
         self.entries.unwrap_or(table_entries(empties.unwrap_or(0)))
-    }
-}
-
-fn accept(status: i32, index: usize) -> Result<(), Error> {
-    match status {
-        0 => Ok(()),
-        1 => Err(Error::UnknownScoring),
-        2 => Err(Error::TooManyEntries),
-        5 => Err(Error::TooManyEmpties { index }),
-        7 => Err(Error::NoMemory),
-        _ => unreachable!("lengths are equal, and the masks of a position share no square"),
     }
 }

@@ -1,6 +1,6 @@
 //! A module for each library: `rules` for `othello_rules`, `bits` for `othello_bits`, `texts` for
-//! `obf_text`, `tables` for `bound_table`, `scores` for `move_scores`, `lists` for `score_lists`,
-//! `books` for `solved_book`, and `boards` for `job_board`.
+//! `obf_text`, `tables` for `bound_table`, `searches` for `endgame_search`, `scores` for `move_scores`,
+//! `lists` for `score_lists`, `books` for `solved_book`, and `boards` for `job_board`.
 
 mod bits;
 mod boards;
@@ -8,5 +8,6 @@ mod books;
 mod lists;
 mod rules;
 mod scores;
+mod searches;
 mod tables;
 mod texts;

@@ -15,6 +15,3 @@ mod ffoscores;
 pub use command_line::{ListOptions, list_options};
 pub use ended::{Ended, list_program_at};
 pub use ffoscores::{list_program, list_program_of};
-
-#[cfg(test)]
-mod tests;

@@ -88,11 +88,11 @@ impl<E: Write> Lines<'_, E> {
     }
 }
 
-// A gate that counts the jobs of a run and those that were solved. After a job it writes a line
-// where one is due. No thread waits for another that writes. Where the clock can't be read, no line
-// is written.
+/// A gate that counts the jobs of a run and those that were solved. After a job it writes a line
+/// where one is due. No thread waits for another that writes. Where the clock can't be read, no
+/// line is written.
 #[derive(Drop)]
-pub(crate) struct ProgressGate<'a, C: Clock, E: Write> {
+pub struct ProgressGate<'a, C: Clock, E: Write> {
     clock: &'a C,
     start: Option<Instant>,
     // The files whose jobs are not all submitted.
@@ -103,8 +103,8 @@ pub(crate) struct ProgressGate<'a, C: Clock, E: Write> {
 }
 
 impl<'a, C: Clock, E: Write> ProgressGate<'a, C, E> {
-    // A gate for a run over so many files, which begins now.
-    pub(crate) fn new(clock: &'a C, files: usize, errors: &'a mut E) -> ProgressGate<'a, C, E> {
+    /// A gate for a run over so many files, which begins now.
+    pub fn new(clock: &'a C, files: usize, errors: &'a mut E) -> ProgressGate<'a, C, E> {
         ProgressGate {
             clock,
             start: Instant::now(clock).ok(),
@@ -137,8 +137,8 @@ impl<'a, C: Clock, E: Write> ProgressGate<'a, C, E> {
         })
     }
 
-    // Writes the line at the end of the run. A failure of the stream changes nothing.
-    pub(crate) fn end(self) {
+    /// Writes the line at the end of the run. A failure of the stream changes nothing.
+    pub fn end(self) {
         if let Some(progress) = self.progress() {
             let _ = write_progress(self.lines.into_inner().errors, progress);
         }

@@ -6,7 +6,7 @@ from typing import Callable, Iterable, Iterator, Mapping, NamedTuple, Optional, 
 
 from ._boards import Board
 from ._library import CLine, CListed, load
-from ._refusals import REFUSALS, LineRefused, NoMemory, Refused, Status
+from ._refusals import LineRefused, NoMemory, Refused, Status, refusal_of
 from ._squares import NAMES
 
 SIDES = "XO"  # by the numbers of enum ffosolve_side
@@ -116,7 +116,7 @@ class Reader:
 
     def refusal(self, status: int, number: Optional[int]) -> Refused:
         """Why the line of a number that was read last holds no position, by its status."""
-        return NoMemory() if status == Status.NO_MEMORY else REFUSALS[status](self.at.value, number)
+        return NoMemory() if status == Status.NO_MEMORY else refusal_of(status, self.at.value, number)
 
 
 def without_end(text: Union[str, bytes]) -> bytes:

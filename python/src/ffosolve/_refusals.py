@@ -25,7 +25,7 @@ class Status(enum.IntEnum):
 class Refused(Exception):
     """A call was refused. `index` is that of the position to blame, where the call was for a list, else None."""
 
-    status: Status
+    status: int  # a Status, but of an OtherRefusal
     reason: str
 
     def __init__(self, index: Optional[int] = None) -> None:
@@ -76,6 +76,17 @@ class NoMemory(Refused, MemoryError):
     """There is no memory for the table, never with 0 entries; or for the moves that a line lists."""
 
     status, reason = Status.NO_MEMORY, "out of memory"
+
+
+class OtherRefusal(Refused):
+    """The status is none that this package knows: the library is newer."""
+
+    def __init__(self, status: int) -> None:
+        self.status, self.reason = status, f"refused with status {status}"
+        super().__init__()
+
+    def __reduce__(self) -> Tuple[Type["Refused"], Tuple[Optional[int], ...]]:
+        return type(self), (self.status,)
 
 
 class LineRefused(Refused, ValueError):
@@ -136,3 +147,8 @@ REFUSALS: Dict[int, Type[Refused]] = {
         BadSide,
     )
 }
+
+
+def refusal_of(status: int, *told: Optional[int]) -> Refused:
+    """The refusal that a status says, made of what is told of it."""
+    return REFUSALS[status](*told) if status in REFUSALS else OtherRefusal(status)

@@ -12,7 +12,7 @@ from ._answers import Answer, Kind
 from ._bulk import Part, checked_threads, empties_of, in_order, parts_of
 from ._library import MOST_EMPTIES, MOST_ENTRIES, CAnswer, CMoveScores, CPosition, load
 from ._positions import Position
-from ._refusals import REFUSALS, Refused, Status, TooManyEntries, UnknownScoring
+from ._refusals import Refused, Status, TooManyEntries, UnknownScoring, refusal_of
 from ._squares import NAMES, square_number
 
 if TYPE_CHECKING:
@@ -179,9 +179,9 @@ class Solver:
         if status == Status.DONE:
             return read(found), None
         if status not in OF_A_POSITION:
-            return [], REFUSALS[status]()
+            return [], refusal_of(status)
         before, refusal = self._call_for(part._replace(positions=part.positions[: at.value]), call, record, read)
-        return before, refusal or REFUSALS[status](part.start + at.value)
+        return before, refusal or refusal_of(status, part.start + at.value)
 
 
 A = TypeVar("A")
@@ -233,4 +233,4 @@ def c_positions(positions: Sequence[Sequence[int]]) -> Any:
 def accept(status: int, index: Optional[int] = None) -> None:
     """Raises what a status says, unless that is DONE."""
     if status != Status.DONE:
-        raise REFUSALS[status](index if status in OF_A_POSITION else None)
+        raise refusal_of(status, index if status in OF_A_POSITION else None)

@@ -1,8 +1,8 @@
 //! What faults print.
 
 use super::SECOND_TOO_LARGE;
-use crate::RunFault;
 use std::alloc::{AllocError, Global};
+use suite_solver::RunFault;
 
 const TEXTS: &[(RunFault, &[u8])] = &[
     (RunFault::Memory, b"ffosolve: out of memory\n"),

@@ -1,13 +1,13 @@
 //! The program with books: what it writes, what it reads, and what it refuses.
 
 use super::{NO_FILE, ONE, ONE_POSITION, Run, TWO, TWO_BY_WINNER, all_end_so, ends_so, run};
-use crate::MOST_BYTES;
 use std::alloc::{AllocError, Global};
 use std::fs;
 use std::rt::{Clock, Files};
 use std::sync::Wait;
 use std::test::Fail;
 use std::thread::Threads;
+use suite_solver::MOST_BYTES;
 
 // The canonical positions of -OOOOOOX, --OOOOOX and -OOXXOO- above seven rows of black discs, in
 // the order of a book.
@@ -47,9 +47,9 @@ const ONE_BY_SIGN: &[u8] = b"[1]
 solved 3 refused 0
 ";
 
-const FIRST_REPORT: &[u8] = b"[1]\n1 +64 A1 unlisted\nsolved 1 refused 0\n";
+pub(super) const FIRST_REPORT: &[u8] = b"[1]\n1 +64 A1 unlisted\nsolved 1 refused 0\n";
 
-const FIRST_BOOK: &[u8] = b"% ffobook 2 winner\n\
+pub(super) const FIRST_BOOK: &[u8] = b"% ffobook 2 winner\n\
 XXXXXXXXXXXXXXXXXXXXXXXXXXXXXXXXXXXXXXXXXXXXXXXXXXXXXXXXXOOOOOO- X; H8:+64;\n";
 
 // The words, standard input, the report of it that they ask for, and the book.

@@ -13,10 +13,10 @@ mod options;
 mod overwrites;
 mod progress;
 mod runs;
+mod scored_lists;
 mod streams;
 mod texts;
 
-use crate::{Gate, program};
 use std::alloc::{AllocError, Global};
 use std::io;
 use std::io::{Read, Write};
@@ -24,6 +24,7 @@ use std::rt::{Clock, Files};
 use std::sync::Wait;
 use std::sync::atomic::{AtomicU32, Ordering};
 use std::thread::Threads;
+use suite_solver::{Gate, program};
 
 // The words of a command line with spaces between, standard input, and the status, standard output
 // and standard error that the program ends with.

@@ -1,9 +1,9 @@
 //! Texts and the reports of the program on them.
 
 use super::{EMPTY_REPORT, FailingWriter, Run, TWO, TWO_BY_WINNER, all_end_so};
-use crate::{Refusal, ReportRow, RowResult, write_report};
 use std::alloc::AllocError;
 use std::test::Fail;
+use suite_solver::{Refusal, ReportRow, RowResult, write_report};
 
 // Positions, some with listed scores, and lines that begin with a byte that is no square.
 const POSITIONS: &[u8] = b"\

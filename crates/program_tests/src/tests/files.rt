@@ -5,13 +5,13 @@ use super::{
     BOTH, EMPTY_REPORT, NO_FILE, ONE, Run, SECOND_TOO_LARGE, TOO_LARGE, TWO, all_end_so, ended_so,
     ends_so,
 };
-use crate::MOST_BYTES;
 use std::alloc::{AllocError, Global};
 use std::fs;
 use std::rt::{Clock, Files};
 use std::sync::Wait;
 use std::test::Fail;
 use std::thread::Threads;
+use suite_solver::MOST_BYTES;
 
 const MANY_FILES: &[u8] = b"ffosolve: more than 64 files\n";
 

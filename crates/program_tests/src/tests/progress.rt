@@ -2,8 +2,6 @@
 
 use super::runs::{files_of, settings_of};
 use super::{BOTH, FailingWriter, ONE, TWO};
-use crate::program;
-use crate::progress::ProgressGate;
 use std::alloc::Global;
 use std::io::Write;
 use std::rt::Clock;
@@ -14,6 +12,8 @@ use std::thread::Threads;
 use std::time::Duration;
 use std::{io, thread};
 use suite_runs::Gate;
+use suite_solver::program;
+use suite_solver::progress::ProgressGate;
 
 // A clock that a test moves, and that can be read so many times.
 #[derive(Drop)]
@@ -95,7 +95,7 @@ fn told_of_both<R: Threads + Wait + Sync>(
     let clock = MovedClock::new(0, reads_left);
     let mut errors = Vec::new(alloc);
     let gate = ProgressGate::new(&clock, 2, &mut errors);
-    let outcome = crate::run(rt, alloc, &files, &settings_of(workers, 16), None, &gate)?;
+    let outcome = suite_solver::run(rt, alloc, &files, &settings_of(workers, 16), None, &gate)?;
     gate.end();
     let reports = outcome.reports.concat(alloc)?;
     if reports.as_slice() != BOTH {

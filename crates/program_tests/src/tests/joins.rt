@@ -3,12 +3,12 @@
 ghost use Rattle.std.specs.Prelude.{◌≡◌, ◌≤◌, [], ◌⊎◌, IfOk, vec_len, vec_capacity};
 ghost use Rattle.suite_runs.specs.declared.run_fault.RunFault.TheVariants.{Memory, Mixed};
 
-use crate::RunFault;
 use othello_rules::Scoring;
 use std::alloc::{AllocError, Global};
 use std::test::Fail;
 use std::thread::Threads;
 use suite_runs::threads::{Joined, PartPromise, Progress, StartedClient, join_all};
+use suite_solver::RunFault;
 
 // A client that has ended with a fault.
 fn ended_with(fault: RunFault) -> StartedClient<'static>

@@ -1,7 +1,6 @@
 //! Streams that fail or never end.
 
 use super::{Ended, FailingWriter, NO_INPUT, NO_OUTPUT, TOO_LARGE, TWO, ended_so, run, words_of};
-use crate::{MOST_BYTES, program};
 use std::alloc::{AllocError, Global};
 use std::io::{Read, Write};
 use std::rt::{Clock, Files};
@@ -9,6 +8,7 @@ use std::sync::Wait;
 use std::test::Fail;
 use std::thread::Threads;
 use std::{fs, io};
+use suite_solver::{MOST_BYTES, program};
 
 // A reader that never ends, and counts what it gave.
 #[derive(Drop)]

@@ -2,13 +2,13 @@
 
 use super::books::BOOK;
 use super::{BOTH, ONE, TWO, TWO_JOBS};
-use crate::{Gate, NoGate, Outcome, Settings, run_serial};
 use othello_rules::Scoring;
 use solved_book::Claims;
 use std::alloc::{AllocError, Global};
 use std::sync::{Mutex, Wait};
 use std::test::Fail;
 use std::thread::Threads;
+use suite_solver::{Gate, NoGate, Outcome, Settings, run_serial};
 
 // What a gate was told: how often each of two jobs was entered and left, and whether the first
 // saw the second's end. They are the first two of a client, or the first ones of two.
@@ -106,7 +106,7 @@ fn solve_at_once<R: Threads + Wait + Sync>(
 ) -> Result<bool, Fail> {
     let files = files_of(alloc, texts)?;
     let gate = HoldingGate::new();
-    let outcome = crate::run(rt, alloc, &files, &settings_of(workers, 16), None, &gate)?;
+    let outcome = suite_solver::run(rt, alloc, &files, &settings_of(workers, 16), None, &gate)?;
     let given = outcome.reports.concat(alloc)?;
     Ok(given.as_slice() == reports && gate.told.into_inner() == TOLD)
 }
@@ -159,7 +159,7 @@ fn give_both<R: Threads + Wait + Sync>(
 ) -> Result<bool, Fail> {
     let files = files_of(alloc, &[ONE, TWO])?;
     let serial = texts_of(alloc, run_serial(alloc, &files, settings, claims)?)?;
-    let threaded = crate::run(rt, alloc, &files, settings, claims, &NoGate)?;
+    let threaded = suite_solver::run(rt, alloc, &files, settings, claims, &NoGate)?;
     let threaded = texts_of(alloc, threaded)?;
     Ok(serial == threaded && serial.0.as_slice() == BOTH)
 }
@@ -189,7 +189,7 @@ const LYING_BOOK: &[u8] =
 #[test]
 fn runs_many_files(rt: HostRuntime) -> Result<(), Fail> {
     let files = files_of(rt.alloc(), &[TWO; 64])?;
-    let outcome = crate::run(&rt, rt.alloc(), &files, &settings_of(64, 16), None, &NoGate)?;
+    let outcome = suite_solver::run(&rt, rt.alloc(), &files, &settings_of(64, 16), None, &NoGate)?;
     assert!(rt; outcome.reports.len() == 64 && outcome.book.len() == 3);
     Ok(())
 }
@@ -216,7 +216,7 @@ fn gives_book<R: Threads + Wait + Sync>(
     let settings = settings_of(workers.unwrap_or(0), 16);
     let outcome = match workers {
         None => run_serial(alloc, &files, &settings, Some(&claims))?,
-        Some(_) => crate::run(rt, alloc, &files, &settings, Some(&claims), &NoGate)?,
+        Some(_) => suite_solver::run(rt, alloc, &files, &settings, Some(&claims), &NoGate)?,
     };
     let (reports, book) = texts_of(alloc, outcome)?;
     Ok(reports.as_slice() == BOTH && book.as_slice() == BOTH_BOOK)

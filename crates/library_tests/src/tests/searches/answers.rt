@@ -1,11 +1,11 @@
 //! Values and best moves under each scoring, of each image, in windows, and whatever is claimed.
 
-use crate::tests::{
+use super::{
     A1, B1, BLACK_BOARD, CORNER_LEFT_OVER, CORNERS, Discs, EQUAL_CORNERS, H1, LAST_CORNER,
     LEVEL_HALVES, UNEQUAL_CORNERS, UNEQUAL_HALVES, pos_of, task_of,
 };
-use crate::{Claim, confirm, solve, value_in};
 use bound_table::NoTable;
+use endgame_search::{Claim, confirm, solve, value_in};
 use othello_bits::{Pos, Sym};
 use othello_rules::{Best, Scoring, Side, Square};
 use std::process::Abort;

@@ -1,8 +1,8 @@
 //! Whole runs of `ffoscores`: options, files, hostile texts, and streams that fail or never end.
 
-mod streams;
-
-use crate::{list_options, list_program};
+use super::streams::{EndlessReader, FailingReader, HoldingWriter};
+use super::{Ended, FailingWriter, Run, words_of};
+use list_scorer::{list_options, list_program};
 use othello_rules::Scoring;
 use score_lists::Listing;
 use std::alloc::{AllocError, Global};
@@ -12,24 +12,7 @@ use std::rt::Files;
 use std::sync::Wait;
 use std::test::Fail;
 use std::thread::Threads;
-use streams::{EndlessReader, FailingReader, FailingWriter, HoldingWriter};
 use suite_runs::{MOST_BYTES, MOST_EMPTIES, MOST_ENTRIES, MOST_WORKERS, Settings};
-
-// The words of a command line with spaces between, standard input, and the status, standard output
-// and standard error that the program ends with.
-type Run<'a> = (&'a str, &'a [u8], u8, &'a [u8], &'a [u8]);
-
-// How a program ended.
-#[derive(Drop)]
-struct Ended {
-    status: u8,
-    output: Vec<u8>,
-    errors: Vec<u8>,
-}
-
-fn words_of(alloc: Global, line: &str) -> Result<Vec<&str>, AllocError> {
-    line.split(' ').collect(alloc)
-}
 
 const NO_MEMORY: &[u8] = b"ffoscores: out of memory\n";
 

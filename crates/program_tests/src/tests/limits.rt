@@ -4,11 +4,11 @@ ghost use Rattle.std.specs.Prelude.{◌<◌, ◌^◌};
 
 use super::runs::text_of;
 use super::{CountingGate, ONE_POSITION};
-use crate::{MOST_BYTES, NoGate, Outcome, RunFault, Settings, run_serial};
 use std::alloc::{AllocError, Global};
 use std::sync::Wait;
 use std::test::Fail;
 use std::thread::Threads;
+use suite_solver::{MOST_BYTES, NoGate, Outcome, RunFault, Settings, run_serial};
 
 fn empty_files(alloc: Global, count: u32) -> Result<Vec<Vec<u8>>, AllocError> {
     let mut files = Vec::new(alloc);
@@ -35,7 +35,7 @@ fn are_empty<R: Threads + Wait + Sync>(
     let files = empty_files(alloc, count)?;
     let settings = Settings::default();
     let serial = run_serial(alloc, &files, &settings, None)?;
-    let threaded = crate::run(rt, alloc, &files, &settings, None, &NoGate)?;
+    let threaded = suite_solver::run(rt, alloc, &files, &settings, None, &NoGate)?;
     let count = count as usize;
     Ok(has_reports(&serial, count, last) && has_reports(&threaded, count, last))
 }
@@ -82,7 +82,7 @@ fn are_refused<R: Threads + Wait + Sync>(
     let settings = Settings::default();
     let gate = CountingGate::new();
     let serial = run_serial(alloc, files, &settings, None).err();
-    let threaded = crate::run(rt, alloc, files, &settings, None, &gate).err();
+    let threaded = suite_solver::run(rt, alloc, files, &settings, None, &gate).err();
     serial == Some(fault) && threaded == Some(fault) && gate.counts() == (0, 0)
 }
 

@@ -2,7 +2,6 @@
 //! test tells so before the others that wait for them take a minute each.
 
 use super::FIRST_POSITION;
-use crate::NoGate;
 use bound_table::NoTable;
 use endgame_search::Task;
 use job_board::{Client, Desk, Turn};
@@ -16,6 +15,7 @@ use std::thread;
 use std::time::{Clock, Duration};
 use suite_runs::solver::Solver;
 use suite_runs::worker::Worker;
+use suite_solver::NoGate;
 
 // What the worker and its watcher share.
 #[derive(Drop)]

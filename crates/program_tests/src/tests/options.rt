@@ -3,9 +3,6 @@
 use super::{
     Ended, LARGE_TABLE, Run, TWO, WANT_OF_MEMORY, all_end_so, ended_so, ends_so, words_of,
 };
-use crate::{
-    MOST_EMPTIES, MOST_ENTRIES, MOST_WORKERS, Options, Settings, VERSION, options, program_of,
-};
 use othello_rules::Scoring;
 use std::alloc::{AllocError, Global};
 use std::io;
@@ -13,6 +10,9 @@ use std::rt::{Clock, Files};
 use std::sync::Wait;
 use std::test::Fail;
 use std::thread::Threads;
+use suite_solver::{
+    MOST_EMPTIES, MOST_ENTRIES, MOST_WORKERS, Options, Settings, VERSION, options, program_of,
+};
 
 const BAD_EMPTIES: &[u8] = b"\
 error: invalid value '61' for '--max-empties <N>': 61 is not in 0..=60

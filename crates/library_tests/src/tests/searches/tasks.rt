@@ -1,7 +1,7 @@
 //! The limits of empty squares.
 
-use crate::tests::{Discs, FFO_40, FFO_40_WITHOUT_H7, THREE_DISCS, pos_of};
-use crate::{Task, TooMany};
+use super::{Discs, FFO_40, FFO_40_WITHOUT_H7, THREE_DISCS, pos_of};
+use endgame_search::{Task, TooMany};
 use othello_rules::{Scoring, Side};
 use std::alloc::AllocError;
 use std::process::Abort;

@@ -3,8 +3,6 @@
 ghost use Rattle.std.specs.Prelude.{◌≤◌, length};
 
 use super::{BOTH, CountingGate, ONE, TWO, TWO_JOBS};
-use crate::laws::client_part;
-use crate::{Gate, MOST_BYTES, NoGate, RunFault, write_report};
 use arrayvec::ArrayVec;
 use bound_table::{BoundTable, NoTable};
 use endgame_search::Task;
@@ -15,6 +13,8 @@ use std::alloc::{AllocError, Global};
 use std::sync::{Mutex, Wait};
 use std::test::Fail;
 use suite_runs::client::send_and_close;
+use suite_solver::laws::client_part;
+use suite_solver::{Gate, MOST_BYTES, NoGate, RunFault, write_report};
 
 // Writes the report of one client's part, and tells whether its answers are as many as its rows.
 fn report_part<R: Wait, G: Gate>(

@@ -3,13 +3,12 @@
 ghost use Rattle.std.specs.Prelude.{◌≡◌};
 ghost use Rattle.endgame_search.specs.Windows.{IsWindow};
 
-use crate::alpha_beta::search_scores;
-use crate::tests::{
+use super::{
     BLACK_BOARD, Discs, H1, LAST_CORNER, ProbeCounter, TEN_EMPTY_SQUARES, UNEQUAL_CORNERS, after,
     count_probes, is_first_enough, pos_of, task_of,
 };
-use crate::{Claim, Task, confirm, exact_value, solve, value_in};
 use bound_table::{BoundTable, Bounds, NoTable, Range};
+use endgame_search::{Claim, Task, confirm, exact_value, solve, value_in};
 use othello_bits::Pos;
 use othello_rules::{Best, Scoring, Side, Square};
 use std::alloc::Global;
@@ -155,9 +154,9 @@ fn a_small_position_is_solved_without_a_store(rt: HostRuntime) {
 // Whether a search takes more than one probe and stores the position last: a second search ends at
 // its first probe.
 fn is_value_stored(counter: &ProbeCounter, position: Pos) -> bool {
-    let score = search_scores(counter, position, -65, 65);
+    let score = exact_value(counter, position);
     counter.probes.replace(0) > 1
-        && search_scores(counter, position, -65, 65) == score
+        && exact_value(counter, position) == score
         && counter.probes.get() == 1
 }
 
@@ -173,7 +172,7 @@ fn ends_at_once(counter: &ProbeCounter, position: Pos, low: i8, high: i8) -> boo
     requires { IsWindow low high }
 {
     counter.probes.set(0);
-    let _ = search_scores(counter, position, low, high);
+    let _ = value_in(counter, position, low, high);
     counter.probes.get() == 1
 }
 
@@ -197,12 +196,13 @@ fn ranges_beyond_the_window_end_a_search(rt: HostRuntime) {
     assert!(rt; do_ranges_end(&counter, position));
 }
 
-// Whether a search of the window is stored: a second search of it ends at its first probe.
+// Whether a search of the window is stored, before `value_in` stores its result once more.
 fn is_stored(counter: &ProbeCounter, position: Pos, low: i8, high: i8) -> bool
     requires { IsWindow low high }
 {
-    let _ = search_scores(counter, position, low, high);
-    ends_at_once(counter, position, low, high)
+    counter.stored.set(0);
+    let _ = value_in(counter, position, low, high);
+    counter.stored.get() == 2
 }
 
 // Whether searches of the null windows below and above the value are stored.

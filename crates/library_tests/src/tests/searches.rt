@@ -8,8 +8,8 @@ mod tasks;
 ghost use Rattle.std.specs.Prelude.{◌≡◌};
 ghost use Rattle.othello_rules.specs.declared.scoring.Scoring.TheVariants.{Winner};
 
-use crate::{Task, value_in};
 use bound_table::{BoundTable, Bounds, Range};
+use endgame_search::{Task, value_in};
 use othello_bits::Pos;
 use othello_rules::{Scoring, Side, Square};
 use std::alloc::Global;
@@ -60,9 +60,11 @@ const FFO_40_WITHOUT_H7: Discs = (0x80c0_c48c_8080, 0x10_783f_3b73_7e79);
 // OOOOOOOX OXXXXXXX OOXXOXOX OOOXXOXX OXOOXOXX OOXXOXXX --OXXXXX --------
 const TEN_EMPTY_SQUARES: Discs = (0xf8_ecd2_d8ac_fe80, 0x4_132d_2753_017f);
 
-// a ring of X around the four squares of the centre and those four, within a ring of O, within the
-// empty edge
-const RINGS: Discs = (0x3c3c_3c3c_0000, 0x7e_4242_4242_7e00);
+// XXOOOOO- -XXXXOOX XXXOOXO- XXOOOOOO XOXXOOOO OOXXXOOO -OOXOXO- O--OOXX-
+const EIGHT_WITH_UNEQUAL_REPLIES: Discs = (0x6028_1c0d_0327_9e03, 0x1956_e3f2_fc58_607c);
+
+// XXXXXXX- XXXXXXXO XXXOXOXX OOOXXOXX OOXXXOXX OXOXXOXX --XOOX-- --XXXXX-
+const EIGHT_WITH_EQUAL_REPLIES: Discs = (0x7c24_dadc_d8d7_7f7f, 0x18_2523_2728_8000);
 
 // XXX----- and seven empty rows
 const THREE_DISCS: Discs = (0x7, 0);
@@ -89,13 +91,15 @@ fn task_of(rt: &impl Abort, position: Pos, scoring: Scoring) -> Task
     Task::new(position, 20, scoring).expect(rt, "at most 20 empty squares")
 }
 
-// A table that counts its probes and stores, and notes whether either of two positions was probed.
+// A table that counts its probes and stores, and its stores of the first of two positions, and notes
+// whether either was probed.
 #[derive(Drop)]
 struct ProbeCounter {
     table: BoundTable,
     watched: [Pos; 2],
     probes: Cell<u32>,
     stores: Cell<u32>,
+    stored: Cell<u32>,
     seen: [Cell<bool>; 2],
 }
 
@@ -115,6 +119,9 @@ impl Bounds for ProbeCounter {
 
     fn store(&self, position: &Pos, range: Range) {
         self.stores.set(self.stores.get().wrapping_add(1));
+        if self.watched[0] == *position {
+            self.stored.set(self.stored.get().wrapping_add(1));
+        }
         self.table.store(position, range);
     }
 }
@@ -135,6 +142,7 @@ fn count_probes(rt: &impl Abort, alloc: Global, entries: usize, watched: [Pos; 2
         watched,
         probes: Cell::new(0),
         stores: Cell::new(0),
+        stored: Cell::new(0),
         seen: [Cell::new(false), Cell::new(false)],
     }
 }
