@@ -22,8 +22,6 @@ mod one_position;
 mod position;
 mod scores;
 mod table;
-#[cfg(test)]
-mod tests;
 
 pub use answer::FfosolveAnswer;
 pub use call_refusal::CallRefusal;
