@@ -7,8 +7,8 @@ use Rattle.suite_runs.specs.Runs.{first_large}
 use Rattle.suite_runs.specs.declared.settings.TheConstants.{MOST_FILES}
 use Rattle.list_scorer.specs.CommandLine.{ListRequest, demands_of}
 use Rattle.list_scorer.specs.Lists.{AreLists, PrintsLists, StopsLists}
-use Rattle.suite_solver.specs.Programs.{AreFrontsOf}
-use Rattle.suite_solver.specs.declared.program_error.ProgramError.{ProgramError}
+use Rattle.program_files.specs.Inputs.{AreFrontsOf}
+use Rattle.program_files.specs.declared.program_error.ProgramError.{ProgramError}
 use Rattle.suite_solver.proofs.ProgramLemmas.{whole_texts}
 
 -- what was read is lists, where no limit is passed

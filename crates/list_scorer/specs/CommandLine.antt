@@ -7,7 +7,8 @@ use Rattle.score_lists.specs.declared.demands.Demands.{Demands}
 use Rattle.score_lists.specs.declared.demands.Listing.{Listing}
 use Rattle.score_lists.specs.declared.demands.Listing.TheVariants.{Any, Complete}
 use Rattle.suite_solver.specs.CommandLine.{HasFlag, HasSettings, NameList, NamesScorings}
-use Rattle.suite_solver.specs.CommandLine.{files_rule, flag_rule, names_of, versioned, with_settings}
+use Rattle.suite_solver.specs.CommandLine.{files_rule, flag_rule, versioned, with_settings}
+use Rattle.program_files.specs.Inputs.{names_of}
 use Rattle.list_scorer.specs.declared.command_line.ListOptions.{ListOptions}
 
 -- the whole command `ffoscores`

@@ -10,8 +10,8 @@ use Rattle.suite_runs.specs.declared.settings.TheConstants.{MOST_FILES}
 use Rattle.suite_runs.specs.declared.run_fault.RunFault.TheVariants as run
 use Rattle.suite_solver.specs.CommandLine.{AsksForText}
 use Rattle.suite_solver.specs.Programs.{AreTextsOf, EndsProgram}
-use Rattle.suite_solver.specs.declared.program_error.ProgramError.{ProgramError}
-use Rattle.suite_solver.specs.declared.program_error.ProgramError.TheVariants.{Run, BadWords, CannotWrite}
+use Rattle.program_files.specs.declared.program_error.ProgramError.{ProgramError}
+use Rattle.program_files.specs.declared.program_error.ProgramError.TheVariants.{Run, BadWords, CannotWrite}
 use Rattle.list_scorer.specs.CommandLine.{AsksLists, ListRequest, demands_of, ffoscores}
 
 -- These are the texts of the files of these names, or of standard input, and they are within the

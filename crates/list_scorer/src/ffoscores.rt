@@ -4,7 +4,7 @@ ghost use Rattle.std.specs.Prelude.{◌≡◌, map, IfErr, IfOk, IsErr, OnErr, O
 ghost use Rattle.std.specs.Io.KnownBytes.{Appends};
 ghost use Rattle.obf_text.specs.LineText.{texts_of};
 ghost use Rattle.score_lists.specs.Lines.{AppendsFront, lists_right, lists_text};
-ghost use Rattle.suite_solver.specs.CommandLine.{names_of};
+ghost use Rattle.program_files.specs.Inputs.{names_of};
 ghost use Rattle.suite_solver.specs.Programs.{EndsUnread};
 ghost use Rattle.list_scorer.specs.CommandLine.{demands_of, list_request_of};
 ghost use Rattle.list_scorer.specs.Lists.{EndsFfoscores, IsListError, PrintsLists, StopsLists};
@@ -12,6 +12,7 @@ ghost use Rattle.list_scorer.specs.Lists.{list_status_of};
 
 use crate::command_line::{ListOptions, list_options};
 use bound_table::BoundTable;
+use program_files::{ProgramError, borrow_words, read_files, words_error};
 use score_lists::{Demands, ListFault, write_lists};
 use std::alloc::Global;
 use std::io;
@@ -20,9 +21,8 @@ use std::rt::Files;
 use std::sync::{Arc, Wait};
 use std::thread::Threads;
 use suite_runs::{RunFault, check_files};
-use suite_solver::inputs::read_files;
-use suite_solver::streams::{borrow_words, end_without_options};
-use suite_solver::{OptionFault, ProgramError, words_error};
+use suite_solver::OptionFault;
+use suite_solver::streams::end_without_options;
 
 // The error of the program for a fault of printing: want of memory, or that standard output can't
 // be written.

@@ -5,8 +5,10 @@ use Rattle.std.proofs.lemmas.List.{length-take, take_all}
 use Rattle.std.proofs.lemmas.Bool.{cases_lt}
 use Rattle.std.proofs.Math.Nat.{min_comm, min-eq_left}
 use borrow.Author.Tests.{ltb-false}
-use Rattle.suite_solver.specs.Programs.{AreFrontsOf, AreTextsOf, IsSilent, status_of}
-use Rattle.suite_solver.specs.declared.program_error.ProgramError.{ProgramError}
+use Rattle.suite_solver.specs.Programs.{AreTextsOf}
+use Rattle.program_files.specs.Inputs.{AreFrontsOf}
+use Rattle.program_files.specs.ProgramErrors.{IsSilent, status_of}
+use Rattle.program_files.specs.declared.program_error.ProgramError.{ProgramError}
 use Rattle.suite_runs.specs.Runs.{first_large, is_large}
 use Rattle.suite_runs.specs.declared.settings.TheConstants.{MOST_BYTES, MOST_FILES}
 use Rattle.suite_runs.specs.declared.run_fault.RunFault.{RunFault}

@@ -4,7 +4,6 @@ use Rattle.std.specs.Prelude.{◌≡◌, ◌≢◌, ◌⊎◌, ℕ, Bool, pos, t
 use Rattle.std.specs.Prelude.{Option, Some, String, codes, option_map, string_bytes, unwrap_or}
 use Rattle.std.specs.Borrow.{Bor}
 use Rattle.std.specs.Str.Parse.{IsNumeral, digits_value, without_leading_plus}
-use Rattle.std.specs.declared.alloc.Global.{Global}
 use Rattle.clap.specs.Faults.{fault_of}
 use Rattle.clap.specs.Kinds.{IsAmong}
 use Rattle.clap.specs.Lexer.{usize_max}
@@ -18,6 +17,7 @@ use Rattle.clap.specs.declared.error.kind.ErrorKind.{ErrorKind}
 use Rattle.clap.specs.declared.error.kind.ErrorKind.TheVariants.{DisplayHelp, DisplayVersion, OutOfMemory}
 use Rattle.othello_rules.specs.Scores.{all_scorings, scoring_name}
 use Rattle.othello_rules.specs.declared.scoring.Scoring.TheVariants.{Winner}
+use Rattle.program_files.specs.Inputs.{names_of}
 use Rattle.suite_runs.specs.Settings.{SettingsView}
 use Rattle.suite_runs.specs.declared.settings.TheConstants.{MOST_EMPTIES, MOST_ENTRIES, MOST_WORKERS}
 use Rattle.suite_runs.specs.declared.settings.TheConstants.{DEFAULT_EMPTIES_TEXT, DEFAULT_ENTRIES_TEXT, DEFAULT_WORKERS_TEXT}
@@ -113,10 +113,6 @@ pub record HasSettings (c : SettingsView) (rows : List Row) : Type 0 where
 pub record HasFlag (name : Text) (rows : List Row) (b : Bool) : Type 0 where
   pub set : one_of name rows ≡ Some (codes "true") → b ≡ true
   pub unset : one_of name rows ≡ Some (codes "false") → b ≡ false
-
--- the bytes of each name
-abbrev pub names_of : List (String Global) → List Text
-names_of names = map string_bytes names
 
 -- a request to `ffosolve`: settings, the names of a book to read and of a book to write, where
 -- there are any, whether to tell of progress, and the names of files

@@ -3,24 +3,22 @@
 ghost use Rattle.std.specs.Prelude.{◌≡◌, ◌⊎◌, map, Some, OnOk, IfOk, IfErr, IsErr, IsErrOf};
 ghost use Rattle.std.specs.List.{concat};
 ghost use Rattle.std.specs.Io.KnownBytes.{Appends};
-ghost use Rattle.suite_solver.specs.CommandLine.{names_of};
-ghost use Rattle.suite_solver.specs.Programs.{EndsFfosolve, EndsUnread, IsSilent, Prints};
-ghost use Rattle.suite_solver.specs.Programs.{PrintsReports, status_of};
-ghost use Rattle.suite_solver.specs.declared.program_error.ProgramError.TheVariants.{Run};
+ghost use Rattle.program_files.specs.Inputs.{names_of};
+ghost use Rattle.program_files.specs.ProgramErrors.{IsSilent, status_of};
+ghost use Rattle.program_files.specs.declared.program_error.ProgramError.TheVariants.{Run};
+ghost use Rattle.suite_solver.specs.Programs.{EndsFfosolve, EndsUnread, Prints, PrintsReports};
 ghost use Rattle.obf_text.specs.LineText.{texts_of};
 ghost use Rattle.suite_runs.specs.Runs.{refusal_of};
 ghost use Rattle.suite_runs.specs.declared.run_fault.RunFault.{RunFault};
 
-use crate::book_place::check_place;
-use crate::books::{read_claims, ready_book, write_book};
 use crate::command_line::options;
-use crate::inputs::read_files;
-use crate::new_file::NewFile;
 use crate::option_fault::OptionFault;
-use crate::program_error::{ProgramError, words_error};
-use crate::progress::run_asked;
 use crate::run_options::Options;
-use crate::streams::{borrow_words, end_without_options};
+use crate::streams::end_without_options;
+use program_files::{
+    NewFile, ProgramError, borrow_words, check_place, read_claims, read_files, ready_book,
+    run_told, words_error, write_book,
+};
 use solved_book::Claims;
 use std::alloc::Global;
 use std::io;
@@ -62,7 +60,15 @@ fn solve_files<'a, T: Files + Clock + Threads + Wait + Sync, W: Write, E: Write 
         (λ error. status_of error ≡ 1 → W.contents output.new ≡ W.contents output.old) }
     ensures status { IfErr result (λ error. (status_of error ≡ 1) ⊎ (status_of error ≡ 3)) }
 {
-    let outcome = run_asked(rt, alloc, asked, texts, claims, errors)?;
+    let outcome = run_told(
+        rt,
+        alloc,
+        texts,
+        &asked.settings,
+        claims,
+        asked.progress,
+        errors,
+    )?;
     let book = ready_book(rt, alloc, &asked.book_out, &outcome.book)?;
     match write_reports(output, &outcome.reports) {
         Ok(()) => Ok(book),

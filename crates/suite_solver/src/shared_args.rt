@@ -5,7 +5,8 @@ ghost use Rattle.std.specs.Prelude.{option_map, unwrap_or};
 ghost use Rattle.clap.specs.Words.{app_of, found_of, matched_of, raw_values, rows_of, rule_of};
 ghost use Rattle.suite_runs.specs.Settings.{IsWithinLimits, SettingsView};
 ghost use Rattle.suite_solver.specs.CommandLine.{HasNumber, HasSettings, files_rule, flag_rule};
-ghost use Rattle.suite_solver.specs.CommandLine.{names_of, number_rule, scoring_rule, versioned, with_settings};
+ghost use Rattle.program_files.specs.Inputs.{names_of};
+ghost use Rattle.suite_solver.specs.CommandLine.{number_rule, scoring_rule, versioned, with_settings};
 
 use clap::builder::ValueParser;
 use clap::{Arg, ArgAction, ArgMatches, Command};

@@ -1,42 +1,13 @@
-//! Calls on words and streams that `ffosolve` and `ffoscores` share.
+//! What clap hands over in place of options, printed.
 
-ghost use Rattle.std.specs.Prelude.{◌≡◌, ◌≢◌, ◌+◌, ◌≤◌, ◌⊎◌, true, false, map, take, vec_len, IfOk, IfSome, IsErr};
+ghost use Rattle.std.specs.Prelude.{◌≡◌, ◌≢◌, ◌⊎◌, true, false, IfOk, IsErr};
 ghost use Rattle.clap.specs.Words.{kind_of};
-ghost use Rattle.suite_solver.specs.CommandLine.{IsTextKind, names_of};
+ghost use Rattle.suite_solver.specs.CommandLine.{IsTextKind};
 
-use crate::program_error::ProgramError;
 use clap::error::ErrorKind;
-use std::alloc::{AllocError, Global};
+use program_files::ProgramError;
 use std::io;
-use std::io::{Read, Write};
-use suite_runs::MOST_BYTES;
-
-// Reads the first bytes of a reader: one more than a file may have, or all bytes where there are
-// fewer. A file that is too large is known by that one byte. The error is that of
-// the reader, or want of memory.
-pub(crate) fn read_front<R: Read>(alloc: Global, reader: &mut R) -> io::Result<Vec<u8>>
-    ensures most { IfOk result (λ bytes. vec_len bytes ≤ MOST_BYTES + 1) }
-    ensures front { IfOk result (λ bytes. IfSome (R.remaining reader.old)
-        (λ all. bytes.items ≡ take (MOST_BYTES + 1) all)) }
-{
-    let mut bytes = Vec::new(alloc);
-    reader.take(MOST_BYTES as u64 + 1).read_to_end(&mut bytes)?;
-    // The bytes are cut once more, since no contract says how many a reader gives that doesn't tell
-    // its bytes.
-    bytes.truncate(MOST_BYTES + 1);
-    Ok(bytes)
-}
-
-/// The words as slices, in their order. The error is want of memory.
-pub fn borrow_words(alloc: Global, words: &[String]) -> Result<Vec<&str>, AllocError>
-    ensures { IfOk result (λ all. map (λ word. word.now) all.items ≡ names_of words.now) }
-{
-    let mut borrowed = Vec::new(alloc);
-    for word in words {
-        borrowed.push(word.as_str())?;
-    }
-    Ok(borrowed)
-}
+use std::io::Write;
 
 // Writes the help or the version, which clap hands over as an error.
 fn write_help<W: Write>(output: &mut W, help: &clap::Error) -> io::Result<()> {

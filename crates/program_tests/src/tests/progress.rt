@@ -2,6 +2,7 @@
 
 use super::runs::{files_of, settings_of};
 use super::{BOTH, FailingWriter, ONE, TWO};
+use program_files::ProgressGate;
 use std::alloc::Global;
 use std::io::Write;
 use std::rt::Clock;
@@ -13,7 +14,6 @@ use std::time::Duration;
 use std::{io, thread};
 use suite_runs::Gate;
 use suite_solver::program;
-use suite_solver::progress::ProgressGate;
 
 // A clock that a test moves, and that can be read so many times.
 #[derive(Drop)]

@@ -4,7 +4,7 @@ use Rattle.std.proofs.lemmas.List.{length-map}
 use Rattle.obf_text.specs.LineText.{texts_of}
 use Rattle.suite_runs.specs.Runs.{first_large}
 use Rattle.suite_runs.specs.declared.settings.TheConstants.{MOST_FILES}
-use Rattle.suite_solver.specs.CommandLine.{names_of}
+use Rattle.program_files.specs.Inputs.{names_of}
 use Rattle.list_scorer.specs.CommandLine.{list_request_of}
 use Rattle.list_scorer.proofs.ListEndings.{lists_read, printed, stopped}
 use Rattle.list_scorer.proofs.ffoscores.carry_out.Goals as goal

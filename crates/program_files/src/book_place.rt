@@ -4,8 +4,8 @@ ghost use Rattle.std.specs.Prelude.{◌≡◌, ◌⊎◌, ◌↔◌, IfErr, IsTr
 ghost use Rattle.obf_text.specs.LineText.{lines_of};
 ghost use Rattle.othello_rules.specs.declared.scoring.Scoring.{Scoring};
 ghost use Rattle.solved_book.specs.Books.{header};
-ghost use Rattle.suite_solver.specs.BookPlace.{GivesWay};
-ghost use Rattle.suite_solver.specs.Programs.{IsSilent, status_of};
+ghost use Rattle.program_files.specs.BookPlace.{GivesWay};
+ghost use Rattle.program_files.specs.ProgramErrors.{IsSilent, status_of};
 
 use crate::program_error::{ProgramError, place_error, read_error};
 use obf_text::split_lines;
@@ -175,7 +175,7 @@ fn check_old<'a, T: Files>(
 /// the name, also where it is empty or the file is read as a list; `ReadBook` where the file is the
 /// book that is read, by whatever name; `NoBook` where it is neither empty nor begins as a book;
 /// `CannotRead` where that can't be seen; and want of memory.
-pub(crate) fn check_place<'a, T: Files>(
+pub fn check_place<'a, T: Files>(
     rt: &T,
     alloc: Global,
     name: &'a Option<String>,

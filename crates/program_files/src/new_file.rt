@@ -10,7 +10,7 @@ use std::{fs, io};
 
 /// A text that is to be written as the file of a name. The write takes no more memory.
 #[derive(Drop)]
-pub(crate) struct NewFile<'a> {
+pub struct NewFile<'a> {
     pub(crate) name: &'a str,
     // The name of a file beside, which didn't exist when it was chosen.
     beside: String,

@@ -1,7 +1,7 @@
 use Rattle.std.proofs.Common.{◌≡◌, ◌+◌, refl}
 use Rattle.suite_runs.specs.declared.settings.TheConstants.{MOST_BYTES}
-use Rattle.suite_solver.proofs.InputLemmas.{front_of}
-use Rattle.suite_solver.proofs.streams.read_front.Goals as goal
+use Rattle.program_files.proofs.InputLemmas.{front_of}
+use Rattle.program_files.proofs.inputs.read_front.Goals as goal
 
 pub returns-clause-front : goal.returns-clause-front
 returns-clause-front g c =

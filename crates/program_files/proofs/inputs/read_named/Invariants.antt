@@ -1,6 +1,6 @@
 use Rattle.std.proofs.Common.{◌≡◌, ◌+◌, length, min}
 use Rattle.suite_runs.specs.declared.settings.TheConstants.{MOST_FILES}
-use Rattle.suite_solver.proofs.inputs.read_named.Given as goal
+use Rattle.program_files.proofs.inputs.read_named.Given as goal
 
 -- a text for each name so far, up to one more than a run may have
 abbrev pub invariant-loop-name : goal.invariant-loop-name

@@ -3,14 +3,13 @@
 ghost use Rattle.std.specs.Prelude.{◌≡◌, ◌+◌, ◌/◌, ◌<◌, ◌≤◌, ◌⊎◌, ◌↔◌, ℕ, length, None, Some, IfOk, IsErrOf, IsTrue, OnOk};
 ghost use Rattle.std.specs.Duration.{as_nanos};
 ghost use Rattle.std.specs.Io.KnownBytes.{Appends};
-ghost use Rattle.suite_solver.specs.ProgressText.{progress_text};
+ghost use Rattle.program_files.specs.ProgressText.{progress_text};
 ghost use Rattle.obf_text.specs.LineText.{texts_of};
 ghost use Rattle.suite_runs.specs.Outcome.{IsBookOf};
 ghost use Rattle.suite_runs.specs.Reports.{reports};
 ghost use Rattle.suite_runs.specs.Runs.{all_tasks, first_large};
 ghost use Rattle.suite_runs.specs.declared.run_fault.RunFault.TheVariants.{FileTooLarge, TooManyFiles};
 
-use crate::run_options::Options;
 use solved_book::Claims;
 use std::alloc::Global;
 use std::io;
@@ -21,7 +20,7 @@ use std::sync::atomic::{AtomicUsize, Ordering};
 use std::sync::{Mutex, Wait};
 use std::thread::Threads;
 use std::time::{Duration, Instant};
-use suite_runs::{Gate, MOST_FILES, NoGate, Outcome, RunFault, run};
+use suite_runs::{Gate, MOST_FILES, NoGate, Outcome, RunFault, Settings, run};
 
 // The least time from one line to the next, in nanoseconds, but for the last line.
 const PAUSE: u128 = 5_000_000_000;
@@ -164,30 +163,31 @@ impl<C: Clock + Sync, E: Write + Send> Gate for ProgressGate<'_, C, E> {
     }
 }
 
-// Does the work of `run` for options. Where they ask for progress, lines on `errors` tell how many
-// positions are solved: one every five seconds at most, and one at the end.
-pub(crate) fn run_asked<T: Clock + Threads + Wait + Sync, E: Write + Send>(
+/// Does the work of `run`. Where it tells how far it is, lines on `errors` have the number of solved
+/// positions: one every five seconds at most, and one at the end.
+pub fn run_told<T: Clock + Threads + Wait + Sync, E: Write + Send>(
     rt: &T,
     alloc: Global,
-    asked: &Options,
     texts: &[Vec<u8>],
+    settings: &Settings,
     claims: Option<&Claims>,
+    tells: bool,
     errors: &mut E,
 ) -> Result<Outcome, RunFault>
     ensures too_many { IsErrOf result TooManyFiles ↔ MOST_FILES < length texts.now }
     ensures too_large { (sender : ℕ) → IsErrOf result (FileTooLarge sender) ↔
         ((length texts.now ≤ MOST_FILES) × (first_large (texts_of texts.now) ≡ Some sender)) }
     ensures reports { IfOk result (λ outcome. texts_of outcome.reports.items ≡ reports
-        asked.now.settings.scoring asked.now.settings.max_empties (texts_of texts.now)) }
-    ensures book { IfOk result (λ outcome. IsBookOf asked.now.settings.scoring (all_tasks
-        asked.now.settings.scoring asked.now.settings.max_empties (texts_of texts.now))
+        settings.now.scoring settings.now.max_empties (texts_of texts.now)) }
+    ensures book { IfOk result (λ outcome. IsBookOf settings.now.scoring (all_tasks
+        settings.now.scoring settings.now.max_empties (texts_of texts.now))
         outcome.book) }
 {
-    if !asked.progress {
-        return run(rt, alloc, texts, &asked.settings, claims, &NoGate);
+    if !tells {
+        return run(rt, alloc, texts, settings, claims, &NoGate);
     }
     let gate = ProgressGate::new(rt, texts.len(), errors);
-    let outcome = run(rt, alloc, texts, &asked.settings, claims, &gate);
+    let outcome = run(rt, alloc, texts, settings, claims, &gate);
     gate.end();
     outcome
 }

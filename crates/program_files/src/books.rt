@@ -2,7 +2,7 @@
 
 ghost use Rattle.std.specs.Prelude.{◌≡◌, ◌⊎◌, IfOk, IfErr};
 ghost use Rattle.solved_book.specs.Books.{book_text};
-ghost use Rattle.suite_solver.specs.Programs.{IsSilent, status_of};
+ghost use Rattle.program_files.specs.ProgramErrors.{IsSilent, status_of};
 
 use crate::new_file::NewFile;
 use crate::program_error::{ProgramError, read_error};
@@ -54,7 +54,7 @@ fn read_book<'a, T: Files>(rt: &T, alloc: Global, name: &'a str) -> Result<Claim
 
 /// Reads the claims of the book in the file of this name; None where there is no name. The errors
 /// are a file that can't be read, a text that is no book, and want of memory.
-pub(crate) fn read_claims<'a, T: Files>(
+pub fn read_claims<'a, T: Files>(
     rt: &T,
     alloc: Global,
     name: &'a Option<String>,
@@ -84,7 +84,7 @@ fn text_of(alloc: Global, book: &Book) -> Result<Vec<u8>, AllocError>
 
 /// Makes the file of the book that is to be written under this name; None where there is no name.
 /// Nothing is opened. The error is want of memory.
-pub(crate) fn ready_book<'a, T: Files>(
+pub fn ready_book<'a, T: Files>(
     rt: &T,
     alloc: Global,
     name: &'a Option<String>,
@@ -99,10 +99,7 @@ pub(crate) fn ready_book<'a, T: Files>(
 }
 
 /// Writes the book, where one is to be written. The error is `CannotWrite` with the book's name.
-pub(crate) fn write_book<'a, T: Files>(
-    rt: &T,
-    book: &Option<NewFile<'a>>,
-) -> Result<(), ProgramError<'a>>
+pub fn write_book<'a, T: Files>(rt: &T, book: &Option<NewFile<'a>>) -> Result<(), ProgramError<'a>>
     ensures told { IfErr result (λ error. IsSilent error → ⊥) }
     ensures status { IfErr result (λ error. status_of error ≡ 3) }
 {

@@ -1,17 +1,32 @@
 //! Reads the files of a run, or standard input.
 
 ghost use Rattle.std.specs.Prelude.{◌≡◌, ◌+◌, ◌≤◌, ◌⊎◌, [], ◌∷◌, IfOk, IfErr, IfSome, length, min, take, vec_len};
-ghost use Rattle.suite_solver.specs.CommandLine.{names_of};
-ghost use Rattle.suite_solver.specs.Programs.{AreFrontsOf, status_of};
+ghost use Rattle.program_files.specs.Inputs.{AreFrontsOf, names_of};
+ghost use Rattle.program_files.specs.ProgramErrors.{status_of};
 ghost use Rattle.obf_text.specs.LineText.{texts_of};
 
 use crate::program_error::{ProgramError, read_error};
-use crate::streams::read_front;
 use std::alloc::Global;
-use std::fs;
 use std::io::Read;
 use std::rt::Files;
+use std::{fs, io};
 use suite_runs::{MOST_BYTES, MOST_FILES};
+
+// Reads the first bytes of a reader: one more than a file may have, or all bytes where there are
+// fewer. A file that is too large is known by that one byte. The error is that of
+// the reader, or want of memory.
+fn read_front<R: Read>(alloc: Global, reader: &mut R) -> io::Result<Vec<u8>>
+    ensures most { IfOk result (λ bytes. vec_len bytes ≤ MOST_BYTES + 1) }
+    ensures front { IfOk result (λ bytes. IfSome (R.remaining reader.old)
+        (λ all. bytes.items ≡ take (MOST_BYTES + 1) all)) }
+{
+    let mut bytes = Vec::new(alloc);
+    reader.take(MOST_BYTES as u64 + 1).read_to_end(&mut bytes)?;
+    // The bytes are cut once more, since no contract says how many a reader gives that doesn't tell
+    // its bytes.
+    bytes.truncate(MOST_BYTES + 1);
+    Ok(bytes)
+}
 
 // Reads standard input as the one file, up to one byte more than a file may have.
 fn read_input<R: Read>(alloc: Global, input: &mut R) -> Result<Vec<Vec<u8>>, ProgramError<'static>>

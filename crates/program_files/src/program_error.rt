@@ -3,9 +3,9 @@
 ghost use Rattle.std.specs.Prelude.{◌≡◌, ◌⊎◌, OnOk, Some};
 ghost use Rattle.std.specs.IoError.{error_kind};
 ghost use Rattle.std.specs.Io.KnownBytes.{Appends};
-ghost use Rattle.suite_solver.specs.Programs.{IsSilent, book_error, error_reason, error_text, status_of};
+ghost use Rattle.program_files.specs.ProgramErrors.{IsSilent, book_error, error_reason, error_text, status_of};
 ghost use Rattle.suite_runs.specs.declared.run_fault.RunFault.TheVariants.{Memory};
-ghost use Rattle.suite_solver.specs.declared.program_error.ProgramError.TheVariants.{CannotRead, NoPlace, Run};
+ghost use Rattle.program_files.specs.declared.program_error.ProgramError.TheVariants.{CannotRead, NoPlace, Run};
 
 use solved_book::BookFault;
 use std::alloc::{AllocError, AllocFailed};
@@ -73,7 +73,7 @@ impl<T: Drop> From<AllocFailed<T>> for ProgramError<'_> {
 impl fmt::Display for ProgramError<'_> {
     ghost output = { λ error. Some (error_reason error) };
 
-    #[tactic(auto, unfolding(crate::specs::Programs::error_reason))]
+    #[tactic(auto, unfolding(crate::specs::ProgramErrors::error_reason))]
     fn fmt<W: fmt::Write>(&self, f: &mut fmt::Formatter<W>) -> fmt::Result {
         match self {
             ProgramError::Run(fault) => write!(f, "{fault}"),
@@ -136,7 +136,7 @@ pub fn words_error(fault: &io::Error) -> ProgramError<'static>
 impl ProgramError<'_> {
     /// Writes the error as one line: the name of the program, `: `, the reason, and LF. The error
     /// of the call is that of the writer.
-    #[tactic(auto, unfolding(crate::specs::Programs::error_text))]
+    #[tactic(auto, unfolding(crate::specs::ProgramErrors::error_text))]
     pub fn print<E: Write>(&self, program: &str, errors: &mut E) -> io::Result<()>
         ensures { OnOk result (Appends
             (E.contents errors.old) (E.contents errors.new) (error_text program.now self.now)) }
@@ -145,8 +145,8 @@ impl ProgramError<'_> {
         write!(errors, "{program}: {error}\n")
     }
 
-    // The exit status of `ffosolve` after this error.
-    pub(crate) fn status(&self) -> u8
+    /// The exit status of `ffosolve` after this error: 1, 2 or 3.
+    pub fn status(&self) -> u8
         ensures { result ≡ status_of self.now }
     {
         match self {

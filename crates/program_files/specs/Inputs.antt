@@ -1,0 +1,18 @@
+-- The files that a program reads.
+use Rattle.std.specs.Prelude.{◌≡◌, ℕ, ◌+◌, List, [], ◌∷◌, length, map, min}
+use Rattle.std.specs.Prelude.{Option, String, IfSome, string_bytes, take}
+use Rattle.std.specs.declared.alloc.Global.{Global}
+use Rattle.suite_runs.specs.declared.settings.TheConstants.{MOST_BYTES, MOST_FILES}
+
+-- the bytes of each name
+abbrev pub names_of : List (String Global) → List (List ℕ)
+names_of names = map string_bytes names
+
+-- These are the fronts of the texts of a run, as they are read. Without file names there is one:
+-- the first bytes of standard input, one more than a file may have, where these are known. Else
+-- there is one for each of the first names, one more than a run may have; the content of a file is
+-- not known.
+abbrev pub AreFrontsOf : List (List ℕ) → Option (List ℕ) → List (List ℕ) → Type 0
+AreFrontsOf [] given fronts = IfSome given (λ text. fronts ≡ take (MOST_BYTES + 1) text ∷ [])
+AreFrontsOf (name ∷ names) given fronts =
+    length fronts ≡ min (MOST_FILES + 1) (length (name ∷ names))

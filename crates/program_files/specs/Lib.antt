@@ -1,0 +1,4 @@
+pub mod Inputs
+pub mod BookPlace
+pub mod ProgramErrors
+pub mod ProgressText
