@@ -12,7 +12,7 @@ import tempfile
 import unittest
 from pathlib import Path
 
-from tests.support import SECONDS, InFolder, built, preload, run, stored
+from tests.support import SECONDS, InFolder, built, limit, preload, run, stored
 
 TEXT = stored("examples", "first.obf")
 BOOK = stored("examples", "first.book")
@@ -75,11 +75,34 @@ class Files(Books):
         self.solves(DONE)
         self.has(it=BOOK)
 
+    def test_book_of_each_scoring(self):
+        """Also where a book of another scoring is read, or stands in its place."""
+        list_of_one = b"--OOOOO" + b"X" * 57 + b" X\n"
+        for scoring, score in (("discs", b"+63"), ("winner", b"+64"), ("sign", b"+01")):
+            with self.subTest(scoring=scoring):
+                put("read.book", BOOK)
+                words = ("--scoring", scoring, "--book-in", "read.book", "--book-out", "it.book", "--workers", "64")
+                run(PROGRAM, *words, input=list_of_one, check=True)
+                book = b"%% ffobook 2 %s\n%s X; G8:%s;\n" % (scoring.encode(), b"X" * 57 + b"OOOOO--", score)
+                self.assertEqual((content("it.book"), content("read.book")), (book, BOOK))
+
     def test_old_file_keeps_its_permissions(self):
+        """A new file takes its place: a second name of it has what it had."""
         put("it.book", OLD, 0o640)
+        os.link("it.book", "twin.book")
         self.solves(DONE)
-        self.has(it=BOOK)
+        self.has(it=BOOK, twin=OLD)
         self.assertEqual(mode("it.book"), 0o640)
+
+    def test_file_that_may_not_be_replaced(self):
+        """One of root in a folder where each may replace its own alone: it may be written, and no file take its place."""
+        if os.getuid() != 0:
+            self.skipTest("root alone makes files of two owners")
+        self.addCleanup(os.chmod, ".", 0o755)
+        os.chmod(".", 0o1777)
+        put("it.book", OLD, 0o666)
+        self.solves(UNWRITTEN, prepare=give_up_rights)
+        self.has(it=OLD)
 
     def test_folder_or_file_that_may_not_be_written(self):
         self.addCleanup(os.chmod, ".", 0o755)
@@ -209,6 +232,7 @@ class Lists(Books):
         """The book is read before the lists, and all lists before anything is printed."""
         put("list", TEXT)
         put("bad.book", b"?\n")
+        put("large.book", b" " * (limit("MOST_BYTES") + 1) + b"\n?")
         folder = os.open(".", os.O_RDONLY)
         self.addCleanup(os.close, folder)
         for words, told in (
@@ -218,6 +242,7 @@ class Lists(Books):
             ("--book-in . list", "cannot read ."),
             ("--book-in none.book none.obf", "cannot read none.book"),
             ("--book-in bad.book none.obf", "book line 1: bad square at column 1"),
+            ("--book-in large.book none.obf", "book line 2: bad square at column 1"),
         ):
             with self.subTest(words=words):
                 ran = run(PROGRAM, *words.split(), stdin=folder)

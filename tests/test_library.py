@@ -472,6 +472,10 @@ class RustCrate(unittest.TestCase):
     def setUp(self):
         self.crate = PREFIX.crate
 
+    def test_declares_the_calls_of_the_header(self):
+        declared = re.findall(r"pub fn (ffosolve_\w+)", (ROOT / "rust/src/raw.rs").read_text())
+        self.assertEqual(sorted(declared), sorted(PREFIX.calls))
+
     def test_its_own_tests(self):
         need_tool("readelf")
         for features in ((), ("--features", "shared")):

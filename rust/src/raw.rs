@@ -35,6 +35,14 @@ pub struct Listed {
     pub square: u8,
 }
 
+/// What each move is worth, by the squares' numbers, with 127 at the other squares; and the mask of the moves.
+#[repr(C)]
+#[derive(Clone, Copy, PartialEq, Eq, Hash, Debug)]
+pub struct MoveScores {
+    pub scores: [i8; 64],
+    pub moves: u64,
+}
+
 extern "C" {
     pub fn ffosolve_solve(position: Position, scoring: u32, entries: usize, answer: *mut Answer) -> i32;
     pub fn ffosolve_confirm(
@@ -59,6 +67,15 @@ extern "C" {
         entries: usize,
         scores: *mut [i8; 64],
         moves: *mut u64,
+    ) -> i32;
+    pub fn ffosolve_move_scores_all(
+        positions: *const Position,
+        count: usize,
+        scoring: u32,
+        entries: usize,
+        found: *mut MoveScores,
+        room: usize,
+        at: *mut usize,
     ) -> i32;
     pub fn ffosolve_moves(position: Position, moves: *mut u64) -> i32;
     pub fn ffosolve_play(position: Position, square: u8, after: *mut Position) -> i32;

@@ -1,6 +1,6 @@
 //! The book that the program reads, and the book that it writes.
 
-ghost use Rattle.std.specs.Prelude.{◌≡◌, ◌⊎◌, IfOk, IfErr};
+ghost use Rattle.std.specs.Prelude.{◌≡◌, ◌⊎◌, ◌↔◌, None, IfOk, IfErr, IfSome};
 ghost use Rattle.solved_book.specs.Books.{book_text};
 ghost use Rattle.program_files.specs.ProgramErrors.{IsSilent, status_of};
 
@@ -82,14 +82,18 @@ fn text_of(alloc: Global, book: &Book) -> Result<Vec<u8>, AllocError>
     }
 }
 
-/// Makes the file of the book that is to be written under this name; None where there is no name.
-/// Nothing is opened. The error is want of memory.
+/// Makes the file of the book that is to be written under this name, with the book's text; None
+/// where there is no name. Nothing is opened. The error is want of memory.
 pub fn ready_book<'a, T: Files>(
     rt: &T,
     alloc: Global,
     name: &'a Option<String>,
     book: &Book,
-) -> Result<Option<NewFile<'a>>, AllocError> {
+) -> Result<Option<NewFile<'a>>, AllocError>
+    ensures named { IfOk result (λ file. file ≡ None ↔ name.now ≡ None) }
+    ensures text { IfOk result (λ file. IfSome file
+        (λ file. file.text.items ≡ book_text book.now.scoring book.now.positions)) }
+{
     let Some(name) = name else {
         return Ok(None);
     };

@@ -1,6 +1,8 @@
 //! Writes a file as a whole: a regular file of its name stays as it is until the new one takes its
 //! place.
 
+ghost use Rattle.std.specs.Prelude.{◌≡◌, IfOk};
+
 use crate::book_place::{gives_way, name_beside};
 use std::alloc::{AllocError, Global};
 use std::fs::{OpenFile, OpenOptions};
@@ -11,10 +13,10 @@ use std::{fs, io};
 /// A text that is to be written as the file of a name. The write takes no more memory.
 #[derive(Drop)]
 pub struct NewFile<'a> {
-    pub(crate) name: &'a str,
+    pub name: &'a str,
     // The name of a file beside, which didn't exist when it was chosen.
     beside: String,
-    text: Vec<u8>,
+    pub text: Vec<u8>,
 }
 
 impl<'a> NewFile<'a> {
@@ -24,7 +26,9 @@ impl<'a> NewFile<'a> {
         alloc: Global,
         name: &'a str,
         text: Vec<u8>,
-    ) -> Result<NewFile<'a>, AllocError> {
+    ) -> Result<NewFile<'a>, AllocError>
+        ensures { IfOk result (λ file. file.text.items ≡ text.items) }
+    {
         let beside = name_beside(rt, alloc, name)?;
         Ok(NewFile { name, beside, text })
     }

@@ -2,15 +2,11 @@
 //! allocations that fail.
 
 mod alone;
-mod book_place;
-mod books;
 mod clients;
 mod faults;
-mod files;
 mod joins;
 mod limits;
 mod options;
-mod overwrites;
 mod progress;
 mod runs;
 mod scored_lists;
@@ -135,7 +131,12 @@ solved 3 refused 0
 solved 3 refused 0
 ";
 
-const NO_FILE: &[u8] = b"ffosolve: cannot read no-such.obf\n";
+// The canonical positions of -OOOOOOX, --OOOOOX and -OOXXOO- above seven rows of black discs, in
+// the order of a book.
+const BOOK: &[u8] = b"% ffobook 2 winner\n\
+XXXXXXXXXXXXXXXXXXXXXXXXXXXXXXXXXXXXXXXXXXXXXXXXXXXXXXXXXOOOOO-- X; G8:+64;\n\
+XXXXXXXXXXXXXXXXXXXXXXXXXXXXXXXXXXXXXXXXXXXXXXXXXXXXXXXXXOOOOOO- X; H8:+64;\n\
+XXXXXXXXXXXXXXXXXXXXXXXXXXXXXXXXXXXXXXXXXXXXXXXXXXXXXXXX-OOXXOO- X; A8:+64; H8:+64;\n";
 
 const NO_MEMORY: &[u8] = b"ffosolve: out of memory\n";
 
@@ -148,12 +149,6 @@ const NO_OUTPUT: &[u8] = b"ffosolve: cannot write standard output\n";
 const TOO_LARGE: &[u8] = b"ffosolve: file 1 is larger than 1048576 bytes\n";
 
 const SECOND_TOO_LARGE: &[u8] = b"ffosolve: file 2 is larger than 1048576 bytes\n";
-
-const LARGE_TABLE: &[u8] = b"\
-error: invalid value '4194305' for '--table <N>': 4194305 is not in 0..=4194304
-
-For more information, try '--help'.
-";
 
 const TWO_JOBS: &[u8] = b"\
 --OOOOOXXXXXXXXXXXXXXXXXXXXXXXXXXXXXXXXXXXXXXXXXXXXXXXXXXXXXXXXX X\n\

@@ -1,7 +1,6 @@
 //! Runs on one thread and on many.
 
-use super::books::BOOK;
-use super::{BOTH, ONE, TWO, TWO_JOBS};
+use super::{BOOK, BOTH, ONE, TWO, TWO_JOBS};
 use othello_rules::Scoring;
 use solved_book::Claims;
 use std::alloc::{AllocError, Global};
