@@ -1,6 +1,5 @@
-//! Small positions whose masks and images are known, and each public call once.
+//! Small positions whose masks and images are known.
 
-mod moves;
 mod positions;
 mod symmetries;
 

@@ -1,6 +1,5 @@
 //! The plain program on small positions whose answers are known, and each public call once.
 
-mod grids;
 mod moves;
 mod names;
 mod squares;

@@ -1,36 +1,12 @@
-//! What a position is made of, and which positions are equal.
+//! What a position is made of.
 
 use crate::tests::bits::{UNEQUAL_CORNERS, UNEQUAL_HALVES, pos_of};
-use othello_bits::{Pos, Sym};
+use othello_bits::Pos;
 use othello_rules::{Scoring, Side};
 
 #[test]
 fn masks_that_share_a_square(rt: HostRuntime) {
     assert!(rt; Pos::new(1, 1).is_none());
-}
-
-#[test]
-fn positions_differ_in_either_mask(rt: HostRuntime) {
-    let pos = pos_of(&rt, (0x1, 0x2), Side::Black);
-    assert!(rt; pos == pos_of(&rt, (0x2, 0x1), Side::White));
-    assert!(rt; pos != pos_of(&rt, (0x5, 0x2), Side::Black));
-    assert!(rt; pos != pos_of(&rt, (0x1, 0x6), Side::Black));
-}
-
-// Whether each symmetry is equal to itself alone.
-fn are_different(symmetries: [Sym; 8]) -> bool {
-    for pair in 0..64 {
-        let (first, second) = (pair / 8, pair % 8);
-        if (symmetries[first] == symmetries[second]) != (first == second) {
-            return false;
-        }
-    }
-    true
-}
-
-#[test]
-fn symmetries_differ(rt: HostRuntime) {
-    assert!(rt; are_different(Sym::all()));
 }
 
 #[test]
