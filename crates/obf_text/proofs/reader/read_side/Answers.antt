@@ -4,3 +4,6 @@ use Rattle.obf_text.proofs.reader.read_side.Goals as goal
 
 pub returns-in-empty : goal.returns-in-empty
 returns-in-empty c = grind (arith, common_steps)
+
+pub returns-in_ok-listed-in-len1-up : goal.returns-in_ok-listed-in-len1-up
+returns-in_ok-listed-in-len1-up c = grind (arith, common_steps)
