@@ -1,4 +1,4 @@
-use Rattle.std.proofs.Common.{◌≡◌, ap, ◌∙◌, map}
+use Rattle.std.proofs.Common.{◌≡◌, ap, ◌∙◌, map, rules}
 use Rattle.obf_text.specs.Obf.{Entry, Faulty, Holds, Skipped, entry_of}
 use Rattle.ffosolve_c.specs.Lines.{c_line, c_listed, written_over}
 use Rattle.ffosolve_c.proofs.LineMeaning.{same_entry, same_place, told_of_line}
@@ -29,3 +29,12 @@ pub returns-in-Err-clause-at : goal.returns-in-Err-clause-at
 returns-in-Err-clause-at c fault says =
     let gives = c.in-Err.ensures.says (Faulty fault) says in
     c.place_or.ensures.place (told_of_line c.in-Err.fault fault gives) ∙ same_place c.in-Err.fault fault gives
+
+pub returns-in-Ok-Skip-clause-status : goal.returns-in-Ok-Skip-clause-status
+returns-in-Ok-Skip-clause-status c = search rules
+
+pub returns-in-Ok-Skip-clause-line : goal.returns-in-Ok-Skip-clause-line
+returns-in-Ok-Skip-clause-line c = search rules
+
+pub returns-in-Ok-Skip-clause-listed : goal.returns-in-Ok-Skip-clause-listed
+returns-in-Ok-Skip-clause-listed c = search rules

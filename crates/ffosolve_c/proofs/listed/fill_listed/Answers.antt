@@ -1,3 +1,4 @@
+use Rattle.std.proofs.lemmas.Grind.{common_steps}
 use Rattle.std.proofs.Common.{arith, ◌≡◌, ◌⊎◌, ℕ, ◌≤◌, ◌++◌, List, length, map, take, drop, min, inl, inr, sym, ap, ◌∙◌}
 use Rattle.std.proofs.Math.Nat.{min_comm}
 use Rattle.std.proofs.lemmas.Bool.{cases_lt}
@@ -31,3 +32,6 @@ returns c =
     filled c.args.places.now c.loop-i.places values c.loop-i.i (c.loop-i.invariant.written ∙ sym (take-map c_listed c.loop-i.i c.args.listed.now)) c.loop-i.invariant.kept
     (first_of_both values c.loop-i.i (length c.args.places.now) (lesser _ _ _ end))
     (rest_of_both c.args.places.now c.loop-i.i (length values) (lesser _ _ _ (end ∙ min_comm (length values) (length c.args.places.now))))
+
+pub loop-i-preserved : goal.loop-i-preserved
+loop-i-preserved c = grind (arith, common_steps)
