@@ -10,9 +10,8 @@
 //! ```
 //!
 //! `run` solves on threads, `run_serial` on the calling thread. The crate `suite_solver` hands the
-//! public names on, and has the program `ffosolve` and the tests of this crate, so that this crate
-//! is not proved again with tests. The modules `client`, `solver`, `threads` and `worker` are public for
-//! those tests.
+//! public names on. The modules `client`, `solver`, `threads` and `worker` are public for the tests,
+//! which stand in `program_tests`.
 #![tactic(auto)]
 
 mod check;
