@@ -15,7 +15,7 @@ NAMED = ("AllocError", "AllocFailed { .. }", "Memory")
 TESTS = {
     "library_tests": r"^tests::(texts|tables|searches|scores|books)::|^tests::boards::(boards|memory|steps|texts)::"
     r"|prints_a_front|a_full_writer|a_desk_on_one_thread|memory_comes_first",
-    "program_tests": r"gives_a_book|runs_on_threads|runs_many_files|clients_are_refused|gates_are_told|a_refused|counts_files",
+    "program_tests": r"gives_a_book|runs_on_threads|clients_are_refused|gates_are_told|a_refused|counts_files",
 }
 # Tests that each refused request ends, and how many they make, or None: there want of memory comes before all other faults, and
 # no request is made where none could be told.

@@ -1,7 +1,6 @@
 //! Whole runs and programs on small positions whose answers are known, and streams, gates and
 //! allocations that fail.
 
-mod alone;
 mod clients;
 mod faults;
 mod joins;
@@ -100,10 +99,8 @@ const ONE: &[u8] = b"\
 -OOXXOO-XXXXXXXXXXXXXXXXXXXXXXXXXXXXXXXXXXXXXXXXXXXXXXXXXXXXXXXX X\n\
 ";
 
-// The first board of ONE, and the masks of its discs, the mover's first: A1 is the lowest bit.
+// The first board of ONE.
 const ONE_POSITION: &[u8] = b"-OOOOOOXXXXXXXXXXXXXXXXXXXXXXXXXXXXXXXXXXXXXXXXXXXXXXXXXXXXXXXXX X\n";
-
-const FIRST_POSITION: (u64, u64) = (!0x7f, 0x7e);
 
 // Two boards with two empty squares, and a full one.
 const TWO: &[u8] = b"\

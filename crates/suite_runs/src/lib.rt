@@ -10,8 +10,8 @@
 //! ```
 //!
 //! `run` solves on threads, `run_serial` on the calling thread. The crate `suite_solver` hands the
-//! public names on. The modules `client`, `solver`, `threads` and `worker` are public for the tests,
-//! which stand in `program_tests`.
+//! public names on. The modules `client` and `threads` are public for the tests, which stand in
+//! `program_tests`.
 #![tactic(auto)]
 
 mod check;
@@ -28,9 +28,9 @@ mod run_fault;
 mod runs;
 mod serial;
 mod settings;
-pub mod solver;
+mod solver;
 pub mod threads;
-pub mod worker;
+mod worker;
 
 pub use check::{Check, check_of};
 pub use gate::{Gate, NoGate};

@@ -1,7 +1,6 @@
 //! Worked lists of steps, the order of `take`, limits, and a desk on one thread and on many. Each
 //! test also passes where one request for memory is refused: the refused call is made again.
 
-mod at_the_end;
 mod boards;
 mod crowds;
 mod desks;

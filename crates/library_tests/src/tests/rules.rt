@@ -1,4 +1,4 @@
-//! The plain program on small positions whose answers are known, and each public call once.
+//! The definitions, by the plain program, on small positions whose answers are known.
 
 mod moves;
 mod names;

@@ -1,9 +1,9 @@
-//! Positions whose answers are known, and which positions a search asks its table for.
+//! A value in windows, the order of moves, limits, and which positions a search asks its table for.
 
-mod answers;
 mod orders;
 mod probes;
 mod tasks;
+mod windows;
 
 ghost use Rattle.std.specs.Prelude.{◌≡◌};
 ghost use Rattle.othello_rules.specs.declared.scoring.Scoring.TheVariants.{Winner};
@@ -23,17 +23,8 @@ type Discs = (u64, u64);
 // XXXXXXXX in all rows
 const BLACK_BOARD: Discs = (!0, 0);
 
-// three rows XXXXXXXX, two empty rows, three rows OOOOOOOO
-const LEVEL_HALVES: Discs = (0xff_ffff, 0xffff_ff00_0000_0000);
-
-// four rows XXXXXXXX, two empty rows, two rows OOOOOOOO
-const UNEQUAL_HALVES: Discs = (0xffff_ffff, 0xffff_0000_0000_0000);
-
 // -OOOOOOX and seven rows XXXXXXXX
 const LAST_CORNER: Discs = (!0x7f, 0x7e);
-
-// --OOOOOX and seven rows XXXXXXXX
-const CORNER_LEFT_OVER: Discs = (!0x7f, 0x7c);
 
 // -OOXXOO- and seven rows XXXXXXXX
 const EQUAL_CORNERS: Discs = (!0xe7, 0x66);
@@ -69,13 +60,7 @@ const EIGHT_WITH_EQUAL_REPLIES: Discs = (0x7c24_dadc_d8d7_7f7f, 0x18_2523_2728_8
 // XXX----- and seven empty rows
 const THREE_DISCS: Discs = (0x7, 0);
 
-const A1: u64 = 0x1;
-
-const B1: u64 = 0x2;
-
 const H1: u64 = 0x80;
-
-const CORNERS: u64 = A1 | H1;
 
 fn pos_of(rt: &impl Abort, (black, white): Discs, side: Side) -> Pos {
     let (own, opp) = match side {

@@ -1,5 +1,4 @@
-//! What no contract says: that a store is shown, to every image and in every thread, and which
-//! calls succeed.
+//! What no contract says: that a store is shown, to every image, and which calls succeed.
 
 ghost use Rattle.std.specs.Prelude.{◌≡◌};
 ghost use Rattle.othello_rules.specs.declared.scoring.Scoring.TheVariants.{Winner};
@@ -11,8 +10,6 @@ use othello_rules::{Scoring, Side};
 use std::alloc::{AllocError, Global};
 use std::process::Abort;
 use std::test::Fail;
-use std::thread;
-use std::thread::Threads;
 
 // A position and the range of its value alone.
 #[derive(Clone, Copy)]
@@ -93,69 +90,6 @@ fn tables_of_each_size(rt: HostRuntime) -> Result<(), Fail> {
     assert!(rt; table.scoring() == Scoring::Winner && !keeps_nothing(&table, &exact));
     let too_many = BoundTable::new(rt.alloc(), BoundTable::MOST_ENTRIES + 1, Scoring::Winner).err();
     assert!(rt; too_many == Some(TableFault::TooMany));
-    Ok(())
-}
-
-// Stores both ranges by turns.
-fn store_by_turns(table: &BoundTable, one: &Exact, other: &Exact)
-    requires { table.now.scoring ≡ Winner }
-{
-    for _ in 0..10_000 {
-        table.store(&one.position, one.range);
-        table.store(&other.position, other.range);
-    }
-}
-
-// Whether the range that the table shows of the position, if any, holds its value.
-fn is_shown_truly(table: &BoundTable, exact: &Exact) -> bool {
-    let value = exact.range.low();
-    match table.probe(&exact.position) {
-        Some(shown) => shown.low() <= value && value <= shown.high(),
-        None => true,
-    }
-}
-
-fn are_shown_truly(table: &BoundTable, one: &Exact, other: &Exact) -> bool {
-    for _ in 0..10_000u32 {
-        if !is_shown_truly(table, one) || !is_shown_truly(table, other) {
-            return false;
-        }
-    }
-    true
-}
-
-// Stores in one thread while two others probe.
-fn run_three<R: Threads + Sync>(
-    rt: &R,
-    table: &BoundTable,
-    one: &Exact,
-    other: &Exact,
-) -> (bool, bool)
-    requires { table.now.scoring ≡ Winner }
-{
-    let (_, shown) = thread::join(
-        rt,
-        || store_by_turns(table, one, other),
-        || {
-            thread::join(
-                rt,
-                || are_shown_truly(table, one, other),
-                || are_shown_truly(table, one, other),
-            )
-        },
-    );
-    shown
-}
-
-#[test]
-fn what_threads_are_shown_is_true(rt: HostRuntime) -> Result<(), Fail> {
-    let table = BoundTable::new(rt.alloc(), 1, Scoring::Winner)?;
-    let unequal = Exact::of_unequal_corners(&rt);
-    let equal = Exact::of_equal_corners(&rt);
-    assert!(rt; unequal.range.low() == 62 && equal.range.low() == 64);
-    assert!(rt; run_three(&rt, &table, &unequal, &equal) == (true, true));
-    // The first store found the entry free, so it holds one of the two.
-    assert!(rt; table.probe(&unequal.position).is_some() || table.probe(&equal.position).is_some());
     Ok(())
 }
 

@@ -1,7 +1,6 @@
 //! Worked lines, and what no clause says: memory that is refused and writers that fail.
 
 mod cuts;
-mod entries;
 mod faults;
 mod reads;
 mod writes;

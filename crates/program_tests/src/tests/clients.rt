@@ -2,9 +2,9 @@
 
 ghost use Rattle.std.specs.Prelude.{◌≤◌, length};
 
-use super::{BOTH, CountingGate, ONE, TWO, TWO_JOBS};
+use super::{CountingGate, ONE, TWO_JOBS};
 use arrayvec::ArrayVec;
-use bound_table::{BoundTable, NoTable};
+use bound_table::NoTable;
 use endgame_search::Task;
 use job_board::{Client, Desk, JobId, SubmitFault};
 use othello_bits::Pos;
@@ -14,47 +14,7 @@ use std::sync::{Mutex, Wait};
 use std::test::Fail;
 use suite_runs::client::send_and_close;
 use suite_solver::laws::client_part;
-use suite_solver::{Gate, MOST_BYTES, NoGate, RunFault, write_report};
-
-// Writes the report of one client's part, and tells whether its answers are as many as its rows.
-fn report_part<R: Wait, G: Gate>(
-    rt: &R,
-    alloc: Global,
-    output: &mut Vec<u8>,
-    desk: &Desk,
-    gate: &G,
-    sender: u32,
-    text: &[u8],
-) -> Result<bool, Fail>
-    requires { length text.now ≤ MOST_BYTES }
-{
-    let table = BoundTable::new(alloc, 16, Scoring::Winner)?;
-    let part = client_part(rt, alloc, text, sender, 20, desk, &table, None, gate)?;
-    write_report(output, sender, &part.rows)?;
-    Ok(part.solved.len() == part.rows.len())
-}
-
-// Whether two clients, one after the other, write their reports.
-fn report_both<R: Wait, G: Gate>(
-    rt: &R,
-    alloc: Global,
-    desk: &Desk,
-    gate: &G,
-) -> Result<bool, Fail> {
-    let mut output = Vec::new(alloc);
-    let first = report_part(rt, alloc, &mut output, desk, gate, 0, ONE)?;
-    let second = report_part(rt, alloc, &mut output, desk, gate, 1, TWO)?;
-    Ok(first && second && output.as_slice() == BOTH)
-}
-
-#[test]
-fn clients_serve_themselves(rt: HostRuntime) -> Result<(), Fail> {
-    let desk = Desk::new(rt.alloc(), 2)?;
-    let gate = CountingGate::new();
-    assert!(rt; report_both(&rt, rt.alloc(), &desk, &gate)?);
-    assert!(rt; gate.counts() == (6, 6) && desk.take_or_wait(&rt).is_none());
-    Ok(())
-}
+use suite_solver::{Gate, MOST_BYTES, NoGate, RunFault};
 
 // Whether a client's part ends for another cause than memory.
 fn is_mixed_part<R: Wait, G: Gate>(

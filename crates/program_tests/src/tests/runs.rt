@@ -185,14 +185,6 @@ fn runs_on_threads(rt: HostRuntime) -> Result<(), Fail> {
 const LYING_BOOK: &[u8] =
     b"XXXXXXXXXXXXXXXXXXXXXXXXXXXXOXXXXXXXXXXXXXXXXXXXOXXXXXXX-XXXXXO- X; H8:+64;\n";
 
-#[test]
-fn runs_many_files(rt: HostRuntime) -> Result<(), Fail> {
-    let files = files_of(rt.alloc(), &[TWO; 64])?;
-    let outcome = suite_solver::run(&rt, rt.alloc(), &files, &settings_of(64, 16), None, &NoGate)?;
-    assert!(rt; outcome.reports.len() == 64 && outcome.book.len() == 3);
-    Ok(())
-}
-
 // The book of both texts.
 const BOTH_BOOK: &[u8] = b"% ffobook 2 winner\n\
 OOOOOOOOOOOOOOOOOOOOOOOOOOOOOOOOOOOOOOOOOOOOOOOOOOOOOOOOOOOOOOOO X; --:-64;\n\

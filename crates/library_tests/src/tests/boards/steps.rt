@@ -118,60 +118,6 @@ fn replies_to_two_jobs(first: Task, second: Task) -> [Reply; 15] {
     ]
 }
 
-// The replies from the third on where one of two submits was refused memory: the accepted task,
-// `task`, has the first job.
-fn replies_to_one_job(task: Task, finished: [Result<(), JobFault>; 3]) -> [Reply; 13] {
-    [
-        took(FIRST, task),
-        Reply::Took(None),
-        Reply::Took(None),
-        Reply::Finished(Err(JobFault::NotTaken)),
-        Reply::Handed(Handed::Waiting),
-        Reply::Finished(finished[0]),
-        Reply::Finished(finished[1]),
-        Reply::Finished(finished[2]),
-        next(0, task),
-        Reply::Handed(Handed::Waiting),
-        Reply::Handed(Handed::Waiting),
-        Reply::Closed(Ok(true)),
-        Reply::Handed(Handed::Drained),
-    ]
-}
-
-const NOT_TAKEN: Result<(), JobFault> = Err(JobFault::NotTaken);
-
-const OTHER_POSITION: Result<(), JobFault> = Err(JobFault::OtherPosition);
-
-// Whether the replies are lawful. One of the first two may be a refusal of memory: then the other
-// submit gets number 0.
-fn are_lawful_at_last(replies: &[Reply], first: Task, second: Task) -> bool {
-    if replies.len() != 15 {
-        return false;
-    }
-    let later = &replies[2..];
-    if is_refused(&replies[0]) {
-        let wanted = replies_to_one_job(second, [Ok(()), NOT_TAKEN, NOT_TAKEN]);
-        return replies[1] == Reply::Submitted(Ok(0)) && later == wanted.as_slice();
-    }
-    if is_refused(&replies[1]) {
-        let wanted = replies_to_one_job(first, [OTHER_POSITION, OTHER_POSITION, Ok(())]);
-        return replies[0] == Reply::Submitted(Ok(0)) && later == wanted.as_slice();
-    }
-    replies == replies_to_two_jobs(first, second).as_slice()
-}
-
-// Whether one board gives lawful replies, also where one submit is refused memory.
-fn goes_on(alloc: Global, first: Task, second: Task, by_discs: Solved) -> bool {
-    let steps = steps_of_two_jobs(first, second, by_discs);
-    let Some(mut board) = board_of(alloc, 1) else {
-        return false;
-    };
-    let Some(replies) = replies_of(alloc, &mut board, &steps) else {
-        return false;
-    };
-    are_lawful_at_last(replies.as_slice(), first, second) && board.is_done()
-}
-
 #[test]
 fn two_jobs_of_one_sender(rt: HostRuntime) {
     let first = task_of(&rt, CORNER_LEFT_OVER);
@@ -184,37 +130,6 @@ fn two_jobs_of_one_sender(rt: HostRuntime) {
         gives_at_last(rt.alloc(), 1, &steps[..13], &wanted[..13], false)
             && gives_at_last(rt.alloc(), 1, &steps, &wanted, true)
     );
-}
-
-#[test]
-fn steps_go_on_after_a_refused_submit(rt: HostRuntime) {
-    let first = task_of(&rt, CORNER_LEFT_OVER);
-    let second = task_of(&rt, EQUAL_CORNERS);
-    let by_discs = solved(task_by(&rt, CORNER_LEFT_OVER, Scoring::Discs));
-    assert!(rt; goes_on(rt.alloc(), first, second, by_discs));
-}
-
-// Whether the submits get the numbers from 0 on. A submit that is refused memory is made again at
-// the same board.
-fn counts_on(alloc: Global, task: Task) -> bool {
-    let Some(mut board) = board_of(alloc, 1) else {
-        return false;
-    };
-    for number in 0..20 {
-        let mut sent = board.submit(0, task);
-        if sent == Err(SubmitFault::Memory) {
-            sent = board.submit(0, task);
-        }
-        if sent != Ok(number) {
-            return false;
-        }
-    }
-    true
-}
-
-#[test]
-fn the_next_submit_gets_the_refused_number(rt: HostRuntime) {
-    assert!(rt; counts_on(rt.alloc(), task_of(&rt, EQUAL_CORNERS)));
 }
 
 fn steps_round_a_close(task: Task) -> [Step; 17] {

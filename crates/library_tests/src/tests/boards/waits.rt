@@ -18,13 +18,21 @@ enum Event {
     // A worker waits for a job.
     Submit,
     GiveBack,
+    // The same, while all senders are closed.
+    LastGiveBack,
     // A client waits for its answer.
     Finish,
     // A client waits for its end.
     Close,
 }
 
-const EVENTS: &[Event] = &[Event::Submit, Event::GiveBack, Event::Finish, Event::Close];
+const EVENTS: &[Event] = &[
+    Event::Submit,
+    Event::GiveBack,
+    Event::LastGiveBack,
+    Event::Finish,
+    Event::Close,
+];
 
 // One thread waits at the desk for the event, and says when it goes on.
 #[derive(Drop)]
@@ -44,8 +52,12 @@ fn scene_of<R: Wait>(rt: &R, alloc: Global, task: Task, event: Event) -> Result<
         return Err(AllocError);
     };
     let mut client = Client::new(alloc, 0);
-    if let Event::GiveBack | Event::Finish = event {
+    if let Event::GiveBack | Event::LastGiveBack | Event::Finish = event {
         let _ = sends(rt, &desk, &mut client, task, 0) && desk.take_or_wait(rt).is_some();
+    }
+    if let Event::LastGiveBack = event {
+        let _ = desk.close(rt, &client);
+        let _ = desk.close(rt, &Client::new(alloc, 1));
     }
     Ok(Scene {
         desk,
@@ -60,7 +72,7 @@ fn scene_of<R: Wait>(rt: &R, alloc: Global, task: Task, event: Event) -> Result<
 // call has to wake the client too. At last the worker takes a job of the other sender.
 fn stand_by<R: Wait>(rt: &R, scene: &Scene) -> bool {
     match scene.event {
-        Event::Submit | Event::GiveBack => true,
+        Event::Submit | Event::GiveBack | Event::LastGiveBack => true,
         Event::Finish | Event::Close => scene.desk.take_or_wait(rt).is_some(),
     }
 }
@@ -78,7 +90,9 @@ fn is_given<R: Wait>(rt: &R, scene: &Scene) -> bool {
         solved: solved(scene.job.task),
     };
     match scene.event {
-        Event::Submit | Event::GiveBack => scene.desk.take_or_wait(rt) == Some(scene.job),
+        Event::Submit | Event::GiveBack | Event::LastGiveBack => {
+            scene.desk.take_or_wait(rt) == Some(scene.job)
+        }
         Event::Finish => is_told(rt, scene, Turn::Next(next)),
         Event::Close => is_told(rt, scene, Turn::Drained),
     }
@@ -95,7 +109,7 @@ fn wait<R: Wait + Clock>(rt: &R, scene: &Scene) -> bool {
 fn call<R: Wait>(rt: &R, scene: &Scene, client: &mut Client) -> bool {
     match scene.event {
         Event::Submit => sends(rt, &scene.desk, client, scene.job.task, 0),
-        Event::GiveBack => gives_back(rt, &scene.desk, scene.job.id),
+        Event::GiveBack | Event::LastGiveBack => gives_back(rt, &scene.desk, scene.job.id),
         Event::Finish => finishes(rt, &scene.desk, scene.job),
         Event::Close => scene.desk.close(rt, client) == Ok(true),
     }
@@ -112,18 +126,25 @@ fn is_woken<R: Clock>(rt: &R, scene: &Scene) -> bool {
     false
 }
 
-// Makes the call while the other threads wait. Afterwards two submits and a close of another sender
-// let both of them go on, also where the call did not.
+// Two submits, where they may be made, and a close of another sender let all threads go on, also
+// where the event did not.
+fn end<R: Wait>(rt: &R, alloc: Global, scene: &Scene) -> bool {
+    let mut other = Client::new(alloc, 1);
+    if let Event::LastGiveBack = scene.event {
+        return scene.desk.close(rt, &other) == Ok(false);
+    }
+    let task = scene.job.task;
+    sends(rt, &scene.desk, &mut other, task, 0)
+        && sends(rt, &scene.desk, &mut other, task, 1)
+        && scene.desk.close(rt, &other) == Ok(true)
+}
+
+// Makes the call while the other threads wait.
 fn wake<R: Wait + Clock>(rt: &R, alloc: Global, scene: &Scene) -> bool {
     thread::sleep(rt, Duration::from_millis(150));
     let called = call(rt, scene, &mut Client::new(alloc, 0));
     let woken = is_woken(rt, scene);
-    let mut other = Client::new(alloc, 1);
-    let task = scene.job.task;
-    let ended = sends(rt, &scene.desk, &mut other, task, 0)
-        && sends(rt, &scene.desk, &mut other, task, 1)
-        && scene.desk.close(rt, &other) == Ok(true);
-    called && woken && ended
+    end(rt, alloc, scene) && called && woken
 }
 
 fn play<R: Wait + Clock>(rt: &R, alloc: Global, scene: &Scene, thread: usize) -> bool {

@@ -6,8 +6,8 @@ use crate::tests::books::{
     read_again,
 };
 use endgame_search::Claim;
-use obf_text::{Item, LineFault, ListedMove, read_line};
-use othello_rules::{Best, Scoring, Side};
+use obf_text::LineFault;
+use othello_rules::{Best, Scoring};
 use solved_book::BookFault;
 use std::alloc::Global;
 
@@ -204,22 +204,4 @@ fn claims_by_the_greatest_score(rt: HostRuntime) {
     for row in LISTED {
         assert!(rt; is_claimed(alloc, row));
     }
-}
-
-// Whether a line lists a pass with this score and nothing else. True where memory is refused.
-fn lists_a_pass(alloc: Global, line: &[u8], score: i8) -> bool {
-    match read_line(alloc, line) {
-        Ok(Item::Entry(line)) => {
-            line.listed.len() == 1 && line.listed.iter().next() == Some(&(ListedMove::Pass, score))
-        }
-        Err(LineFault::Memory) => true,
-        _ => false,
-    }
-}
-
-// The listed moves of a line, as a caller of `obf_text` reads them.
-#[test]
-fn looks_at_listed_moves(rt: HostRuntime) {
-    let line = join(&[SEVEN_ROWS, b"XOOOOOO- O; ps:-64;"]);
-    assert!(rt; lists_a_pass(rt.alloc(), &line, -64));
 }

@@ -1,16 +1,6 @@
-//! Squares: their order, their names, and masks of them.
+//! Names of squares.
 
-use othello_rules::{Square, has_square, squares_in};
-use std::cmp::Ordering;
-
-#[test]
-fn squares_are_in_the_order_of_their_numbers(rt: HostRuntime) {
-    let [a1, b1, h8] = [Square::at(0), Square::at(1), Square::at(63)];
-    assert!(rt; a1 == Square::default() && a1 != b1 && b1 != h8);
-    assert!(rt; a1 < b1 && h8 > b1 && b1.cmp(&h8) == Ordering::Less);
-    let numbers = Square::all().map(|square| square.number());
-    assert!(rt; numbers.into_iter().eq(0..64));
-}
+use othello_rules::Square;
 
 const NAMES: &[(&[u8], Option<u8>)] = &[
     (b"A1", Some(0)),
@@ -35,16 +25,4 @@ fn names_of_squares(rt: HostRuntime) {
         assert!(rt; is_name(name, *number));
     }
     assert!(rt; Square::new(64).is_none());
-}
-
-const CORNERS: u64 = 0x8100_0000_0000_0081;
-
-const CORNER_NAMES: [[u8; 2]; 4] = [*b"A1", *b"H1", *b"A8", *b"H8"];
-
-#[test]
-fn squares_of_a_mask(rt: HostRuntime) {
-    let corners = squares_in(CORNERS);
-    assert!(rt; corners.iter().map(|square| square.name()).eq(CORNER_NAMES));
-    assert!(rt; corners.iter().all(|square| has_square(CORNERS, *square)));
-    assert!(rt; !has_square(CORNERS, Square::at(1)));
 }
