@@ -22,7 +22,7 @@ import unittest
 from pathlib import Path
 from unittest import mock
 
-from tests.support import ROOT, SECONDS, InFolder, as_at_a_login, built, need, processes_with, run, wait_until
+from tests.support import ROOT, SECONDS, InFolder, as_at_a_login, built, link_to, need, processes_with, run, wait_until
 
 CHECKOUT = ROOT / "bin/ffosolve-many"
 KILLS = int(os.environ.get("KILLS", 10))
@@ -182,6 +182,16 @@ class Functions(InFolder):
         with mock.patch.object(many.signal, "signal") as handled, self.assertRaises(KeyboardInterrupt):
             many.catch(signal.SIGTERM, None)
         self.assertEqual(handled.call_args_list, [mock.call(number, signal.SIG_IGN) for number in many.SIGNALS])
+
+    def test_processes_that_end_while_they_are_looked_at_are_passed_over(self):
+        gone = subprocess.Popen(["true"])
+        gone.wait()
+        process = subprocess.Popen(["sleep", "60"], start_new_session=True)
+        self.addCleanup(process.kill)
+        found = ["self", str(gone.pid), str(process.pid)]
+        with mock.patch.object(os, "listdir", lambda _: found), mock.patch.object(os, "stat", side_effect=ProcessLookupError):
+            many.end_session(process.pid)
+        self.assertEqual(process.wait(timeout=SECONDS), -signal.SIGKILL)
 
     def test_list_is_cut_after_each_so_many_lines(self):
         self.assertEqual(self.read(b"", 2), [])
@@ -1059,7 +1069,7 @@ class Signals(Case):
     def test_lock_is_kept_as_long_as_a_part_is_solved(self):
         ran = self.start(1)
         guards = [int(name) for name in Path(f"/proc/{ran.pid}/task/{ran.pid}/children").read_text().split()
-                  if Path(f"/proc/{name}/exe").resolve().name.startswith("python")]
+                  if Path(link_to(f"/proc/{name}/exe")).name.startswith("python")]
         self.assertEqual(len(guards), 1)
         os.kill(guards[0], signal.SIGKILL)
         ran.kill()
