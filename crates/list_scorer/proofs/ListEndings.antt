@@ -2,7 +2,7 @@
 use Rattle.std.proofs.Common.{◌≡◌, ◌≤◌, ℕ, List, length, inr}
 use Rattle.std.specs.Prelude.{Bool, Option, None, Result, Ok, Err, IfOk, OnErr, OnOk}
 use Rattle.std.specs.Io.KnownBytes.{Appends}
-use Rattle.score_lists.specs.Lines.{AppendsFront, lists_right, lists_text}
+use Rattle.score_lines.specs.Lines.{AppendsFront, lists_right, lists_text}
 use Rattle.suite_runs.specs.Runs.{first_large}
 use Rattle.suite_runs.specs.declared.settings.TheConstants.{MOST_FILES}
 use Rattle.list_scorer.specs.CommandLine.{ListRequest, demands_of}

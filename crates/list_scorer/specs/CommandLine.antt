@@ -3,9 +3,9 @@ use Rattle.std.specs.Prelude.{◌≡◌, Bool, true, false, List, [], codes, unw
 use Rattle.clap.specs.Faults.{fault_of}
 use Rattle.clap.specs.Words.{App, Text, all_of, matches_of, with_rule}
 use Rattle.suite_runs.specs.Settings.{SettingsView}
-use Rattle.score_lists.specs.declared.demands.Demands.{Demands}
-use Rattle.score_lists.specs.declared.demands.Listing.{Listing}
-use Rattle.score_lists.specs.declared.demands.Listing.TheVariants.{Any, Complete}
+use Rattle.score_lines.specs.declared.demands.Demands.{Demands}
+use Rattle.score_lines.specs.declared.demands.Listing.{Listing}
+use Rattle.score_lines.specs.declared.demands.Listing.TheVariants.{Any, Complete}
 use Rattle.suite_solver.specs.CommandLine.{HasFlag, HasSettings, NameList, NamesScorings}
 use Rattle.suite_solver.specs.CommandLine.{files_rule, flag_rule, versioned, with_settings}
 use Rattle.program_files.specs.Inputs.{names_of}

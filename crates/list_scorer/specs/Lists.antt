@@ -2,7 +2,7 @@
 use Rattle.std.specs.Prelude.{◌≡◌, ◌⊎◌, ℕ, ◌≤◌, Bool, true, false, List, codes, length}
 use Rattle.std.specs.Prelude.{Option, None}
 use Rattle.std.specs.Io.KnownBytes.{Appends}
-use Rattle.score_lists.specs.Lines.{AppendsFront, lists_right, lists_text}
+use Rattle.score_lines.specs.Lines.{AppendsFront, lists_right, lists_text}
 use Rattle.score_lists.specs.declared.lists.ListFault.{ListFault}
 use Rattle.score_lists.specs.declared.lists.ListFault.TheVariants as list
 use Rattle.suite_runs.specs.Runs.{first_large}

@@ -3,7 +3,7 @@
 ghost use Rattle.std.specs.Prelude.{◌≡◌, map, IfErr, IfOk, IsErr, OnErr, OnOk};
 ghost use Rattle.std.specs.Io.KnownBytes.{Appends};
 ghost use Rattle.obf_text.specs.LineText.{texts_of};
-ghost use Rattle.score_lists.specs.Lines.{AppendsFront, lists_right, lists_text};
+ghost use Rattle.score_lines.specs.Lines.{AppendsFront, lists_right, lists_text};
 ghost use Rattle.program_files.specs.Inputs.{names_of};
 ghost use Rattle.suite_solver.specs.Programs.{EndsUnread};
 ghost use Rattle.list_scorer.specs.CommandLine.{demands_of, list_request_of};

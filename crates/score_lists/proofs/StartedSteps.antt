@@ -5,13 +5,13 @@ use Rattle.std.specs.Io.KnownBytes.{Appends}
 use Rattle.std.proofs.lemmas.List.{append_assoc, append-nil, nil_from_length}
 use Rattle.othello_rules.specs.declared.scoring.Scoring.{Scoring}
 use Rattle.obf_text.specs.LineText.{lines_of}
-use Rattle.score_lists.specs.declared.demands.Demands.{Demands}
-use Rattle.score_lists.specs.Lines.{AppendsFront, Prints, are_right, lines_text, scores_text}
+use Rattle.score_lines.specs.declared.demands.Demands.{Demands}
+use Rattle.score_lines.specs.Lines.{AppendsFront, Prints, are_right, lines_text, scores_text}
 use Rattle.score_lists.specs.Started.{PrintsFronts, StartedView, started_right, started_text}
 use Rattle.score_lists.specs.Started.{started_view, window_right, window_text}
-use Rattle.score_lists.proofs.LineSteps.{and_assoc, and_true, lines_both, lines_none}
-use Rattle.score_lists.proofs.LineSteps.{right_both, right_none}
-use Rattle.score_lists.proofs.Prints.{prints_end, prints_more, prints_start, prints_stop}
+use Rattle.score_lines.proofs.LineSteps.{and_assoc, and_true, lines_both, lines_none}
+use Rattle.score_lines.proofs.LineSteps.{right_both, right_none}
+use Rattle.score_lines.proofs.Prints.{prints_end, prints_more, prints_start, prints_stop}
 
 window_none : window_text [] ≡ []
 unfolding window_text

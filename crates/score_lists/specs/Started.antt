@@ -4,9 +4,9 @@ use Rattle.std.specs.List.{flat_map, list_all}
 use Rattle.std.specs.declared.alloc.AllocError.{AllocError}
 use Rattle.othello_rules.specs.declared.scoring.Scoring.{Scoring}
 use Rattle.obf_text.specs.LineText.{lines_of}
-use Rattle.score_lists.specs.Lines.{Prints, are_right, scores_text}
-use Rattle.score_lists.specs.declared.demands.Demands.{Demands}
-use Rattle.score_lists.specs.declared.lines.LinesText.{LinesText}
+use Rattle.score_lines.specs.Lines.{Prints, are_right, scores_text}
+use Rattle.score_lines.specs.declared.demands.Demands.{Demands}
+use Rattle.score_lines.specs.declared.lines.LinesText.{LinesText}
 use Rattle.score_lists.specs.declared.started.ChunkPromise.{ChunkPromise}
 use Rattle.score_lists.specs.declared.started.Progress.{Progress}
 use Rattle.score_lists.specs.declared.started.Progress.TheVariants.{Spawned, Done}

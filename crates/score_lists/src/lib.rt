@@ -1,16 +1,10 @@
 //! Lists of positions in OBF text, printed again with every move's exact score, and with remarks on
-//! the moves that they list.
+//! the moves that they list. The text of a line is that of `score_lines`.
 #![tactic(auto)]
 
-mod checks;
 mod chunks;
-mod demands;
-pub mod laws;
-mod lines;
 mod lists;
-mod remarks;
 mod started;
 
-pub use checks::{Wrong, wrong_in};
-pub use demands::{Demands, Listing};
 pub use lists::{ListFault, write_lists};
+pub use score_lines::{Demands, Listing};

@@ -2,19 +2,18 @@
 
 ghost use Rattle.std.specs.Prelude.{◌≡◌, ◌≤◌, ◌&&◌, ◌∷◌, ◌++◌, [], IfOk, OnErr, OnOk, map};
 ghost use Rattle.std.specs.Io.KnownBytes.{Appends};
-ghost use Rattle.obf_text.specs.LineText.{lines_of};
-ghost use Rattle.score_lists.specs.Lines.{AppendsFront, Prints, are_right, lists_right};
-ghost use Rattle.obf_text.specs.LineText.{texts_of};
-ghost use Rattle.score_lists.specs.Lines.{lists_text, scores_text};
+ghost use Rattle.obf_text.specs.LineText.{lines_of, texts_of};
+ghost use Rattle.score_lines.specs.Lines.{AppendsFront, Prints, are_right, lists_right};
+ghost use Rattle.score_lines.specs.Lines.{lists_text, scores_text};
 ghost use Rattle.score_lists.specs.Started.{PrintsFronts, started_right, started_text};
 ghost use Rattle.score_lists.specs.Started.{window_right, window_text};
 ghost use Rattle.std.specs.Arc.{arc_value};
 ghost use Rattle.score_lists.specs.declared.lists.ListFault.TheVariants.{CannotWrite, Memory};
 
 use crate::chunks::first_chunk;
-use crate::demands::Demands;
 use crate::started::{Running, StartedChunk, start};
 use bound_table::BoundTable;
+use score_lines::Demands;
 use std::alloc::{AllocError, AllocFailed, Global};
 use std::collections::VecDeque;
 use std::io;

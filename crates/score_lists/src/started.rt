@@ -5,10 +5,9 @@ ghost use Rattle.std.specs.Arc.{arc_value};
 ghost use Rattle.score_lists.specs.Started.{GivesText, started_view, started_view_of};
 
 use crate::chunks::Chunk;
-use crate::demands::Demands;
-use crate::lines::{LinesText, lines_text};
 use bound_table::{BoundTable, Bounds};
 use othello_rules::Scoring;
+use score_lines::{Demands, LinesText, lines_text};
 use std::alloc::{AllocError, Global};
 use std::marker::Model;
 use std::sync::Arc;

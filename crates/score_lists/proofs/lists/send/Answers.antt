@@ -1,5 +1,5 @@
-use Rattle.score_lists.proofs.Prints.{prints_both, prints_front}
-use Rattle.score_lists.proofs.Results.{on_err}
+use Rattle.score_lines.proofs.Prints.{prints_both, prints_front}
+use Rattle.score_lines.proofs.Results.{on_err}
 use Rattle.score_lists.proofs.lists.send.Goals as goal
 
 pub returns-in_err-rest-clause-front : goal.returns-in_err-rest-clause-front

@@ -1,4 +1,4 @@
-use Rattle.score_lists.specs.Lines.{Prints}
+use Rattle.score_lines.specs.Lines.{Prints}
 use Rattle.score_lists.proofs.lists.send.Given as goal
 
 abbrev pub invariant-loop : goal.invariant-loop

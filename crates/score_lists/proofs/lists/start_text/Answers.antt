@@ -1,12 +1,12 @@
 use Rattle.std.proofs.Common.{◌≡◌, ◌∷◌, ◌++◌, [], refl, rules}
 use Rattle.std.specs.Arc.{arc_value}
 use Rattle.obf_text.specs.LineText.{lines_of}
-use Rattle.score_lists.specs.Lines.{are_right, scores_text}
+use Rattle.score_lines.specs.Lines.{are_right, scores_text}
 use Rattle.score_lists.specs.Started.{started_view, window_right, window_text}
-use Rattle.score_lists.proofs.Prints.{front_now, prints_part, prints_start, prints_stop}
+use Rattle.score_lines.proofs.Prints.{front_now, prints_part, prints_start, prints_stop}
 use Rattle.score_lists.proofs.StartedSteps.{none_left, right_part, start_right_end, start_right_more}
 use Rattle.score_lists.proofs.StartedSteps.{start_text_end, start_text_more}
-use Rattle.score_lists.proofs.Results.{on_err}
+use Rattle.score_lines.proofs.Results.{on_err}
 use Rattle.score_lists.proofs.lists.start_text.Goals as goal
 
 pub loop-rest-init : goal.loop-rest-init

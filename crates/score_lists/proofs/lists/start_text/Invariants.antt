@@ -1,7 +1,7 @@
 use Rattle.std.proofs.Common.{◌≡◌, ◌&&◌, ◌++◌, length}
 use Rattle.obf_text.specs.LineText.{lines_of}
 use Rattle.std.specs.Arc.{arc_value}
-use Rattle.score_lists.specs.Lines.{Prints, are_right, scores_text}
+use Rattle.score_lines.specs.Lines.{Prints, are_right, scores_text}
 use Rattle.score_lists.specs.Started.{window_right, window_text}
 use Rattle.score_lists.proofs.lists.start_text.Given as goal
 

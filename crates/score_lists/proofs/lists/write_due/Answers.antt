@@ -1,5 +1,5 @@
 use Rattle.std.proofs.Common.{◌≡◌, ◌∷◌, rules}
-use Rattle.score_lists.proofs.Results.{on_err}
+use Rattle.score_lines.proofs.Results.{on_err}
 use Rattle.score_lists.proofs.StartedSteps.{fronts_more, fronts_start, fronts_stop}
 use Rattle.score_lists.proofs.lists.write_due.Goals as goal
 

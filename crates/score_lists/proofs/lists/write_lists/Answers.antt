@@ -1,12 +1,12 @@
 use Rattle.std.proofs.Common.{◌&&◌, ◌+◌, ◌++◌, rules, drop}
 use Rattle.obf_text.specs.LineText.{lines_of, texts_of}
 use Rattle.std.specs.Arc.{arc_value}
-use Rattle.score_lists.specs.Lines.{are_right, lists_right, lists_text, scores_text}
+use Rattle.score_lines.specs.Lines.{are_right, lists_right, lists_text, scores_text}
 use Rattle.score_lists.specs.Started.{window_right, window_text}
-use Rattle.score_lists.proofs.LineSteps.{all_end, all_more, list_end, list_more}
-use Rattle.score_lists.proofs.LineSteps.{texts_cut, texts_end}
-use Rattle.score_lists.proofs.Prints.{front_none, prints_part, prints_stop}
-use Rattle.score_lists.proofs.Results.{on_err}
+use Rattle.score_lines.proofs.LineSteps.{all_end, all_more, list_end, list_more}
+use Rattle.score_lines.proofs.LineSteps.{texts_cut, texts_end}
+use Rattle.score_lines.proofs.Prints.{front_none, prints_part, prints_stop}
+use Rattle.score_lines.proofs.Results.{on_err}
 use Rattle.score_lists.proofs.StartedSteps.{right_part, window_right_start, window_text_start}
 use Rattle.score_lists.proofs.lists.write_lists.Goals as goal
 

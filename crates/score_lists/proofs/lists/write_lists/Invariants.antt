@@ -1,7 +1,7 @@
 use Rattle.std.proofs.Common.{◌≡◌, ◌&&◌, ◌++◌, drop}
 use Rattle.obf_text.specs.LineText.{texts_of}
 use Rattle.std.specs.Arc.{arc_value}
-use Rattle.score_lists.specs.Lines.{Prints, lists_right, lists_text}
+use Rattle.score_lines.specs.Lines.{Prints, lists_right, lists_text}
 use Rattle.score_lists.specs.Started.{window_right, window_text}
 use Rattle.score_lists.proofs.lists.write_lists.Given as goal
 

@@ -1,6 +1,6 @@
 use Rattle.std.proofs.Common.{rules}
-use Rattle.score_lists.proofs.Prints.{front_none}
-use Rattle.score_lists.proofs.Results.{on_err}
+use Rattle.score_lines.proofs.Prints.{front_none}
+use Rattle.score_lines.proofs.Results.{on_err}
 use Rattle.score_lists.proofs.lists.write_one.Goals as goal
 
 pub returns-in_err-found-clause-front : goal.returns-in_err-found-clause-front

@@ -1,7 +1,7 @@
 use Rattle.std.proofs.Common.{◌≡◌, ◌∷◌, [], arith, rules}
 use Rattle.std.proofs.lemmas.Grind.{common_steps}
 use Rattle.std.specs.Vec.Iter.{into_iter_items}
-use Rattle.score_lists.proofs.Results.{on_err}
+use Rattle.score_lines.proofs.Results.{on_err}
 use Rattle.score_lists.proofs.StartedSteps.{fronts_end, fronts_more, fronts_right, fronts_start}
 use Rattle.score_lists.proofs.StartedSteps.{fronts_stop}
 use Rattle.score_lists.proofs.lists.write_rest.Goals as goal

@@ -1,0 +1,9 @@
+-- Lemmas about what is written for each line of a list, and that scores are read back.
+-- Begin with Prints and LineSteps; docs/architecture.md has the argument and the reading order.
+pub mod Results
+pub mod Prints
+pub mod RemarkSteps
+pub mod SmallClaims
+pub mod EntryLines
+pub mod LineSteps
+pub mod Writable
