@@ -34,7 +34,7 @@ def stored(*path):
 
 def limit(name):
     """MOST_BYTES of a file that the programs read, or MOST_ENTRIES of a table, from where it stands."""
-    crate = {"MOST_BYTES": "suite_runs/src/settings.rt", "MOST_ENTRIES": "bound_table/src/bound_table.rt"}[name]
+    crate = {"MOST_BYTES": "suite_reports/src/settings.rt", "MOST_ENTRIES": "bound_table/src/bound_table.rt"}[name]
     return int(re.search(rf"const {name}: usize = ([\d_]+);", stored("crates", crate).decode())[1])
 
 

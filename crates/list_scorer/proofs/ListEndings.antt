@@ -4,7 +4,7 @@ use Rattle.std.specs.Prelude.{Bool, Option, None, Result, Ok, Err, IfOk, OnErr, 
 use Rattle.std.specs.Io.KnownBytes.{Appends}
 use Rattle.score_lines.specs.Lines.{AppendsFront, lists_right, lists_text}
 use Rattle.suite_runs.specs.Runs.{first_large}
-use Rattle.suite_runs.specs.declared.settings.TheConstants.{MOST_FILES}
+use Rattle.suite_reports.specs.declared.settings.TheConstants.{MOST_FILES}
 use Rattle.list_scorer.specs.CommandLine.{ListRequest, demands_of}
 use Rattle.list_scorer.specs.Lists.{AreLists, PrintsLists, StopsLists}
 use Rattle.program_files.specs.Inputs.{AreFrontsOf}

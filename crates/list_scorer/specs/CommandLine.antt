@@ -2,7 +2,7 @@
 use Rattle.std.specs.Prelude.{◌≡◌, Bool, true, false, List, [], codes, unwrap_or}
 use Rattle.clap.specs.Faults.{fault_of}
 use Rattle.clap.specs.Words.{App, Text, all_of, matches_of, with_rule}
-use Rattle.suite_runs.specs.Settings.{SettingsView}
+use Rattle.suite_reports.specs.Settings.{SettingsView}
 use Rattle.score_lines.specs.declared.demands.Demands.{Demands}
 use Rattle.score_lines.specs.declared.demands.Listing.{Listing}
 use Rattle.score_lines.specs.declared.demands.Listing.TheVariants.{Any, Complete}

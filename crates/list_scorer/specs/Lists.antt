@@ -6,7 +6,7 @@ use Rattle.score_lines.specs.Lines.{AppendsFront, lists_right, lists_text}
 use Rattle.score_lists.specs.declared.lists.ListFault.{ListFault}
 use Rattle.score_lists.specs.declared.lists.ListFault.TheVariants as list
 use Rattle.suite_runs.specs.Runs.{first_large}
-use Rattle.suite_runs.specs.declared.settings.TheConstants.{MOST_FILES}
+use Rattle.suite_reports.specs.declared.settings.TheConstants.{MOST_FILES}
 use Rattle.suite_runs.specs.declared.run_fault.RunFault.TheVariants as run
 use Rattle.suite_solver.specs.CommandLine.{AsksForText}
 use Rattle.suite_solver.specs.Programs.{AreTextsOf, EndsProgram}

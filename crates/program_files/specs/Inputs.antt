@@ -2,7 +2,7 @@
 use Rattle.std.specs.Prelude.{◌≡◌, ℕ, ◌+◌, List, [], ◌∷◌, length, map, min}
 use Rattle.std.specs.Prelude.{Option, String, IfSome, string_bytes, take}
 use Rattle.std.specs.declared.alloc.Global.{Global}
-use Rattle.suite_runs.specs.declared.settings.TheConstants.{MOST_BYTES, MOST_FILES}
+use Rattle.suite_reports.specs.declared.settings.TheConstants.{MOST_BYTES, MOST_FILES}
 
 -- the bytes of each name
 abbrev pub names_of : List (String Global) → List (List ℕ)

@@ -6,7 +6,7 @@ ghost use Rattle.std.specs.Io.KnownBytes.{Appends};
 ghost use Rattle.program_files.specs.ProgressText.{progress_text};
 ghost use Rattle.obf_text.specs.LineText.{texts_of};
 ghost use Rattle.suite_runs.specs.Outcome.{IsBookOf};
-ghost use Rattle.suite_runs.specs.Reports.{reports};
+ghost use Rattle.suite_reports.specs.Reports.{reports};
 ghost use Rattle.suite_runs.specs.Runs.{all_tasks, first_large};
 ghost use Rattle.suite_runs.specs.declared.run_fault.RunFault.TheVariants.{FileTooLarge, TooManyFiles};
 

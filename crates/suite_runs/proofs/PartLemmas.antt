@@ -14,12 +14,12 @@ use Rattle.solved_book.specs.Order.{AreBookPositions}
 use Rattle.solved_book.proofs.OneOrder.{same_order}
 use Rattle.suite_runs.specs.Outcome.{IsBookOf, canonicals, report_of_view, reports_of_views, tasks_of_views}
 use Rattle.suite_runs.specs.Part.{PartView, part_view, part_view_of}
-use Rattle.suite_runs.specs.Reports.{report, reports_from}
-use Rattle.suite_runs.specs.Rows.{tasks}
+use Rattle.suite_reports.specs.Reports.{report, reports_from}
+use Rattle.suite_reports.specs.Rows.{tasks}
 use Rattle.obf_text.specs.LineText.{texts_of}
 use Rattle.suite_runs.specs.Runs.{all_tasks}
 use Rattle.suite_runs.specs.declared.part.Part.{Part}
-use Rattle.suite_runs.proofs.TaskLemmas.{HasScoring, tasks_scored}
+use Rattle.suite_reports.proofs.TaskLemmas.{HasScoring, tasks_scored}
 
 abbrev File : Type 0
 File = Vec ℕ Global

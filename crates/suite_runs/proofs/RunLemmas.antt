@@ -6,12 +6,12 @@ use Rattle.std.proofs.lemmas.List.{length-map}
 use Rattle.std.proofs.lemmas.List.Sums.{fails_before_first}
 use Rattle.std.proofs.lemmas.Bool.{lt-ltb}
 use borrow.Author.Tests.{ltb-true, ltb-false}
-use Rattle.suite_runs.specs.Settings.{SettingsView}
+use Rattle.suite_reports.specs.Settings.{SettingsView}
 use Rattle.obf_text.specs.LineText.{texts_of}
 use Rattle.suite_runs.specs.Runs.{Answers, first_large, is_large, refusal_of}
 use Rattle.suite_runs.specs.declared.run_fault.RunFault.{RunFault}
 use Rattle.suite_runs.specs.declared.run_fault.RunFault.TheVariants.{Memory, Mixed, TooManyFiles, FileTooLarge}
-use Rattle.suite_runs.specs.declared.settings.TheConstants.{MOST_BYTES, MOST_FILES}
+use Rattle.suite_reports.specs.declared.settings.TheConstants.{MOST_BYTES, MOST_FILES}
 use Rattle.suite_runs.specs.declared.outcome.Outcome.{Outcome}
 
 abbrev File : Type 0

@@ -1,9 +1,3 @@
-pub mod Settings
-pub mod Check
-pub mod ReportText
-pub mod Rows
-pub mod ParsedLine
-pub mod Reports
 pub mod Solver
 pub mod Part
 pub mod Outcome

@@ -7,7 +7,7 @@ use Rattle.othello_bits.specs.Symmetries.{canonical_of}
 use Rattle.endgame_search.specs.Task.{TaskView}
 use Rattle.solved_book.specs.Books.{BookView}
 use Rattle.suite_runs.specs.Part.{PartView}
-use Rattle.suite_runs.specs.ReportText.{report_text}
+use Rattle.suite_reports.specs.ReportText.{report_text}
 
 -- the report of a sender's part
 abbrev pub report_of_view : ℕ × PartView → List ℕ

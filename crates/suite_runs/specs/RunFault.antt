@@ -5,7 +5,7 @@ use Rattle.job_board.specs.declared.faults.SubmitFault.{SubmitFault}
 use Rattle.job_board.specs.declared.faults.SubmitFault.TheVariants as submit
 use Rattle.suite_runs.specs.declared.run_fault.RunFault.{RunFault}
 use Rattle.suite_runs.specs.declared.run_fault.RunFault.TheVariants.{Memory, Mixed, TooManyFiles, FileTooLarge}
-use Rattle.suite_runs.specs.declared.settings.TheConstants.{MOST_BYTES, MOST_FILES}
+use Rattle.suite_reports.specs.declared.settings.TheConstants.{MOST_BYTES, MOST_FILES}
 
 -- a file is named by its sender plus 1, since senders count from 0
 unfoldable pub run_fault_text : RunFault → List ℕ

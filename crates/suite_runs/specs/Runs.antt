@@ -4,16 +4,16 @@ use Rattle.std.specs.List.{flat_map, position}
 use Rattle.othello_rules.specs.declared.scoring.Scoring.{Scoring}
 use Rattle.obf_text.specs.LineText.{texts_of}
 use Rattle.endgame_search.specs.Task.{TaskView}
-use Rattle.suite_runs.specs.Settings.{SettingsView}
+use Rattle.suite_reports.specs.Settings.{SettingsView}
 use Rattle.suite_runs.specs.Outcome.{IsBookOf}
 use Rattle.suite_runs.specs.Part.{part_view, part_view_of}
-use Rattle.suite_runs.specs.Reports.{reports}
-use Rattle.suite_runs.specs.Rows.{tasks}
+use Rattle.suite_reports.specs.Reports.{reports}
+use Rattle.suite_reports.specs.Rows.{tasks}
 use Rattle.suite_runs.specs.declared.run_fault.RunFault.{RunFault}
 use Rattle.suite_runs.specs.declared.run_fault.RunFault.TheVariants.{Memory, Mixed, TooManyFiles, FileTooLarge}
 use Rattle.suite_runs.specs.declared.outcome.Outcome.{Outcome}
 use Rattle.suite_runs.specs.declared.part.Part.{Part}
-use Rattle.suite_runs.specs.declared.settings.TheConstants.{MOST_BYTES, MOST_FILES}
+use Rattle.suite_reports.specs.declared.settings.TheConstants.{MOST_BYTES, MOST_FILES}
 
 -- the text has more than MOST_BYTES bytes
 abbrev pub is_large : List ℕ → Bool

@@ -1,16 +1,14 @@
 //! The part of one client: it sends the tasks of a text to a desk, and receives their answers.
 
 ghost use Rattle.std.specs.Prelude.{◌≡◌, ◌≤◌, ◌++◌, length, Ok, IfOk, IfErr, OnOk, IsErr, IsErrOf};
-ghost use Rattle.suite_runs.specs.ParsedLine.{tasks_in};
+ghost use Rattle.suite_reports.specs.ParsedLine.{tasks_in};
 ghost use Rattle.suite_runs.specs.Part.{IsPartFault};
-ghost use Rattle.suite_runs.specs.Rows.{rows, tasks};
+ghost use Rattle.suite_reports.specs.Rows.{rows, tasks};
 ghost use Rattle.suite_runs.specs.declared.run_fault.RunFault.TheVariants.{Memory, Mixed};
 
 use crate::gate::Gate;
-use crate::numbered_line::{NumberedLine, parse_lines, rows_of};
 use crate::part::Part;
 use crate::run_fault::{RunFault, worse_fault};
-use crate::settings::{MOST_BYTES, MOST_EMPTIES};
 use crate::solver::Solver;
 use crate::worker::Worker;
 use bound_table::Bounds;
@@ -19,6 +17,7 @@ use job_board::{Client, Desk, Turn};
 use solved_book::Claims;
 use std::alloc::{AllocError, Global};
 use std::sync::Wait;
+use suite_reports::{MOST_BYTES, MOST_EMPTIES, NumberedLine, parse_lines, rows_of};
 
 // Submits the task of each line that has one, in the order of the lines.
 fn send_all<R: Wait>(

@@ -9,13 +9,11 @@ ghost use Rattle.obf_text.specs.LineText.{texts_of};
 ghost use Rattle.suite_runs.specs.Runs.{ArePartsOf, Solves};
 
 use crate::part::Part;
-use crate::report::write_report;
-use crate::report_row::ReportRow;
-use crate::settings::{MOST_FILES, Settings};
 use endgame_search::Solved;
 use othello_rules::Scoring;
 use solved_book::Book;
 use std::alloc::{AllocError, Global};
+use suite_reports::{MOST_FILES, ReportRow, Settings, write_report};
 
 /// The reports and the book of a run.
 #[derive(Debug, Drop)]

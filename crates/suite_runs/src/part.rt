@@ -1,7 +1,7 @@
 //! The part of one file in a run.
 
-use crate::report_row::ReportRow;
 use endgame_search::Solved;
+use suite_reports::ReportRow;
 
 /// The part of one file in a run.
 #[derive(Debug, Drop)]

@@ -5,11 +5,11 @@ ghost use Rattle.suite_runs.specs.RunFault.{run_fault_text};
 ghost use Rattle.suite_runs.specs.RunFault.{fault_of_submit, worse_fault};
 ghost use Rattle.suite_runs.specs.declared.run_fault.RunFault.TheVariants.{Memory};
 
-use crate::settings::{MOST_BYTES, MOST_FILES};
 use job_board::SubmitFault;
 use std::alloc::{AllocError, AllocFailed};
 use std::error::Error;
 use std::fmt;
+use suite_reports::{MOST_BYTES, MOST_FILES};
 
 /// Why a run gives no reports. A sender is the number of a file, counted from 0.
 #[derive(Clone, Copy, PartialEq, Eq, Debug, Drop)]

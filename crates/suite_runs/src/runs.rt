@@ -3,7 +3,7 @@
 ghost use Rattle.std.specs.Prelude.{◌≡◌, ◌≢◌, ◌<◌, ◌≤◌, ◌↔◌, ℕ, length, Some, None, Err, IfOk, IfSome, IsErrOf, IsOk};
 ghost use Rattle.std.specs.List.{position};
 ghost use Rattle.suite_runs.specs.Outcome.{IsBookOf};
-ghost use Rattle.suite_runs.specs.Reports.{reports};
+ghost use Rattle.suite_reports.specs.Reports.{reports};
 ghost use Rattle.obf_text.specs.LineText.{texts_of};
 ghost use Rattle.suite_runs.specs.Runs.{Answers, Refuses, all_tasks, first_large, is_large, refusal_of};
 ghost use Rattle.suite_runs.specs.declared.run_fault.RunFault.TheVariants.{Mixed, TooManyFiles, FileTooLarge};
@@ -12,12 +12,12 @@ use crate::gate::Gate;
 use crate::outcome::{Outcome, outcome_of};
 use crate::run_fault::RunFault;
 use crate::serial::solve_texts;
-use crate::settings::{MOST_BYTES, MOST_FILES, Settings};
 use crate::threads::solve_texts_on_threads;
 use solved_book::Claims;
 use std::alloc::Global;
 use std::sync::Wait;
 use std::thread::Threads;
+use suite_reports::{MOST_BYTES, MOST_FILES, Settings};
 
 // The number, from 0, of the first file of more than `MOST_BYTES` bytes. `first_large` has the same
 // result, with a contract about the bytes of the files.

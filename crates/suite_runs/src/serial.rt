@@ -3,18 +3,17 @@
 ghost use Rattle.std.specs.Prelude.{◌≡◌, ◌≤◌, length, All, IfOk, None};
 ghost use Rattle.endgame_search.specs.Task.{TaskView};
 ghost use Rattle.suite_runs.specs.Part.{part_view, part_view_of};
-ghost use Rattle.suite_runs.specs.ParsedLine.{tasks_in};
+ghost use Rattle.suite_reports.specs.ParsedLine.{tasks_in};
 ghost use Rattle.obf_text.specs.LineText.{texts_of};
 ghost use Rattle.suite_runs.specs.Runs.{ArePartsOf, first_large};
 
-use crate::numbered_line::{NumberedLine, parse_lines, rows_of};
 use crate::part::Part;
-use crate::settings::{MOST_BYTES, MOST_EMPTIES, Settings};
 use crate::solver::{Solver, new_table};
 use bound_table::Bounds;
 use endgame_search::Solved;
 use solved_book::Claims;
 use std::alloc::{AllocError, Global};
+use suite_reports::{MOST_BYTES, MOST_EMPTIES, NumberedLine, Settings, parse_lines, rows_of};
 
 // Solves the tasks of the lines, in the order of the lines.
 fn solve_all<T: Bounds>(

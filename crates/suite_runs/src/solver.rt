@@ -3,12 +3,12 @@
 ghost use Rattle.std.specs.Prelude.{◌≡◌, option_map, IfOk};
 ghost use Rattle.suite_runs.specs.Solver.{Advises};
 
-use crate::settings::Settings;
 use bound_table::{BoundTable, Bounds, TableFault};
 use endgame_search::{Claim, Solved, Task, confirm, solve};
 use othello_rules::Scoring;
 use solved_book::Claims;
 use std::alloc::{AllocError, Global};
+use suite_reports::Settings;
 
 /// A table of bounds, and the claims of a book where one was read. Tasks are solved by it.
 #[derive(Drop)]

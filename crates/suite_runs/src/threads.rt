@@ -11,7 +11,6 @@ use crate::client::client_part;
 use crate::gate::Gate;
 use crate::part::Part;
 use crate::run_fault::{RunFault, worse_fault};
-use crate::settings::{MOST_BYTES, MOST_FILES, Settings};
 use crate::solver::{Solver, new_table};
 use crate::worker::Worker;
 use bound_table::{BoundTable, Bounds};
@@ -23,6 +22,7 @@ use std::marker::Model;
 use std::sync::Wait;
 use std::thread;
 use std::thread::{Promise, PromisedHandle, Scope, Threads};
+use suite_reports::{MOST_BYTES, MOST_FILES, Settings};
 
 /// The values that are made for a run, which its threads share.
 #[derive(Drop)]

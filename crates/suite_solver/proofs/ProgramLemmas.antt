@@ -10,7 +10,7 @@ use Rattle.program_files.specs.Inputs.{AreFrontsOf}
 use Rattle.program_files.specs.ProgramErrors.{IsSilent, status_of}
 use Rattle.program_files.specs.declared.program_error.ProgramError.{ProgramError}
 use Rattle.suite_runs.specs.Runs.{first_large, is_large}
-use Rattle.suite_runs.specs.declared.settings.TheConstants.{MOST_BYTES, MOST_FILES}
+use Rattle.suite_reports.specs.declared.settings.TheConstants.{MOST_BYTES, MOST_FILES}
 use Rattle.suite_runs.specs.declared.run_fault.RunFault.{RunFault}
 use Rattle.suite_runs.specs.declared.run_fault.RunFault.TheVariants.{FileTooLarge, TooManyFiles}
 use Rattle.suite_runs.specs.declared.outcome.Outcome.{Outcome}

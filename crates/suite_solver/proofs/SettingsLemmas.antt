@@ -13,9 +13,9 @@ use Rattle.clap.specs.declared.parser.matches.ArgMatches.{ArgMatches}
 use Rattle.clap.proofs.WalkLemmas.{first_value-rows, list_any-map, one_text-rows}
 use Rattle.othello_rules.specs.Scores.{all_scorings, scoring_name}
 use Rattle.othello_rules.specs.declared.scoring.Scoring.{Scoring}
-use Rattle.suite_runs.specs.Settings.{IsWithinLimits, SettingsView}
-use Rattle.suite_runs.specs.declared.settings.TheConstants.{MOST_EMPTIES, MOST_ENTRIES, MOST_WORKERS}
-use Rattle.suite_runs.specs.declared.settings.TheConstants.{DEFAULT_EMPTIES_TEXT, DEFAULT_ENTRIES_TEXT, DEFAULT_WORKERS_TEXT}
+use Rattle.suite_reports.specs.Settings.{IsWithinLimits, SettingsView}
+use Rattle.suite_reports.specs.declared.settings.TheConstants.{MOST_EMPTIES, MOST_ENTRIES, MOST_WORKERS}
+use Rattle.suite_reports.specs.declared.settings.TheConstants.{DEFAULT_EMPTIES_TEXT, DEFAULT_ENTRIES_TEXT, DEFAULT_WORKERS_TEXT}
 use Rattle.suite_solver.specs.CommandLine.{HasNumber, HasSettings, NameList, NamesScorings, number_rule, scoring_rule}
 use Rattle.suite_solver.proofs.DefaultLemmas.{default_read, is_only, is_own}
 use Rattle.suite_solver.proofs.NumberLemmas.{numeral_in}

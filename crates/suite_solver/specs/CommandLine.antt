@@ -18,9 +18,9 @@ use Rattle.clap.specs.declared.error.kind.ErrorKind.TheVariants.{DisplayHelp, Di
 use Rattle.othello_rules.specs.Scores.{all_scorings, scoring_name}
 use Rattle.othello_rules.specs.declared.scoring.Scoring.TheVariants.{Winner}
 use Rattle.program_files.specs.Inputs.{names_of}
-use Rattle.suite_runs.specs.Settings.{SettingsView}
-use Rattle.suite_runs.specs.declared.settings.TheConstants.{MOST_EMPTIES, MOST_ENTRIES, MOST_WORKERS}
-use Rattle.suite_runs.specs.declared.settings.TheConstants.{DEFAULT_EMPTIES_TEXT, DEFAULT_ENTRIES_TEXT, DEFAULT_WORKERS_TEXT}
+use Rattle.suite_reports.specs.Settings.{SettingsView}
+use Rattle.suite_reports.specs.declared.settings.TheConstants.{MOST_EMPTIES, MOST_ENTRIES, MOST_WORKERS}
+use Rattle.suite_reports.specs.declared.settings.TheConstants.{DEFAULT_EMPTIES_TEXT, DEFAULT_ENTRIES_TEXT, DEFAULT_WORKERS_TEXT}
 use Rattle.suite_solver.specs.declared.run_options.Options.{Options}
 use Rattle.suite_solver.specs.declared.option_fault.OptionFault.{OptionFault}
 use Rattle.suite_solver.specs.declared.option_fault.OptionFault.TheVariants.{Memory, Refused}

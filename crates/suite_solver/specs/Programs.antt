@@ -4,10 +4,10 @@ use Rattle.std.specs.Prelude.{Option, None, IfSome}
 use Rattle.std.specs.Io.KnownBytes.{Appends}
 use Rattle.std.specs.List.{concat}
 use Rattle.suite_solver.specs.CommandLine.{Asks, AsksForText, IsTakenBy, Program, Request, ffosolve}
-use Rattle.suite_runs.specs.Settings.{SettingsView}
-use Rattle.suite_runs.specs.Reports.{reports}
+use Rattle.suite_reports.specs.Settings.{SettingsView}
+use Rattle.suite_reports.specs.Reports.{reports}
 use Rattle.suite_runs.specs.Runs.{first_large}
-use Rattle.suite_runs.specs.declared.settings.TheConstants.{MOST_FILES}
+use Rattle.suite_reports.specs.declared.settings.TheConstants.{MOST_FILES}
 
 -- These are the texts of a run. Without file names there is one, which is the text on standard
 -- input, where that is known. Else there is one for each name; the content of a file is not known.

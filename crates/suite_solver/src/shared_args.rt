@@ -3,7 +3,7 @@
 ghost use Rattle.std.specs.Prelude.{◌≡◌, ◌<◌, ◌^◌, ℕ, false, IfOk, IfSome, IsSome, Some, [], codes, map};
 ghost use Rattle.std.specs.Prelude.{option_map, unwrap_or};
 ghost use Rattle.clap.specs.Words.{app_of, found_of, matched_of, raw_values, rows_of, rule_of};
-ghost use Rattle.suite_runs.specs.Settings.{IsWithinLimits, SettingsView};
+ghost use Rattle.suite_reports.specs.Settings.{IsWithinLimits, SettingsView};
 ghost use Rattle.suite_solver.specs.CommandLine.{HasNumber, HasSettings, files_rule, flag_rule};
 ghost use Rattle.program_files.specs.Inputs.{names_of};
 ghost use Rattle.suite_solver.specs.CommandLine.{number_rule, scoring_rule, versioned, with_settings};

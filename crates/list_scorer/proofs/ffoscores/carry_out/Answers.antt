@@ -3,7 +3,7 @@ use Rattle.std.specs.Prelude.{None}
 use Rattle.std.proofs.lemmas.List.{length-map}
 use Rattle.obf_text.specs.LineText.{texts_of}
 use Rattle.suite_runs.specs.Runs.{first_large}
-use Rattle.suite_runs.specs.declared.settings.TheConstants.{MOST_FILES}
+use Rattle.suite_reports.specs.declared.settings.TheConstants.{MOST_FILES}
 use Rattle.program_files.specs.Inputs.{names_of}
 use Rattle.list_scorer.specs.CommandLine.{list_request_of}
 use Rattle.list_scorer.proofs.ListEndings.{lists_read, printed, stopped}

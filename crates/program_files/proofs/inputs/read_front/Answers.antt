@@ -1,5 +1,5 @@
 use Rattle.std.proofs.Common.{◌≡◌, ◌+◌, refl}
-use Rattle.suite_runs.specs.declared.settings.TheConstants.{MOST_BYTES}
+use Rattle.suite_reports.specs.declared.settings.TheConstants.{MOST_BYTES}
 use Rattle.program_files.proofs.InputLemmas.{front_of}
 use Rattle.program_files.proofs.inputs.read_front.Goals as goal
 

@@ -1,5 +1,5 @@
 use Rattle.std.proofs.Common.{◌≡◌, ◌+◌, length, min}
-use Rattle.suite_runs.specs.declared.settings.TheConstants.{MOST_FILES}
+use Rattle.suite_reports.specs.declared.settings.TheConstants.{MOST_FILES}
 use Rattle.program_files.proofs.inputs.read_named.Given as goal
 
 -- a text for each name so far, up to one more than a run may have

@@ -2,9 +2,9 @@ use Rattle.std.proofs.Common.{◌≡◌, List, ◌∷◌, [], ◌++◌, sym, ◌
 use Rattle.std.proofs.lemmas.List.{append_assoc}
 use Rattle.endgame_search.specs.Task.{TaskView}
 use Rattle.job_board.specs.Client.{ClientView, with_sent}
-use Rattle.suite_runs.specs.ParsedLine.{task_in, tasks_in}
-use Rattle.suite_runs.specs.declared.numbered_line.NumberedLine.{NumberedLine}
-use Rattle.suite_runs.proofs.TaskLemmas.{none_taken, task_taken}
+use Rattle.suite_reports.specs.ParsedLine.{task_in, tasks_in}
+use Rattle.suite_reports.specs.declared.numbered_line.NumberedLine.{NumberedLine}
+use Rattle.suite_reports.proofs.TaskLemmas.{none_taken, task_taken}
 use Rattle.suite_runs.proofs.client.send_all.Goals as goal
 use Rattle.suite_runs.proofs.client.send_all.Goals.{in-Some+in_ok-submit, in_default}
 

@@ -5,7 +5,7 @@ use Rattle.suite_runs.specs.declared.part.Part.{Part}
 use Rattle.suite_runs.specs.Outcome.{IsBookOf, tasks_of_views}
 use Rattle.suite_runs.specs.Part.{part_view_of}
 use Rattle.suite_runs.proofs.PartLemmas.{book_more, scored_at}
-use Rattle.suite_runs.proofs.TaskLemmas.{HasScoring}
+use Rattle.suite_reports.proofs.TaskLemmas.{HasScoring}
 use Rattle.suite_runs.proofs.outcome.book_of.Goals as goal
 
 pub loop-part-init : goal.loop-part-init

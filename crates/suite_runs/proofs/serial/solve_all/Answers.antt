@@ -1,8 +1,8 @@
 use Rattle.std.proofs.Common.{◌∷◌, [], ◌++◌, sym, ◌∙◌, ap}
 use Rattle.endgame_search.specs.Task.{TaskView}
-use Rattle.suite_runs.specs.ParsedLine.{task_in}
-use Rattle.suite_runs.specs.declared.numbered_line.NumberedLine.{NumberedLine}
-use Rattle.suite_runs.proofs.TaskLemmas.{HasScoring, none_taken, task_holds, task_taken}
+use Rattle.suite_reports.specs.ParsedLine.{task_in}
+use Rattle.suite_reports.specs.declared.numbered_line.NumberedLine.{NumberedLine}
+use Rattle.suite_reports.proofs.TaskLemmas.{HasScoring, none_taken, task_holds, task_taken}
 use Rattle.suite_runs.proofs.serial.solve_all.Goals as goal
 use Rattle.suite_runs.proofs.serial.solve_all.Goals.{in-Some+in_ok-push, in_default}
 

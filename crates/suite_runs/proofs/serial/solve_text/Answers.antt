@@ -1,8 +1,8 @@
 use Rattle.std.proofs.Common.{◌∙◌, ap}
 use Rattle.std.proofs.lemmas.List.Elements.{All-same}
-use Rattle.suite_runs.specs.ParsedLine.{tasks_in}
-use Rattle.suite_runs.specs.Rows.{tasks}
-use Rattle.suite_runs.proofs.TaskLemmas.{HasScoring, tasks_scored}
+use Rattle.suite_reports.specs.ParsedLine.{tasks_in}
+use Rattle.suite_reports.specs.Rows.{tasks}
+use Rattle.suite_reports.proofs.TaskLemmas.{HasScoring, tasks_scored}
 use Rattle.suite_runs.proofs.serial.solve_text.Goals as goal
 
 pub solve_all-requires : goal.solve_all-requires

@@ -5,7 +5,7 @@ use Rattle.clap.specs.Words.{Text, first_of, found_of, rows_of}
 use Rattle.clap.proofs.WalkLemmas.{first_value-rows}
 use Rattle.othello_rules.specs.Scores.{scoring_name}
 use Rattle.suite_solver.specs.CommandLine.{HasSettings}
-use Rattle.suite_runs.specs.Settings.{SettingsView}
+use Rattle.suite_reports.specs.Settings.{SettingsView}
 use Rattle.suite_solver.proofs.shared_args.settings_of.Goals as goal
 
 pub returns-clause-value : goal.returns-clause-value

@@ -1,8 +1,8 @@
 use Rattle.std.proofs.Common.{◌≡◌, ◌∙◌, ap, ap₂, codes}
 use Rattle.std.proofs.lemmas.Result.{IfOk-weaker}
 use Rattle.clap.specs.Words.{App, app_of, with_rule}
-use Rattle.suite_runs.specs.declared.settings.TheConstants.{MOST_EMPTIES, MOST_ENTRIES, MOST_WORKERS}
-use Rattle.suite_runs.specs.declared.settings.TheConstants.{DEFAULT_EMPTIES_TEXT, DEFAULT_ENTRIES_TEXT, DEFAULT_WORKERS_TEXT}
+use Rattle.suite_reports.specs.declared.settings.TheConstants.{MOST_EMPTIES, MOST_ENTRIES, MOST_WORKERS}
+use Rattle.suite_reports.specs.declared.settings.TheConstants.{DEFAULT_EMPTIES_TEXT, DEFAULT_ENTRIES_TEXT, DEFAULT_WORKERS_TEXT}
 use Rattle.suite_solver.specs.CommandLine.{number_rule}
 use Rattle.suite_solver.proofs.shared_args.with_settings.Goals as goal
 

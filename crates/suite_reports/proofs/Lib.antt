@@ -1,0 +1,6 @@
+-- Lemmas about the lines of a text.
+-- Begin with TaskLemmas; docs/architecture.md has the argument and the reading order.
+pub mod NameLemmas
+pub mod RowLemmas
+pub mod TaskLemmas
+pub mod EntryLemmas

@@ -1,0 +1,73 @@
+use Rattle.std.proofs.Common.{◌≡◌, ◌+◌, ◌∷◌, [], rules, sym, ap, ◌∙◌, arith}
+use Rattle.std.specs.Prelude.{None}
+use Rattle.std.specs.Option.{option_and_then, option_map}
+use Rattle.suite_reports.specs.ParsedLine.{parsed_result, task_in}
+use Rattle.suite_reports.specs.Rows.{rows, tasks}
+use Rattle.suite_reports.specs.declared.settings.TheConstants.{MOST_BYTES}
+use Rattle.suite_reports.proofs.RowLemmas.{room_more, rows_all, rows_more, rows_skip, rows_start}
+use Rattle.suite_reports.proofs.TaskLemmas.{tasks_all, tasks_more, tasks_skip}
+use Rattle.suite_reports.proofs.numbered_line.parse_lines.Goals as goal
+use Rattle.suite_reports.proofs.numbered_line.parse_lines.Goals.{in-Some-2+in_ok-push, in_default}
+
+pub loop-bytes-init : goal.loop-bytes-init
+loop-bytes-init c =
+    let same = c.into_iter-bytes-iterator.ensures.into_iter_gives ∙ c.split_lines-bytes-items.ensures.lines in
+    let room = c.split_lines-bytes-items.ensures.room in
+    let few = c.requires.short in
+    record {
+      rows = rw (c.new-lines.ensures.items, same) (sym (rows_start c.args.scoring c.args.limit c.args.text.now));
+      tasks = rw (c.new-lines.ensures.items, same) (search rules);
+      first = omega arith;
+      room = rw same (omega arith);
+    }
+
+pub loop-bytes-preserved : goal.loop-bytes-preserved
+loop-bytes-preserved c =
+    let g = c.args.scoring in
+    let limit = c.args.limit in
+    let n = c.loop-bytes.line in
+    let line = c.in-Some.bytes.now in
+    let left = c.loop-bytes.bytes-iterator in
+    let lines = c.next.new.self in
+    let made = c.loop-bytes.lines.items in
+    let kept = c.loop-bytes.invariant in
+    let cut : left ≡ line ∷ lines = search rules in
+    let room = (room_more n (MOST_BYTES + 2) line left lines cut kept.room).1 in
+    let first = kept.first in
+    elim c.match-branch-2.branch [
+      | in-Some-2+in_ok-push w ↦
+          let r = w.in-Some-2.parsed in
+          let items = ap (λ v. v.items) w.lines-is ∙ w.in_ok-push.ensures.items in
+          let result = sym c.in_ok-parsed.ensures.result ∙ ap (option_map parsed_result) w.in-Some-2.is in
+          let task = sym (ap (option_and_then task_in) w.in-Some-2.is) ∙ c.in_ok-parsed.ensures.task in
+          record {
+            rows = rw items (rows_more g limit n _ line left lines r made (rows g limit c.args.text.now) (omega arith) cut result kept.rows);
+            tasks = rw items (tasks_more g limit line left lines cut made (tasks g limit c.args.text.now) kept.tasks
+                (record { line = n; parsed = r }) task);
+            first = omega arith;
+            room = room;
+          }
+      | in_default w ↦
+          let items = ap (λ v. v.items) w.lines-is in
+          let none : c.in_ok-parsed.field-0 ≡ None = w.in_default.is in
+          let result = sym c.in_ok-parsed.ensures.result ∙ ap (option_map parsed_result) none in
+          let task = sym (ap (option_and_then task_in) none) ∙ c.in_ok-parsed.ensures.task in
+          record {
+            rows = rw items (rows_skip g limit n _ line left lines _ (rows g limit c.args.text.now) (omega arith) cut result kept.rows);
+            tasks = rw items (tasks_skip g limit line left lines cut made (tasks g limit c.args.text.now) kept.tasks task);
+            first = omega arith;
+            room = room;
+          }
+    ]
+
+pub returns-clause-rows : goal.returns-clause-rows
+returns-clause-rows c =
+    let none : c.loop-bytes.bytes-iterator ≡ [] = search rules in
+    rows_all c.args.scoring c.args.limit c.loop-bytes.line c.loop-bytes.bytes-iterator _ (rows c.args.scoring c.args.limit c.args.text.now) none
+    c.loop-bytes.invariant.rows
+
+pub returns-clause-tasks : goal.returns-clause-tasks
+returns-clause-tasks c =
+    let none : c.loop-bytes.bytes-iterator ≡ [] = search rules in
+    tasks_all c.args.scoring c.args.limit c.loop-bytes.bytes-iterator _ (tasks c.args.scoring c.args.limit c.args.text.now) none
+    c.loop-bytes.invariant.tasks

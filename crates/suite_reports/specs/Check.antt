@@ -1,0 +1,39 @@
+-- How the scores that a line lists compare with the answer.
+use Rattle.std.specs.Prelude.{ℤ, ◌&&◌, Bool, true, false, List, [], ◌∷◌, filter, if◌then◌else◌}
+use Rattle.std.specs.List.{list_all}
+use Rattle.std.specs.Ordering.{int_eq}
+use Rattle.othello_rules.specs.Masks.{in_mask}
+use Rattle.othello_rules.specs.Answer.{AnswerView}
+use Rattle.othello_rules.specs.declared.answer.Best.{Best}
+use Rattle.othello_rules.specs.declared.answer.Best.TheVariants as best
+use Rattle.obf_text.specs.Fields.{Field, greatest_listed}
+use Rattle.obf_text.specs.declared.entries.ListedMove.{ListedMove}
+use Rattle.obf_text.specs.declared.entries.ListedMove.TheVariants as listed
+use Rattle.suite_reports.specs.declared.check.Check.{Check}
+use Rattle.suite_reports.specs.declared.check.Check.TheVariants.{Agree, Differ, Unlisted}
+
+-- the fields with this score
+abbrev pub fields_with : ℤ → List Field → List Field
+fields_with score fields = filter (λ f. int_eq f.1 score) fields
+
+-- a listed move is best: a square that is one of the best moves, a pass where the answer is a pass,
+-- or the end where the game is over
+abbrev pub is_best_in : Best → ListedMove → Bool
+is_best_in (best.Moves mask) (listed.At q) = in_mask mask q
+is_best_in best.Pass listed.Pass = true
+is_best_in best.Over listed.Over = true
+is_best_in _ _ = false
+
+-- each move that is listed with this score is best
+abbrev pub are_best_in : Best → ℤ → List Field → Bool
+are_best_in best score fields = list_all (λ f. is_best_in best f.0) (fields_with score fields)
+
+-- the greatest listed score is the answer's, and each move that is listed with it is best
+unfoldable pub agrees : List Field → AnswerView → Bool
+agrees fields answer =
+    int_eq (greatest_listed fields) answer.score && are_best_in answer.best answer.score fields
+
+-- `Unlisted` where no score is listed, and else whether the fields agree with the answer
+unfoldable pub check : List Field → AnswerView → Check
+check [] answer = Unlisted
+check (f ∷ fs) answer = if agrees (f ∷ fs) answer then Agree else Differ

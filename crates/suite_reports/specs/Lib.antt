@@ -1,0 +1,6 @@
+pub mod Settings
+pub mod Check
+pub mod ReportText
+pub mod Rows
+pub mod ParsedLine
+pub mod Reports

@@ -1,0 +1,75 @@
+//! The lines of a text: each is read once, and is made a row when its position is solved.
+
+ghost use Rattle.std.specs.Prelude.{◌≡◌, ◌≤◌, length, map, IfOk};
+ghost use Rattle.suite_reports.specs.ParsedLine.{row_in, task_in, tasks_in};
+ghost use Rattle.suite_reports.specs.Rows.{rows, tasks};
+
+use crate::parsed_line::{ParsedLine, parse_line};
+use crate::report_row::ReportRow;
+use crate::settings::{MOST_BYTES, MOST_EMPTIES};
+use endgame_search::{Solved, Task};
+use obf_text::split_lines;
+use othello_rules::Scoring;
+use std::alloc::{AllocError, Global};
+
+/// A line that is not skipped, after it was read: its number in its file, counted from 1 over all
+/// lines, with its task or its refusal.
+#[derive(Drop)]
+pub struct NumberedLine {
+    line: u32,
+    parsed: ParsedLine,
+}
+
+impl NumberedLine {
+    /// The task of the line; None where the line is refused.
+    pub fn task(&self) -> Option<Task>
+        ensures { result ≡ task_in self.now.parsed }
+    {
+        self.parsed.task()
+    }
+}
+
+/// Reads the lines of a text, in their order. Skipped lines are left out. A position with more than
+/// `limit` empty squares is refused.
+pub fn parse_lines(
+    alloc: Global,
+    limit: u8,
+    scoring: Scoring,
+    text: &[u8],
+) -> Result<Vec<NumberedLine>, AllocError>
+    requires few_empties { limit ≤ MOST_EMPTIES }
+    requires short { length text.now ≤ MOST_BYTES }
+    ensures rows { IfOk result (λ found. map row_in found.items ≡ rows scoring limit text.now) }
+    ensures tasks { IfOk result (λ found. tasks_in found.items ≡ tasks scoring limit text.now) }
+{
+    let mut lines = Vec::new(alloc);
+    let mut line: u32 = 1;
+    for bytes in split_lines(text) {
+        if let Some(parsed) = parse_line(alloc, limit, scoring, bytes)? {
+            lines.push(NumberedLine { line, parsed })?;
+        }
+        line += 1;
+    }
+    Ok(lines)
+}
+
+/// The rows of lines that were read. `solved` has the answers of their tasks, in the order of the
+/// lines.
+pub fn rows_of(
+    alloc: Global,
+    lines: &[NumberedLine],
+    solved: &[Solved],
+) -> Result<Vec<ReportRow>, AllocError>
+    requires { solved.now ≡ tasks_in lines.now }
+    ensures { IfOk result (λ rows. rows.items ≡ map row_in lines.now) }
+{
+    let mut rows = Vec::new(alloc);
+    let mut answers = solved.iter();
+    for numbered in lines {
+        rows.push(ReportRow {
+            line: numbered.line,
+            result: numbered.parsed.result(&mut answers),
+        })?;
+    }
+    Ok(rows)
+}

@@ -1,0 +1,166 @@
+//! Writes the report of a file.
+
+ghost use Rattle.std.specs.Prelude.{◌≡◌, ◌<◌, ◌≤◌, length, OnOk};
+ghost use Rattle.std.specs.Io.KnownBytes.{Appends};
+ghost use Rattle.othello_rules.specs.Masks.{squares_of};
+ghost use Rattle.suite_reports.specs.ReportText.{answer_text, best_text, check_text, comma_name, head_text, last_text};
+ghost use Rattle.suite_reports.specs.ReportText.{names_text, refusal_text, report_text, result_text};
+ghost use Rattle.suite_reports.specs.ReportText.{row_text, solved_count};
+
+use crate::check::Check;
+use crate::report_row::{Refusal, ReportRow, RowResult};
+use obf_text::{LineFault, score_bytes, write_fault, write_too_many};
+use othello_rules::{Answer, Best, Square, squares_in};
+use std::io;
+use std::io::Write;
+
+// Writes a comma and the name of a square.
+#[tactic(auto, unfolding(crate::specs::ReportText::comma_name))]
+fn write_next_name<W: Write>(writer: &mut W, square: Square) -> io::Result<()>
+    ensures { OnOk result
+        (Appends (W.contents writer.old) (W.contents writer.new) (comma_name square)) }
+{
+    writer.write_all(b",")?;
+    writer.write_all(&square.name())
+}
+
+fn write_names<W: Write>(writer: &mut W, squares: &[Square]) -> io::Result<()>
+    ensures { OnOk result
+        (Appends (W.contents writer.old) (W.contents writer.new) (names_text squares.now)) }
+{
+    let [first, rest @ ..] = squares else {
+        return Ok(());
+    };
+    writer.write_all(&first.name())?;
+    for square in rest {
+        write_next_name(writer, *square)?;
+    }
+    Ok(())
+}
+
+#[tactic(auto, unfolding(crate::specs::ReportText::best_text))]
+fn write_best<W: Write>(writer: &mut W, best: Best) -> io::Result<()>
+    ensures { OnOk result
+        (Appends (W.contents writer.old) (W.contents writer.new) (best_text best)) }
+{
+    match best {
+        Best::Moves(mask) => write_names(writer, squares_in(mask).as_slice()),
+        Best::Pass => writer.write_all(b"PS"),
+        Best::Over => writer.write_all(b"--"),
+    }
+}
+
+#[tactic(auto, unfolding(crate::specs::ReportText::check_text))]
+fn write_check<W: Write>(writer: &mut W, check: Check) -> io::Result<()>
+    ensures { OnOk result
+        (Appends (W.contents writer.old) (W.contents writer.new) (check_text check)) }
+{
+    match check {
+        Check::Agree => writer.write_all(b"agree"),
+        Check::Differ => writer.write_all(b"differ"),
+        Check::Unlisted => writer.write_all(b"unlisted"),
+    }
+}
+
+#[tactic(auto, unfolding(crate::specs::ReportText::refusal_text))]
+fn write_refusal<W: Write>(writer: &mut W, refusal: Refusal) -> io::Result<()>
+    ensures { OnOk result
+        (Appends (W.contents writer.old) (W.contents writer.new) (refusal_text refusal)) }
+{
+    match refusal {
+        Refusal::Short(found) => write_fault(writer, LineFault::Short(found as usize)),
+        Refusal::BadCell(column) => write_fault(writer, LineFault::BadCell(column as usize)),
+        Refusal::BadSide(column) => write_fault(writer, LineFault::BadSide(column as usize)),
+        Refusal::Empties(found, limit) => write_too_many(writer, found, limit),
+    }
+}
+
+#[tactic(auto, unfolding(crate::specs::ReportText::answer_text))]
+fn write_answer<W: Write>(writer: &mut W, answer: &Answer) -> io::Result<()>
+    ensures { OnOk result
+        (Appends (W.contents writer.old) (W.contents writer.new) (answer_text answer.now)) }
+{
+    writer.write_all(&score_bytes(answer.score))?;
+    writer.write_all(b" ")?;
+    write_best(writer, answer.best)
+}
+
+#[tactic(auto, unfolding(crate::specs::ReportText::result_text))]
+fn write_solved<W: Write>(writer: &mut W, answer: &Answer, check: Check) -> io::Result<()>
+    ensures { OnOk result (Appends (W.contents writer.old)
+        (W.contents writer.new) (result_text (RowResult.Solved answer.now check))) }
+{
+    write_answer(writer, answer)?;
+    writer.write_all(b" ")?;
+    write_check(writer, check)
+}
+
+#[tactic(auto, unfolding(crate::specs::ReportText::result_text))]
+fn write_result<W: Write>(writer: &mut W, row_result: &RowResult) -> io::Result<()>
+    ensures { OnOk result
+        (Appends (W.contents writer.old) (W.contents writer.new) (result_text row_result.now)) }
+{
+    match row_result {
+        RowResult::Solved(answer, check) => write_solved(writer, answer, *check),
+        RowResult::Refused(refusal) => {
+            writer.write_all(b"refused: ")?;
+            write_refusal(writer, *refusal)
+        }
+    }
+}
+
+#[tactic(auto, unfolding(crate::specs::ReportText::row_text))]
+fn write_row<W: Write>(writer: &mut W, row: &ReportRow) -> io::Result<()>
+    ensures { OnOk result
+        (Appends (W.contents writer.old) (W.contents writer.new) (row_text row.now)) }
+{
+    let line = row.line;
+    write!(writer, "{line} ")?;
+    write_result(writer, &row.result)?;
+    writer.write_all(b"\n")
+}
+
+// The number of solved rows.
+#[tactic(auto, unfolding(crate::specs::ReportText::solved_count))]
+fn solved_count(rows: &[ReportRow]) -> usize
+    ensures count { result ≡ solved_count rows.now }
+    ensures within { result ≤ length rows.now }
+{
+    rows.iter()
+        .filter(|row| matches!(row.result, RowResult::Solved(_, _)))
+        .count()
+}
+
+#[tactic(auto, unfolding(crate::specs::ReportText::head_text))]
+fn write_head<W: Write>(writer: &mut W, sender: u32) -> io::Result<()>
+    ensures { OnOk result
+        (Appends (W.contents writer.old) (W.contents writer.new) (head_text sender)) }
+{
+    let number = u64::from(sender) + 1;
+    write!(writer, "[{number}]\n")
+}
+
+#[tactic(auto, unfolding(crate::specs::ReportText::last_text))]
+fn write_last<W: Write>(writer: &mut W, rows: &[ReportRow]) -> io::Result<()>
+    ensures { OnOk result
+        (Appends (W.contents writer.old) (W.contents writer.new) (last_text rows.now)) }
+{
+    let solved = solved_count(rows);
+    let refused = rows.len() - solved;
+    write!(writer, "solved {solved} refused {refused}\n")
+}
+
+/// Writes the report of a file: the line `[N]`, where N is `sender` plus 1, a line for each row,
+/// and a line with the number of solved rows and the number of refused rows. Each line ends with
+/// LF. `sender` counts from 0. The error is that of the writer, and nothing is said of the bytes
+/// that were written before it. The call takes no memory of its own.
+pub fn write_report<W: Write>(writer: &mut W, sender: u32, rows: &[ReportRow]) -> io::Result<()>
+    ensures { OnOk result
+        (Appends (W.contents writer.old) (W.contents writer.new) (report_text sender rows.now)) }
+{
+    write_head(writer, sender)?;
+    for row in rows {
+        write_row(writer, row)?;
+    }
+    write_last(writer, rows)
+}

@@ -1,7 +1,0 @@
-use Rattle.std.proofs.Common.{rules}
-use Rattle.suite_runs.specs.Check.{agrees, check}
-use Rattle.suite_runs.proofs.check.check_of.Goals as goal
-
-pub returns-then-are_best_in : goal.returns-then-are_best_in
-unfolding check agrees
-returns-then-are_best_in c = search rules

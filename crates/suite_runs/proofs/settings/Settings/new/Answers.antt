@@ -1,5 +1,0 @@
-use Rattle.std.proofs.Common.{rules}
-use Rattle.suite_runs.proofs.settings.Settings.new.Goals as goal
-
-pub returns-then-max_empties-gt-MOST_EMPTIES-clause-within : goal.returns-then-max_empties-gt-MOST_EMPTIES-clause-within
-returns-then-max_empties-gt-MOST_EMPTIES-clause-within c = search rules
