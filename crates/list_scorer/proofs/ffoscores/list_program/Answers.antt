@@ -1,5 +1,6 @@
-use Rattle.std.proofs.Common.{rules}
+use Rattle.std.proofs.Common.{arith, rules}
 use Rattle.suite_solver.proofs.ProgramLemmas.{in_range_of, not_one}
+use Rattle.list_scorer.specs.CommandLine.{list_request_of}
 use Rattle.list_scorer.proofs.ffoscores.list_program.Goals as goal
 
 pub returns : goal.returns
@@ -12,4 +13,20 @@ returns g c = record {
   };
   wrong = not_one _ _ c.end_without_options.ensures.status;
   stopped = search rules;
+}
+
+pub returns-in-Ok-false : goal.returns-in-Ok-false
+returns-in-Ok-false g c = record {
+  ends = record {
+    in_range = omega arith;
+    done = λ e. absurd (omega arith);
+    taken = λ t e. absurd (omega arith);
+    refused = λ e. absurd (omega arith);
+  };
+  wrong = λ e. record {
+    request = list_request_of c.in-Ok.asked;
+    asked = c.in-Ok.ensures.asked;
+    printed = rw c.in-Ok-false.field-0-test at c.in-Ok-false.ensures.printed;
+  };
+  stopped = λ e. absurd (omega arith);
 }
