@@ -1,0 +1,6 @@
+use Rattle.obf_text.specs.Pieces.{line_pieces}
+use Rattle.obf_text.proofs.pieces.line_pieces.Goals as goal
+
+pub returns : goal.returns
+unfolding line_pieces
+returns c = cc
