@@ -623,11 +623,18 @@ class OddLines(unittest.TestCase):
         cls.file = PREFIX.write("odd.obf", "")
         cls.file.write_bytes(cls.text)
         cls.report = PREFIX.make(built("ffosolve"), cls.file).stdout.splitlines()[1:-1]
-        cls.rows = cls.told(PREFIX.compile(C, "lines", [TESTS / "library_lines.c"]))
+        cls.program = PREFIX.compile(C, "lines", [TESTS / "library_lines.c"])
+        cls.rows = cls.told(cls.program)
 
     @classmethod
-    def told(cls, *command):
-        return run(*command, input=cls.text, env=PREFIX.environment, timeout=LONGEST, check=True).stdout.decode().splitlines()
+    def told(cls, *command, text=None):
+        ran = run(*command, input=text or cls.text, env=PREFIX.environment, timeout=LONGEST, check=True)
+        return ran.stdout.decode().splitlines()
+
+    def test_worked_lines(self):
+        """tests/rows/lines.read has what each line of lines.obf says; it follows from the grammar, and no program printed it."""
+        told = self.told(self.program, text=(TESTS / "rows/lines.obf").read_bytes())
+        self.assertEqual(told, (TESTS / "rows/lines.read").read_text().splitlines())
 
     def test_through_python(self):
         self.assertEqual(self.told(PREFIX.site and sys.executable, TESTS / "library_lines.py"), self.rows)

@@ -13,9 +13,9 @@ NAMED = ("AllocError", "AllocFailed { .. }", "Memory")
 # Of each crate the tests in which a refusal ends the test or changes nothing. The others tell of want of memory
 # themselves, or want two threads at work at once.
 TESTS = {
-    "library_tests": r"^tests::(texts|tables|searches|scores|books)::|^tests::boards::(boards|memory|steps|texts)::"
+    "library_tests": r"^tests::(written_lines|fault_texts|tables|searches|books)::|^tests::boards::(boards|memory|steps)::"
     r"|prints_a_front|a_full_writer|a_desk_on_one_thread|memory_comes_first",
-    "program_tests": r"gives_a_book|runs_on_threads|clients_are_refused|gates_are_told|a_refused|counts_files",
+    "program_tests": r"gives_a_book|clients_are_refused|gates_are_told|a_refused",
 }
 # Tests that each refused request ends, and how many they make, or None: there want of memory comes before all other faults, and
 # no request is made where none could be told.

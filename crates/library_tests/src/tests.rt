@@ -1,12 +1,13 @@
 //! A module for each library that has more to say than its clauses: `rules` for `othello_rules`,
-//! `texts` for `obf_text`, `tables` for `bound_table`, `searches` for `endgame_search`, `scores` for
-//! `move_scores`, `lists` for `score_lists`, `books` for `solved_book`, and `boards` for `job_board`.
+//! `written_lines` for `obf_text`, `tables` for `bound_table`, `searches` for `endgame_search`,
+//! `lists` for `score_lists`, `books` for `solved_book`, and `boards` for `job_board`. What lines say
+//! and what is printed of them, tests/test_rows.py tests by the programs.
 
 mod boards;
 mod books;
+mod fault_texts;
 mod lists;
 mod rules;
-mod scores;
 mod searches;
 mod tables;
-mod texts;
+mod written_lines;

@@ -6,7 +6,6 @@ mod crowds;
 mod desks;
 mod memory;
 mod steps;
-mod texts;
 mod waits;
 
 use bound_table::NoTable;

@@ -2,10 +2,8 @@
 
 ghost use Rattle.std.specs.Prelude.{◌≡◌, IfSome};
 
-mod faults;
-mod finds;
-mod reads;
-mod writes;
+mod book;
+mod claims;
 
 use arrayvec::ArrayVec;
 use bound_table::NoTable;

@@ -1,48 +1,19 @@
-//! The definitions, by the plain program, on small positions whose answers are known.
+//! The order of turned discs, which no program shows.
 
-mod moves;
-mod names;
-mod squares;
-mod values;
+use othello_bits::Pos;
+use othello_rules::{Side, Square};
 
-use othello_rules::{Cell, Grid, Side};
+// White's and Black's discs of -OXXXXX- XXXXXXXO XXXXXXXX XXXXXXXX XXXOXXXX and three rows XXXXXXXX
+const WHITE: u64 = 0x8_0000_8002;
 
-// Eight rows, row 1 first: X is a black disc, O a white disc, - an empty square.
-type Board = [&'static [u8; 8]; 8];
+const BLACK: u64 = !0x8_0000_8083;
 
-// A row of black discs, of white discs, and of empty squares.
-const X: &[u8; 8] = b"XXXXXXXX";
+// The numbers of G2, F3 and E4, and then of G1 to C1.
+const TURNED_BY_H1: [u8; 8] = [14, 21, 28, 6, 5, 4, 3, 2];
 
-const O: &[u8; 8] = b"OOOOOOOO";
-
-const E: &[u8; 8] = b"--------";
-
-const BLACK_BOARD: Board = [X, X, X, X, X, X, X, X];
-
-const LEVEL_HALVES: Board = [X, X, X, E, E, O, O, O];
-
-const UNEQUAL_HALVES: Board = [X, X, X, X, E, E, O, O];
-
-const LAST_CORNER: Board = [b"-OOOOOOX", X, X, X, X, X, X, X];
-
-const CORNER_LEFT_OVER: Board = [b"--OOOOOX", X, X, X, X, X, X, X];
-
-const EQUAL_CORNERS: Board = [b"-OOXXOO-", X, X, X, X, X, X, X];
-
-const UNEQUAL_CORNERS: Board = [b"-OXXXXX-", b"XXXXXXXO", X, X, b"XXXOXXXX", X, X, X];
-
-fn cell_of(byte: u8) -> Cell {
-    match byte {
-        b'X' => Cell::Black,
-        b'O' => Cell::White,
-        _ => Cell::Empty,
-    }
-}
-
-fn grid_of(board: Board, side: Side) -> Grid {
-    let mut cells = [Cell::Empty; 64];
-    for number in 0..64 {
-        cells[number] = cell_of(board[number / 8][number % 8]);
-    }
-    Grid::new(cells, side)
+#[test]
+fn flips_go_round_from_north(rt: HostRuntime) {
+    let position = Pos::new(WHITE, BLACK).expect(&rt, "no square is taken twice");
+    let flips = position.to_grid(Side::White).flips(Square::at(7));
+    assert!(rt; flips.iter().map(|square| square.number()).eq(TURNED_BY_H1));
 }

@@ -1,9 +1,7 @@
-//! A value in windows, the order of moves, limits, and which positions a search asks its table for.
+//! The order of moves, and which positions a search asks its table for.
 
 mod orders;
 mod probes;
-mod tasks;
-mod windows;
 
 ghost use Rattle.std.specs.Prelude.{◌≡◌};
 ghost use Rattle.othello_rules.specs.declared.scoring.Scoring.TheVariants.{Winner};
@@ -41,13 +39,6 @@ const UNEQUAL_REPLIES: Discs = (0x90f6_c7bf_ffff_efff, 0x2c08_3840_0000_1000);
 // XXXXXXXX XXX-XXXX XXOXXX-O OOOOXOOO OOOXXXOO OOOOXOXX OXXXXXXX --XOOOOO
 const EQUAL_REPLIES: Discs = (0x4fe_d038_103b_f7ff, 0xf801_2fc7_ef84_0000);
 
-// position 40 of the FFO endgame test: O--OOOOX -OOOOOOX OOXXOOOX OOXOOOXX OOOOOOXX ---OOOOX
-// ----O--X --------
-const FFO_40: Discs = (0x80_80c0_c48c_8080, 0x10_783f_3b73_7e79);
-
-// position 40 of the FFO endgame test without the disc on H7
-const FFO_40_WITHOUT_H7: Discs = (0x80c0_c48c_8080, 0x10_783f_3b73_7e79);
-
 // OOOOOOOX OXXXXXXX OOXXOXOX OOOXXOXX OXOOXOXX OOXXOXXX --OXXXXX --------
 const TEN_EMPTY_SQUARES: Discs = (0xf8_ecd2_d8ac_fe80, 0x4_132d_2753_017f);
 
@@ -56,9 +47,6 @@ const EIGHT_WITH_UNEQUAL_REPLIES: Discs = (0x6028_1c0d_0327_9e03, 0x1956_e3f2_fc
 
 // XXXXXXX- XXXXXXXO XXXOXOXX OOOXXOXX OOXXXOXX OXOXXOXX --XOOX-- --XXXXX-
 const EIGHT_WITH_EQUAL_REPLIES: Discs = (0x7c24_dadc_d8d7_7f7f, 0x18_2523_2728_8000);
-
-// XXX----- and seven empty rows
-const THREE_DISCS: Discs = (0x7, 0);
 
 const H1: u64 = 0x80;
 

@@ -7,7 +7,6 @@ ghost use Rattle.bound_table.specs.Range.{IsTrueOf};
 use bound_table::{BoundTable, Bounds, NoTable, Range, TableFault};
 use othello_bits::{Pos, Sym};
 use othello_rules::{Scoring, Side};
-use std::alloc::{AllocError, Global};
 use std::process::Abort;
 use std::test::Fail;
 
@@ -115,22 +114,5 @@ fn count_shown(rt: &impl Abort, table: &BoundTable) -> usize
 fn positions_have_entries_of_their_own(rt: HostRuntime) -> Result<(), Fail> {
     let table = BoundTable::new(rt.alloc(), 16, Scoring::Winner)?;
     assert!(rt; count_shown(&rt, &table) >= 8);
-    Ok(())
-}
-
-fn has_text(alloc: Global, fault: TableFault, text: &str) -> Result<bool, AllocError> {
-    Ok(format!(in alloc; "{fault}")?.as_str() == text)
-}
-
-#[test]
-fn texts_of_faults(rt: HostRuntime) -> Result<(), AllocError> {
-    assert!(rt;
-        has_text(
-            rt.alloc(),
-            TableFault::TooMany,
-            "more than 4194304 table entries"
-        )?
-    );
-    assert!(rt; has_text(rt.alloc(), TableFault::Memory, "out of memory")?);
     Ok(())
 }

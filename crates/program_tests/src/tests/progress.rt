@@ -1,7 +1,7 @@
 //! Lines that tell how far a run is.
 
 use super::runs::{files_of, settings_of};
-use super::{BOTH, FailingWriter, ONE, TWO};
+use super::{BOTH, ONE, TWO};
 use program_files::ProgressGate;
 use std::alloc::Global;
 use std::io::Write;
@@ -14,6 +14,26 @@ use std::time::Duration;
 use std::{io, thread};
 use suite_runs::Gate;
 use suite_solver::program;
+
+// A writer that takes at most three bytes a call, and whose call fails when none is left.
+#[derive(Drop)]
+struct FailingWriter {
+    calls_left: u32,
+}
+
+impl Write for FailingWriter {
+    fn write(&mut self, buf: &[u8]) -> io::Result<usize> {
+        if self.calls_left == 0 {
+            return Err(io::Error::from(io::ErrorKind::StorageFull));
+        }
+        self.calls_left -= 1;
+        Ok(buf.len().min(3))
+    }
+
+    fn flush(&mut self) -> io::Result<()> {
+        Ok(())
+    }
+}
 
 // A clock that a test moves, and that can be read so many times.
 #[derive(Drop)]

@@ -7,7 +7,7 @@ use std::alloc::{AllocError, Global};
 use std::sync::{Mutex, Wait};
 use std::test::Fail;
 use std::thread::Threads;
-use suite_solver::{Gate, NoGate, Outcome, Settings, run_serial};
+use suite_solver::{Gate, Outcome, Settings, run_serial};
 
 // What a gate was told: how often each of two jobs was entered and left, and whether the first
 // saw the second's end. They are the first two of a client, or the first ones of two.
@@ -149,42 +149,6 @@ fn texts_of(alloc: Global, outcome: Outcome) -> Result<(Vec<u8>, Vec<u8>), Alloc
     Ok((reports.concat(alloc)?, text))
 }
 
-// Whether both runs give the reports of both texts, and the same book.
-fn give_both<R: Threads + Wait + Sync>(
-    rt: &R,
-    alloc: Global,
-    settings: &Settings,
-    claims: Option<&Claims>,
-) -> Result<bool, Fail> {
-    let files = files_of(alloc, &[ONE, TWO])?;
-    let serial = texts_of(alloc, run_serial(alloc, &files, settings, claims)?)?;
-    let threaded = suite_solver::run(rt, alloc, &files, settings, claims, &NoGate)?;
-    let threaded = texts_of(alloc, threaded)?;
-    Ok(serial == threaded && serial.0.as_slice() == BOTH)
-}
-
-// The same bytes on threads and on one thread, with and without claims.
-#[test]
-fn runs_on_threads(rt: HostRuntime) -> Result<(), Fail> {
-    let lies = Claims::read(rt.alloc(), LYING_BOOK)?;
-    for (workers, table) in [
-        (0, 0),
-        (0, 65_536),
-        (1, 0),
-        (1, 65_536),
-        (4, 0),
-        (4, 65_536),
-    ] {
-        let settings = settings_of(workers, table);
-        assert!(rt; give_both(&rt, rt.alloc(), &settings, None)?);
-        assert!(rt; give_both(&rt, rt.alloc(), &settings, Some(&lies))?);
-    }
-    Ok(())
-}
-
-const LYING_BOOK: &[u8] =
-    b"XXXXXXXXXXXXXXXXXXXXXXXXXXXXOXXXXXXXXXXXXXXXXXXXOXXXXXXX-XXXXXO- X; H8:+64;\n";
-
 // The book of both texts.
 const BOTH_BOOK: &[u8] = b"% ffobook 2 winner\n\
 OOOOOOOOOOOOOOOOOOOOOOOOOOOOOOOOOOOOOOOOOOOOOOOOOOOOOOOOOOOOOOOO X; --:-64;\n\
@@ -194,33 +158,15 @@ XXXXXXXXXXXXXXXXXXXXXXXXXXXXXXXXXXXXXXXXXXXXXXXXXXXXXXXXXOOOOOO- X; H8:+64;\n\
 XXXXXXXXXXXXXXXXXXXXXXXXXXXXXXXXXXXXXXXXXXXXXXXXXXXXXXXX-OOXXOO- X; A8:+64; H8:+64;\n\
 XXXXXXXXXXXXXXXXXXXXXXXXXXXXOXXXXXXXXXXXXXXXXXXXOXXXXXXX-XXXXXO- X; A8:+62;\n";
 
-// Runs on both texts, with the claims of the first one's book, on one thread or with so many
-// workers. Whether it gives their reports and their book, also where an allocation is refused that
-// the run can do without.
-fn gives_book<R: Threads + Wait + Sync>(
-    rt: &R,
-    alloc: Global,
-    workers: Option<u8>,
-) -> Result<bool, Fail> {
-    let files = files_of(alloc, &[ONE, TWO])?;
-    let claims = Claims::read(alloc, BOOK)?;
-    let settings = settings_of(workers.unwrap_or(0), 16);
-    let outcome = match workers {
-        None => run_serial(alloc, &files, &settings, Some(&claims))?,
-        Some(_) => suite_solver::run(rt, alloc, &files, &settings, Some(&claims), &NoGate)?,
-    };
-    let (reports, book) = texts_of(alloc, outcome)?;
-    Ok(reports.as_slice() == BOTH && book.as_slice() == BOTH_BOOK)
-}
-
+// A run on one thread over both texts, with the claims of the first one's book. Where an allocation
+// is refused that the run can do without, it gives the same.
 #[test]
 fn gives_a_book_serially(rt: HostRuntime) -> Result<(), Fail> {
-    assert!(rt; gives_book(&rt, rt.alloc(), None)?);
-    Ok(())
-}
-
-#[test]
-fn gives_a_book_on_threads(rt: HostRuntime) -> Result<(), Fail> {
-    assert!(rt; gives_book(&rt, rt.alloc(), Some(2))?);
+    let alloc = rt.alloc();
+    let files = files_of(alloc, &[ONE, TWO])?;
+    let claims = Claims::read(alloc, BOOK)?;
+    let outcome = run_serial(alloc, &files, &settings_of(0, 16), Some(&claims))?;
+    let (reports, book) = texts_of(alloc, outcome)?;
+    assert!(rt; reports.as_slice() == BOTH && book.as_slice() == BOTH_BOOK);
     Ok(())
 }

@@ -1,9 +1,38 @@
 //! Written lines, and writers that fail.
 
-use crate::tests::texts::{A1_EMPTY, ALL_BLACK, CORNERS_EMPTY, TWO_EMPTY, grid_of, join};
+use arrayvec::ArrayVec;
 use obf_text::write_line;
-use othello_rules::{Answer, Best, Grid, Side};
+use othello_rules::{Answer, Best, Cell, Grid, Side};
 use std::io;
+
+const TWO_EMPTY: &[u8; 64] = b"-OXXXXX-XXXXXXXOXXXXXXXXXXXXXXXXXXXOXXXXXXXXXXXXXXXXXXXXXXXXXXXX";
+
+const A1_EMPTY: &[u8; 64] = b"-OOOOOOXXXXXXXXXXXXXXXXXXXXXXXXXXXXXXXXXXXXXXXXXXXXXXXXXXXXXXXXX";
+
+const CORNERS_EMPTY: &[u8; 64] =
+    b"-OOXXOO-XXXXXXXXXXXXXXXXXXXXXXXXXXXXXXXXXXXXXXXXXXXXXXXXXXXXXXXX";
+
+const ALL_BLACK: &[u8; 64] = &[b'X'; 64];
+
+fn cell_of(byte: u8) -> Cell {
+    match byte {
+        b'X' => Cell::Black,
+        b'O' => Cell::White,
+        _ => Cell::Empty,
+    }
+}
+
+fn grid_of(board: &[u8; 64], side: Side) -> Grid {
+    Grid::new(board.map(cell_of), side)
+}
+
+// A board and the rest of its line.
+fn join(board: &[u8], rest: &[u8]) -> ArrayVec<u8, 160> {
+    let mut line = ArrayVec::new();
+    let _ = line.try_extend_from_slice(board);
+    let _ = line.try_extend_from_slice(rest);
+    line
+}
 
 // Whether the line is whole in so much room, or the fault the writer's where the room is too small.
 fn is_written_in(room: usize, grid: &Grid, answer: &Answer, whole: &[u8]) -> bool {
@@ -19,7 +48,7 @@ fn is_written_in(room: usize, grid: &Grid, answer: &Answer, whole: &[u8]) -> boo
 
 fn is_written(board: &[u8; 64], side: Side, answer: Answer, rest: &[u8]) -> bool {
     let grid = grid_of(board, side);
-    let whole = join(board, b' ', 0, rest);
+    let whole = join(board, rest);
     for room in 0..160 {
         if !is_written_in(room, &grid, &answer, &whole) {
             return false;
