@@ -31,14 +31,14 @@ def shorter_than(size):
 
 class Rows(InFolder):
     def test_rows(self):
-        for name, kind in zip(PROGRAMS, ("report", "scores")):
+        for name, kind, status in zip(PROGRAMS, ("report", "scores"), (0, 1)):  # lines are remarked
             wanted = sorted(ROWS.glob(f"*.{kind}"))
             self.assertTrue(wanted)
             for path in wanted:
                 with self.subTest(path=path.name):
                     rows, scoring = path.stem.split(".")
                     ran = run(PROGRAM[name], "--scoring", scoring, ROWS / f"{rows}.obf")
-                    self.assertEqual((ran.stdout, ran.stderr), (path.read_bytes(), b""))
+                    self.assertEqual((ran.returncode, ran.stdout, ran.stderr), (status, path.read_bytes(), b""))
 
     def test_what_is_printed_is_read_again(self):
         """As it is, but for a CR at the end of a line, with nothing more to remark."""
@@ -67,7 +67,7 @@ class Rows(InFolder):
 
 
 class Streams(InFolder):
-    def test_output_that_fails_at_each_byte(self):
+    def test_output_that_fails_in_the_middle(self):
         """A front is printed, the fault is told, and no book is written."""
         for name, words in (("ffosolve", ["--book-out", "it.book"]), ("ffoscores", []), ("ffosolve", ["--help"])):
             with self.subTest(name=name, words=words):

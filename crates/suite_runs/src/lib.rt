@@ -11,7 +11,7 @@
 //!
 //! `run` solves on threads, `run_serial` on the calling thread. Reports, checks and settings are
 //! those of `suite_reports`. The crate `suite_solver` hands the public names on. The modules
-//! `client` and `threads` are public for the tests, which stand in `program_tests`.
+//! `client` and `threads` are public for the tests, which stand in `crate_tests`.
 #![tactic(auto)]
 
 pub mod client;

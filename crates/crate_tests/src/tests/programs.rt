@@ -1,5 +1,4 @@
-//! Runs and programs with streams, gates and allocations that fail, and threads that wait. What the
-//! programs print of lists, tests/test_rows.py tests.
+//! Runs and programs with streams, gates and allocations that fail, and threads that wait.
 
 mod clients;
 mod joins;

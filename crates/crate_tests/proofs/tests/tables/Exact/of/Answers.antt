@@ -7,7 +7,7 @@ use Rattle.othello_rules.specs.Rules.{GridView}
 use Rattle.othello_rules.specs.Value as worth
 use Rattle.othello_bits.specs.Pos.{PosView, position_of, value_of}
 use Rattle.bound_table.specs.Range.{RangeView, range_view, IsTrueOf}
-use Rattle.library_tests.proofs.tests.tables.Exact.of.Goals as goal
+use Rattle.crate_tests.proofs.tests.tables.Exact.of.Goals as goal
 
 -- the range from the value to the value is true of the position
 exact_is_true : (p : PosView) (grid : GridView) (z : ℤ) (made : Option RangeView) (range : RangeView) → SFits w8 z → z ≡ worth.value Winner grid → grid ≡ position_of Black p → made ≡ Some range → IfSome made (λ r. r ≡ range_view (to_z w8 (of_z w8 z)) (to_z w8 (of_z w8 z))) → IsTrueOf Winner p range

@@ -1,0 +1,6 @@
+//! The tests of the crates' public calls, made as a caller makes them. They stand in a crate of their
+//! own, so that no crate is proved once more with its tests.
+#![tactic(auto)]
+
+#[cfg(test)]
+mod tests;
