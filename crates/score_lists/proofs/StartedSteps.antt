@@ -1,6 +1,6 @@
 -- The steps of the loops over started chunks.
 use Rattle.std.proofs.Common.{◌≡◌, ◌==◌, ℕ, Bool, true, ◌&&◌, List, [], ◌∷◌, ◌++◌}
-use Rattle.std.proofs.Common.{length, refl, sym, ap, ◌∙◌, subst, Option, rules}
+use Rattle.std.proofs.Common.{◌≤◌, length, refl, sym, ap, ◌∙◌, subst, Option, arith, rules}
 use Rattle.std.specs.Io.KnownBytes.{Appends}
 use Rattle.std.proofs.lemmas.List.{append_assoc, append-nil, nil_from_length}
 use Rattle.othello_rules.specs.declared.scoring.Scoring.{Scoring}
@@ -85,18 +85,24 @@ fronts_stop old now next before left after s right cut h w =
     prints_stop old now next (started_text s) (window_text after) (window_text before)
     (fronts_next old now before left after s right cut h) w
 
+-- no chunk is left
+none_after : (left : List StartedView) → length left ≤ 0 → left ≡ []
+none_after [] h = refl
+none_after (s ∷ left) h = absurd (omega (arith, h))
+
 pub fronts_end : (old now : Option (List ℕ)) (before left : List StartedView) (right : Bool)
-    → left ≡ [] → PrintsFronts old now before left right → Appends old now (window_text before)
-fronts_end old now before left right none h =
+    → length left ≤ 0 → PrintsFronts old now before left right
+    → Appends old now (window_text before)
+fronts_end old now before left right few h =
     prints_end old now (window_text before)
-    (subst (λ t. Prints old now t (window_text before)) (ap window_text none ∙ window_none)
-    h.written)
+    (subst (λ t. Prints old now t (window_text before))
+    (ap window_text (none_after left few) ∙ window_none) h.written)
 
 pub fronts_right : (old now : Option (List ℕ)) (before left : List StartedView) (right : Bool)
-    → left ≡ [] → PrintsFronts old now before left right → right ≡ window_right before
-fronts_right old now before left right none h =
+    → length left ≤ 0 → PrintsFronts old now before left right → right ≡ window_right before
+fronts_right old now before left right few h =
     sym (and_true right)
-    ∙ ap (λ b. right && b) (sym (ap window_right none ∙ all_none)) ∙ h.told
+    ∙ ap (λ b. right && b) (sym (ap window_right (none_after left few) ∙ all_none)) ∙ h.told
 
 -- a further chunk is started: what is left to print stays the same
 pub start_text_more : (old now : Option (List ℕ)) (g : Scoring) (d : Demands)

@@ -1,6 +1,6 @@
 //! Lists of positions, printed line by line with every move's score.
 
-ghost use Rattle.std.specs.Prelude.{◌≡◌, ◌≤◌, ◌&&◌, ◌∷◌, ◌++◌, [], IfOk, OnErr, OnOk, map};
+ghost use Rattle.std.specs.Prelude.{◌≡◌, ◌≤◌, ◌&&◌, ◌∷◌, ◌++◌, [], IfOk, OnErr, OnOk, length, true};
 ghost use Rattle.std.specs.Io.KnownBytes.{Appends};
 ghost use Rattle.obf_text.specs.LineText.{lines_of, texts_of};
 ghost use Rattle.score_lines.specs.Lines.{AppendsFront, Prints, are_right, lists_right};
@@ -114,8 +114,8 @@ fn write_one<R: Threads, W: Write>(
     Ok(found.right)
 }
 
-// The greatest number of started chunks that are not yet printed.
-const MOST_STARTED: usize = 4096;
+// The greatest number of chunks that wait to be printed while a further one is started.
+const MOST_STARTED: usize = 4095;
 
 // The started chunks that are not yet printed, in their order.
 #[derive(Drop)]
@@ -156,11 +156,13 @@ impl<'a> Window<'a> {
         }
     }
 
-    // Whether a further chunk may be started: no more than `workers` are being scored on threads,
-    // and not too many wait to be printed.
-    fn has_room(&self) -> bool {
+    // Whether at most `most` chunks wait to be printed, and no more than `workers` are being scored
+    // on threads.
+    fn has_room(&self, most: usize) -> bool
+        ensures { result ≡ true → length self.now.chunks.items ≤ most }
+    {
         let running = self.running.load(Ordering::SeqCst);
-        self.chunks.len() < MOST_STARTED && running <= u64::from(self.workers)
+        self.chunks.len() <= most && running <= u64::from(self.workers)
     }
 }
 
@@ -169,15 +171,17 @@ fn low_half(running: &Running) -> u32 {
     (running.load(Ordering::SeqCst) % 0x1_0000_0000) as u32
 }
 
-// Prints the front chunks that are scored, and waits until a further chunk may be started. Returns
-// whether the printed lines are right.
+// Prints the front chunks that are scored, and waits until at most `most` are left and a further one
+// may be started. Returns whether the printed lines are right.
 fn write_due<R: Threads + Wait, W: Write>(
     rt: &R,
     writer: &mut W,
     window: &mut Window<'_>,
+    most: usize,
 ) -> Result<bool, ListFault>
     ensures written { IfOk result (PrintsFronts (W.contents writer.old) (W.contents writer.new)
         window.old.chunks.items window.new.chunks.items) }
+    ensures left { OnOk result (length window.new.chunks.items ≤ most) }
     ensures front { OnErr result (AppendsFront (W.contents writer.old) (W.contents writer.new)
         (window_text window.old.chunks.items)) }
 {
@@ -185,7 +189,7 @@ fn write_due<R: Threads + Wait, W: Write>(
     for _ in rt.forever() {
         let seen = low_half(&window.running);
         if !window.is_front_done() {
-            if window.has_room() {
+            if window.has_room(most) {
                 return Ok(right);
             }
             window.running.park(rt, seen);
@@ -198,26 +202,6 @@ fn write_due<R: Threads + Wait, W: Write>(
         right &= front_right;
     }
     unreachable!()
-}
-
-// Prints the started chunks that are left. Returns whether their lines are right.
-fn write_rest<R: Threads, W: Write>(
-    rt: &R,
-    writer: &mut W,
-    chunks: VecDeque<StartedChunk<'_>>,
-) -> Result<bool, ListFault>
-    ensures written { OnOk result (Appends (W.contents writer.old) (W.contents writer.new)
-        (window_text chunks.entry.items)) }
-    ensures front { OnErr result (AppendsFront (W.contents writer.old) (W.contents writer.new)
-        (window_text chunks.entry.items)) }
-    ensures right { IfOk result (λ right. right ≡ window_right chunks.entry.items) }
-{
-    let mut right = true;
-    for started in chunks {
-        let chunk_right = write_one(rt, writer, started)?;
-        right &= chunk_right;
-    }
-    Ok(right)
 }
 
 // Starts the chunks of a text behind those of the window, and prints the front chunks that are
@@ -250,7 +234,7 @@ fn start_text<'a, R: Threads + Wait, W: Write>(
         rest = chunk.rest;
         let started = start(rt, &window.running, alloc, table, demands, chunk);
         window.push(started)?;
-        let chunks_right = write_due(rt, writer, window)?;
+        let chunks_right = write_due(rt, writer, window, MOST_STARTED)?;
         right &= chunks_right;
     }
     Ok(right)
@@ -296,7 +280,7 @@ pub fn write_lists<R: Threads + Wait, W: Write>(
         let text_right = start_text(rt, table, alloc, writer, demands, &mut window, text)?;
         right &= text_right;
     }
-    let rest_right = write_rest(rt, writer, window.chunks)?;
+    let rest_right = write_due(rt, writer, &mut window, 0)?;
     right &= rest_right;
     Ok(right)
 }

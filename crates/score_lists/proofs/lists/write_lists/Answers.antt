@@ -7,7 +7,8 @@ use Rattle.score_lines.proofs.LineSteps.{all_end, all_more, list_end, list_more}
 use Rattle.score_lines.proofs.LineSteps.{texts_cut, texts_end}
 use Rattle.score_lines.proofs.Prints.{front_none, prints_part, prints_stop}
 use Rattle.score_lines.proofs.Results.{on_err}
-use Rattle.score_lists.proofs.StartedSteps.{right_part, window_right_start, window_text_start}
+use Rattle.score_lists.proofs.StartedSteps.{fronts_end, fronts_right, right_part}
+use Rattle.score_lists.proofs.StartedSteps.{window_right_start, window_text_start}
 use Rattle.score_lists.proofs.lists.write_lists.Goals as goal
 
 pub loop-text-init : goal.loop-text-init
@@ -81,17 +82,20 @@ returns-in_err-rest_right-clause-front g c =
 pub returns-clause-written : goal.returns-clause-written
 returns-clause-written g c =
     let texts = c.args.texts.now in
+    let last = c.in_ok-rest_right.ensures in
     list_end _ _ _ (arc_value c.args.table.now).scoring c.args.demands
     (window_text c.loop-text.window.chunks.items)
     (drop c.loop-text.text-index (texts_of texts)) _
     (texts_end texts c.loop-text.text-index c.loop-text-test.false) c.loop-text.invariant.text
-    c.in_ok-rest_right.ensures.written
+    (fronts_end _ _ _ _ c.in_ok-rest_right.rest_right last.left last.written)
 
 pub returns-clause-right : goal.returns-clause-right
 returns-clause-right g c =
     let texts = c.args.texts.now in
+    let last = c.in_ok-rest_right.ensures in
     all_end (arc_value c.args.table.now).scoring c.args.demands c.loop-text.right
     c.in_ok-rest_right.rest_right _ (window_right c.loop-text.window.chunks.items)
     (drop c.loop-text.text-index (texts_of texts)) _
     (texts_end texts c.loop-text.text-index c.loop-text-test.false)
-    c.in_ok-rest_right.ensures.right (search rules) c.loop-text.invariant.right
+    (fronts_right _ _ _ _ c.in_ok-rest_right.rest_right last.left last.written) (search rules)
+    c.loop-text.invariant.right
