@@ -16,6 +16,32 @@ LIST = stored("tests", "rows", "positions.obf")
 LARGEST = limit("MOST_BYTES")
 PROGRAMS = ("ffosolve", "ffoscores")
 NOTHING = b"[1]\nsolved 0 refused 0\n"
+HEADER = b"% ffobook 2 winner\n"
+SEVEN = b"X" * 56
+LEFT, LAST, EQUAL = SEVEN + b"XOOOOO-- X; G8:+64;\n", SEVEN + b"XOOOOOO- X; H8:+64;\n", SEVEN + b"-OOXXOO- X; A8:+64; H8:+64;\n"
+# Texts that are read as books, and what is told of them, or nothing.
+BOOKS = (
+    *((text, "") for text in (
+        b"", HEADER, b"% ffobook 2 discs\r\n", b"% ffobook 2 sign", b" % ffobook 2 sign", b"% ffobook", b"%ffobook 2 sign",
+        b"\n% ffobook 2 sign\n", b"% ffobook 2 sign\n% ffobook 3 x\n", LEFT + LAST + EQUAL)),
+    *((text, "book line 1: unknown header") for text in (
+        b"% ffobook 3 winner\n", b"% ffobook 2 winner \n?", b"% ffobook 2 win", b"% ffobook ")),
+    *((text, "book line 1: bad square at column 1") for text in (b"\xef", b"\0", b"?\n" + SEVEN + b"XOOOOO-- X;\n?")),
+    (LAST + LEFT + EQUAL, "book line 2: not in order"),
+    (HEADER + LAST + LEFT + EQUAL, "book line 3: not in order"),
+    (LAST + LAST, "book line 2: not in order"),
+    (b"-OXXXXX-XXXXXXXO" + b"X" * 19 + b"O" + b"X" * 28 + b" X; H1:+62;", "book line 1: not canonical"),
+    (SEVEN + b"XOOOOO-- O; G8:+64;\n", "book line 1: not canonical"),
+    (SEVEN + b"XOOOOO-- X;\n?", "book line 1: no moves"),
+    (b"\n% x\n" + SEVEN + b"XOOOOO-- X; G9:+64;", "book line 3: no moves"),
+    # The front of a book.
+    *((LEFT[:size], f"book line 1: {told}") for size, told in (
+        (1, "board has 1 of 64 squares"), (63, "board has 63 of 64 squares"), (64, "bad side at column 65"),
+        (65, "bad side at column 66"), *((size, "no moves") for size in range(66, 73)))),
+    *((LEFT[:size], "") for size in range(73, 77)),
+    (LEFT + b"X", "book line 2: board has 1 of 64 squares"),
+    *(((LEFT + LAST + EQUAL)[:size], "") for size in (233, 236)),
+)
 
 
 def setUpModule():
@@ -39,6 +65,14 @@ class Rows(InFolder):
                     rows, scoring = path.stem.split(".")
                     ran = run(PROGRAM[name], "--scoring", scoring, ROWS / f"{rows}.obf")
                     self.assertEqual((ran.returncode, ran.stdout, ran.stderr), (status, path.read_bytes(), b""))
+
+    def test_books(self):
+        for text, told in BOOKS:
+            with self.subTest(text=text):
+                Path("it.book").write_bytes(text)
+                ran = run(PROGRAM["ffosolve"], "--book-in", "it.book")
+                wanted = (3, b"", f"ffosolve: {told}\n".encode()) if told else (0, NOTHING, b"")
+                self.assertEqual((ran.returncode, ran.stdout, ran.stderr), wanted)
 
     def test_what_is_printed_is_read_again(self):
         """As it is, but for a CR at the end of a line, with nothing more to remark."""

@@ -1,10 +1,9 @@
 //! A module for what has more to say than its clauses: `rules` for `othello_rules`, `written_lines` for
 //! `obf_text`, `tables` for `bound_table`, `searches` for `endgame_search`, `lists` for `score_lists`,
-//! `books` for `solved_book`, `boards` for `job_board`, `programs` for the crates above it. What lines
-//! say and what is printed of them, tests/test_rows.py tests by the programs.
+//! `boards` for `job_board`, `programs` for the crates above it. What lines and books say, and what is
+//! printed of them, tests/test_rows.py tests by the programs.
 
 mod boards;
-mod books;
 mod fault_texts;
 mod lists;
 mod programs;

@@ -1,7 +1,6 @@
-//! Worked lists of steps, the order of `take`, limits, and a desk on one thread and on many. Each
-//! test also passes where one request for memory is refused: the refused call is made again.
+//! A worked list of steps, the order of `take`, and a desk on one thread and on many. Where one request
+//! for memory is refused, a test ends with that, or makes the refused call again.
 
-mod boards;
 mod crowds;
 mod desks;
 mod memory;
@@ -30,9 +29,6 @@ const EQUAL_CORNERS: Masks = (0x81, 0x66);
 
 // -OXXXXX- XXXXXXXO XXXXXXXX XXXXXXXX XXXOXXXX and three rows of X
 const UNEQUAL_CORNERS: Masks = (0x81, 0x8_0000_8002);
-
-// A board full of the opponent's discs.
-const NO_DISCS: Masks = (0, u64::MAX);
 
 // The first and the second job of the first sender.
 const FIRST: JobId = JobId {

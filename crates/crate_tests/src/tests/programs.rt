@@ -2,8 +2,6 @@
 
 mod clients;
 mod joins;
-mod limits;
-mod options;
 mod progress;
 mod runs;
 mod streams;
@@ -24,9 +22,6 @@ const ONE: &[u8] = b"\
 --OOOOOXXXXXXXXXXXXXXXXXXXXXXXXXXXXXXXXXXXXXXXXXXXXXXXXXXXXXXXXX X\n\
 -OOXXOO-XXXXXXXXXXXXXXXXXXXXXXXXXXXXXXXXXXXXXXXXXXXXXXXXXXXXXXXX X\n\
 ";
-
-// The first board of ONE.
-const ONE_POSITION: &[u8] = b"-OOOOOOXXXXXXXXXXXXXXXXXXXXXXXXXXXXXXXXXXXXXXXXXXXXXXXXXXXXXXXXX X\n";
 
 // Two boards with two empty squares, and a full one.
 const TWO: &[u8] = b"\

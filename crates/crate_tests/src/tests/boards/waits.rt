@@ -1,12 +1,9 @@
-//! A thread that waits at a desk is woken. Where it doesn't go on within five seconds, other calls
-//! wake it, so that a test whose wake-up is lost ends and fails.
+//! A thread that waits at a desk is woken. A test whose wake-up is lost does not end, and `rt` ends it.
 
 use super::{FIRST, UNEQUAL_CORNERS, finishes, gives_back, sends, solved, task_of, turns_to};
 use endgame_search::Task;
 use job_board::{Client, Delivery, Desk, Job, Turn};
 use std::alloc::{AllocError, Global};
-use std::process::Abort;
-use std::sync::atomic::{AtomicBool, Ordering};
 use std::sync::{Mutex, Wait};
 use std::thread;
 use std::thread::Threads;
@@ -43,7 +40,6 @@ struct Scene {
     // The client's first job.
     job: Job,
     event: Event,
-    woken: AtomicBool,
 }
 
 // A desk of two senders. Where the event is about a job, the client has sent it, and it is taken.
@@ -64,7 +60,6 @@ fn scene_of<R: Wait>(rt: &R, alloc: Global, task: Task, event: Event) -> Result<
         client: Mutex::new(client),
         job: Job { id: FIRST, task },
         event,
-        woken: AtomicBool::new(false),
     })
 }
 
@@ -98,11 +93,21 @@ fn is_given<R: Wait>(rt: &R, scene: &Scene) -> bool {
     }
 }
 
-fn wait<R: Wait + Clock>(rt: &R, scene: &Scene) -> bool {
+// Lets the worker go on that stands by, by a job of the other sender.
+fn end<R: Wait>(rt: &R, alloc: Global, scene: &Scene) -> bool {
+    match scene.event {
+        Event::Submit | Event::GiveBack | Event::LastGiveBack => true,
+        Event::Finish | Event::Close => {
+            let mut other = Client::new(alloc, 1);
+            sends(rt, &scene.desk, &mut other, scene.job.task, 0)
+        }
+    }
+}
+
+// Waits for the event, which alone can end the call.
+fn wait<R: Wait + Clock>(rt: &R, alloc: Global, scene: &Scene) -> bool {
     thread::sleep(rt, Duration::from_millis(50));
-    let given = is_given(rt, scene);
-    scene.woken.store(true, Ordering::SeqCst);
-    given
+    is_given(rt, scene) && end(rt, alloc, scene)
 }
 
 // Whether the call of the event is accepted.
@@ -115,46 +120,21 @@ fn call<R: Wait>(rt: &R, scene: &Scene, client: &mut Client) -> bool {
     }
 }
 
-// Whether the waiting thread goes on within some five seconds.
-fn is_woken<R: Clock>(rt: &R, scene: &Scene) -> bool {
-    for _ in 0..50 {
-        if scene.woken.load(Ordering::SeqCst) {
-            return true;
-        }
-        thread::sleep(rt, Duration::from_millis(100));
-    }
-    false
-}
-
-// Two submits, where they may be made, and a close of another sender let all threads go on, also
-// where the event did not.
-fn end<R: Wait>(rt: &R, alloc: Global, scene: &Scene) -> bool {
-    let mut other = Client::new(alloc, 1);
-    if let Event::LastGiveBack = scene.event {
-        return scene.desk.close(rt, &other) == Ok(false);
-    }
-    let task = scene.job.task;
-    sends(rt, &scene.desk, &mut other, task, 0)
-        && sends(rt, &scene.desk, &mut other, task, 1)
-        && scene.desk.close(rt, &other) == Ok(true)
-}
-
 // Makes the call while the other threads wait.
 fn wake<R: Wait + Clock>(rt: &R, alloc: Global, scene: &Scene) -> bool {
     thread::sleep(rt, Duration::from_millis(150));
-    let called = call(rt, scene, &mut Client::new(alloc, 0));
-    let woken = is_woken(rt, scene);
-    end(rt, alloc, scene) && called && woken
+    call(rt, scene, &mut Client::new(alloc, 0))
 }
 
 fn play<R: Wait + Clock>(rt: &R, alloc: Global, scene: &Scene, thread: usize) -> bool {
     match thread {
         0 => wake(rt, alloc, scene),
-        1 => wait(rt, scene),
+        1 => wait(rt, alloc, scene),
         _ => stand_by(rt, scene),
     }
 }
 
+// Whether the event lets the thread go on that waits for it.
 fn goes_on<R: Threads + Wait + Clock + Sync>(
     rt: &R,
     alloc: Global,
@@ -166,19 +146,11 @@ fn goes_on<R: Threads + Wait + Clock + Sync>(
     Ok(!passed.contains(&false))
 }
 
-// Whether the event wakes the thread that waits for it. Memory may be refused once.
-fn wakes<R: Threads + Wait + Clock + Abort + Sync>(rt: &R, alloc: Global, event: Event) -> bool {
-    let task = task_of(rt, UNEQUAL_CORNERS);
-    let woken = match goes_on(rt, alloc, task, event) {
-        Err(AllocError) => goes_on(rt, alloc, task, event),
-        woken => woken,
-    };
-    matches!(woken, Ok(true))
-}
-
 #[test]
-fn who_waits_is_woken(rt: HostRuntime) {
+fn who_waits_is_woken(rt: HostRuntime) -> Result<(), AllocError> {
+    let task = task_of(&rt, UNEQUAL_CORNERS);
     for event in EVENTS {
-        assert!(rt; wakes(&rt, rt.alloc(), *event));
+        assert!(rt; goes_on(&rt, rt.alloc(), task, *event)?);
     }
+    Ok(())
 }

@@ -1,7 +1,5 @@
 //! Lines that tell how far a run is.
 
-use super::runs::{files_of, settings_of};
-use super::{BOTH, ONE, TWO};
 use program_files::ProgressGate;
 use std::alloc::Global;
 use std::io::Write;
@@ -13,27 +11,6 @@ use std::thread::Threads;
 use std::time::Duration;
 use std::{io, thread};
 use suite_runs::Gate;
-use suite_solver::program;
-
-// A writer that takes at most three bytes a call, and whose call fails when none is left.
-#[derive(Drop)]
-struct FailingWriter {
-    calls_left: u32,
-}
-
-impl Write for FailingWriter {
-    fn write(&mut self, buf: &[u8]) -> io::Result<usize> {
-        if self.calls_left == 0 {
-            return Err(io::Error::from(io::ErrorKind::StorageFull));
-        }
-        self.calls_left -= 1;
-        Ok(buf.len().min(3))
-    }
-
-    fn flush(&mut self) -> io::Result<()> {
-        Ok(())
-    }
-}
 
 // A clock that a test moves, and that can be read so many times.
 #[derive(Drop)]
@@ -104,39 +81,36 @@ fn tells_each_five_seconds(rt: HostRuntime) {
     assert!(rt; errors.as_slice() == TOLD);
 }
 
-// What a run over both texts tells by a clock that stands still, and can be read so many times.
-fn told_of_both<R: Threads + Wait + Sync>(
-    rt: &R,
-    alloc: Global,
-    workers: u8,
-    reads_left: u64,
-) -> Result<Vec<u8>, Fail> {
-    let files = files_of(alloc, &[ONE, TWO])?;
+// What is told of two jobs by a clock that can be read so many times.
+fn told_by(rt: &impl Wait, alloc: Global, reads_left: u64) -> Vec<u8> {
     let clock = MovedClock::new(0, reads_left);
     let mut errors = Vec::new(alloc);
-    let gate = ProgressGate::new(&clock, 2, &mut errors);
-    let outcome = suite_solver::run(rt, alloc, &files, &settings_of(workers, 16), None, &gate)?;
-    gate.end();
-    let reports = outcome.reports.concat(alloc)?;
-    if reports.as_slice() != BOTH {
-        errors.clear();
-        errors.extend_from_slice(b"other reports")?;
+    let gate = ProgressGate::new(&clock, 1, &mut errors);
+    gate.submitted(rt, 0, 2);
+    for number in 0..2 {
+        gate.enter(rt, 0, number);
+        clock.move_on(5_000);
+        gate.leave(rt, 0, number);
     }
-    Ok(errors)
+    gate.end();
+    errors
 }
 
-// Each job counts once. The clock is read as a run begins, after each of the six jobs and at the
-// end; where it can't be read, nothing is told, and the reports are the same.
+const TOLD_OF_TWO: &[u8] = b"\
+ffosolve: solved 1 of 2 in 5 s
+ffosolve: solved 2 of 2 in 10 s
+";
+
+// The clock is read as the run begins, after each job and at the end. Where it can't be read, no more
+// is told.
 #[test]
-fn tells_by_its_clock(rt: HostRuntime) -> Result<(), Fail> {
-    let all: &[u8] = b"ffosolve: solved 6 of 6 in 0 s\n";
-    for workers in [0, 3] {
-        for reads in 0..8 {
-            assert!(rt; told_of_both(&rt, rt.alloc(), workers, reads)?.is_empty());
-        }
-        assert!(rt; told_of_both(&rt, rt.alloc(), workers, 8)?.as_slice() == all);
+fn tells_by_its_clock(rt: HostRuntime) {
+    let (none, whole) = (told_by(&rt, rt.alloc(), 0), told_by(&rt, rt.alloc(), 4));
+    assert!(rt; none.is_empty() && whole.as_slice() == TOLD_OF_TWO);
+    for reads in 1..4 {
+        let told = told_by(&rt, rt.alloc(), reads);
+        assert!(rt; TOLD_OF_TWO.starts_with(&told) && told.len() < TOLD_OF_TWO.len());
     }
-    Ok(())
 }
 
 // What a writer and a test tell each other.
@@ -211,25 +185,4 @@ fn waits_for_no_stream(rt: HostRuntime) -> Result<(), Fail> {
     gate.end();
     assert!(rt; ended.as_slice() == [true, true].as_slice() && errors.was_freed);
     Ok(())
-}
-
-// Standard error that fails changes nothing of a run that tells its progress, and without the flag
-// nothing is told.
-#[test]
-fn tells_nobody(rt: HostRuntime) {
-    let alloc = rt.alloc();
-    let words = ["ffosolve", "--progress"];
-    let (mut told, mut plain, mut silent) = (Vec::new(alloc), Vec::new(alloc), Vec::new(alloc));
-    let mut errors = FailingWriter { calls_left: 1 };
-    let (mut first, mut second) = (ONE, ONE);
-    let status = program(&rt, alloc, &words, &mut first, &mut told, &mut errors);
-    let same = program(
-        &rt,
-        alloc,
-        &["ffosolve"],
-        &mut second,
-        &mut plain,
-        &mut silent,
-    );
-    assert!(rt; status == same && told == plain && errors.calls_left == 0 && silent.is_empty());
 }
