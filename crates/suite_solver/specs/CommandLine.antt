@@ -1,7 +1,7 @@
 -- The command line of `ffosolve`, and what both programs' have in common, as clap's contracts see
 -- them.
 use Rattle.std.specs.Prelude.{◌≡◌, ◌≢◌, ◌⊎◌, ℕ, Bool, pos, true, false, List, [], ◌∷◌, map}
-use Rattle.std.specs.Prelude.{Option, Some, String, codes, option_map, string_bytes, unwrap_or}
+use Rattle.std.specs.Prelude.{Option, Some, codes, option_map, string_bytes, unwrap_or}
 use Rattle.std.specs.Borrow.{Bor}
 use Rattle.std.specs.Str.Parse.{IsNumeral, digits_value, without_leading_plus}
 use Rattle.clap.specs.Faults.{fault_of}

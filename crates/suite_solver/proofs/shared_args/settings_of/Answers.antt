@@ -6,6 +6,7 @@ use Rattle.clap.proofs.WalkLemmas.{first_value-rows}
 use Rattle.othello_rules.specs.Scores.{scoring_name}
 use Rattle.suite_solver.specs.CommandLine.{HasSettings}
 use Rattle.suite_reports.specs.Settings.{SettingsView}
+use Rattle.suite_reports.specs.declared.settings.TheConstants.{MOST_EMPTIES, MOST_WORKERS}
 use Rattle.suite_solver.proofs.shared_args.settings_of.Goals as goal
 
 pub returns-clause-value : goal.returns-clause-value
@@ -28,12 +29,12 @@ not_both o x some none = true≢false (sym (ap is_some some) ∙ ap is_some none
 
 pub returns-in_err-max_empties-clause-found : goal.returns-in_err-max_empties-clause-found
 returns-in_err-max_empties-clause-found c = λ s within h.
-    let few : s.max_empties ≤ 60 = within.few_empties in
+    let few : s.max_empties ≤ MOST_EMPTIES = within.few_empties in
     absurd (not_both c.u8_of.result _ (c.u8_of.ensures.found s.max_empties (omega (arith, few)) h.max_empties) c.in_err-max_empties.was)
 
 pub returns-in_err-workers-clause-found : goal.returns-in_err-workers-clause-found
 returns-in_err-workers-clause-found c = λ s within h.
-    let few : s.workers ≤ 64 = within.few_workers in
+    let few : s.workers ≤ MOST_WORKERS = within.few_workers in
     absurd (not_both c.u8_of-2.result _ (c.u8_of-2.ensures.found s.workers (omega (arith, few)) h.workers) c.in_err-workers.was)
 
 pub returns-in_err-get_str-clause-found : goal.returns-in_err-get_str-clause-found
