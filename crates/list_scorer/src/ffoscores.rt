@@ -18,7 +18,7 @@ use std::alloc::Global;
 use std::io;
 use std::io::{Read, Write};
 use std::rt::Files;
-use std::sync::{Arc, Wait};
+use std::sync::Wait;
 use std::thread::Threads;
 use suite_runs::{RunFault, check_files};
 use suite_solver::OptionFault;
@@ -62,15 +62,12 @@ fn print_lists<T: Threads + Wait, W: Write>(
     let Ok(table) = BoundTable::new(alloc, entries, settings.scoring()) else {
         return Err(ProgramError::Run(RunFault::Memory));
     };
-    let Ok(table) = Arc::new(alloc, table) else {
-        return Err(ProgramError::Run(RunFault::Memory));
-    };
     let workers = settings.workers();
     let demands = Demands {
         limit: settings.max_empties(),
         listing: asked.listing,
     };
-    match write_lists(rt, &table, alloc, output, demands, workers, texts) {
+    match write_lists(rt, table, alloc, output, demands, workers, texts) {
         Ok(right) => Ok(right),
         Err(fault) => Err(list_error(fault)),
     }

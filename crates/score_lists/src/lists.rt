@@ -259,7 +259,7 @@ fn start_text<'a, R: Threads + Wait, W: Write>(
 /// the whole output is printed.
 pub fn write_lists<R: Threads + Wait, W: Write>(
     rt: &R,
-    table: &Arc<BoundTable, Global>,
+    table: BoundTable,
     alloc: Global,
     writer: &mut W,
     demands: Demands,
@@ -268,16 +268,17 @@ pub fn write_lists<R: Threads + Wait, W: Write>(
 ) -> Result<bool, ListFault>
     requires { demands.limit ≤ 60 }
     ensures written { OnOk result (Appends (W.contents writer.old) (W.contents writer.new)
-        (lists_text (arc_value table.now).scoring demands (texts_of texts.now))) }
+        (lists_text table.scoring demands (texts_of texts.now))) }
     ensures front { OnErr result (AppendsFront (W.contents writer.old) (W.contents writer.new)
-        (lists_text (arc_value table.now).scoring demands (texts_of texts.now))) }
+        (lists_text table.scoring demands (texts_of texts.now))) }
     ensures right { IfOk result (λ right. right
-        ≡ lists_right (arc_value table.now).scoring demands (texts_of texts.now)) }
+        ≡ lists_right table.scoring demands (texts_of texts.now)) }
 {
+    let shared = Arc::new(alloc, table)?;
     let mut window = Window::new(alloc, workers)?;
     let mut right = true;
     for text in texts {
-        let text_right = start_text(rt, table, alloc, writer, demands, &mut window, text)?;
+        let text_right = start_text(rt, &shared, alloc, writer, demands, &mut window, text)?;
         right &= text_right;
     }
     let rest_right = write_due(rt, writer, &mut window, 0)?;

@@ -6,7 +6,7 @@ use score_lists::{Demands, ListFault, Listing, write_lists};
 use std::alloc::{AllocError, Global};
 use std::io;
 use std::io::Write;
-use std::sync::{Arc, Wait};
+use std::sync::Wait;
 use std::test::Fail;
 use std::thread::Threads;
 
@@ -20,12 +20,11 @@ fn print_text<R: Threads + Wait, W: Write>(
     let Ok(table) = BoundTable::new(alloc, 16, Scoring::Winner) else {
         return Err(AllocError);
     };
-    let table = Arc::new(alloc, table)?;
     let demands = Demands {
         limit: 20,
         listing: Listing::Any,
     };
-    match write_lists(rt, &table, alloc, writer, demands, 2, &texts) {
+    match write_lists(rt, table, alloc, writer, demands, 2, &texts) {
         Err(ListFault::Memory) => Err(AllocError),
         ended => Ok(ended),
     }

@@ -1,6 +1,7 @@
-use Rattle.std.proofs.Common.{◌&&◌, ◌+◌, ◌++◌, rules, drop}
+use Rattle.std.proofs.Common.{◌≡◌, ◌&&◌, ◌+◌, ◌++◌, ap, rules, drop}
 use Rattle.obf_text.specs.LineText.{lines_of, texts_of}
 use Rattle.std.specs.Arc.{arc_value}
+use Rattle.bound_table.specs.Table.{TableView}
 use Rattle.score_lines.specs.Lines.{are_right, lists_right, lists_text, scores_text}
 use Rattle.score_lists.specs.Started.{window_right, window_text}
 use Rattle.score_lines.proofs.LineSteps.{all_end, all_more, list_end, list_more}
@@ -13,7 +14,7 @@ use Rattle.score_lists.proofs.lists.write_lists.Goals as goal
 
 pub loop-text-init : goal.loop-text-init
 loop-text-init g c =
-    let s = (arc_value c.args.table.now).scoring in
+    let s = c.args.table.scoring in
     let d = c.args.demands in
     let texts = texts_of c.args.texts.now in
     record {
@@ -25,11 +26,13 @@ loop-text-init g c =
 
 pub returns-in_err-window-clause-front : goal.returns-in_err-window-clause-front
 returns-in_err-window-clause-front g c =
-    on_err c.from_residual.result _ (front_none _ _)
+    on_err c.from_residual-in_err-window.result _ (front_none _ _)
 
 pub loop-text-preserved : goal.loop-text-preserved
 loop-text-preserved g c =
-    let s = (arc_value c.args.table.now).scoring in
+    let s = c.args.table.scoring in
+    let same : (arc_value c.in_ok-shared.shared).scoring ≡ s =
+    ap (λ (t : TableView). t.scoring) c.in_ok-shared.ensures.ok in
     let d = c.args.demands in
     let n = c.loop-text.text-index in
     let texts = c.args.texts.now in
@@ -47,17 +50,19 @@ loop-text-preserved g c =
           (lists_text s d after) _
           (list_more _ _ s d (window_text window) text (drop n (texts_of texts)) after _ cut
           kept.text)
-          w.written;
+          (rw same at w.written);
       right = right_part c.loop-text.right c.in_ok-text_right.text_right _ (window_right left)
           (window_right window && are_right s d (lines_of text)) (lists_right s d after) _
-          (search rules) w.right
+          (search rules) (rw same at w.right)
           (all_more s d text (drop n (texts_of texts)) after c.loop-text.right
           (window_right window) _ cut kept.right);
     }
 
 pub returns-in_err-text_right-clause-front : goal.returns-in_err-text_right-clause-front
 returns-in_err-text_right-clause-front g c =
-    let s = (arc_value c.args.table.now).scoring in
+    let s = c.args.table.scoring in
+    let same : (arc_value c.in_ok-shared.shared).scoring ≡ s =
+    ap (λ (t : TableView). t.scoring) c.in_ok-shared.ensures.ok in
     let d = c.args.demands in
     let n = c.loop-text.text-index in
     let texts = c.args.texts.now in
@@ -71,7 +76,7 @@ returns-in_err-text_right-clause-front g c =
     (prints_stop _ _ _ (window_text window ++ scores_text s d text) (lists_text s d after) _
     (list_more _ _ s d (window_text window) text (drop n (texts_of texts)) after _ cut
     c.loop-text.invariant.text)
-    c.in_err-text_right.ensures.front)
+    (rw same at c.in_err-text_right.ensures.front))
 
 pub returns-in_err-rest_right-clause-front : goal.returns-in_err-rest_right-clause-front
 returns-in_err-rest_right-clause-front g c =
@@ -83,7 +88,7 @@ pub returns-clause-written : goal.returns-clause-written
 returns-clause-written g c =
     let texts = c.args.texts.now in
     let last = c.in_ok-rest_right.ensures in
-    list_end _ _ _ (arc_value c.args.table.now).scoring c.args.demands
+    list_end _ _ _ c.args.table.scoring c.args.demands
     (window_text c.loop-text.window.chunks.items)
     (drop c.loop-text.text-index (texts_of texts)) _
     (texts_end texts c.loop-text.text-index c.loop-text-test.false) c.loop-text.invariant.text
@@ -93,7 +98,7 @@ pub returns-clause-right : goal.returns-clause-right
 returns-clause-right g c =
     let texts = c.args.texts.now in
     let last = c.in_ok-rest_right.ensures in
-    all_end (arc_value c.args.table.now).scoring c.args.demands c.loop-text.right
+    all_end c.args.table.scoring c.args.demands c.loop-text.right
     c.in_ok-rest_right.rest_right _ (window_right c.loop-text.window.chunks.items)
     (drop c.loop-text.text-index (texts_of texts)) _
     (texts_end texts c.loop-text.text-index c.loop-text-test.false)
