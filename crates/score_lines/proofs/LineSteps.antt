@@ -1,12 +1,10 @@
 -- The steps of the loops that print lines and texts.
-use Rattle.std.proofs.Common.{◌≡◌, ℕ, Bool, true, false, ◌&&◌, List, [], ◌∷◌, ◌++◌, drop}
-use Rattle.std.proofs.Common.{length, get_or, ◌+◌, ◌<◌, ◌≤◌, refl, sym, ap, ◌∙◌, subst, Option}
-use Rattle.std.specs.Prelude.{Ok, Err, Vec, ◌≢◌}
-use Rattle.std.specs.declared.alloc.Global.{Global}
+use Rattle.std.proofs.Common.{◌≡◌, ℕ, Bool, true, false, ◌&&◌, List, [], ◌∷◌, ◌++◌}
+use Rattle.std.proofs.Common.{refl, sym, ap, ◌∙◌, subst, Option}
+use Rattle.std.specs.Prelude.{Ok, Err, ◌≢◌}
 use Rattle.std.specs.Io.KnownBytes.{Appends}
-use Rattle.std.proofs.lemmas.List.{append_assoc, drop-map, drop_all, drop_more}
+use Rattle.std.proofs.lemmas.List.{append_assoc}
 use Rattle.othello_rules.specs.declared.scoring.Scoring.{Scoring}
-use Rattle.obf_text.specs.LineText.{lines_of}
 use Rattle.obf_text.specs.Obf.{Faulty, Gives, Holds, Meaning, Skipped, entry_of, item_of}
 use Rattle.obf_text.specs.declared.entries.Item.{Item}
 use Rattle.obf_text.specs.declared.entries.Item.TheVariants as item
@@ -16,9 +14,8 @@ use Rattle.obf_text.specs.declared.line_fault.LineFault.TheVariants.{Short, BadC
 use Rattle.obf_text.specs.Faults.{line_fault_text}
 use Rattle.score_lines.specs.declared.demands.Demands.{Demands}
 use Rattle.score_lines.specs.Lines.{Prints, are_right, is_right}
-use Rattle.score_lines.specs.Lines.{kept_text, lines_text, lists_right, lists_text, out_text}
-use Rattle.obf_text.specs.LineText.{texts_of}
-use Rattle.score_lines.specs.Lines.{refused_text, scores_text}
+use Rattle.score_lines.specs.Lines.{kept_text, lines_text, out_text}
+use Rattle.score_lines.specs.Lines.{refused_text}
 use Rattle.score_lines.proofs.Prints.{prints_end, prints_more}
 
 pub lines_none : (g : Scoring) (d : Demands) → lines_text g d [] ≡ []
@@ -101,65 +98,6 @@ right_end g d now left all none h =
     sym (and_true now) ∙ ap (λ b. now && b) (sym (ap (are_right g d) none ∙ right_none g d))
     ∙ h
 
--- the texts of lists
-lists_none : (g : Scoring) (d : Demands) → lists_text g d [] ≡ []
-unfolding lists_text
-lists_none g d = refl
-
-lists_cons : (g : Scoring) (d : Demands) (text : List ℕ) (texts : List (List ℕ))
-    → lists_text g d (text ∷ texts) ≡ scores_text g d text ++ lists_text g d texts
-unfolding lists_text
-lists_cons g d text texts = refl
-
-all_none : (g : Scoring) (d : Demands) → lists_right g d [] ≡ true
-unfolding lists_right
-all_none g d = refl
-
-all_cons : (g : Scoring) (d : Demands) (text : List ℕ) (texts : List (List ℕ))
-    → lists_right g d (text ∷ texts)
-    ≡ (are_right g d (lines_of text) && lists_right g d texts)
-unfolding lists_right
-all_cons g d text texts = refl
-
--- a text is put behind others that are left to print
-pub list_more : (old now : Option (List ℕ)) (g : Scoring) (d : Demands) (before text : List ℕ)
-    (left texts : List (List ℕ)) (all : List ℕ) → left ≡ text ∷ texts
-    → Prints old now (before ++ lists_text g d left) all
-    → Prints old now ((before ++ scores_text g d text) ++ lists_text g d texts) all
-list_more old now g d before text left texts all cut h =
-    subst (λ t. Prints old now t all)
-    (ap (λ t. before ++ t) (ap (lists_text g d) cut ∙ lists_cons g d text texts)
-    ∙ sym (append_assoc before (scores_text g d text) (lists_text g d texts))) h
-
-pub all_more : (g : Scoring) (d : Demands) (text : List ℕ) (left texts : List (List ℕ))
-    (now before all : Bool) → left ≡ text ∷ texts
-    → (now && (before && lists_right g d left)) ≡ all
-    → (now && ((before && are_right g d (lines_of text)) && lists_right g d texts)) ≡ all
-all_more g d text left texts now before all cut h =
-    ap (λ b. now && b)
-    (and_assoc before (are_right g d (lines_of text)) (lists_right g d texts)
-    ∙ ap (λ b. before && b) (sym (ap (lists_right g d) cut ∙ all_cons g d text texts)))
-    ∙ h
-
-pub list_end : (old now next : Option (List ℕ)) (g : Scoring) (d : Demands) (before : List ℕ)
-    (left : List (List ℕ)) (all : List ℕ) → left ≡ []
-    → Prints old now (before ++ lists_text g d left) all → Appends now next before
-    → Appends old next all
-list_end old now next g d before left all none h w =
-    prints_end old next all
-    (subst (λ t. Prints old next t all) (ap (lists_text g d) none ∙ lists_none g d)
-    (prints_more old now next before (lists_text g d left) all h w))
-
-pub all_end : (g : Scoring) (d : Demands) (now one next before : Bool) (left : List (List ℕ))
-    (all : Bool) → left ≡ [] → one ≡ before → next ≡ (now && one)
-    → (now && (before && lists_right g d left)) ≡ all → next ≡ all
-all_end g d now one next before left all none is to h =
-    to ∙ ap (λ b. now && b) is
-    ∙ ap (λ b. now && b)
-    (sym (and_true before)
-    ∙ ap (λ b. before && b) (sym (ap (lists_right g d) none ∙ all_none g d)))
-    ∙ h
-
 -- the text of a line, and whether the line is right, by the line's meaning
 pub out_skip : (g : Scoring) (d : Demands) (line : List ℕ) (m : Meaning) → m ≡ Skipped
     → kept_text line ≡ out_text g d line m
@@ -194,18 +132,3 @@ said_fault (Short n) m h k = k
 said_fault (BadCell n) m h k = k
 said_fault (BadSide n) m h k = k
 said_fault Memory m h k = absurd (h refl)
-
--- the texts that are left
-pub texts_cut : (texts : List (Vec ℕ Global)) (n : ℕ) (text : Vec ℕ Global) (bytes : List ℕ)
-    → n < length texts → text ≡ get_or texts n text → bytes ≡ text.items
-    → drop n (texts_of texts) ≡ bytes ∷ drop (n + 1) (texts_of texts)
-texts_cut texts n text bytes within at e =
-    drop-map (λ (v : Vec ℕ Global). v.items) n texts
-    ∙ ap texts_of (drop_more texts n text within ∙ ap (λ p. p ∷ drop (n + 1) texts) (sym at))
-    ∙ ap (λ b. b ∷ texts_of (drop (n + 1) texts)) (sym e)
-    ∙ ap (λ l. bytes ∷ l) (sym (drop-map (λ (v : Vec ℕ Global). v.items) (n + 1) texts))
-
-pub texts_end : (texts : List (Vec ℕ Global)) (n : ℕ) → length texts ≤ n
-    → drop n (texts_of texts) ≡ []
-texts_end texts n past =
-    drop-map (λ (v : Vec ℕ Global). v.items) n texts ∙ ap texts_of (drop_all n texts past)

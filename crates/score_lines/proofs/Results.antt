@@ -14,3 +14,12 @@ if_ok (Err e) P Q f h = h
 pub on_err : {T E : Type 0} (r : Result T E) (P : Type 0) → P → OnErr r P
 on_err (Ok x) P h = tt
 on_err (Err e) P h = h
+
+pub err_to : {T E : Type 0} (r : Result T E) (P Q : Type 0) → (P → Q) → OnErr r P → OnErr r Q
+err_to (Ok x) P Q f h = h
+err_to (Err e) P Q f h = f h
+
+pub both_ok : {T E : Type 0} (r : Result T E) (P Q R : Type 0) → (P → Q → R) → OnOk r P → OnOk r Q
+    → OnOk r R
+both_ok (Ok x) P Q R f h k = f h k
+both_ok (Err e) P Q R f h k = tt

@@ -1,181 +1,203 @@
--- The steps of the loops over started chunks.
-use Rattle.std.proofs.Common.{◌≡◌, ◌==◌, ℕ, Bool, true, ◌&&◌, List, [], ◌∷◌, ◌++◌}
-use Rattle.std.proofs.Common.{◌≤◌, length, refl, sym, ap, ◌∙◌, subst, Option, arith, rules}
+-- The steps of the loops that print what is due.
+use Rattle.std.proofs.Common.{◌≡◌, ℕ, Bool, true, ◌&&◌, List, [], ◌∷◌, ◌++◌, ◌≤◌, length}
+use Rattle.std.proofs.Common.{refl, sym, ap, ◌∙◌, subst, Option, arith}
 use Rattle.std.specs.Io.KnownBytes.{Appends}
-use Rattle.std.proofs.lemmas.List.{append_assoc, append-nil, nil_from_length}
+use Rattle.std.proofs.lemmas.List.{append_assoc, append-nil}
 use Rattle.othello_rules.specs.declared.scoring.Scoring.{Scoring}
 use Rattle.obf_text.specs.LineText.{lines_of}
 use Rattle.score_lines.specs.declared.demands.Demands.{Demands}
-use Rattle.score_lines.specs.Lines.{AppendsFront, Prints, are_right, lines_text, scores_text}
-use Rattle.score_lists.specs.Started.{PrintsFronts, StartedView, started_right, started_text}
-use Rattle.score_lists.specs.Started.{started_view, window_right, window_text}
+use Rattle.score_lines.specs.Lines.{AppendsFront, Prints, are_right, lists_right, lists_text, lines_text}
+use Rattle.score_lists.specs.Chunks.{all_lines}
+use Rattle.score_lists.specs.Started.{Due, Settles, all_due, both, lines_due, lists_due, window_due}
 use Rattle.score_lines.proofs.LineSteps.{and_assoc, and_true, lines_both, lines_none}
 use Rattle.score_lines.proofs.LineSteps.{right_both, right_none}
-use Rattle.score_lines.proofs.Prints.{prints_end, prints_more, prints_start, prints_stop}
+use Rattle.score_lines.proofs.Prints.{prints_both, prints_end, prints_front, prints_more}
+use Rattle.score_lines.proofs.Prints.{prints_part, prints_start, prints_stop}
 
-window_none : window_text [] ≡ []
-unfolding window_text
-window_none = refl
+abbrev nothing : Due
+nothing = record { text = []; right = true }
 
-window_cons : (s : StartedView) (ss : List StartedView)
-    → window_text (s ∷ ss) ≡ started_text s ++ window_text ss
-unfolding window_text
-window_cons s ss = refl
+same_due : (a b : Due) → a.text ≡ b.text → a.right ≡ b.right → a ≡ b
+same_due a b text right =
+    ap (λ t. record { text = t; right = a.right }) text
+    ∙ ap (λ r. record { text = b.text; right = r }) right
 
-all_none : window_right [] ≡ true
-unfolding window_right
+both_assoc : (a b c : Due) → both (both a b) c ≡ both a (both b c)
+both_assoc a b c =
+    same_due (both (both a b) c) (both a (both b c)) (append_assoc a.text b.text c.text)
+    (and_assoc a.right b.right c.right)
+
+both_nothing : (a : Due) → both a nothing ≡ a
+both_nothing a = same_due (both a nothing) a (append-nil a.text) (and_true a.right)
+
+all_none : all_due [] ≡ nothing
+unfolding all_due
 all_none = refl
 
-all_cons : (s : StartedView) (ss : List StartedView)
-    → window_right (s ∷ ss) ≡ (started_right s && window_right ss)
-unfolding window_right
-all_cons s ss = refl
+all_cons : (x : Due) (xs : List Due) → all_due (x ∷ xs) ≡ both x (all_due xs)
+unfolding all_due
+all_cons x xs = refl
 
--- a further chunk behind the others
-window_snoc : (ss : List StartedView) (s : StartedView)
-    → window_text (ss ++ s ∷ []) ≡ window_text ss ++ started_text s
-window_snoc [] s =
-    window_cons s [] ∙ ap (λ t. started_text s ++ t) window_none ∙ append-nil (started_text s)
-    ∙ ap (λ t. t ++ started_text s) (sym window_none)
-window_snoc (r ∷ ss) s =
-    window_cons r (ss ++ s ∷ []) ∙ ap (λ t. started_text r ++ t) (window_snoc ss s)
-    ∙ sym (append_assoc (started_text r) (window_text ss) (started_text s))
-    ∙ ap (λ t. t ++ started_text s) (sym (window_cons r ss))
+all_snoc : (xs : List Due) (x : Due) → all_due (xs ++ x ∷ []) ≡ both (all_due xs) x
+all_snoc [] x =
+    all_cons x [] ∙ ap (both x) all_none ∙ both_nothing x ∙ ap (λ a. both a x) (sym all_none)
+all_snoc (y ∷ xs) x =
+    all_cons y (xs ++ x ∷ []) ∙ ap (both y) (all_snoc xs x)
+    ∙ sym (both_assoc y (all_due xs) x) ∙ ap (λ a. both a x) (sym (all_cons y xs))
 
-all_snoc : (ss : List StartedView) (s : StartedView)
-    → window_right (ss ++ s ∷ []) ≡ (window_right ss && started_right s)
-all_snoc [] s =
-    all_cons s [] ∙ ap (λ b. started_right s && b) all_none ∙ and_true (started_right s)
-    ∙ ap (λ b. b && started_right s) (sym all_none)
-all_snoc (r ∷ ss) s =
-    all_cons r (ss ++ s ∷ []) ∙ ap (λ b. started_right r && b) (all_snoc ss s)
-    ∙ sym (and_assoc (started_right r) (window_right ss) (started_right s))
-    ∙ ap (λ b. b && started_right s) (sym (all_cons r ss))
+-- nothing is printed
+pub settles_start : (old : Option (List ℕ)) (due : Due) → Settles old old due due
+settles_start old due = record { written = prints_start old due.text; told = refl }
 
--- the front chunks that are printed
-pub fronts_start : (old : Option (List ℕ)) (window : List StartedView)
-    → PrintsFronts old old window window true
-fronts_start old window =
-    record { written = prints_start old (window_text window); told = refl }
-
--- the front chunk is what is left to print, and then the chunks behind it
-fronts_next : (old now : Option (List ℕ)) (before left after : List StartedView) (s : StartedView)
-    (right : Bool) → left ≡ s ∷ after → PrintsFronts old now before left right
-    → Prints old now (started_text s ++ window_text after) (window_text before)
-fronts_next old now before left after s right cut h =
-    subst (λ t. Prints old now t (window_text before)) (ap window_text cut ∙ window_cons s after)
-    h.written
-
-pub fronts_more : (old now next : Option (List ℕ)) (before left after : List StartedView)
-    (s : StartedView) (right one both : Bool) → left ≡ s ∷ after
-    → PrintsFronts old now before left right → Appends now next (started_text s)
-    → one ≡ started_right s → both ≡ (right && one) → PrintsFronts old next before after both
-fronts_more old now next before left after s right one both cut h w is to = record {
-  written = prints_more old now next (started_text s) (window_text after) (window_text before)
-      (fronts_next old now before left after s right cut h) w;
-  told = ap (λ b. b && window_right after) to ∙ and_assoc right one (window_right after)
-      ∙ ap (λ b. right && (b && window_right after)) is
-      ∙ ap (λ b. right && b) (sym (ap window_right cut ∙ all_cons s after)) ∙ h.told;
+-- what was left is settled in its turn
+pub settles_then : (old now next : Option (List ℕ)) (all left after : Due)
+    → Settles old now all left → Settles now next left after → Settles old next all after
+settles_then old now next all left after h k = record {
+  written = prints_both old now next left.text after.text all.text h.written k.written;
+  told = k.told ∙ h.told;
 }
 
-pub fronts_stop : (old now next : Option (List ℕ)) (before left after : List StartedView)
-    (s : StartedView) (right : Bool) → left ≡ s ∷ after → PrintsFronts old now before left right
-    → AppendsFront now next (started_text s) → AppendsFront old next (window_text before)
-fronts_stop old now next before left after s right cut h w =
-    prints_stop old now next (started_text s) (window_text after) (window_text before)
-    (fronts_next old now before left after s right cut h) w
+-- of what was left, a front is printed
+pub settles_stop : (old now next : Option (List ℕ)) (all left : Due)
+    → Settles old now all left → AppendsFront now next left.text → AppendsFront old next all.text
+settles_stop old now next all left h k =
+    prints_front old now next left.text all.text h.written k
 
--- no chunk is left
-none_after : (left : List StartedView) → length left ≤ 0 → left ≡ []
-none_after [] h = refl
-none_after (s ∷ left) h = absurd (omega (arith, h))
+-- more is due behind what is settled
+part : (old now : Option (List ℕ)) (before after more : Due)
+    → Settles old now before after → Settles old now (both before more) (both after more)
+part old now before after more h = record {
+  written = prints_part old old now before.text after.text more.text (before.text ++ more.text)
+      (prints_start old (before.text ++ more.text)) h.written;
+  told = ap (λ r. r && more.right) h.told;
+}
 
-pub fronts_end : (old now : Option (List ℕ)) (before left : List StartedView) (right : Bool)
-    → length left ≤ 0 → PrintsFronts old now before left right
-    → Appends old now (window_text before)
-fronts_end old now before left right few h =
-    prints_end old now (window_text before)
-    (subst (λ t. Prints old now t (window_text before))
-    (ap window_text (none_after left few) ∙ window_none) h.written)
+pub front_part : (old now : Option (List ℕ)) (before more : List ℕ) → AppendsFront old now before
+    → AppendsFront old now (before ++ more)
+front_part old now before more h =
+    prints_stop old old now before more (before ++ more) (prints_start old (before ++ more)) h
 
-pub fronts_right : (old now : Option (List ℕ)) (before left : List StartedView) (right : Bool)
-    → length left ≤ 0 → PrintsFronts old now before left right → right ≡ window_right before
-fronts_right old now before left right few h =
-    sym (and_true right)
-    ∙ ap (λ b. right && b) (sym (ap window_right (none_after left few) ∙ all_none)) ∙ h.told
+-- the front chunk is printed
+pub front_settled : (old now : Option (List ℕ)) (front : Due) (chunks after : List Due)
+    (right next : Bool) → chunks ≡ front ∷ after → Appends old now front.text
+    → next ≡ (right && front.right)
+    → Settles old now (window_due right chunks) (window_due next after)
+front_settled old now front chunks after right next cut w to =
+    let is = ap all_due cut ∙ all_cons front after in
+    let text = ap (λ (due : Due). due.text) is in
+    record {
+      written = prints_more old old now front.text (all_due after).text (all_due chunks).text
+          (subst (λ t. Prints old old t (all_due chunks).text) text
+          (prints_start old (all_due chunks).text)) w;
+      told = ap (λ b. b && (all_due after).right) to
+          ∙ and_assoc right front.right (all_due after).right
+          ∙ ap (λ (due : Due). right && due.right) (sym is);
+    }
 
--- a further chunk is started: what is left to print stays the same
-pub start_text_more : (old now : Option (List ℕ)) (g : Scoring) (d : Demands)
-    (window wider : List StartedView) (rest front after all : List ℕ)
-    → lines_of rest ≡ lines_of front ++ lines_of after
-    → wider ≡ window ++ started_view g d front ∷ []
-    → Prints old now (window_text window ++ scores_text g d rest) all
-    → Prints old now (window_text wider ++ scores_text g d after) all
-start_text_more old now g d window wider rest front after all cut to h =
-    let s = started_view g d front in
-    subst (λ t. Prints old now t all)
-    (ap (λ t. window_text window ++ t)
-    (ap (lines_text g d) cut ∙ lines_both g d (lines_of front) (lines_of after))
-    ∙ sym (append_assoc (window_text window) (started_text s) (scores_text g d after))
-    ∙ ap (λ t. t ++ scores_text g d after) (sym (ap window_text to ∙ window_snoc window s))) h
+-- a front of what is due for the front chunk is a front of what is due for all
+pub front_stopped : (old now : Option (List ℕ)) (front : Due) (chunks after : List Due)
+    → chunks ≡ front ∷ after → AppendsFront old now front.text
+    → AppendsFront old now (all_due chunks).text
+front_stopped old now front chunks after cut h =
+    subst (λ (due : Due). AppendsFront old now due.text)
+    (sym (ap all_due cut ∙ all_cons front after))
+    (front_part old now front.text (all_due after).text h)
 
-pub start_right_more : (g : Scoring) (d : Demands) (window wider : List StartedView)
-    (rest front after : List ℕ) (now all : Bool)
-    → lines_of rest ≡ lines_of front ++ lines_of after
-    → wider ≡ window ++ started_view g d front ∷ []
-    → (now && (window_right window && are_right g d (lines_of rest))) ≡ all
-    → (now && (window_right wider && are_right g d (lines_of after))) ≡ all
-start_right_more g d window wider rest front after now all cut to h =
-    let s = started_view g d front in
-    let more = are_right g d (lines_of after) in
-    ap (λ b. now && (b && more)) (ap window_right to ∙ all_snoc window s)
-    ∙ ap (λ b. now && b) (and_assoc (window_right window) (started_right s) more)
-    ∙ ap (λ b. now && (window_right window && b))
-    (sym (ap (are_right g d) cut ∙ right_both g d (lines_of front) (lines_of after)))
-    ∙ h
+-- a further chunk is started: what is due stays the same
+pub start_more : (old now : Option (List ℕ)) (g : Scoring) (d : Demands) (all : Due) (right : Bool)
+    (chunks wider : List Due) (lines front after : List (List ℕ)) → lines ≡ front ++ after
+    → wider ≡ chunks ++ lines_due g d front ∷ []
+    → Settles old now all (both (window_due right chunks) (lines_due g d lines))
+    → Settles old now all (both (window_due right wider) (lines_due g d after))
+start_more old now g d all right chunks wider lines front after cut to h =
+    let printed : Due = record { text = []; right = right } in
+    let x = lines_due g d front in
+    let more = lines_due g d after in
+    let split : lines_due g d lines ≡ both x more =
+    same_due (lines_due g d lines) (both x more)
+    (ap (lines_text g d) cut ∙ lines_both g d front after)
+    (ap (are_right g d) cut ∙ right_both g d front after) in
+    let wide : window_due right wider ≡ both (window_due right chunks) x =
+    ap (both printed) (ap all_due to ∙ all_snoc chunks x)
+    ∙ sym (both_assoc printed (all_due chunks) x) in
+    subst (Settles old now all)
+    (ap (both (window_due right chunks)) split
+    ∙ sym (both_assoc (window_due right chunks) x more)
+    ∙ ap (λ due. both due more) (sym wide)) h
 
--- some front chunks are right, and the rest is what is left
-pub right_part : (now one next a b more all : Bool) → next ≡ (now && one) → (one && a) ≡ b
-    → (now && (b && more)) ≡ all → (next && (a && more)) ≡ all
-right_part now one next a b more all to is h =
-    ap (λ b. b && (a && more)) to ∙ and_assoc now one (a && more)
-    ∙ ap (λ b. now && b) (sym (and_assoc one a more) ∙ ap (λ b. b && more) is) ∙ h
+-- of the window's chunks, some are printed
+pub start_then : (old now next : Option (List ℕ)) (all before after more : Due)
+    → Settles old now all (both before more) → Settles now next before after
+    → Settles old next all (both after more)
+start_then old now next all before after more h k =
+    settles_then old now next all (both before more) (both after more) h (part now next before after more k)
 
--- no byte is left where the test for that holds
-pub none_left : (rest : List ℕ) (is_empty : Bool) → is_empty ≡ (length rest == 0)
-    → is_empty ≡ true → rest ≡ []
-none_left rest is_empty says test = nil_from_length rest (search rules)
+-- of the window's chunks, a front is printed
+pub start_stop : (old now next : Option (List ℕ)) (all before more : Due)
+    → Settles old now all (both before more) → AppendsFront now next before.text
+    → AppendsFront old next all.text
+start_stop old now next all before more h k =
+    settles_stop old now next all (both before more) h
+    (front_part now next before.text more.text k)
 
--- all chunks of a text are started
-pub start_text_end : (old now : Option (List ℕ)) (g : Scoring) (d : Demands)
-    (window : List StartedView) (rest all : List ℕ) → rest ≡ []
-    → Prints old now (window_text window ++ scores_text g d rest) all
-    → Prints old now (window_text window) all
-start_text_end old now g d window rest all none h =
-    subst (λ t. Prints old now t all)
-    (ap (λ t. window_text window ++ t)
-    (ap (scores_text g d) none ∙ lines_none g d)
-    ∙ append-nil (window_text window)) h
+lines_nothing : (g : Scoring) (d : Demands) → lines_due g d [] ≡ nothing
+lines_nothing g d =
+    same_due (lines_due g d []) nothing (lines_none g d) (right_none g d)
 
-pub start_right_end : (g : Scoring) (d : Demands) (window : List StartedView) (rest : List ℕ)
-    (now all : Bool) → rest ≡ []
-    → (now && (window_right window && are_right g d (lines_of rest))) ≡ all
-    → (now && window_right window) ≡ all
-start_right_end g d window rest now all none h =
-    ap (λ b. now && b)
-    (sym (and_true (window_right window))
-    ∙ ap (λ b. window_right window && b)
-    (sym (ap (λ t. are_right g d (lines_of t)) none ∙ right_none g d)))
-    ∙ h
+lists_none : (g : Scoring) (d : Demands) → lists_due g d [] ≡ nothing
+unfolding lists_text lists_right
+lists_none g d = refl
+
+lists_cons : (g : Scoring) (d : Demands) (text : List ℕ) (texts : List (List ℕ))
+    → lists_due g d (text ∷ texts) ≡ both (lines_due g d (lines_of text)) (lists_due g d texts)
+unfolding lists_text lists_right
+lists_cons g d text texts = refl
+
+-- what is due for lists is due for their lines
+lists_lines : (g : Scoring) (d : Demands) (texts : List (List ℕ))
+    → lists_due g d texts ≡ lines_due g d (all_lines texts)
+lists_lines g d [] = lists_none g d ∙ sym (lines_nothing g d)
+lists_lines g d (text ∷ texts) =
+    let first = lines_of text in
+    let more = all_lines texts in
+    lists_cons g d text texts ∙ ap (both (lines_due g d first)) (lists_lines g d texts)
+    ∙ sym (same_due (lines_due g d (first ++ more)) (both (lines_due g d first) (lines_due g d more))
+    (lines_both g d first more) (right_both g d first more))
 
 -- no chunk is started yet
-pub window_text_start : (old : Option (List ℕ)) (window : List StartedView) (all : List ℕ)
-    → window ≡ [] → Prints old old (window_text window ++ all) all
-window_text_start old window all none =
-    subst (λ t. Prints old old t all)
-    (ap (λ t. t ++ all) (sym (ap window_text none ∙ window_none))) (prints_start old all)
+pub lists_start : (old : Option (List ℕ)) (g : Scoring) (d : Demands) (texts : List (List ℕ))
+    (right : Bool) (chunks : List Due) → right ≡ true → chunks ≡ []
+    → Settles old old (lists_due g d texts)
+    (both (window_due right chunks) (lines_due g d (all_lines texts)))
+lists_start old g d texts right chunks is none =
+    let due = lines_due g d (all_lines texts) in
+    let empty : window_due right chunks ≡ nothing =
+    ap (λ b. window_due b chunks) is ∙ ap (both nothing) (ap all_due none ∙ all_none) in
+    subst (λ window. Settles old old (lists_due g d texts) (both window due)) (sym empty)
+    (subst (Settles old old (lists_due g d texts)) (lists_lines g d texts)
+    (settles_start old (lists_due g d texts)))
 
-pub window_right_start : (window : List StartedView) (all : Bool) → window ≡ []
-    → (true && (window_right window && all)) ≡ all
-window_right_start window all none =
-    ap (λ b. b && all) (ap window_right none ∙ all_none)
+none_after : (chunks : List Due) → length chunks ≤ 0 → chunks ≡ []
+none_after [] h = refl
+none_after (x ∷ chunks) h = absurd (omega (arith, h))
+
+-- all lines are started, and no chunk is left
+pub lists_end : (old now next : Option (List ℕ)) (g : Scoring) (d : Demands) (all window : Due)
+    (lines : List (List ℕ)) (right : Bool) (chunks : List Due) → lines ≡ []
+    → Settles old now all (both window (lines_due g d lines))
+    → Settles now next window (window_due right chunks) → length chunks ≤ 0
+    → Settles old next all (window_due right [])
+lists_end old now next g d all window lines right chunks none h k few =
+    subst (λ xs. Settles old next all (window_due right xs)) (none_after chunks few)
+    (settles_then old now next all window (window_due right chunks)
+    (subst (Settles old now all)
+    (ap (both window) (ap (lines_due g d) none ∙ lines_nothing g d) ∙ both_nothing window) h) k)
+
+-- what was due is printed
+pub all_printed : (old now : Option (List ℕ)) (all : Due) (right : Bool)
+    → Settles old now all (window_due right []) → Appends old now all.text × (right ≡ all.right)
+all_printed old now all right h =
+    let printed : Due = record { text = []; right = right } in
+    let done =
+    subst (Settles old now all) (ap (both printed) all_none ∙ both_nothing printed) h in
+    (prints_end old now all.text done.written, done.told)

@@ -1,8 +1,8 @@
 //! Texts cut into chunks: whole lines that are scored together.
 
-ghost use Rattle.std.specs.Prelude.{◌≡◌, ◌<◌, ◌++◌, length};
+ghost use Rattle.std.specs.Prelude.{◌≡◌, ◌<◌, ◌++◌, IfSome, IfNone, [], length};
 ghost use Rattle.obf_text.specs.LineText.{lines_of};
-ghost use Rattle.score_lists.specs.Chunks.{EndsLine};
+ghost use Rattle.score_lists.specs.Chunks.{EndsLine, left_lines, left_size};
 
 // A line of at most so many empty squares is scored in less time than a thread is started.
 const FEW_EMPTIES: usize = 7;
@@ -89,5 +89,35 @@ pub(crate) fn first_chunk(text: &[u8], limit: u8, is_alone: bool) -> Chunk<'_>
         front: &text[..end],
         rest: &text[end..],
         is_short,
+    }
+}
+
+/// What is left of some texts.
+#[derive(Clone, Copy)]
+pub(crate) struct Lists<'a> {
+    /// What is left of the text that was begun.
+    pub rest: &'a [u8],
+    /// The texts behind it.
+    pub texts: &'a [Vec<u8>],
+}
+
+impl<'a> Lists<'a> {
+    /// Takes the first chunk of what is left.
+    pub fn next_chunk(&mut self, limit: u8, is_alone: bool) -> Option<Chunk<'a>>
+        ensures some { IfSome result (λ chunk. left_lines self.old
+            ≡ lines_of chunk.front.now ++ left_lines self.new) }
+        ensures less { IfSome result (λ _. left_size self.new < left_size self.old) }
+        ensures none { IfNone result (left_lines self.old ≡ []) }
+    {
+        while self.rest.is_empty() {
+            let [text, texts @ ..] = self.texts else {
+                return None;
+            };
+            self.rest = text;
+            self.texts = texts;
+        }
+        let chunk = first_chunk(self.rest, limit, is_alone);
+        self.rest = chunk.rest;
+        Some(chunk)
     }
 }

@@ -1,17 +1,15 @@
 //! Lists of positions, printed line by line with every move's score.
 
-ghost use Rattle.std.specs.Prelude.{◌≡◌, ◌≤◌, ◌&&◌, ◌∷◌, ◌++◌, [], IfOk, OnErr, OnOk, length, true};
-ghost use Rattle.std.specs.Io.KnownBytes.{Appends};
-ghost use Rattle.obf_text.specs.LineText.{lines_of, texts_of};
-ghost use Rattle.score_lines.specs.Lines.{AppendsFront, Prints, are_right, lists_right};
-ghost use Rattle.score_lines.specs.Lines.{lists_text, scores_text};
-ghost use Rattle.score_lists.specs.Started.{PrintsFronts, started_right, started_text};
-ghost use Rattle.score_lists.specs.Started.{window_right, window_text};
+ghost use Rattle.std.specs.Prelude.{◌≡◌, ◌≤◌, ◌<◌, IfOk, OnErr, OnOk, [], drop, false, length, true};
 ghost use Rattle.std.specs.Arc.{arc_value};
+ghost use Rattle.std.specs.Io.KnownBytes.{Appends};
+ghost use Rattle.obf_text.specs.LineText.{texts_of};
+ghost use Rattle.score_lines.specs.Lines.{AppendsFront, Prints, lists_right, lists_text};
+ghost use Rattle.score_lists.specs.Started.{Settles, all_due, lists_due, window_due};
 ghost use Rattle.score_lists.specs.declared.lists.ListFault.TheVariants.{CannotWrite, Memory};
 
-use crate::chunks::first_chunk;
-use crate::started::{Running, StartedChunk, start};
+use crate::chunks::Lists;
+use crate::started::{Scorer, StartedChunk, start};
 use bound_table::BoundTable;
 use score_lines::Demands;
 use std::alloc::{AllocError, AllocFailed, Global};
@@ -96,148 +94,122 @@ fn send<W: Write>(writer: &mut W, bytes: &[u8]) -> io::Result<()>
     Err(io::Error::from(ErrorKind::WriteZero))
 }
 
-// Prints the text of a started chunk, and flushes the writer. It waits for the chunk's thread, if it
-// has one. Returns whether all its lines are right: none is refused, and no remark is made.
-fn write_one<R: Threads, W: Write>(
-    rt: &R,
-    writer: &mut W,
-    started: StartedChunk<'_>,
-) -> Result<bool, ListFault>
-    ensures written { OnOk result (Appends (W.contents writer.old) (W.contents writer.new)
-        (started_text started.entry)) }
-    ensures front { OnErr result (AppendsFront (W.contents writer.old) (W.contents writer.new)
-        (started_text started.entry)) }
-    ensures right { IfOk result (λ right. right ≡ started_right started.entry) }
-{
-    let found = started.join(rt)?;
-    send(writer, &found.bytes)?;
-    Ok(found.right)
-}
-
-// The greatest number of chunks that wait to be printed while a further one is started.
-const MOST_STARTED: usize = 4095;
-
 // The started chunks that are not yet printed, in their order.
 #[derive(Drop)]
 struct Window<'a> {
     chunks: VecDeque<StartedChunk<'a>>,
-    running: Running,
+    // Whether all printed lines are right: none is refused, and no remark is made.
+    right: bool,
     // The greatest number of chunks that are scored on threads at once, less one.
     workers: u8,
 }
 
-impl<'a> Window<'a> {
-    // A window with no chunks.
-    fn new(alloc: Global, workers: u8) -> Result<Window<'a>, AllocError>
-        ensures { IfOk result (λ window. window.chunks.items ≡ []) }
-    {
-        let running = Arc::new(alloc, AtomicU64::new(0))?;
-        Ok(Window {
-            chunks: VecDeque::new(alloc),
-            running,
-            workers,
-        })
-    }
-
-    // Puts a started chunk behind the others.
-    fn push(&mut self, started: StartedChunk<'a>) -> Result<(), ListFault>
-        ensures { OnOk result
-            (self.new.chunks.items ≡ self.old.chunks.items ++ started.entry ∷ []) }
-    {
-        self.chunks.push_back(started)?;
-        Ok(())
-    }
-
+impl Window<'_> {
     // Whether the front chunk is scored.
-    fn is_front_done(&self) -> bool {
+    fn is_front_done(&self) -> bool
+        ensures { result ≡ true → 0 < length self.now.chunks.items }
+    {
         match self.chunks.front() {
             None => false,
             Some(front) => front.is_done(),
         }
     }
 
-    // Whether at most `most` chunks wait to be printed, and no more than `workers` are being scored
-    // on threads.
-    fn has_room(&self, most: usize) -> bool
-        ensures { result ≡ true → length self.now.chunks.items ≤ most }
+    // Waits until the front chunk is scored, or at most `most` chunks are left and a further one may
+    // be started. Returns whether the front chunk is scored.
+    fn wait<R: Wait>(&self, rt: &R, scorer: &Scorer, most: usize) -> bool
+        ensures some { result ≡ true → 0 < length self.now.chunks.items }
+        ensures few { result ≡ false → length self.now.chunks.items ≤ most }
     {
-        let running = self.running.load(Ordering::SeqCst);
-        self.chunks.len() <= most && running <= u64::from(self.workers)
+        for _ in rt.forever() {
+            let running = scorer.running.load(Ordering::SeqCst);
+            if self.is_front_done() {
+                return true;
+            }
+            if self.chunks.len() <= most && running <= u64::from(self.workers) {
+                return false;
+            }
+            scorer.running.park(rt, (running % 0x1_0000_0000) as u32);
+        }
+        unreachable!()
     }
 }
 
-// The low half of the count of chunks on threads, which `park` compares.
-fn low_half(running: &Running) -> u32 {
-    (running.load(Ordering::SeqCst) % 0x1_0000_0000) as u32
-}
-
-// Prints the front chunks that are scored, and waits until at most `most` are left and a further one
-// may be started. Returns whether the printed lines are right.
-fn write_due<R: Threads + Wait, W: Write>(
+// Prints the front chunk, if there is one, and flushes the writer. It waits for the chunk's thread,
+// if it has one.
+fn write_front<R: Threads, W: Write>(
     rt: &R,
     writer: &mut W,
     window: &mut Window<'_>,
-    most: usize,
-) -> Result<bool, ListFault>
-    ensures written { IfOk result (PrintsFronts (W.contents writer.old) (W.contents writer.new)
-        window.old.chunks.items window.new.chunks.items) }
-    ensures left { OnOk result (length window.new.chunks.items ≤ most) }
+) -> Result<(), ListFault>
+    ensures settled { OnOk result (Settles (W.contents writer.old) (W.contents writer.new)
+        (window_due window.old.right window.old.chunks.items)
+        (window_due window.new.right window.new.chunks.items)) }
+    ensures rest { OnOk result (window.new.chunks.items ≡ drop 1 window.old.chunks.items) }
     ensures front { OnErr result (AppendsFront (W.contents writer.old) (W.contents writer.new)
-        (window_text window.old.chunks.items)) }
+        (all_due window.old.chunks.items).text) }
 {
-    let mut right = true;
-    for _ in rt.forever() {
-        let seen = low_half(&window.running);
-        if !window.is_front_done() {
-            if window.has_room(most) {
-                return Ok(right);
-            }
-            window.running.park(rt, seen);
-            continue;
-        }
-        let Some(front) = window.chunks.pop_front() else {
-            return Ok(right);
-        };
-        let front_right = write_one(rt, writer, front)?;
-        right &= front_right;
-    }
-    unreachable!()
+    let Some(front) = window.chunks.pop_front() else {
+        return Ok(());
+    };
+    let found = front.join(rt)?;
+    send(writer, &found.bytes)?;
+    window.right &= found.right;
+    Ok(())
 }
 
-// Starts the chunks of a text behind those of the window, and prints the front chunks that are
-// scored. Returns whether the printed lines are right.
-fn start_text<'a, R: Threads + Wait, W: Write>(
+// The greatest number of chunks that wait to be printed while a further one is started.
+const MOST_STARTED: usize = 4095;
+
+// Prints the front chunks that are scored, and waits until at most `most` are left and a further one
+// may be started.
+fn write_due<R: Threads + Wait, W: Write>(
     rt: &R,
-    table: &Arc<BoundTable, Global>,
-    alloc: Global,
     writer: &mut W,
-    demands: Demands,
-    window: &mut Window<'a>,
-    text: &'a [u8],
-) -> Result<bool, ListFault>
-    requires { demands.limit ≤ 60 }
-    ensures written { OnOk result (Prints (W.contents writer.old) (W.contents writer.new)
-        (window_text window.new.chunks.items)
-        (window_text window.old.chunks.items
-        ++ scores_text (arc_value table.now).scoring demands text.now)) }
+    scorer: &Scorer,
+    window: &mut Window<'_>,
+    most: usize,
+) -> Result<(), ListFault>
+    ensures settled { OnOk result (Settles (W.contents writer.old) (W.contents writer.new)
+        (window_due window.old.right window.old.chunks.items)
+        (window_due window.new.right window.new.chunks.items)) }
+    ensures left { OnOk result (length window.new.chunks.items ≤ most) }
     ensures front { OnErr result (AppendsFront (W.contents writer.old) (W.contents writer.new)
-        (window_text window.old.chunks.items
-        ++ scores_text (arc_value table.now).scoring demands text.now)) }
-    ensures right { IfOk result (λ right. (right && window_right window.new.chunks.items)
-        ≡ (window_right window.old.chunks.items
-        && are_right (arc_value table.now).scoring demands (lines_of text.now))) }
+        (all_due window.old.chunks.items).text) }
 {
-    let mut right = true;
-    let mut rest = text;
-    while !rest.is_empty() {
-        let chunk = first_chunk(rest, demands.limit, window.workers == 0);
-        rest = chunk.rest;
-        let started = start(rt, &window.running, alloc, table, demands, chunk);
-        window.push(started)?;
-        let chunks_right = write_due(rt, writer, window, MOST_STARTED)?;
-        right &= chunks_right;
+    while window.wait(rt, scorer, most) {
+        write_front(rt, writer, window)?;
     }
-    Ok(right)
+    Ok(())
+}
+
+// Starts the chunks of texts behind those of an empty window, and prints all.
+fn print_all<'a, R: Threads + Wait, W: Write>(
+    rt: &R,
+    writer: &mut W,
+    scorer: &Arc<Scorer>,
+    alloc: Global,
+    window: &mut Window<'a>,
+    texts: &'a [Vec<u8>],
+) -> Result<(), ListFault>
+    requires limit { (arc_value scorer.now).demands.limit ≤ 60 }
+    requires empty { window.old.chunks.items ≡ [] }
+    requires right { window.old.right ≡ true }
+    ensures settled { OnOk result (Settles (W.contents writer.old) (W.contents writer.new)
+        (lists_due (arc_value scorer.now).table.scoring (arc_value scorer.now).demands
+        (texts_of texts.now))
+        (window_due window.new.right [])) }
+    ensures front { OnErr result (AppendsFront (W.contents writer.old) (W.contents writer.new)
+        (lists_text (arc_value scorer.now).table.scoring (arc_value scorer.now).demands
+        (texts_of texts.now))) }
+{
+    let shared = &**scorer;
+    let mut lists = Lists { rest: b"", texts };
+    while let Some(chunk) = lists.next_chunk(shared.demands.limit, window.workers == 0) {
+        window.chunks.push_back(start(rt, scorer, alloc, chunk))?;
+        write_due(rt, writer, shared, window, MOST_STARTED)?;
+    }
+    write_due(rt, writer, shared, window, 0)
 }
 
 /// Prints texts again, one after the other. Each line is written and flushed as soon as it and all
@@ -274,14 +246,19 @@ pub fn write_lists<R: Threads + Wait, W: Write>(
     ensures right { IfOk result (λ right. right
         ≡ lists_right table.scoring demands (texts_of texts.now)) }
 {
-    let shared = Arc::new(alloc, table)?;
-    let mut window = Window::new(alloc, workers)?;
-    let mut right = true;
-    for text in texts {
-        let text_right = start_text(rt, &shared, alloc, writer, demands, &mut window, text)?;
-        right &= text_right;
-    }
-    let rest_right = write_due(rt, writer, &mut window, 0)?;
-    right &= rest_right;
-    Ok(right)
+    let scorer = Arc::new(
+        alloc,
+        Scorer {
+            table,
+            demands,
+            running: AtomicU64::new(0),
+        },
+    )?;
+    let mut window = Window {
+        chunks: VecDeque::new(alloc),
+        right: true,
+        workers,
+    };
+    print_all(rt, writer, &scorer, alloc, &mut window, texts)?;
+    Ok(window.right)
 }

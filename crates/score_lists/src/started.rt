@@ -2,7 +2,7 @@
 
 ghost use Rattle.std.specs.Prelude.{◌≡◌, ◌≤◌, IfOk};
 ghost use Rattle.std.specs.Arc.{arc_value};
-ghost use Rattle.score_lists.specs.Started.{GivesText, started_view, started_view_of};
+ghost use Rattle.score_lists.specs.Started.{Gives, IsProgressOf, promise_due, text_due};
 
 use crate::chunks::Chunk;
 use bound_table::{BoundTable, Bounds};
@@ -15,6 +15,16 @@ use std::sync::atomic::{AtomicU64, Ordering};
 use std::thread;
 use std::thread::{Promise, PromisedHandle, Threads};
 
+/// What all threads share that score lines.
+#[derive(Drop)]
+pub(crate) struct Scorer {
+    pub table: BoundTable,
+    pub demands: Demands,
+    /// The number of chunks that are being scored on threads. The calling thread alone adds to it,
+    /// and sleeps until it changes.
+    pub running: AtomicU64,
+}
+
 /// The promise of a chunk's thread: it gives what is printed for the lines of `text`, under
 /// `scoring`, where `demands` are asked of them.
 #[derive(Clone, Copy)]
@@ -25,38 +35,41 @@ pub struct ChunkPromise<'a> {
 }
 
 impl<'a> Promise<Result<LinesText, AllocError>> for ChunkPromise<'a> {
-    ghost kept_by = { λ promise result.
-        GivesText promise.scoring promise.demands promise.text.now result };
+    ghost kept_by = { λ promise result. Gives (promise_due promise) result };
 }
 
-/// How many chunks are being scored on threads. The calling thread alone adds to it, and sleeps until
-/// it changes.
-pub(crate) type Running = Arc<AtomicU64, Global>;
-
-// What the thread of a chunk tells: the flag of the chunk, which is 1 once the chunk is scored, and
-// that one less is being scored.
+/// What the thread of a chunk works with.
 #[derive(Drop)]
-struct Signal {
-    done: Arc<AtomicU64, Global>,
-    running: Running,
+pub struct ChunkWork {
+    scorer: Arc<Scorer>,
+    alloc: Global,
+    // A copy of the chunk's lines.
+    text: Vec<u8>,
+    // 1 once the chunk is scored.
+    done: AtomicU64,
 }
 
-impl Signal {
-    // Tells that the chunk is scored.
-    fn tell(&self) {
+impl ChunkWork {
+    // Scores the chunk, and tells that it is scored.
+    fn run(&self) -> Result<LinesText, AllocError>
+        requires { (arc_value self.now.scorer).demands.limit ≤ 60 }
+        ensures { Gives (text_due (arc_value self.now.scorer).table.scoring
+            (arc_value self.now.scorer).demands self.now.text.items) result }
+    {
+        let scorer = &*self.scorer;
+        let found = lines_text(&scorer.table, self.alloc, scorer.demands, &self.text);
         self.done.store(1, Ordering::SeqCst);
-        self.running.fetch_sub(1, Ordering::SeqCst);
-        self.running.wake_all();
+        scorer.running.fetch_sub(1, Ordering::SeqCst);
+        scorer.running.wake_all();
+        found
     }
 }
 
-/// The thread of a chunk, and the flag of the chunk; or, where it has no thread, what is printed.
+/// The thread of a chunk, and what it works with; or, where the chunk has no thread, what is
+/// printed.
 #[derive(Drop)]
 pub enum Progress<'a> {
-    Spawned(
-        PromisedHandle<Result<LinesText, AllocError>, ChunkPromise<'a>>,
-        Arc<AtomicU64, Global>,
-    ),
+    Spawned(PromisedHandle<Result<LinesText, AllocError>, ChunkPromise<'a>>, Arc<ChunkWork>),
     Done(Result<LinesText, AllocError>),
 }
 
@@ -69,27 +82,27 @@ pub struct StartedChunk<'a> {
 }
 
 impl<'a> Model for StartedChunk<'a> {
-    ghost use Rattle.score_lists.specs.Started.{StartedView, IsProgressOf, started_view_of};
+    ghost use Rattle.score_lists.specs.Started.{Due, IsProgressOf, promise_due};
 
-    ghost Value = { StartedView };
+    ghost Value = { Due };
 
-    ghost view = { λ s. started_view_of s.promise };
+    ghost view = { λ s. promise_due s.promise };
 
-    ghost invariant = { λ s. IsProgressOf (started_view_of s.promise) s.progress };
+    ghost invariant = { λ s. IsProgressOf (promise_due s.promise) s.progress };
 }
 
 impl<'a> StartedChunk<'a> {
     // Whether the chunk is scored, as far as its thread has told.
     pub(crate) fn is_done(&self) -> bool {
         match &self.progress {
-            Progress::Spawned(_, done) => done.load(Ordering::SeqCst) != 0,
+            Progress::Spawned(_, work) => work.done.load(Ordering::SeqCst) != 0,
             Progress::Done(_) => true,
         }
     }
 
     // Waits for the chunk's thread, if it has one, and gives what is printed.
     pub(crate) fn join<R: Threads>(self, rt: &R) -> Result<LinesText, AllocError>
-        ensures { GivesText self.entry.scoring self.entry.demands self.entry.text result }
+        ensures { Gives self.entry result }
     {
         let StartedChunk {
             promise: _,
@@ -102,72 +115,47 @@ impl<'a> StartedChunk<'a> {
     }
 }
 
-// Starts a chunk on a thread of its own, which has a copy of the text. Where no thread can be
-// started, the calling thread scores the chunk, and tells it. `Err` where memory for the copy is
-// refused.
+// What the thread of a chunk works with, with a copy of the text.
+fn work_of(scorer: &Arc<Scorer>, alloc: Global, text: &[u8]) -> Result<ChunkWork, AllocError>
+    ensures { IfOk result (λ work.
+        (arc_value work.scorer ≡ arc_value scorer.now) × (work.text.items ≡ text.now)) }
+{
+    Ok(ChunkWork {
+        scorer: Arc::try_clone(scorer)?,
+        alloc,
+        text: Vec::from_slice(alloc, text)?,
+        done: AtomicU64::new(0),
+    })
+}
+
+// Starts a chunk on a thread of its own. Where no thread can be started, the calling thread scores
+// the chunk, and tells it. `Err` where memory is refused.
 fn spawn_chunk<'a, R: Threads>(
     rt: &R,
-    running: &Running,
+    scorer: &Arc<Scorer>,
     alloc: Global,
-    table: &Arc<BoundTable, Global>,
-    demands: Demands,
-    text: &'a [u8],
-) -> Result<StartedChunk<'a>, AllocError>
-    requires { demands.limit ≤ 60 }
-    ensures { IfOk result (λ started. started
-        ≡ started_view (arc_value table.now).scoring demands text.now) }
+    promise: ChunkPromise<'a>,
+) -> Result<Progress<'a>, AllocError>
+    requires limit { (arc_value scorer.now).demands.limit ≤ 60 }
+    requires scoring { promise.scoring ≡ (arc_value scorer.now).table.scoring }
+    requires demands { promise.demands ≡ (arc_value scorer.now).demands }
+    ensures { IfOk result (λ progress. IsProgressOf (promise_due promise.entry) progress) }
 {
-    let promise = ChunkPromise {
-        scoring: table.scoring(),
-        demands,
-        text,
-    };
-    let own_table = Arc::try_clone(table)?;
-    let own_text = Vec::from_slice(alloc, text)?;
-    let done = Arc::new(alloc, AtomicU64::new(0))?;
-    let signal = Signal {
-        done: Arc::try_clone(&done)?,
-        running: Arc::try_clone(running)?,
-    };
-    running.fetch_add(1, Ordering::SeqCst);
+    let work = Arc::new(alloc, work_of(scorer, alloc, promise.text)?)?;
+    let own = Arc::try_clone(&work)?;
+    scorer.running.fetch_add(1, Ordering::SeqCst);
     let spawned = thread::spawn_with(
         rt,
         promise,
         move || -> Result<LinesText, AllocError>
-            requires { demands.limit ≤ 60 }
-            ensures { GivesText (arc_value own_table).scoring demands own_text.items result }
-        {
-            let found = lines_text(&*own_table, alloc, demands, &own_text);
-            signal.tell();
-            found
-        },
+            requires { (arc_value (arc_value own).scorer).demands.limit ≤ 60 }
+            ensures { Gives (text_due (arc_value (arc_value own).scorer).table.scoring
+                (arc_value (arc_value own).scorer).demands (arc_value own).text.items) result }
+        { own.run() },
     );
-    let progress = match spawned {
-        Ok(handle) => Progress::Spawned(handle, done),
-        Err(refused) => Progress::Done((refused.value)()),
-    };
-    Ok(StartedChunk { promise, progress })
-}
-
-// Scores a chunk on the calling thread.
-fn score_chunk<'a>(
-    alloc: Global,
-    table: &Arc<BoundTable, Global>,
-    demands: Demands,
-    text: &'a [u8],
-) -> StartedChunk<'a>
-    requires { demands.limit ≤ 60 }
-    ensures { result ≡ started_view (arc_value table.now).scoring demands text.now }
-{
-    let promise = ChunkPromise {
-        scoring: table.scoring(),
-        demands,
-        text,
-    };
-    let found = lines_text(&**table, alloc, demands, text);
-    StartedChunk {
-        promise,
-        progress: Progress::Done(found),
+    match spawned {
+        Ok(handle) => Ok(Progress::Spawned(handle, work)),
+        Err(refused) => Ok(Progress::Done((refused.value)())),
     }
 }
 
@@ -175,25 +163,28 @@ fn score_chunk<'a>(
 /// is short or a thread can't be started.
 pub(crate) fn start<'a, R: Threads>(
     rt: &R,
-    running: &Running,
+    scorer: &Arc<Scorer>,
     alloc: Global,
-    table: &Arc<BoundTable, Global>,
-    demands: Demands,
     chunk: Chunk<'a>,
 ) -> StartedChunk<'a>
-    requires { demands.limit ≤ 60 }
-    ensures { result ≡ started_view (arc_value table.now).scoring demands chunk.entry.front.now }
+    requires { (arc_value scorer.now).demands.limit ≤ 60 }
+    ensures { result ≡ text_due (arc_value scorer.now).table.scoring
+        (arc_value scorer.now).demands chunk.entry.front.now }
 {
-    let Chunk {
-        front,
-        rest: _,
-        is_short,
-    } = chunk;
-    if is_short {
-        return score_chunk(alloc, table, demands, front);
+    let shared = &**scorer;
+    let promise = ChunkPromise {
+        scoring: shared.table.scoring(),
+        demands: shared.demands,
+        text: chunk.front,
+    };
+    if !chunk.is_short {
+        if let Ok(progress) = spawn_chunk(rt, scorer, alloc, promise) {
+            return StartedChunk { promise, progress };
+        }
     }
-    match spawn_chunk(rt, running, alloc, table, demands, front) {
-        Ok(started) => started,
-        Err(_) => score_chunk(alloc, table, demands, front),
+    let found = lines_text(&shared.table, alloc, shared.demands, chunk.front);
+    StartedChunk {
+        promise,
+        progress: Progress::Done(found),
     }
 }

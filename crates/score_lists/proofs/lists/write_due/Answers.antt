@@ -1,27 +1,18 @@
-use Rattle.std.proofs.Common.{◌≡◌, ◌∷◌, rules}
 use Rattle.score_lines.proofs.Results.{on_err}
-use Rattle.score_lists.proofs.StartedSteps.{fronts_more, fronts_start, fronts_stop}
+use Rattle.score_lists.specs.Started.{window_due}
+use Rattle.score_lists.proofs.StartedSteps.{settles_stop, settles_then}
 use Rattle.score_lists.proofs.lists.write_due.Goals as goal
 
-pub loop-init : goal.loop-init
-loop-init g c = fronts_start _ _
+pub loop-writer-preserved : goal.loop-writer-preserved
+loop-writer-preserved g c =
+    settles_then _ _ _ (window_due c.args.window.now.right c.args.window.now.chunks.items)
+    (window_due c.loop-writer.window.right c.loop-writer.window.chunks.items)
+    (window_due c.write_front.new.window.right c.write_front.new.window.chunks.items)
+    c.loop-writer.invariant c.in_ok-write_front.ensures.settled
 
-pub returns-in_err-front_right-clause-front : goal.returns-in_err-front_right-clause-front
-returns-in_err-front_right-clause-front g c =
-    let s = c.in-Some-pop_front.front in
-    let left = c.loop.window.chunks.items in
-    let after = c.pop_front.new.self.items in
-    let cut : left ≡ s ∷ after = c.in-Some-pop_front.ensures.items in
+pub returns-in_err-write_front-clause-front : goal.returns-in_err-write_front-clause-front
+returns-in_err-write_front-clause-front g c =
     on_err c.from_residual.result _
-    (fronts_stop _ _ _ _ left after s c.loop.right cut c.loop.invariant
-    c.in_err-front_right.ensures.front)
-
-pub loop-preserved : goal.loop-preserved
-loop-preserved g c =
-    let s = c.in-Some-pop_front.front in
-    let left = c.loop.window.chunks.items in
-    let after = c.pop_front.new.self.items in
-    let cut : left ≡ s ∷ after = c.in-Some-pop_front.ensures.items in
-    let w = c.in_ok-front_right.ensures in
-    fronts_more _ _ _ _ left after s c.loop.right c.in_ok-front_right.front_right _ cut
-    c.loop.invariant w.written w.right (search rules)
+    (settles_stop _ _ _ (window_due c.args.window.now.right c.args.window.now.chunks.items)
+    (window_due c.loop-writer.window.right c.loop-writer.window.chunks.items)
+    c.loop-writer.invariant c.in_err-write_front.ensures.front)
