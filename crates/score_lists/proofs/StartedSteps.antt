@@ -1,5 +1,5 @@
 -- The steps of the loops that print what is due.
-use Rattle.std.proofs.Common.{◌≡◌, ℕ, Bool, true, ◌&&◌, List, [], ◌∷◌, ◌++◌, ◌≤◌, length}
+use Rattle.std.proofs.Common.{◌≡◌, ℕ, Bool, true, ◌&&◌, List, [], ◌∷◌, ◌++◌, ◌≤◌, ◌<◌, length, drop}
 use Rattle.std.proofs.Common.{refl, sym, ap, ◌∙◌, subst, Option, arith}
 use Rattle.std.specs.Io.KnownBytes.{Appends}
 use Rattle.std.proofs.lemmas.List.{append_assoc, append-nil}
@@ -93,6 +93,13 @@ front_settled old now front chunks after right next cut w to =
           ∙ and_assoc right front.right (all_due after).right
           ∙ ap (λ (due : Due). right && due.right) (sym is);
     }
+
+-- one chunk fewer is left
+pub fewer : (chunks after : List Due) → after ≡ drop 1 chunks → 0 < length chunks
+    → length after < length chunks
+fewer [] after to some = absurd (omega (arith, some))
+fewer (x ∷ chunks) after to some =
+    subst (λ left. length left < length (x ∷ chunks)) (sym to) (omega arith)
 
 -- a front of what is due for the front chunk is a front of what is due for all
 pub front_stopped : (old now : Option (List ℕ)) (front : Due) (chunks after : List Due)

@@ -1,6 +1,6 @@
 use Rattle.score_lines.proofs.Results.{on_err}
 use Rattle.score_lists.specs.Started.{window_due}
-use Rattle.score_lists.proofs.StartedSteps.{settles_stop, settles_then}
+use Rattle.score_lists.proofs.StartedSteps.{fewer, settles_stop, settles_then}
 use Rattle.score_lists.proofs.lists.write_due.Goals as goal
 
 pub loop-writer-preserved : goal.loop-writer-preserved
@@ -16,3 +16,8 @@ returns-in_err-write_front-clause-front g c =
     (settles_stop _ _ _ (window_due c.args.window.now.right c.args.window.now.chunks.items)
     (window_due c.loop-writer.window.right c.loop-writer.window.chunks.items)
     c.loop-writer.invariant c.in_err-write_front.ensures.front)
+
+pub loop-writer-smaller : goal.loop-writer-smaller
+loop-writer-smaller g c =
+    fewer c.loop-writer.window.chunks.items c.write_front.new.window.chunks.items
+    c.in_ok-write_front.ensures.rest (c.wait.ensures.some c.loop-writer-test.true)
