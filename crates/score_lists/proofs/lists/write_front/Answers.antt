@@ -23,3 +23,6 @@ pub returns-clause-settled : goal.returns-clause-settled
 returns-clause-settled g c =
     front_settled _ _ c.in-Some.front _ c.pop_front.new.self.items c.args.window.now.right _
     c.in-Some.ensures.items (search rules) (search rules)
+
+pub returns-clause-rest : goal.returns-clause-rest
+returns-clause-rest g c = search rules
