@@ -1,10 +1,9 @@
 -- The null windows that find the value and the best moves, and the mask of those.
-use Rattle.std.proofs.Common.{◌≡◌, ℕ, ◌+◌, ◌^◌, ◌<◌, ℤ, pos, negsuc, neg_ℤ, ◌+ℤ◌, ◌-ℤ◌, ◌≤ℤ◌, true, false, not, ◌&&◌, nat_eq, List, [], take, length, get_or, All, Contains, sym, ◌∙◌, subst, inl, inr, arith}
-use Rattle.std.proofs.lemmas.Int.{ints, by_lt_z}
+use Rattle.std.proofs.Common.{◌≡◌, ℕ, ◌+◌, ◌^◌, ◌<◌, ℤ, neg_ℤ, ◌≤ℤ◌, true, false, not, ◌&&◌, nat_eq, List, [], take, length, get_or, All, Contains, sym, ◌∙◌, subst, inl, inr, arith}
+use Rattle.std.proofs.lemmas.Int.{ints}
 use Rattle.std.proofs.lemmas.Bool.{cases_Bool, both_ways, and_parts, and_from, false_from_ne_true}
 use Rattle.std.proofs.lemmas.Bool.Decides.{Decides-int_eq}
 use Rattle.std.proofs.lemmas.List.Elements.{All-more, All-weaker, All-contains}
-use lib.Signed.{le_z}
 use Rattle.othello_rules.specs.declared.scoring.Scoring.{Scoring}
 use Rattle.othello_rules.specs.Board.{squares}
 use Rattle.othello_rules.specs.Masks.{in_mask, squares_of}
@@ -14,41 +13,7 @@ use Rattle.othello_bits.specs.Pos.{PosView, mask_where, moves_of, play_of, value
 use Rattle.othello_bits.proofs.GameLaws.{value_above}
 use Rattle.othello_bits.proofs.MaskMeaning.{IsMove-on_board}
 use Rattle.othello_bits.proofs.TestMasks.{is_where}
-use Rattle.endgame_search.specs.Windows.{Places}
 use Rattle.endgame_search.proofs.TakenSquares.{other, gone}
-
--- a test of the code, as a fact
-pub le_in : (a b : ℤ) → le_z a b ≡ true → a ≤ℤ b
-le_in a b h = omega (arith, ints)
-
-pub le_out : (a b : ℤ) → a ≤ℤ b → le_z a b ≡ true
-le_out a b h = elim (cases_Bool (le_z a b)) [ inl t ↦ t | inr f ↦ absurd (omega (arith, ints)) ]
-
--- a null window under a move shows whether the move is worth at least the score
-pub gives_told : (low high s v r : ℤ) → low ≡ neg_ℤ s → high ≡ pos 1 -ℤ s → Places low high v r
-    → (r ≤ℤ low → s ≤ℤ neg_ℤ v) × (s ≤ℤ neg_ℤ v → r ≤ℤ low)
-gives_told low high s v r l h p = (
-  λ x. let k : v ≤ℤ r = p.below (omega (arith, ints)) in omega (arith, ints),
-  λ x. by_lt_z low r (λ y. let k = p.above y in omega (arith, ints)) (λ y. y),
-)
-
--- two null windows show whether a score is the value
-pub value_told : (low high s v r q : ℤ) → low ≡ s -ℤ pos 1 → high ≡ s +ℤ pos 1 → Places low s v r → s ≤ℤ r → Places s high v q
-    → (q ≤ℤ s → s ≡ v) × (s ≡ v → q ≤ℤ s)
-value_told low high s v r q l h first here second =
-    let f : r ≤ℤ v = first.above (omega (arith, ints)) in (
-      λ x. let k : v ≤ℤ q = second.below (omega (arith, ints)) in omega (arith, ints),
-      λ x. by_lt_z s q (λ y. let k : q ≤ℤ v = second.above y in absurd (omega (arith, ints))) (λ y. y),
-    )
-
--- the whole window gives the value
-pub whole_window : (v r : ℤ) → Places (negsuc 64) (pos 65) v r → r ≡ v
-whole_window v r p =
-    let l = p.least in
-    let m = p.most in
-    let a = p.above (omega (arith, ints)) in
-    let b = p.below (omega (arith, ints)) in
-    omega (arith, ints)
 
 -- a move is best exactly if it is worth at least the value
 module _ (g : Scoring) (p : PosView) (q : ℕ) (s : ℤ) (move : IsMove p q) (value : s ≡ value_of g p) where

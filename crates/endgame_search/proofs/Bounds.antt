@@ -1,5 +1,5 @@
 -- Null windows by their lower end, the bound b.
-use Rattle.std.proofs.Common.{◌≡◌, ℤ, pos, negsuc, neg_ℤ, ◌+ℤ◌, ◌-ℤ◌, ◌≤ℤ◌, true, false, sym, refl, ◌∙◌, subst, arith}
+use Rattle.std.proofs.Common.{◌≡◌, ℤ, pos, negsuc, neg_ℤ, ◌+ℤ◌, ◌-ℤ◌, ◌≤ℤ◌, true, false, sym, ap, refl, ◌∙◌, subst, arith}
 use lib.Signed.{lt_z}
 use Rattle.std.specs.Int.{int_max}
 use Rattle.std.proofs.lemmas.Int.{ints, clamps}
@@ -27,16 +27,20 @@ module _ (b : ℤ) (bound : IsBound b) where
   null_ends : IsWindow b (b +ℤ pos 1)
   null_ends = let l = bound.0 in let m = bound.1 in (omega (arith, ints), omega (arith, ints), omega (arith, ints))
 
-  pub decided_window : IsWindow (shown b) (shown (shown b +ℤ pos 1))
-  decided_window = recast_window b (b +ℤ pos 1) _ _ (sym bound_same) (sym upper_same) null_ends
-
-  pub decided_places : (v r : ℤ) → Places (shown b) (shown (shown b +ℤ pos 1)) v r → Places b (b +ℤ pos 1) v (shown r)
-  decided_places v r p =
-      recast _ _ b (b +ℤ pos 1) v r _ bound_same upper_same (sym (shown_same r (let l = p.least in omega (arith, ints)) (let m = p.most in omega (arith, ints)))) p
+  pub stored_window : IsWindow (shown b) (shown (shown b +ℤ pos 1))
+  stored_window = recast_window b (b +ℤ pos 1) _ _ (sym bound_same) (sym upper_same) null_ends
 
   pub same_places : (v r : ℤ) → Places (shown b) (shown b +ℤ pos 1) v r → Places b (b +ℤ pos 1) v (shown r)
   same_places v r p =
       recast _ _ b (b +ℤ pos 1) v r _ bound_same (λ k. bound_same k +ℤ pos 1) (sym (shown_same r (let l = p.least in omega (arith, ints)) (let m = p.most in omega (arith, ints)))) p
+
+  -- a score as it is stored, and as it is returned then
+  pub stored_places : (v s : ℤ) → Places b (b +ℤ pos 1) v s → Places (shown b) (shown (shown b +ℤ pos 1)) v s
+  stored_places v s p = recast b (b +ℤ pos 1) _ _ v s s (sym bound_same) (sym upper_same) refl p
+
+  pub stored_back : (v s r : ℤ) → Places b (b +ℤ pos 1) v s → r ≡ s → Places b (b +ℤ pos 1) v (shown r)
+  stored_back v s r p e =
+      recast b (b +ℤ pos 1) b (b +ℤ pos 1) v s _ refl refl (sym (shown_same s (let l = p.least in omega (arith, ints)) (let m = p.most in omega (arith, ints))) ∙ ap shown (sym e)) p
 
 -- a score r of the other side's, by the bound c that it sees
 turned_plain : (b c w r : ℤ) → c ≡ negsuc 0 -ℤ b → Places c (c +ℤ pos 1) w r → Places b (b +ℤ pos 1) (neg_ℤ w) (neg_ℤ r)
@@ -56,35 +60,6 @@ turned_above b w r bound p =
     let m = p.most in
     let n : shown (pos 0 -ℤ shown r) ≡ neg_ℤ r = omega (arith, ints) in
     recast b (b +ℤ pos 1) b (b +ℤ pos 1) (neg_ℤ w) (neg_ℤ r) _ refl refl (sym n) (turned_plain b _ w r (other_same b bound) p)
-
--- of two moves, worth u and w, the first is enough where its score is above the bound
-pub first_above : (b u w s : ℤ) → IsBound b → Places b (b +ℤ pos 1) u s → lt_z (shown b) s ≡ true → Places b (b +ℤ pos 1) (int_max u w) s
-first_above b u w s bound p h =
-    let e = bound_same b bound in
-    let k : s ≤ℤ u = p.above (omega (arith, ints)) in
-    record { below = λ x. absurd (omega (arith, ints)); above = λ x. omega (arith, ints, clamps); least = p.least; most = p.most }
-
--- where the first score is not above the bound, the greater of both scores places the worth of the better move
-both_plain : (b u w s t : ℤ) → s ≤ℤ b → Places b (b +ℤ pos 1) u s → Places b (b +ℤ pos 1) w t → Places b (b +ℤ pos 1) (int_max u w) (int_max s t)
-both_plain b u w s t o p q =
-    let k : u ≤ℤ s = p.below (omega (arith, ints)) in
-    let a = p.least in
-    let c = p.most in
-    let d = q.least in
-    let f = q.most in
-    record {
-      below = λ x. let j : w ≤ℤ t = q.below (omega (arith, ints, clamps)) in omega (arith, ints, clamps);
-      above = λ x. let j : t ≤ℤ w = q.above (omega (arith, ints, clamps)) in omega (arith, ints, clamps);
-      least = omega (arith, ints, clamps);
-      most = omega (arith, ints, clamps);
-    }
-
-pub both_above : (b u w s t m : ℤ) → IsBound b → lt_z (shown b) s ≡ false → Places b (b +ℤ pos 1) u s → Places b (b +ℤ pos 1) w t → m ≡ int_max s t → Places b (b +ℤ pos 1) (int_max u w) (shown m)
-both_above b u w s t m bound h p q is =
-    let r = both_plain b u w s t (let e = bound_same b bound in omega (arith, ints)) p q in
-    let l = r.least in
-    let n = r.most in
-    recast b (b +ℤ pos 1) b (b +ℤ pos 1) (int_max u w) (int_max s t) _ refl refl (sym (shown_same m (omega (arith, ints, is, l)) (omega (arith, ints, is, n)) ∙ is)) r
 
 -- one move is searched: s places what it is worth, u, which is at most the value v
 module _ (b v u s : ℤ) (bound : IsBound b) (p : Places b (b +ℤ pos 1) u s) (above : u ≤ℤ v) where
@@ -137,3 +112,11 @@ none_above b v best bound score open' covered =
     let l = score.low in
     let m = bound.1 in
     record { below = λ x. covered; above = λ x. absurd (omega (arith, ints)); least = omega (arith, ints); most = omega (arith, ints) }
+
+-- a move is worth minus u, where the most that the other side can have is a: enough if that is above the bound
+pub known_above : (b v u a : ℤ) → IsBound b → neg_ℤ u ≤ℤ v → u ≤ℤ a → negsuc 63 ≤ℤ a → a ≤ℤ pos 64 → lt_z (shown b) (shown (pos 0 -ℤ shown a)) ≡ true
+    → Places b (b +ℤ pos 1) v (shown (pos 0 -ℤ shown a))
+known_above b v u a bound worth most l m h =
+    let n : shown (pos 0 -ℤ shown a) ≡ neg_ℤ a = omega (arith, ints) in
+    let e = bound_same b bound in
+    record { below = λ x. absurd (omega (arith, ints)); above = λ x. omega (arith, ints); least = omega (arith, ints); most = omega (arith, ints) }

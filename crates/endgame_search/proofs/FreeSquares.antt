@@ -12,8 +12,8 @@ use Rattle.othello_bits.proofs.CountMeaning.{count-empty}
 use Rattle.othello_bits.proofs.GameLaws.{value_reached, empties_positive}
 use Rattle.othello_bits.proofs.Numbers.{count_below, is_number, ones_number}
 use Rattle.endgame_search.specs.Lasts.{IsFree, AreLast}
-use Rattle.endgame_search.proofs.Lasts.{move_free, free_mask, free_below}
-use Rattle.endgame_search.proofs.TakenSquares.{one_less, only_one, still_there}
+use Rattle.endgame_search.proofs.Lasts.{move_free, free_mask}
+use Rattle.endgame_search.proofs.TakenSquares.{on_board, one_less, only_one, still_there}
 
 more_below : (n : ℕ) (f g : ℕ → Bool) → ((i : ℕ) → f i ≡ true → g i ≡ true) → count_below n f ≤ count_below n g
 unfolding count_below
@@ -42,23 +42,27 @@ few_moves p m is fits =
 pub some_empty : (p : PosView) → moves_of p ≢ 0 → 1 ≤ empties_of p
 some_empty p some = let r = value_reached Winner p some in omega (arith, empties_positive p r.0 r.1)
 
--- s is one of two empty squares, and rest the mask of all but s
-module _ (p : PosView) (free rest s : ℕ) (two : empties_of p ≡ 2) (all : (q : ℕ) → IsFree p q → in_mask free q ≡ true) (count : ones free ≡ empties_of p) (here : IsFree p s)
+-- a mask of some squares
+pub some_square_left : (m n : ℕ) → ones m ≡ n → 0 < n → 0 < m
+unfolding ones
+some_square_left m n e h =
+    elim (cases_eq m 0) [
+      | inl z ↦ let k : ones m ≡ 0 = ap ones z in absurd (omega (arith, e, k, h))
+      | inr d ↦ omega (arith, d)
+    ]
+
+-- s is one of two empty squares, and rest the mask of the other one
+module _ (p : PosView) (free rest s : ℕ) (two : empties_of p ≡ 2) (all : (q : ℕ) → IsFree p q → in_mask free q ≡ true) (count : ones free ≡ empties_of p) (here : in_mask free s ≡ true)
     (taken : (i : ℕ) → in_mask rest i ≡ (in_mask free i && not (nat_eq s i))) (free_fits : free < 2 ^ 64) (rest_fits : rest < 2 ^ 64) where
   one_left : ones rest ≡ 1
-  one_left = omega (arith, one_less free rest s (all s here) taken free_fits rest_fits (free_below p s here), two, count)
+  one_left = omega (arith, one_less free rest s here taken free_fits rest_fits (on_board free s free_fits here), two, count)
 
-  pub some_left : 0 < rest
-  unfolding ones
-  some_left =
-      elim (cases_eq rest 0) [
-        | inl e ↦ let z : ones rest ≡ 0 = ap ones e in absurd (omega (arith, z, one_left))
-        | inr n ↦ omega (arith, n)
-      ]
+  pub other_left : 0 < rest
+  other_left = some_square_left rest 1 one_left (omega arith)
 
   pub other_last : (t : ℕ) → in_mask rest t ≡ true → AreLast p s t
   other_last t there q h =
-      elim (still_there free rest s (all s here) taken q (all q h)) [
+      elim (still_there free rest s here taken q (all q h)) [
         | inl e ↦ inl e
         | inr l ↦ inr (only_one rest t q rest_fits one_left there l)
       ]

@@ -63,8 +63,8 @@ signum-neg (pos zero) = refl
 signum-neg (pos (suc n)) = omega (arith, ints)
 signum-neg (negsuc n) = omega (arith, ints)
 
-score-turned : (g : Scoring) (a b : ℕ) → neg_ℤ (score_of g a b 0) ≡ score_of g b a 0
-score-turned Winner a b =
+pub score-turned : (g : Scoring) (a b e : ℕ) → neg_ℤ (score_of g a b e) ≡ score_of g b a e
+score-turned Winner a b e =
     elim (cases_Bool (nat_lt b a)) [
       | inl t ↦
           elim (cases_Bool (nat_lt a b)) [
@@ -73,8 +73,8 @@ score-turned Winner a b =
           ]
       | inr t ↦ elim (cases_Bool (nat_lt a b)) [ inl u ↦ rw (t, u) (omega (arith, ints)) | inr u ↦ rw (t, u) refl ]
     ]
-score-turned PlainDiscs a b = omega (arith, ints)
-score-turned Sign a b = let e : neg_ℤ (pos a -ℤ pos b) ≡ pos b -ℤ pos a = omega (arith, ints) in signum-neg (pos a -ℤ pos b) ∙ ap int_signum e
+score-turned PlainDiscs a b e = omega (arith, ints)
+score-turned Sign a b e = let h : neg_ℤ (pos a -ℤ pos b) ≡ pos b -ℤ pos a = omega (arith, ints) in signum-neg (pos a -ℤ pos b) ∙ ap int_signum h
 
 any-is_mem : (i : ℕ) (xs : List ℕ) → list_any (nat_eq i) xs ≡ mem i xs
 any-is_mem i xs = let same : nat_eq i ≡ (λ x. eqb x i) = λ k x. eqb_sym i x k in ap (λ (t : ℕ → Bool). list_any t xs) same
@@ -209,7 +209,7 @@ module _ (p : PosView) (s : ℕ) (m : IsMove p s) where
       let parts = partition (in_mask r.own) (in_mask r.opp) fine.apart in
       let w : count_by (in_mask r.own) squares ≡ 64 - n = omega (arith, parts, e, o) in
       let f : final_of g r ≡ score_of g (64 - n) n 0 = final-meaning g Black r fine ∙ (λ k. score_of g (w k) (o k) (e k)) in
-      last_worth p s last g m ∙ ap neg_ℤ f ∙ score-turned g (64 - n) n
+      last_worth p s last g m ∙ ap neg_ℤ f ∙ score-turned g (64 - n) n 0
 
 -- a disc turns something exactly where it is a move
 pub turns_none : (p : PosView) (s : ℕ) → ones (flips_of p s) ≡ 0 → IsMove p s → ⊥

@@ -1,9 +1,7 @@
 -- What is left of the game where one or two squares are empty.
-use Rattle.std.proofs.Common.{◌≡◌, ◌≢◌, ℕ, ◌<◌, true, false, cond, not, ◌||◌, nat_eq, ◌∷◌, length, get_or, refl, sym, ap, ◌∙◌, subst, inl, inr, arith, neg_ℤ}
+use Rattle.std.proofs.Common.{◌≡◌, ◌≢◌, ℕ, ◌<◌, true, false, cond, not, ◌||◌, nat_eq, ◌∷◌, length, get_or, refl, sym, ap, ◌∙◌, subst, inl, inr, neg_ℤ}
 use Rattle.std.specs.List.{list_any}
-use Rattle.std.specs.Int.{int_max}
 use Rattle.std.proofs.lemmas.Bool.{cases_Bool, cases_eq, eq-eqb, both_ways, or_left}
-use Rattle.std.proofs.lemmas.Int.{ints, clamps}
 use Rattle.othello_rules.specs.declared.scoring.Scoring.{Scoring}
 use Rattle.othello_rules.specs.declared.scoring.Scoring.TheVariants.{Winner}
 use Rattle.othello_rules.specs.declared.discs.Cell.TheVariants as cell
@@ -20,7 +18,7 @@ use Rattle.othello_bits.proofs.Bits.{none_from_zero}
 use Rattle.othello_bits.proofs.CellLaws.{length-cells_of, get_or-cells_of, same-empty_cell, has_empty}
 use Rattle.othello_bits.proofs.MaskMeaning.{is_move-from_IsMove}
 use Rattle.othello_bits.proofs.PlayMeaning.{position_of-discs_of}
-use Rattle.othello_bits.proofs.GameLaws.{value-over, value_above, value_reached}
+use Rattle.othello_bits.proofs.GameLaws.{value-over, value_reached}
 use Rattle.endgame_search.specs.Lasts.{IsFree, IsLast, AreLast}
 
 on_board : (s : Side) (p : PosView) (q : ℕ) → has (position_of s p) cell.Empty q ≡ true → q < 64
@@ -107,39 +105,3 @@ pub last_left : (p : PosView) (a b : ℕ) → AreLast p a b → IsLast (play_of 
 last_left p a b last q h =
     let f = play_free p a q h in
     elim (last q f.0) [ inl e ↦ absurd (f.1 e) | inr e ↦ e ]
-
-pub swapped : (p : PosView) (a b : ℕ) → AreLast p a b → AreLast p b a
-swapped p a b last q h = elim (last q h) [ inl e ↦ inr e | inr e ↦ inl e ]
-
-module _ (g : Scoring) (p : PosView) (a b : ℕ) (last : AreLast p a b) where
-  pub both_worth : IsMove p a → IsMove p b → value_of g p ≡ int_max (neg_ℤ (value_of g (play_of p a))) (neg_ℤ (value_of g (play_of p b)))
-  both_worth m n =
-      let r = value_reached g p (last_some p a m) in
-      let x = value_above g p a m in
-      let y = value_above g p b n in
-      elim (last r.0 (move_free p r.0 r.1)) [
-        | inl e ↦ let z : value_of g p ≡ neg_ℤ (value_of g (play_of p a)) = sym r.2 ∙ ap (λ q. neg_ℤ (value_of g (play_of p q))) e in omega (arith, ints, clamps)
-        | inr e ↦ let z : value_of g p ≡ neg_ℤ (value_of g (play_of p b)) = sym r.2 ∙ ap (λ q. neg_ℤ (value_of g (play_of p q))) e in omega (arith, ints, clamps)
-      ]
-
--- a is the only move
-pub sole_worth : (g : Scoring) (p : PosView) (a : ℕ) → IsMove p a → ((q : ℕ) → IsMove p q → q ≡ a) → value_of g p ≡ neg_ℤ (value_of g (play_of p a))
-sole_worth g p a m only =
-    let r = value_reached g p (last_some p a m) in
-    sym r.2 ∙ ap (λ q. neg_ℤ (value_of g (play_of p q))) (only r.0 r.1)
-
--- two moves are the two empty squares
-pub both_moves : (p : PosView) (a b q r : ℕ) → AreLast p a b → IsMove p q → IsMove p r → q ≢ r → IsMove p a × IsMove p b
-both_moves p a b q r last m n apart =
-    elim (last q (move_free p q m)) [
-      | inl e ↦
-          elim (last r (move_free p r n)) [
-            | inl f ↦ absurd (apart (e ∙ sym f))
-            | inr f ↦ (subst (IsMove p) e m, subst (IsMove p) f n)
-          ]
-      | inr e ↦
-          elim (last r (move_free p r n)) [
-            | inl f ↦ (subst (IsMove p) f n, subst (IsMove p) e m)
-            | inr f ↦ absurd (apart (e ∙ sym f))
-          ]
-    ]

@@ -64,19 +64,9 @@ best_of_others g p items searched best some others more all =
 pub all_others : (g : Scoring) (p : PosView) (items : List Child) (best : ℤ) → AreChildrenOf p items → AreOthersOf g p best items
 all_others g p items best children = record { each = children.each; every = λ q m. inl (children.every q m) }
 
-pub best_of_all : (g : Scoring) (p : PosView) (items : List Child) (best : ℤ) → moves_of p ≢ 0 → AreChildrenOf p items
-    → All (λ (c : Child). neg_ℤ (value_of g c.position) ≤ℤ best) items
-    → value_of g p ≤ℤ best
-best_of_all g p items best some children all =
-    best_of_others g p items best best some (all_others g p items best children) (omega (arith, ints)) all
-
 -- what a sort of the list leaves
 listed_sorted : (items sorted : List Child) (q : ℕ) → IsPermutation items sorted → Contains (squares_of items) q → Contains (squares_of sorted) q
 listed_sorted items sorted q permuted l = Contains-permutation (squares_of items) (squares_of sorted) q (IsPermutation-map (λ (c : Child). c.square) items sorted permuted) l
-
-pub children_sorted : (p : PosView) (items sorted : List Child) → IsPermutation items sorted → AreChildrenOf p items → AreChildrenOf p sorted
-children_sorted p items sorted permuted children =
-    record { each = All-permutation (IsChildOf p) items sorted permuted children.each; every = λ q m. listed_sorted items sorted q permuted (children.every q m) }
 
 pub others_sorted : (g : Scoring) (p : PosView) (best : ℤ) (items sorted : List Child) → IsPermutation items sorted → AreOthersOf g p best items → AreOthersOf g p best sorted
 others_sorted g p best items sorted permuted others =

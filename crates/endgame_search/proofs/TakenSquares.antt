@@ -95,14 +95,6 @@ still_held old new r here taken items grown x e made q h =
       | inr l ↦ inr (listed_more items grown x e q (inl l))
     ]
 
--- where taking one square leaves nothing, there is no other
-pub only_square : (old new r q : ℕ) → new ≡ 0 → ((i : ℕ) → in_mask new i ≡ (in_mask old i && not (nat_eq r i))) → in_mask old q ≡ true → q ≡ r
-only_square old new r q none taken here =
-    elim (cases_eq q r) [
-      | inl e ↦ e
-      | inr d ↦ absurd (both_ways (in_mask new q) (none_from_zero new none q) (other (in_mask old) (in_mask new) r taken q d ∙ here))
-    ]
-
 pub on_board : (m i : ℕ) → m < 2 ^ 64 → in_mask m i ≡ true → i < 64
 on_board m i fits here = elim (cases_lt i 64) [ inl l ↦ l | inr g ↦ absurd (both_ways (in_mask m i) (in_mask-above m i fits g) here) ]
 

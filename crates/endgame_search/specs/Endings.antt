@@ -1,7 +1,7 @@
 -- Positions with one empty square, as the search holds them.
 use Rattle.std.specs.Prelude.{◌≡◌, ◌<◌, ◌↔◌, count_ones}
 use Rattle.othello_bits.specs.Pos.{flips_of, IsMove}
-use Rattle.endgame_search.specs.declared.last_two.Ending.{Ending}
+use Rattle.endgame_search.specs.declared.last_four.Ending.{Ending}
 use Rattle.endgame_search.specs.Lasts.{IsLast}
 
 -- no square but e.square is empty, and e.turned is the number of discs that the mover turns by a

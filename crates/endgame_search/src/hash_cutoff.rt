@@ -1,11 +1,11 @@
 //! Cut-offs from the table, and what a search stores there.
 
-ghost use Rattle.std.specs.Prelude.{◌≡◌, ◌<ℤ◌, ◌≤ℤ◌, IfSome, All, negsuc, pos};
+ghost use Rattle.std.specs.Prelude.{◌≡◌, ◌<ℤ◌, ◌≤ℤ◌, ◌+ℤ◌, IfSome, All, negsuc, pos};
 ghost use Rattle.othello_rules.specs.Answer.{IsScore};
 ghost use Rattle.othello_bits.specs.Pos.{PosView, value_of};
 ghost use Rattle.bound_table.specs.Range.{range_view};
 ghost use Rattle.endgame_search.specs.Children.{IsChildOf};
-ghost use Rattle.endgame_search.specs.Windows.{IsWindow, IsWithin, Places};
+ghost use Rattle.endgame_search.specs.Windows.{IsBound, IsWindow, IsWithin, Places};
 
 use crate::move_order::Child;
 use bound_table::{Bounds, Range};
@@ -33,23 +33,21 @@ pub(crate) fn score_limit(scoring: Scoring) -> i8
     }
 }
 
-// Probes the table for a score that places the position's value in the window. There is one where
-// the range found is a single value, or lies wholly at an end of the window or beyond it.
+// Probes the table for a score that places the position's value in the window from the bound to one
+// above it. There is one where the range found lies wholly above the bound, or nowhere above it.
 #[inline(always)]
-pub(crate) fn decide<T: Bounds>(table: &T, position: Pos, low: i8, high: i8) -> Option<i8>
-    requires { IsWindow low high }
-    ensures { IfSome result (Places low high (value_of (T.scoring table.now) position)) }
+pub(crate) fn decide<T: Bounds>(table: &T, position: Pos, bound: i8) -> Option<i8>
+    requires { IsBound bound }
+    ensures { IfSome result
+        (Places bound (bound +ℤ pos 1) (value_of (T.scoring table.now) position)) }
 {
     let range = table.probe(&position)?;
     let least = range.low();
     let most = range.high();
-    if least == most {
+    if least > bound {
         return Some(least);
     }
-    if least >= high {
-        return Some(least);
-    }
-    if most <= low {
+    if most <= bound {
         return Some(most);
     }
     None
@@ -76,7 +74,7 @@ fn proved_range(low: i8, high: i8, score: i8) -> Range
 
 // The fewest empty squares of a position that `store_if_deep` stores. To search a position with
 // fewer again takes less time than to find it in the table.
-const FEWEST_STORED: u8 = 9;
+const FEWEST_STORED: u8 = 10;
 
 // Stores the range that a search of the window proves by its score, unless too few squares are
 // empty. Returns the score.
@@ -102,49 +100,44 @@ pub(crate) fn store_always<T: Bounds>(table: &T, position: Pos, low: i8, high: i
 }
 
 // The fewest empty squares of a position whose listed children are probed before one of them is
-// searched.
-const FEWEST_LOOKED_AHEAD: u8 = 10;
+// searched: with fewer, none of them is stored.
+const FEWEST_LOOKED_AHEAD: u8 = FEWEST_STORED + 1;
 
-// Probes the children for a cut-off: a move that is worth at least the upper end of the window, by
-// the table's range of its child. Returns a lower bound of the move's worth, and stores it as one
-// of the position's value. None where no child gives a cut-off, or too few squares are empty.
+// Probes the children for a cut-off: a move that is worth more than the bound, by the table's range
+// of its child. Returns a lower bound of the move's worth. None where no child gives a cut-off, or
+// too few squares are empty.
 #[inline(always)]
 pub(crate) fn probe_children<T: Bounds>(
     table: &T,
     position: Pos,
     children: &[Child],
-    low: i8,
-    high: i8,
+    bound: i8,
 ) -> Option<i8>
     requires children { All (IsChildOf position) children.now }
-    requires window { IsWindow low high }
-    ensures { IfSome result (Places low high (value_of (T.scoring table.now) position)) }
+    requires bound { IsBound bound }
+    ensures { IfSome result
+        (Places bound (bound +ℤ pos 1) (value_of (T.scoring table.now) position)) }
 {
     if position.empties() < FEWEST_LOOKED_AHEAD {
         return None;
     }
-    look_ahead(table, position, children, low, high)
+    look_ahead(table, position, children, bound)
 }
 
 // Probes the children for a cut-off, however many squares are empty. Returns a lower bound of the
-// worth of the move found, and passes it to `store_if_deep`. None where no child gives a cut-off.
+// worth of the move found. None where no child gives a cut-off.
 #[inline(never)]
-fn look_ahead<T: Bounds>(
-    table: &T,
-    position: Pos,
-    children: &[Child],
-    low: i8,
-    high: i8,
-) -> Option<i8>
+fn look_ahead<T: Bounds>(table: &T, position: Pos, children: &[Child], bound: i8) -> Option<i8>
     requires children { All (IsChildOf position) children.now }
-    requires window { IsWindow low high }
-    ensures { IfSome result (Places low high (value_of (T.scoring table.now) position)) }
+    requires bound { IsBound bound }
+    ensures { IfSome result
+        (Places bound (bound +ℤ pos 1) (value_of (T.scoring table.now) position)) }
 {
     for child in children {
         if let Some(range) = table.probe(&child.position) {
             let worth = -range.high();
-            if worth >= high {
-                return Some(store_if_deep(table, position, low, high, worth));
+            if worth > bound {
+                return Some(worth);
             }
         }
     }

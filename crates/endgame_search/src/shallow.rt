@@ -1,34 +1,28 @@
 //! Null windows of positions with at most 7 empty squares. A null window runs from its lower end,
 //! the bound, to one above it. Nothing is stored, and no child is probed before it is searched. The
-//! limit is 7 because to make a list of 8 children would take a function call.
+//! limit is 7 because to make a list of 8 children would take a function call. With at most 4 empty
+//! squares a list takes more time than its order saves.
 
-ghost use Rattle.std.specs.Prelude.{◌≡◌, ◌≢◌, ◌≤◌, ◌≤ℤ◌, ◌+ℤ◌, pos, negsuc, length, IsTrue};
+ghost use Rattle.std.specs.Prelude.{◌≡◌, ◌≢◌, ◌≤◌, ◌≤ℤ◌, ◌+ℤ◌, pos, negsuc, length};
 ghost use Rattle.othello_bits.specs.Pos.{moves_of, empties_of, value_of, HasNoMove};
-ghost use Rattle.endgame_search.specs.Windows.{IsBound, IsWindow, Places};
+ghost use Rattle.endgame_search.specs.Windows.{IsBound, Places};
 ghost use Rattle.endgame_search.specs.Children.{AreOthersOf};
 
 use crate::hash_cutoff::{BELOW_ALL_SCORES, decide};
-use crate::last_two::search_two;
+use crate::last_four::try_squares;
 use crate::move_order::{Child, add_children, add_until_stuck, indices_of, next_of};
 use arrayvec::ArrayVec;
 use bound_table::Bounds;
 use othello_bits::{Pos, without};
 
 // The most empty squares of a position that this module searches.
-const MOST_FEW_EMPTIES: u8 = 7;
+pub(crate) const MOST_FEW_EMPTIES: u8 = 7;
+
+// The most empty squares of a position whose moves are tried in the order of their squares.
+const MOST_IN_ORDER: u8 = 4;
 
 // The room of a list of children: one for each empty square.
 const FEW_ROOM: usize = MOST_FEW_EMPTIES as usize;
-
-// Whether this module searches a window of a position with `empties` empty squares: the window is
-// null, and at most 7 squares are empty.
-#[inline(always)]
-pub(crate) fn is_null_of_few(empties: u8, low: i8, high: i8) -> bool
-    requires { IsWindow low high }
-    ensures { IsTrue result → (empties ≤ 7) × (high ≡ low +ℤ pos 1) }
-{
-    empties <= MOST_FEW_EMPTIES && high == low + 1
-}
 
 // Searches a position with at most 7 empty squares. Returns a score that places its value in the
 // window from the bound to one above it.
@@ -69,7 +63,7 @@ fn search_few_pass<T: Bounds>(table: &T, position: Pos, bound: i8) -> i8
     if replies == 0 {
         return position.final_score(table.scoring());
     }
-    if let Some(score) = decide(table, position, bound, bound + 1) {
+    if let Some(score) = decide(table, position, bound) {
         return score;
     }
     -search_few_moves(table, passed, replies, position.empties(), -1 - bound)
@@ -87,8 +81,8 @@ fn search_few_moves<T: Bounds>(table: &T, position: Pos, moves: u64, empties: u8
     requires bound { IsBound bound }
     ensures { Places bound (bound +ℤ pos 1) (value_of (T.scoring table.now) position) result }
 {
-    if empties == 2 {
-        search_two(table, position, moves, bound)
+    if empties <= MOST_IN_ORDER {
+        try_squares(table, position, moves, empties, bound)
     } else {
         search_few_by_list(table, position, moves, bound)
     }
@@ -108,7 +102,7 @@ fn search_few_by_list<T: Bounds>(table: &T, position: Pos, moves: u64, bound: i8
     ensures { Places bound (bound +ℤ pos 1) (value_of (T.scoring table.now) position) result }
 {
     let mut children = ArrayVec::<Child, FEW_ROOM>::new();
-    if let Some(score) = decide(table, position, bound, bound + 1) {
+    if let Some(score) = decide(table, position, bound) {
         return score;
     }
     let Some(stuck) = add_until_stuck(position, moves, &mut children) else {

@@ -1,16 +1,16 @@
 //! Positions with their answers.
 
-ghost use Rattle.std.specs.Prelude.{◌≡◌, ◌≢◌, ◌↔◌, ◌≤ℤ◌, neg_ℤ, IsTrue};
+ghost use Rattle.std.specs.Prelude.{◌≡◌, ◌↔◌, ◌≤ℤ◌, ◌<ℤ◌, neg_ℤ, IsTrue};
 ghost use Rattle.othello_rules.specs.declared.scoring.Scoring.TheVariants.{Sign};
 ghost use Rattle.othello_rules.specs.Answer.{IsScore};
 ghost use Rattle.std.proofs.Common.{sym};
 ghost use Rattle.endgame_search.specs.Task.{TaskView};
+ghost use Rattle.endgame_search.specs.Windows.{IsBound};
 ghost use Rattle.othello_bits.specs.Pos.{moves_of, play_of, value_of, answer_of, best_answer};
 ghost use Rattle.othello_bits.specs.Pos.{is_best_move, mask_where, IsMove};
 
 use crate::alpha_beta::search_scores;
-use crate::hash_cutoff::{ABOVE_ALL_SCORES, BELOW_ALL_SCORES, decide, score_limit, store_if_deep};
-use crate::root::leading_moves;
+use crate::hash_cutoff::{ABOVE_ALL_SCORES, BELOW_ALL_SCORES, store_if_deep};
 use crate::task::Task;
 use bound_table::Bounds;
 use othello_bits::{Pos, without};
@@ -88,12 +88,13 @@ pub struct Claim {
 }
 
 /// The value of a position under the table's scoring, as the mover sees it: in discs from -64 to
-/// 64, or 1, 0 or -1 under `Sign`. Positions with fewer than 9 empty squares are not stored.
+/// 64, or 1, 0 or -1 under `Sign`. Positions with few empty squares are not stored.
 pub fn exact_value<T: Bounds>(table: &T, position: Pos) -> i8
     ensures value { result ≡ value_of (T.scoring table.now) position }
     ensures in_range { IsScore result }
 {
-    search_scores(table, position, BELOW_ALL_SCORES, ABOVE_ALL_SCORES)
+    let score = search_scores(table, position, 0, BELOW_ALL_SCORES, ABOVE_ALL_SCORES);
+    store_if_deep(table, position, BELOW_ALL_SCORES, ABOVE_ALL_SCORES, score)
 }
 
 /// Solves a task: its position with the exact value and all moves that attain it. The table has the
@@ -102,36 +103,8 @@ pub fn solve<T: Bounds>(table: &T, task: Task) -> Solved
     requires { task.scoring ≡ T.scoring table.now }
     ensures { result ≡ task }
 {
-    let moves = task.pos().moves();
-    if moves != 0 {
-        return solve_moves(table, task, moves);
-    }
     let score = exact_value(table, task.pos());
     solved_at(table, task, score)
-}
-
-// Solves a task whose mover has a move. One pass over the moves finds the value and the moves that
-// attain it. Where the table shows the value, null windows find the moves.
-fn solve_moves<T: Bounds>(table: &T, task: Task, moves: u64) -> Solved
-    requires scoring { task.scoring ≡ T.scoring table.now }
-    requires moves { moves ≡ moves_of task.position }
-    requires some { moves ≢ 0 }
-    ensures { result ≡ task }
-{
-    let position = task.pos();
-    let most = score_limit(table.scoring());
-    if let Some(score) = decide(table, position, -most, most) {
-        return solved_at(table, task, score);
-    }
-    let leaders = leading_moves(table, position, moves);
-    let score = store_if_deep(
-        table,
-        position,
-        BELOW_ALL_SCORES,
-        ABOVE_ALL_SCORES,
-        leaders.score,
-    );
-    solved_as(task, score, Best::Moves(leaders.moves))
 }
 
 /// Solves a task by tests of a claim. The result is that of `solve` whatever the claim is, and
@@ -160,10 +133,18 @@ fn is_value<T: Bounds>(table: &T, position: Pos, score: i8) -> bool
     if score > GREATEST_SCORE {
         return false;
     }
-    if search_scores(table, position, score - 1, score) < score {
+    if !is_above(table, position, score - 1) {
         return false;
     }
-    search_scores(table, position, score, score + 1) <= score
+    !is_above(table, position, score)
+}
+
+// Whether the value of the position is above the bound, by a null window.
+fn is_above<T: Bounds>(table: &T, position: Pos, bound: i8) -> bool
+    requires { IsBound bound }
+    ensures { IsTrue result ↔ (bound <ℤ value_of (T.scoring table.now) position) }
+{
+    search_scores(table, position, bound, bound, bound + 1) > bound
 }
 
 // The solved position of a task whose value is known: null windows find what attains it.
@@ -173,15 +154,6 @@ fn solved_at<T: Bounds>(table: &T, task: Task, score: i8) -> Solved
     ensures { result ≡ task }
 {
     let best = best_from(table, task.pos(), score);
-    solved_as(task, score, best)
-}
-
-// The solved position of a task whose value is known, and what attains it.
-fn solved_as(task: Task, score: i8, best: Best) -> Solved
-    requires value { score ≡ value_of task.scoring task.position }
-    requires best { best ≡ best_answer task.scoring task.position }
-    ensures { result ≡ task }
-{
     Solved {
         position: task.pos(),
         scoring: task.scoring(),
@@ -231,5 +203,5 @@ fn gives<T: Bounds>(table: &T, position: Pos, square: Square, score: i8) -> bool
         ↔ (score ≤ℤ neg_ℤ (value_of (T.scoring table.now) (play_of position square))) }
 {
     let after = position.after(square, position.flips(square));
-    search_scores(table, after, -score, 1 - score) <= -score
+    !is_above(table, after, -score)
 }

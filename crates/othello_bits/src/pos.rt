@@ -131,7 +131,7 @@ impl Pos {
 
     /// The position after a move on the square, with the opponent to move. None where the square is
     /// occupied or no disc is turned.
-    #[inline]
+    #[inline(always)]
     pub fn play(self, square: Square) -> Option<Pos>
         ensures legal { (s : Side)
             → IsSome result ↔ IsTrue (rules.is_move (position_of s self) square) }

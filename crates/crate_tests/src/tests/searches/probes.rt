@@ -35,14 +35,14 @@ fn store_value(table: &BoundTable, position: Pos) {
     table.store(&position, exact);
 }
 
-// Whether one probe shows the value 62, and the best move, H1, takes more probes.
+// Whether two probes show the value 62, and the best move, H1, takes more probes.
 fn is_62_at_h1(counter: &ProbeCounter, task: Task) -> bool
     requires { task.scoring ≡ counter.now.table.scoring }
 {
     value_in(counter, task.pos(), -65, 65) == 62
-        && counter.probes.get() == 1
+        && counter.probes.get() == 2
         && solve(counter, task).answer().best == Best::Moves(H1)
-        && counter.probes.get() > 1
+        && counter.probes.get() > 4
 }
 
 fn is_stored_value_told(rt: &impl Abort, alloc: Global, position: Pos) -> bool {
@@ -151,13 +151,13 @@ fn a_small_position_is_solved_without_a_store(rt: HostRuntime) {
     assert!(rt; stores_nothing(&counter, task_of(&rt, position, Scoring::Winner)));
 }
 
-// Whether a search takes more than one probe and stores the position last: a second search ends at
-// its first probe.
+// Whether a search takes more than two probes and stores the position last: a second search ends at
+// its second probe.
 fn is_value_stored(counter: &ProbeCounter, position: Pos) -> bool {
     let score = exact_value(counter, position);
-    counter.probes.replace(0) > 1
+    counter.probes.replace(0) > 2
         && exact_value(counter, position) == score
-        && counter.probes.get() == 1
+        && counter.probes.get() == 2
 }
 
 #[test]

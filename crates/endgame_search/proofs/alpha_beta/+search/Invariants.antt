@@ -1,7 +1,6 @@
-use Rattle.std.proofs.Common.{◌*◌, ◌+◌, neg_ℤ, ◌≤ℤ◌, take, All}
+use Rattle.std.proofs.Common.{◌*◌, ◌+◌, negsuc, neg_ℤ, ◌≤ℤ◌, take, All}
 use Rattle.othello_bits.specs.Pos.{empties_of, value_of}
 use Rattle.endgame_search.specs.declared.move_order.Child.{Child}
-use Rattle.endgame_search.specs.Windows.{KeepsBest}
 use Rattle.endgame_search.proofs.alpha_beta.+search.Given as goal
 
 abbrev pub decreases-search : goal.decreases-search
@@ -13,6 +12,9 @@ decreases-search_pass g l = 8 * empties_of l.position + 6
 abbrev pub decreases-search_moves : goal.decreases-search_moves
 decreases-search_moves g l = 8 * empties_of l.position + 5
 
+abbrev pub decreases-search_by_list : goal.decreases-search_by_list
+decreases-search_by_list g l = 8 * empties_of l.position + 4
+
 abbrev pub decreases-search_up_to_16 : goal.decreases-search_up_to_16
 decreases-search_up_to_16 g l = 8 * empties_of l.position + 3
 
@@ -22,12 +24,10 @@ decreases-search_up_to_64 g l = 8 * empties_of l.position + 3
 abbrev pub decreases-search_children : goal.decreases-search_children
 decreases-search_children g l = 8 * empties_of l.position + 2
 
-abbrev pub decreases-search_after : goal.decreases-search_after
-decreases-search_after g l = 8 * empties_of l.after + 8
-
 abbrev pub invariant-search_children-loop-child : goal.invariant-search_children-loop-child
 invariant-search_children-loop-child g l = record {
   searched : All (λ (c : Child). neg_ℤ (value_of (g.T.Bounds.scoring l.table) c.position) ≤ℤ l.best) (take l.child-index l.children);
-  best : KeepsBest l.low l.high (value_of (g.T.Bounds.scoring l.table) l.position) l.best;
+  least : negsuc 64 ≤ℤ l.best;
+  open_left : l.best ≤ℤ l.bound;
   grown : l.fn.searched ≤ℤ l.best;
 }

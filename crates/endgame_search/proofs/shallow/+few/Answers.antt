@@ -1,11 +1,12 @@
 -- Goals that a search would prove are answered too: the search takes longer.
-use Rattle.std.proofs.Common.{arith, rules, refl, pos, negsuc, ◌≡◌, ◌≤◌, ◌<◌, ◌+◌, ◌*◌, ◌-ℤ◌, ◌+ℤ◌, get_or, sym, ap, ◌∙◌, subst}
+use Rattle.std.proofs.Common.{arith, rules, refl, pos, negsuc, ◌≡◌, ◌≤◌, ◌<◌, ◌+◌, ◌*◌, ◌-ℤ◌, ◌+ℤ◌, get_or, true, sym, ap, ◌∙◌, subst}
 use Rattle.std.proofs.lemmas.Int.{ints}
+use Rattle.othello_rules.specs.Masks.{in_mask}
 use Rattle.othello_bits.specs.Pos.{moves_of, pass_of, empties_of, final_of, value_of, HasNoMove}
 use Rattle.othello_bits.proofs.GameLaws.{value_score, value-over}
 use Rattle.endgame_search.specs.Children.{IsChildOf, AreOthersOf}
 use Rattle.endgame_search.specs.Windows.{Places}
-use Rattle.endgame_search.proofs.Bounds.{bound_same, shown_bound, other_bound, decided_window, decided_places, same_places, turned_above, cut_above, score_open, score_covers, best_grows, best_covers, best_open, best_least, none_above, before_first, after_first}
+use Rattle.endgame_search.proofs.Bounds.{bound_same, shown_bound, other_bound, same_places, turned_above, cut_above, score_open, score_covers, best_grows, best_covers, best_open, best_least, none_above, before_first, after_first}
 use Rattle.endgame_search.proofs.FreeSquares.{few_moves, some_empty}
 use Rattle.endgame_search.proofs.Moves.{child_worth, child_empties, passed_worth, passed_empties, best_of_others, others_left, all_others}
 use Rattle.endgame_search.proofs.SearchedChildren.{at_left, none_searched, one_searched, all_searched_of}
@@ -45,10 +46,10 @@ search_few_pass-returns-then-replies-eq0 g t c =
     exact _ _ _ _ s (f ∙ e)
 
 pub search_few_pass-decide-requires : goal.search_few_pass-decide-requires
-search_few_pass-decide-requires g t c = decided_window c.args.bound c.requires.bound
+search_few_pass-decide-requires g t c = shown_bound c.args.bound c.requires.bound
 
 pub search_few_pass-returns-in-Some : goal.search_few_pass-returns-in-Some
-search_few_pass-returns-in-Some g t c = decided_places c.args.bound c.requires.bound _ _ c.in-Some.ensures
+search_few_pass-returns-in-Some g t c = same_places c.args.bound c.requires.bound _ _ c.in-Some.ensures
 
 pub search_few_pass-search_few_moves-requires : goal.search_few_pass-search_few_moves-requires
 search_few_pass-search_few_moves-requires g t c κs within =
@@ -65,17 +66,13 @@ search_few_pass-returns g t c =
     subst (λ z. Places c.args.bound (c.args.bound +ℤ pos 1) z (shown (pos 0 -ℤ shown c.search_few_moves.result))) (sym w)
     (turned_above c.args.bound _ _ c.requires.bound c.search_few_moves.ensures)
 
-pub search_few_moves-search_two-requires-clause-two : goal.search_few_moves-search_two-requires-clause-two
-search_few_moves-search_two-requires-clause-two g t c = sym c.requires.empties ∙ c.if-empties-eq2.true
-
-pub search_few_moves-search_two-requires-clause-moves : goal.search_few_moves-search_two-requires-clause-moves
-search_few_moves-search_two-requires-clause-moves g t c = c.requires.moves
-
-pub search_few_moves-search_two-requires-clause-some : goal.search_few_moves-search_two-requires-clause-some
-search_few_moves-search_two-requires-clause-some g t c = c.requires.some
-
-pub search_few_moves-search_two-requires-clause-bound : goal.search_few_moves-search_two-requires-clause-bound
-search_few_moves-search_two-requires-clause-bound g t c = shown_bound c.args.bound c.requires.bound
+pub search_few_moves-try_squares-requires : goal.search_few_moves-try_squares-requires
+search_few_moves-try_squares-requires g t c =
+    record {
+      squares = λ q m. subst (λ n. in_mask n q ≡ true) (sym c.requires.moves) m;
+      empties = c.requires.empties;
+      bound = shown_bound c.args.bound c.requires.bound;
+    }
 
 pub search_few_moves-search_few_by_list-requires : goal.search_few_moves-search_few_by_list-requires
 search_few_moves-search_few_by_list-requires g t c κs within =
@@ -84,17 +81,11 @@ search_few_moves-search_few_by_list-requires g t c κs within =
     let few : empties_of c.args.position ≤ 7 = subst (λ n. n ≤ 7) c.requires.empties c.requires.few in
     (w, (within, (c.requires.moves, (c.requires.some, (few, shown_bound c.args.bound c.requires.bound)))))
 
-pub search_few_moves-returns-then-empties-eq2 : goal.search_few_moves-returns-then-empties-eq2
-search_few_moves-returns-then-empties-eq2 g t c = same_places c.args.bound c.requires.bound _ _ c.search_two.ensures
-
-pub search_few_moves-returns-else-empties-eq2 : goal.search_few_moves-returns-else-empties-eq2
-search_few_moves-returns-else-empties-eq2 g t c = same_places c.args.bound c.requires.bound _ _ c.search_few_by_list.ensures
-
 pub search_few_by_list-decide-requires : goal.search_few_by_list-decide-requires
-search_few_by_list-decide-requires g t c = decided_window c.args.bound c.requires.bound
+search_few_by_list-decide-requires g t c = shown_bound c.args.bound c.requires.bound
 
 pub search_few_by_list-returns-in-Some : goal.search_few_by_list-returns-in-Some
-search_few_by_list-returns-in-Some g t c = decided_places c.args.bound c.requires.bound _ _ c.in-Some.ensures
+search_few_by_list-returns-in-Some g t c = same_places c.args.bound c.requires.bound _ _ c.in-Some.ensures
 
 pub search_few_by_list-add_until_stuck-requires : goal.search_few_by_list-add_until_stuck-requires
 search_few_by_list-add_until_stuck-requires g t c =

@@ -1,0 +1,131 @@
+-- The bounds between which the driver of null windows looks for a value.
+use Rattle.std.proofs.Common.{◌≡◌, ℤ, pos, negsuc, neg_ℤ, ◌-ℤ◌, ◌+ℤ◌, ◌≤ℤ◌, ◌<ℤ◌, ◌<◌, ℕ, ◌+◌, ◌-◌, true, false, arith}
+use borrow.Author.Differences.{up, down}
+use lib.Signed.{lt_z, le_z}
+use Rattle.std.specs.Int.{int_max, int_min}
+use Rattle.std.proofs.lemmas.Int.{ints, clamps}
+use Rattle.othello_rules.specs.Answer.{IsScore}
+use Rattle.endgame_search.specs.Windows.{IsBound, IsWindow, IsWithin, Places}
+use Rattle.endgame_search.proofs.Windows.{shown, shown_same, score_same}
+
+-- the value v is no less than lower where that is above the lower end of the window, and no more than upper where that
+-- is below the upper end
+pub record IsBetween (low high v lower upper : ℤ) : Type 0 where
+  pub below : low <ℤ lower → lower ≤ℤ v
+  pub above : upper <ℤ high → v ≤ℤ upper
+  pub lower_score : IsScore lower
+  pub upper_score : IsScore upper
+
+-- how far upper is above lower
+abbrev pub gap : ℤ → ℤ → ℕ
+gap lower upper = (up upper + down lower) - (up lower + down upper)
+
+-- at first the ends of the window, but no more than the scores from minus m to m
+begun : (low high v m lower upper : ℤ) → IsWindow low high → pos 1 ≤ℤ m → m ≤ℤ pos 64 → IsWithin m v
+    → lower ≡ int_max low (neg_ℤ m) → upper ≡ int_min high m → IsBetween low high v lower upper
+begun low high v m lower upper w a b within l u =
+    let c = w.0 in
+    let d = w.1 in
+    let e = w.2 in
+    let f = within.0 in
+    let g = within.1 in
+    record {
+      below = λ x. omega (arith, ints, clamps);
+      above = λ x. omega (arith, ints, clamps);
+      lower_score = record { low = omega (arith, ints, clamps); high = omega (arith, ints, clamps) };
+      upper_score = record { low = omega (arith, ints, clamps); high = omega (arith, ints, clamps) };
+    }
+
+pub at_first : (low high v m lower upper : ℤ) → IsWindow low high → pos 1 ≤ℤ m → m ≤ℤ pos 64 → IsWithin m v
+    → lower ≡ int_max (shown low) (shown (pos 0 -ℤ shown m)) → upper ≡ int_min (shown high) (shown m) → IsBetween (shown low) (shown high) v (shown lower) (shown upper)
+at_first low high v m lower upper w a b within l u =
+    let c = w.0 in
+    let d = w.1 in
+    let e = w.2 in
+    let x : shown low ≡ low = shown_same low c (omega (arith, ints)) in
+    let y : shown high ≡ high = shown_same high (omega (arith, ints)) e in
+    let z : shown m ≡ m = shown_same m (omega (arith, ints)) (omega (arith, ints)) in
+    let n : shown (pos 0 -ℤ shown m) ≡ neg_ℤ m = omega (arith, ints) in
+    let i : shown lower ≡ int_max (shown low) (neg_ℤ m) = omega (arith, ints, clamps, l, n, x, a, b, c, d, e) in
+    let j : shown upper ≡ int_min (shown high) m = omega (arith, ints, clamps, u, z, y, a, b, c, d, e) in
+    begun (shown low) (shown high) v m (shown lower) (shown upper) (omega (arith, ints, x, c), omega (arith, ints, x, y, d), omega (arith, ints, y, e)) a b within i j
+
+-- the bound asked lies between them, so that its score brings them closer
+module _ (lower upper s m b : ℤ) (l : IsScore lower) (u : IsScore upper) (small : negsuc 127 ≤ℤ s) (great : s ≤ℤ pos 127) (open' : lt_z lower upper ≡ true)
+    (is : m ≡ int_max s lower) (bound : b ≡ int_min (shown m) (shown (upper -ℤ pos 1))) where
+  asked : (lower ≤ℤ shown b) × (shown b <ℤ upper)
+  asked =
+      let a = l.low in
+      let c = l.high in
+      let d = u.low in
+      let e = u.high in
+      let k : shown (upper -ℤ pos 1) ≡ upper -ℤ pos 1 = omega (arith, ints) in
+      let n : shown m ≡ int_max s lower = omega (arith, ints, clamps) in
+      let f : shown b ≡ int_min (int_max s lower) (upper -ℤ pos 1) = omega (arith, ints, clamps) in
+      (omega (arith, ints, clamps), omega (arith, ints, clamps))
+
+  pub asked_bound : IsBound (shown b)
+  asked_bound =
+      let a = l.low in
+      let e = u.high in
+      let k = asked.0 in
+      let n = asked.1 in
+      (omega (arith, ints), omega (arith, ints))
+
+  pub less_raised : (r : ℤ) → lt_z (shown b) r ≡ true → gap r upper < gap lower upper
+  less_raised r h = let k = asked.0 in omega (arith, ints)
+
+  pub less_lowered : (r : ℤ) → lt_z (shown b) r ≡ false → gap lower r < gap lower upper
+  less_lowered r h = let k = asked.1 in omega (arith, ints)
+
+-- what a score s tells, where it places the value by the bound b
+module _ (low high v lower upper b s : ℤ) (held : IsBetween low high v lower upper) (p : Places (shown b) (shown b +ℤ pos 1) v s) where
+  pub raised : lt_z (shown b) (shown s) ≡ true → IsBetween low high v (shown s) upper
+  raised h =
+      let e = score_same s p.least p.most in
+      let l = p.least in
+      let m = p.most in
+      let k : s ≤ℤ v = p.above (omega (arith, ints)) in
+      record {
+        below = λ x. omega (arith, ints);
+        above = held.above;
+        lower_score = record { low = omega (arith, ints); high = omega (arith, ints) };
+        upper_score = held.upper_score;
+      }
+
+  pub lowered : lt_z (shown b) (shown s) ≡ false → IsBetween low high v lower (shown s)
+  lowered h =
+      let e = score_same s p.least p.most in
+      let l = p.least in
+      let m = p.most in
+      let k : v ≤ℤ s = p.below (omega (arith, ints)) in
+      record {
+        below = held.below;
+        above = λ x. omega (arith, ints);
+        lower_score = held.lower_score;
+        upper_score = record { low = omega (arith, ints); high = omega (arith, ints) };
+      }
+
+-- where they meet one of them places the value in the window
+module _ (low high v lower upper : ℤ) (window : IsWindow low high) (held : IsBetween (shown low) (shown high) v lower upper) (met : lt_z lower upper ≡ false) where
+  pub lower_places : le_z (shown high) lower ≡ true → Places low high v lower
+  lower_places h =
+      let a = shown_same low window.0 (let d = window.1 in let e = window.2 in omega (arith, ints)) in
+      let b = shown_same high (let c = window.0 in let d = window.1 in omega (arith, ints)) window.2 in
+      record {
+        below = λ x. absurd (omega (arith, ints));
+        above = λ x. held.below (omega (arith, ints));
+        least = held.lower_score.low;
+        most = held.lower_score.high;
+      }
+
+  pub upper_places : le_z (shown high) lower ≡ false → Places low high v upper
+  upper_places h =
+      let a = shown_same low window.0 (let d = window.1 in let e = window.2 in omega (arith, ints)) in
+      let b = shown_same high (let c = window.0 in let d = window.1 in omega (arith, ints)) window.2 in
+      record {
+        below = λ x. held.above (omega (arith, ints));
+        above = λ x. let k : lower ≤ℤ v = held.below (omega (arith, ints)) in omega (arith, ints);
+        least = held.upper_score.low;
+        most = held.upper_score.high;
+      }
