@@ -116,6 +116,60 @@ class Names(unittest.TestCase):
             self.assertEqual([to for to in lost if not re.search(r"/out(/|$)|^share/doc/", to)], [], name)
 
 
+def defines(sources, word):
+    """Whether one of the files declares the word: a definition or a field, a function, a constant, a type or a variant."""
+    kinds = "record|data|fn|const|struct|enum|trait|type"
+    forms = rf"(?:[\w()]+ )*{word} *:", rf"(?:[\w()]+ )*(?:{kinds}) {word}\b", rf"{word}[,({{]", rf"pub use [^;]*\b{word}\b"
+    declared = re.compile(rf"^ *(?:{'|'.join(forms)})", re.M)
+    return any(declared.search(source.read_text()) for source in sources)
+
+
+def sections_of(text):
+    """The crates that a heading names, and the text below it."""
+    parts = re.split(r"^## (.*)$", text, flags=re.M)
+    yield [], parts[0]
+    for heading, section in zip(parts[1::2], parts[2::2]):
+        yield re.findall(r"`(\w+)`", heading), section
+
+
+class Definitions(unittest.TestCase):
+    """Names between backticks of what sources declare."""
+
+    def test_qualified_names_are_declared(self):
+        for name in ["definitions.md", "guarantees.md", "architecture.md"]:
+            for crates, section in sections_of(TEXTS[f"docs/{name}"]):
+                self.assertEqual(self.lost_definitions(crates or ["*"], section), [], name)
+                self.assertEqual(self.lost_items(section), [], name)
+
+    def lost_definitions(self, crates, section):
+        """Names such as `Rules.flips`, of a module of specs/."""
+        named = re.findall(r"`([A-Z]\w*)\.(\w+)`", section)
+        return [
+            (module, word)
+            for module, word in named
+            if word not in ("antt", "md")
+            and not defines([one for crate in crates for one in ROOT.glob(f"crates/{crate}/specs/{module}.antt")], word)
+        ]
+
+    def lost_items(self, section):
+        """Names such as `laws::books_are_one` and `Task::new`, of a module or a type."""
+        lost = []
+        for owner, word in re.findall(r"`(\w+)::(\w+)`", section):
+            files = list(ROOT.glob(f"crates/*/src/**/{owner}.rt"))
+            of_type = re.compile(rf"\b(?:impl|enum) {owner} ")
+            files += [one for one in ROOT.glob("crates/*/src/**/*.rt") if of_type.search(one.read_text())]
+            if not defines(files, word):
+                lost.append((owner, word))
+        return lost
+
+    def test_other_names_stand_in_sources(self):
+        """Those of definitions.md that are written as a definition is: `AreRanked`, `lists_text`."""
+        sources = [*ROOT.glob("crates/*/specs/*.antt"), *ROOT.glob("crates/*/src/**/*.rt")]
+        words = set(re.findall(r"\w+", "\n".join(source.read_text() for source in sources)))
+        named = re.findall(r"`([A-Z]\w*[a-z][A-Z]\w*|[a-z]+_\w+)`", TEXTS["docs/definitions.md"])
+        self.assertEqual([word for word in named if word not in words], [])
+
+
 class Reports(unittest.TestCase):
     def test_stored_reports_are_what_the_program_prints(self):
         reports = sorted(ROOT.glob("examples/*.report"))

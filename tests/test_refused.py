@@ -14,9 +14,9 @@ PROGRAM = ROOT / "crates/crate_tests/out/crate_tests_tests"
 # The tests in which a refusal ends the test or changes nothing. The others tell of want of memory themselves, or want two
 # threads at work at once.
 TESTS = (
-    r"^tests::(written_lines|fault_texts|tables|searches)::|^tests::boards::(memory|steps)::"
+    r"^tests::(written_lines|fault_texts|tables|searches|books::find)::|^tests::boards::(memory|steps)::"
     r"|prints_a_front|a_full_writer|a_desk_on_one_thread|a_clients_memory"
-    r"|gives_a_book|clients_are_refused|gates_are_told|a_refused"
+    r"|gives_a_book|clients_alone|clients_are_refused|gates_are_told|a_refused"
 )
 # Tests that each refused request ends, and how many they make, or None: there want of memory comes before all other faults, and
 # no request is made where none could be told.

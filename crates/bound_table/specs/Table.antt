@@ -4,7 +4,7 @@ use Rattle.othello_rules.specs.declared.scoring.Scoring.{Scoring}
 use Rattle.othello_bits.specs.Pos.{PosView}
 use Rattle.othello_bits.specs.Symmetries.{canonical_of}
 use Rattle.bound_table.specs.Range.{RangeView, IsTrueOf}
-use Rattle.bound_table.specs.declared.bound_table.TheConstants.BoundTable.{MOST_ENTRIES}
+use Rattle.bound_table.specs.Limits.{most_entries}
 
 -- what a slot keeps of its entry: the position is canonical, and the range is true of it under the slot's scoring
 pub record IsKnown (g : Scoring) (p : PosView) (i : RangeView) : Type 0 where
@@ -19,4 +19,4 @@ pub record TableView : Type 0 where
 -- each slot, seen as the scoring of its range, has the scoring of the table
 pub record IsTable (g : Scoring) (slots : List Scoring) : Type 0 where
   pub scored : All (λ slot. slot ≡ g) slots
-  pub few : length slots ≤ MOST_ENTRIES
+  pub few : length slots ≤ most_entries

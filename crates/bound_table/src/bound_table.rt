@@ -1,6 +1,7 @@
 //! A table of ranges that many threads share.
 
 ghost use Rattle.std.specs.Prelude.{◌≡◌, ◌<◌, ◌≤◌, ◌↔◌, IfSome, IfOk, IsOk, IsNone, IsTrue};
+ghost use Rattle.bound_table.specs.Limits.{most_entries};
 ghost use Rattle.bound_table.specs.declared.table_fault.TableFault.TheVariants as fault;
 ghost use Rattle.bound_table.specs.Range.{IsTrueOf};
 
@@ -55,7 +56,7 @@ fn hash_of(position: Pos) -> u64 {
 #[inline]
 fn entry_index(position: Pos, entries: usize) -> usize
     requires some { 0 < entries }
-    requires few { entries ≤ BoundTable.MOST_ENTRIES }
+    requires few { entries ≤ most_entries }
     ensures { result < entries }
 {
     let fraction = hash_of(position) >> 32;
@@ -70,7 +71,7 @@ impl BoundTable {
     /// keeps nothing. `TooMany` above `MOST_ENTRIES`, before any memory is asked for. `Memory`
     /// where memory was refused.
     pub fn new(alloc: Global, entries: usize, scoring: Scoring) -> Result<BoundTable, TableFault>
-        ensures too_many { (result ≡ Err fault.TooMany) ↔ (Self.MOST_ENTRIES < entries) }
+        ensures too_many { (result ≡ Err fault.TooMany) ↔ (most_entries < entries) }
         ensures made { IfOk result
             (λ table. table ≡ record { scoring = scoring; entries = entries }) }
         ensures without_memory { entries ≡ 0 → IsOk result }

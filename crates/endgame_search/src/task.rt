@@ -2,6 +2,7 @@
 
 ghost use Rattle.std.specs.Prelude.{◌≡◌, ◌≤◌, ◌↔◌, min, IsOk, IfOk, IfErr};
 ghost use Rattle.othello_bits.specs.Pos.{empties_of};
+ghost use Rattle.endgame_search.specs.Limits.{most_empties};
 ghost use Rattle.endgame_search.specs.Task.{TaskView};
 
 use othello_bits::Pos;
@@ -21,7 +22,7 @@ impl Model for Task {
 
     ghost view = { λ task. record { position = task.position; scoring = task.scoring } };
 
-    ghost invariant = { λ task. empties_of task.position ≤ 60 };
+    ghost invariant = { λ task. empties_of task.position ≤ most_empties };
 
     ghost inverse = { λ problem. record {
       position = problem.position;
@@ -41,7 +42,7 @@ impl Task {
     /// The task of a position under a scoring. The limit is the greatest number of empty squares
     /// that is accepted. A limit above 60 counts as 60. `TooMany` where the position has more.
     pub fn new(position: Pos, limit: u8, scoring: Scoring) -> Result<Task, TooMany>
-        ensures when { IsOk result ↔ (empties_of position ≤ min limit 60) }
+        ensures when { IsOk result ↔ (empties_of position ≤ min limit most_empties) }
         ensures task { IfOk result
             (λ task. task ≡ record { position = position; scoring = scoring }) }
         ensures refused { IfErr result (λ many. many.0 ≡ empties_of position) }
@@ -57,7 +58,7 @@ impl Task {
     /// The position to be solved. It has at most 60 empty squares.
     pub fn pos(self) -> Pos
         ensures value { result ≡ self.position }
-        ensures few_empties { empties_of result ≤ 60 }
+        ensures few_empties { empties_of result ≤ most_empties }
     {
         self.position
     }

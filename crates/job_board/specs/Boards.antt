@@ -5,6 +5,7 @@ use Rattle.endgame_search.specs.Task.{TaskView}
 use Rattle.job_board.specs.declared.jobs.JobId.{JobId}
 use Rattle.job_board.specs.declared.jobs.Stage.{Stage}
 use Rattle.job_board.specs.declared.jobs.Stage.TheVariants.{Finished}
+use Rattle.job_board.specs.Limits.{most_jobs, most_senders}
 use Rattle.job_board.specs.Queues.{id_count}
 use Rattle.job_board.specs.Senders.{SenderView, BoardView, stage_at, is_waiting, is_taken, is_finished}
 
@@ -12,7 +13,7 @@ use Rattle.job_board.specs.Senders.{SenderView, BoardView, stage_at, is_waiting,
 -- whose answers were delivered are the first ones, and all of them are finished
 pub record IsSender (state : SenderView) : Type 0 where
   pub stages : length state.stages ≡ length state.tasks
-  pub most : length state.tasks ≤ 65535
+  pub most : length state.tasks ≤ most_jobs
   pub handed : state.handed ≤ length state.tasks
   pub finished : (k : ℕ) → k < state.handed → is_finished (slice_get state.stages k) ≡ true
   pub solved : (k : ℕ) (a : TaskView)
@@ -35,10 +36,10 @@ taken_in state = count_by is_taken state.stages
 abbrev pub taken_count : BoardView → ℕ
 taken_count c = sum_by taken_in c
 
--- what holds of a board: c is the view of its at most 64 senders, ids names the jobs that wait,
+-- what holds of a board: c is the view of its senders, ids names the jobs that wait,
 -- taken is the number of taken jobs, and room is enough for all waiting and taken jobs
 pub record IsBoard (c : BoardView) (ids : List JobId) (taken room : ℕ) : Type 0 where
-  pub few : length c ≤ 64
+  pub few : length c ≤ most_senders
   pub content : IsBoardView c
   pub lists : ListsWaiting ids c
   pub counts : taken ≡ taken_count c

@@ -2,6 +2,7 @@ pub mod Boards
 pub mod Client
 pub mod Senders
 pub mod Histories
+pub mod Limits
 pub mod Queues
 pub mod Replies
 pub mod Services

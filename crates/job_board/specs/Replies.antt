@@ -1,8 +1,9 @@
 -- The lawful replies of each step at a board of view c, and the view after the step (the steps of
 -- the state machine).
-use Rattle.std.specs.Prelude.{ℕ, ◌≡◌, ◌≢◌, ◌==◌, ◌&&◌, Bool, false, length, Option, Some, None}
+use Rattle.std.specs.Prelude.{ℕ, ◌≡◌, ◌≢◌, ◌==◌, ◌&&◌, ◌-◌, Bool, false, length, Option, Some, None}
 use Rattle.std.specs.Prelude.{Result, Ok, Err, slice_get, if◌then◌else◌, ◌⊎◌, nat_lt, not}
 use Rattle.endgame_search.specs.Task.{TaskView}
+use Rattle.job_board.specs.Limits.{most_jobs}
 use Rattle.job_board.specs.declared.jobs.JobId.{JobId}
 use Rattle.job_board.specs.declared.jobs.Job.{Job}
 use Rattle.job_board.specs.declared.jobs.Handed.{Handed}
@@ -22,7 +23,7 @@ abbrev pub submit_refusal : Option SenderView → Option SubmitFault
 submit_refusal None = Some fault.NoSender
 submit_refusal (Some state) =
     if state.closed then Some fault.Closed
-    else (if nat_lt 65534 (length state.tasks) then Some fault.Full else None)
+    else (if nat_lt (most_jobs - 1) (length state.tasks) then Some fault.Full else None)
 
 abbrev pub task_count : Option SenderView → ℕ
 task_count None = 0

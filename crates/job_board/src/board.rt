@@ -1,6 +1,7 @@
 //! The jobs of all senders.
 
 ghost use Rattle.std.specs.Prelude.{◌≡◌, ◌<◌, ◌≤◌, ◌↔◌, length, true, IfOk, IsOk, IsTrue, All};
+ghost use Rattle.job_board.specs.Limits.{most_senders};
 ghost use Rattle.job_board.specs.declared.faults.BoardFault.TheVariants as fault;
 
 use crate::faults::{BoardFault, JobFault, NoSender, SubmitFault};
@@ -54,7 +55,7 @@ impl Board {
     /// A board of `senders` senders, numbered from 0, with no jobs. `TooManySenders` above
     /// `MOST_SENDERS`, before any memory is asked for; `Memory` where memory was refused.
     pub fn new(alloc: Global, senders: u32) -> Result<Board, BoardFault>
-        ensures too_many { (result ≡ Err fault.TooManySenders) ↔ (Self.MOST_SENDERS < senders) }
+        ensures too_many { (result ≡ Err fault.TooManySenders) ↔ (most_senders < senders) }
         ensures empty { IfOk result (λ board. board ≡ empty_content senders) }
     {
         if senders > Self::MOST_SENDERS {

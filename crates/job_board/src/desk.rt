@@ -8,6 +8,7 @@
 //! finish of that answer wakes all the others, and they look for the job.
 
 ghost use Rattle.std.specs.Prelude.{◌≡◌, ◌<◌, ◌↔◌, IfOk, OnOk, OnErr};
+ghost use Rattle.job_board.specs.Limits.{most_senders};
 ghost use Rattle.job_board.specs.declared.faults.BoardFault.TheVariants as fault;
 
 use crate::board::Board;
@@ -32,7 +33,7 @@ impl Desk {
     /// A desk with a new board of `senders` senders, numbered from 0. The faults are those of
     /// `Board::new`: `TooManySenders` above `Board::MOST_SENDERS`, and `Memory`.
     pub fn new(alloc: Global, senders: u32) -> Result<Desk, BoardFault>
-        ensures { (result ≡ Err fault.TooManySenders) ↔ (Board.MOST_SENDERS < senders) }
+        ensures { (result ≡ Err fault.TooManySenders) ↔ (most_senders < senders) }
     {
         let board = Board::new(alloc, senders)?;
         Ok(Desk {

@@ -4,6 +4,7 @@
 ghost use Rattle.std.specs.Prelude.{◌≡◌, ◌↔◌, ◌<◌, ◌≤◌, ◌++◌, ℕ, Bool, List, [], ◌∷◌, Option, Some};
 ghost use Rattle.std.specs.Prelude.{Result, length, map, slice_get, true};
 ghost use Rattle.endgame_search.specs.Task.{TaskView};
+ghost use Rattle.job_board.specs.Limits.{most_senders};
 ghost use Rattle.job_board.specs.declared.client.Turn.TheVariants.{Drained};
 ghost use Rattle.job_board.specs.declared.faults.JobFault.{JobFault};
 ghost use Rattle.job_board.specs.declared.faults.NoSender.{NoSender};
@@ -125,7 +126,7 @@ pub fn calls_continue_histories()
 /// The view of every board meets `IsBoardView`, and has at most `MOST_SENDERS` senders.
 pub fn boards_have_contents(board: &Board)
     ensures content { IsBoardView board.now }
-    ensures few { length board.now ≤ Board.MOST_SENDERS }
+    ensures few { length board.now ≤ most_senders }
 {
     // Reading a field makes the invariant of the type known here.
     let _ = &board.senders;

@@ -6,7 +6,7 @@ use Rattle.score_lines.specs.Lines.{AppendsFront, lists_right, lists_text}
 use Rattle.score_lists.specs.declared.lists.ListFault.{ListFault}
 use Rattle.score_lists.specs.declared.lists.ListFault.TheVariants as list
 use Rattle.suite_runs.specs.Runs.{first_large}
-use Rattle.suite_reports.specs.declared.settings.TheConstants.{MOST_FILES}
+use Rattle.suite_reports.specs.Limits.{most_files}
 use Rattle.suite_runs.specs.declared.run_fault.RunFault.TheVariants as run
 use Rattle.suite_solver.specs.CommandLine.{AsksForText}
 use Rattle.suite_solver.specs.Programs.{AreTextsOf, EndsProgram}
@@ -19,7 +19,7 @@ use Rattle.list_scorer.specs.CommandLine.{AsksLists, ListRequest, demands_of, ff
 pub record AreLists (names : List (List ℕ)) (given : Option (List ℕ)) (texts : List (List ℕ))
     : Type 0 where
   pub read : AreTextsOf names given texts
-  pub few : length texts ≤ MOST_FILES
+  pub few : length texts ≤ most_files
   pub small : first_large texts ≡ None
 
 -- The lists were printed with every move's score, and `right` says whether nothing in them is

@@ -2,7 +2,7 @@
 use Rattle.std.specs.Prelude.{◌≡◌, ℕ, ◌+◌, List, [], ◌∷◌, length, map, min}
 use Rattle.std.specs.Prelude.{Option, String, IfSome, string_bytes, take}
 use Rattle.std.specs.declared.alloc.Global.{Global}
-use Rattle.suite_reports.specs.declared.settings.TheConstants.{MOST_BYTES, MOST_FILES}
+use Rattle.suite_reports.specs.Limits.{most_bytes, most_files}
 
 -- the bytes of each name
 abbrev pub names_of : List (String Global) → List (List ℕ)
@@ -13,6 +13,6 @@ names_of names = map string_bytes names
 -- there is one for each of the first names, one more than a run may have; the content of a file is
 -- not known.
 abbrev pub AreFrontsOf : List (List ℕ) → Option (List ℕ) → List (List ℕ) → Type 0
-AreFrontsOf [] given fronts = IfSome given (λ text. fronts ≡ take (MOST_BYTES + 1) text ∷ [])
+AreFrontsOf [] given fronts = IfSome given (λ text. fronts ≡ take (most_bytes + 1) text ∷ [])
 AreFrontsOf (name ∷ names) given fronts =
-    length fronts ≡ min (MOST_FILES + 1) (length (name ∷ names))
+    length fronts ≡ min (most_files + 1) (length (name ∷ names))

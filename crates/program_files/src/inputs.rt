@@ -1,6 +1,7 @@
 //! Reads the files of a run, or standard input.
 
 ghost use Rattle.std.specs.Prelude.{◌≡◌, ◌+◌, ◌≤◌, ◌⊎◌, [], ◌∷◌, IfOk, IfErr, IfSome, length, min, take, vec_len};
+ghost use Rattle.suite_reports.specs.Limits.{most_bytes, most_files};
 ghost use Rattle.program_files.specs.Inputs.{AreFrontsOf, names_of};
 ghost use Rattle.program_files.specs.ProgramErrors.{status_of};
 ghost use Rattle.obf_text.specs.LineText.{texts_of};
@@ -16,9 +17,9 @@ use suite_runs::{MOST_BYTES, MOST_FILES};
 // fewer. A file that is too large is known by that one byte. The error is that of
 // the reader, or want of memory.
 fn read_front<R: Read>(alloc: Global, reader: &mut R) -> io::Result<Vec<u8>>
-    ensures most { IfOk result (λ bytes. vec_len bytes ≤ MOST_BYTES + 1) }
+    ensures most { IfOk result (λ bytes. vec_len bytes ≤ most_bytes + 1) }
     ensures front { IfOk result (λ bytes. IfSome (R.remaining reader.old)
-        (λ all. bytes.items ≡ take (MOST_BYTES + 1) all)) }
+        (λ all. bytes.items ≡ take (most_bytes + 1) all)) }
 {
     let mut bytes = Vec::new(alloc);
     reader.take(MOST_BYTES as u64 + 1).read_to_end(&mut bytes)?;
@@ -31,7 +32,7 @@ fn read_front<R: Read>(alloc: Global, reader: &mut R) -> io::Result<Vec<u8>>
 // Reads standard input as the one file, up to one byte more than a file may have.
 fn read_input<R: Read>(alloc: Global, input: &mut R) -> Result<Vec<Vec<u8>>, ProgramError<'static>>
     ensures ok { IfOk result (λ files. IfSome
-        (R.remaining input.old) (λ all. texts_of files.items ≡ take (MOST_BYTES + 1) all ∷ [])) }
+        (R.remaining input.old) (λ all. texts_of files.items ≡ take (most_bytes + 1) all ∷ [])) }
     ensures err { IfErr result (λ error. (status_of error ≡ 1) ⊎ (status_of error ≡ 3)) }
 {
     match read_front(alloc, input) {
@@ -81,7 +82,7 @@ fn read_named<'a, T: Files>(
     names: &'a [String],
 ) -> Result<Vec<Vec<u8>>, ProgramError<'a>>
     ensures ok { IfOk result
-        (λ files. length files.items ≡ min (MOST_FILES + 1) (length names.now)) }
+        (λ files. length files.items ≡ min (most_files + 1) (length names.now)) }
     ensures err { IfErr result (λ error. (status_of error ≡ 1) ⊎ (status_of error ≡ 3)) }
 {
     let mut files = Vec::new(alloc);

@@ -3,6 +3,7 @@
 ghost use Rattle.std.specs.Prelude.{◌≡◌, ◌+◌, ◌/◌, ◌<◌, ◌≤◌, ◌⊎◌, ◌↔◌, ℕ, length, None, Some, IfOk, IsErrOf, IsTrue, OnOk};
 ghost use Rattle.std.specs.Duration.{as_nanos};
 ghost use Rattle.std.specs.Io.KnownBytes.{Appends};
+ghost use Rattle.suite_reports.specs.Limits.{most_files};
 ghost use Rattle.program_files.specs.ProgressText.{progress_text};
 ghost use Rattle.obf_text.specs.LineText.{texts_of};
 ghost use Rattle.suite_runs.specs.Outcome.{IsBookOf};
@@ -20,7 +21,7 @@ use std::sync::atomic::{AtomicUsize, Ordering};
 use std::sync::{Mutex, Wait};
 use std::thread::Threads;
 use std::time::{Duration, Instant};
-use suite_runs::{Gate, MOST_FILES, NoGate, Outcome, RunFault, Settings, run};
+use suite_runs::{Gate, NoGate, Outcome, RunFault, Settings, run};
 
 // The least time from one line to the next, in nanoseconds, but for the last line.
 const PAUSE: u128 = 5_000_000_000;
@@ -174,9 +175,9 @@ pub fn run_told<T: Clock + Threads + Wait + Sync, E: Write + Send>(
     tells: bool,
     errors: &mut E,
 ) -> Result<Outcome, RunFault>
-    ensures too_many { IsErrOf result TooManyFiles ↔ MOST_FILES < length texts.now }
+    ensures too_many { IsErrOf result TooManyFiles ↔ most_files < length texts.now }
     ensures too_large { (sender : ℕ) → IsErrOf result (FileTooLarge sender) ↔
-        ((length texts.now ≤ MOST_FILES) × (first_large (texts_of texts.now) ≡ Some sender)) }
+        ((length texts.now ≤ most_files) × (first_large (texts_of texts.now) ≡ Some sender)) }
     ensures reports { IfOk result (λ outcome. texts_of outcome.reports.items ≡ reports
         settings.now.scoring settings.now.max_empties (texts_of texts.now)) }
     ensures book { IfOk result (λ outcome. IsBookOf settings.now.scoring (all_tasks

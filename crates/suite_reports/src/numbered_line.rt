@@ -1,12 +1,14 @@
 //! The lines of a text: each is read once, and is made a row when its position is solved.
 
 ghost use Rattle.std.specs.Prelude.{◌≡◌, ◌≤◌, length, map, IfOk};
+ghost use Rattle.endgame_search.specs.Limits.{most_empties};
+ghost use Rattle.suite_reports.specs.Limits.{most_bytes};
 ghost use Rattle.suite_reports.specs.ParsedLine.{row_in, task_in, tasks_in};
 ghost use Rattle.suite_reports.specs.Rows.{rows, tasks};
 
 use crate::parsed_line::{ParsedLine, parse_line};
 use crate::report_row::ReportRow;
-use crate::settings::{MOST_BYTES, MOST_EMPTIES};
+use crate::settings::MOST_EMPTIES;
 use endgame_search::{Solved, Task};
 use obf_text::split_lines;
 use othello_rules::Scoring;
@@ -37,8 +39,8 @@ pub fn parse_lines(
     scoring: Scoring,
     text: &[u8],
 ) -> Result<Vec<NumberedLine>, AllocError>
-    requires few_empties { limit ≤ MOST_EMPTIES }
-    requires short { length text.now ≤ MOST_BYTES }
+    requires few_empties { limit ≤ most_empties }
+    requires short { length text.now ≤ most_bytes }
     ensures rows { IfOk result (λ found. map row_in found.items ≡ rows scoring limit text.now) }
     ensures tasks { IfOk result (λ found. tasks_in found.items ≡ tasks scoring limit text.now) }
 {

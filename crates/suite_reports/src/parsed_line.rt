@@ -4,6 +4,8 @@ ghost use Rattle.std.specs.Prelude.{◌≡◌, ◌≤◌, length, option_map, If
 ghost use Rattle.std.specs.List.{cons_option};
 ghost use Rattle.std.specs.Option.{option_and_then};
 ghost use Rattle.std.specs.Slice.Iter.{iter_rest};
+ghost use Rattle.endgame_search.specs.Limits.{most_empties};
+ghost use Rattle.suite_reports.specs.Limits.{most_bytes};
 ghost use Rattle.endgame_search.specs.Task.{TaskView};
 ghost use Rattle.obf_text.specs.Obf.{Holds, entry_of, item_of};
 ghost use Rattle.suite_reports.specs.ParsedLine.{parsed_result, task_in};
@@ -11,7 +13,7 @@ ghost use Rattle.suite_reports.specs.Rows.{entry_result, line_result, task_of};
 
 use crate::check::check_of;
 use crate::report_row::{Refusal, RowResult};
-use crate::settings::{MOST_BYTES, MOST_EMPTIES};
+use crate::settings::MOST_EMPTIES;
 use endgame_search::{Solved, Task, TooMany};
 use obf_text::{Item, Line, LineFault, ListedMove, read_line};
 use othello_bits::Pos;
@@ -31,7 +33,7 @@ pub(crate) enum ParsedLine {
 impl ParsedLine {
     // The line of a position: a task, or a refusal where it has more than `limit` empty squares.
     fn of_entry(limit: u8, scoring: Scoring, entry: Line) -> ParsedLine
-        requires { limit ≤ MOST_EMPTIES }
+        requires { limit ≤ most_empties }
         ensures result { parsed_result result ≡ entry_result scoring limit (entry_of entry) }
         ensures task { task_in result ≡ task_of scoring limit (Holds (entry_of entry)) }
     {
@@ -80,8 +82,8 @@ pub(crate) fn parse_line(
     scoring: Scoring,
     line: &[u8],
 ) -> Result<Option<ParsedLine>, AllocError>
-    requires few_empties { limit ≤ MOST_EMPTIES }
-    requires short { length line.now ≤ MOST_BYTES }
+    requires few_empties { limit ≤ most_empties }
+    requires short { length line.now ≤ most_bytes }
     ensures result { IfOk result
         (λ found. option_map parsed_result found ≡ line_result scoring limit (item_of line.now)) }
     ensures task { IfOk result

@@ -1,6 +1,8 @@
 //! The limits of a run, its settings, and the version.
 
 ghost use Rattle.std.specs.Prelude.{◌≡◌, ◌≤◌, ◌↔◌, IsSome, IfSome};
+ghost use Rattle.bound_table.specs.Limits.{most_entries};
+ghost use Rattle.endgame_search.specs.Limits.{most_empties};
 ghost use Rattle.suite_reports.specs.Settings.{SettingsView, IsWithinLimits, defaults};
 
 use bound_table::BoundTable;
@@ -94,7 +96,7 @@ impl Settings {
     /// The most empty squares of a position that is solved. A position with more is refused.
     pub fn max_empties(&self) -> u8
         ensures value { result ≡ self.now.max_empties }
-        ensures within { result ≤ MOST_EMPTIES }
+        ensures within { result ≤ most_empties }
     {
         self.max_empties
     }
@@ -109,7 +111,7 @@ impl Settings {
     /// The number of entries of the table of bounds.
     pub fn table(&self) -> u32
         ensures value { result ≡ self.now.table }
-        ensures within { result ≤ MOST_ENTRIES }
+        ensures within { result ≤ most_entries }
     {
         self.table
     }

@@ -5,16 +5,16 @@ use Rattle.job_board.specs.declared.faults.SubmitFault.{SubmitFault}
 use Rattle.job_board.specs.declared.faults.SubmitFault.TheVariants as submit
 use Rattle.suite_runs.specs.declared.run_fault.RunFault.{RunFault}
 use Rattle.suite_runs.specs.declared.run_fault.RunFault.TheVariants.{Memory, Mixed, TooManyFiles, FileTooLarge}
-use Rattle.suite_reports.specs.declared.settings.TheConstants.{MOST_BYTES, MOST_FILES}
+use Rattle.suite_reports.specs.Limits.{most_bytes, most_files}
 
 -- a file is named by its sender plus 1, since senders count from 0
 unfoldable pub run_fault_text : RunFault → List ℕ
 run_fault_text Memory = codes "out of memory"
 run_fault_text Mixed = codes "answers mixed"
-run_fault_text TooManyFiles = codes "more than " ++ (decimal MOST_FILES ++ codes " files")
+run_fault_text TooManyFiles = codes "more than " ++ (decimal most_files ++ codes " files")
 run_fault_text (FileTooLarge sender) =
     codes "file " ++ (decimal (sender + 1)
-    ++ (codes " is larger than " ++ (decimal MOST_BYTES ++ codes " bytes")))
+    ++ (codes " is larger than " ++ (decimal most_bytes ++ codes " bytes")))
 
 -- the fault of a run after a refused submit
 abbrev pub fault_of_submit : SubmitFault → RunFault

@@ -13,21 +13,21 @@ use Rattle.suite_runs.specs.declared.run_fault.RunFault.{RunFault}
 use Rattle.suite_runs.specs.declared.run_fault.RunFault.TheVariants.{Memory, Mixed, TooManyFiles, FileTooLarge}
 use Rattle.suite_runs.specs.declared.outcome.Outcome.{Outcome}
 use Rattle.suite_runs.specs.declared.part.Part.{Part}
-use Rattle.suite_reports.specs.declared.settings.TheConstants.{MOST_BYTES, MOST_FILES}
+use Rattle.suite_reports.specs.Limits.{most_bytes, most_files}
 
--- the text has more than MOST_BYTES bytes
+-- the text has more than most_bytes bytes
 abbrev pub is_large : List ℕ → Bool
-is_large text = nat_lt MOST_BYTES (length text)
+is_large text = nat_lt most_bytes (length text)
 
--- the sender of the first text of more than MOST_BYTES bytes
+-- the sender of the first text of more than most_bytes bytes
 abbrev pub first_large : List (List ℕ) → Option ℕ
 first_large texts = position is_large texts
 
--- the refusal of a run, before anything is solved: more than MOST_FILES files, and else the
--- first file of more than MOST_BYTES bytes
+-- the refusal of a run, before anything is solved: more than most_files files, and else the
+-- first file of more than most_bytes bytes
 unfoldable pub refusal_of : List (List ℕ) → Option RunFault
 refusal_of texts =
-    if nat_lt MOST_FILES (length texts) then Some TooManyFiles
+    if nat_lt most_files (length texts) then Some TooManyFiles
     else option_map FileTooLarge (first_large texts)
 
 -- the result is the refusal of the texts, or Ok where there is none

@@ -1,6 +1,8 @@
 //! The part of one client: it sends the tasks of a text to a desk, and receives their answers.
 
 ghost use Rattle.std.specs.Prelude.{◌≡◌, ◌≤◌, ◌++◌, length, Ok, IfOk, IfErr, OnOk, IsErr, IsErrOf};
+ghost use Rattle.endgame_search.specs.Limits.{most_empties};
+ghost use Rattle.suite_reports.specs.Limits.{most_bytes};
 ghost use Rattle.suite_reports.specs.ParsedLine.{tasks_in};
 ghost use Rattle.suite_runs.specs.Part.{IsPartFault};
 ghost use Rattle.suite_reports.specs.Rows.{rows, tasks};
@@ -17,7 +19,7 @@ use job_board::{Client, Desk, Turn};
 use solved_book::Claims;
 use std::alloc::{AllocError, Global};
 use std::sync::Wait;
-use suite_reports::{MOST_BYTES, MOST_EMPTIES, NumberedLine, parse_lines, rows_of};
+use suite_reports::{NumberedLine, parse_lines, rows_of};
 
 // Submits the task of each line that has one, in the order of the lines.
 fn send_all<R: Wait>(
@@ -120,8 +122,8 @@ pub fn client_part<R: Wait, T: Bounds, G: Gate>(
     claims: Option<&Claims>,
     gate: &G,
 ) -> Result<Part, RunFault>
-    requires few_empties { limit ≤ MOST_EMPTIES }
-    requires short { length text.now ≤ MOST_BYTES }
+    requires few_empties { limit ≤ most_empties }
+    requires short { length text.now ≤ most_bytes }
     ensures rows { IfOk result
         (λ part. part.rows.items ≡ rows (T.scoring table.now) limit text.now) }
     ensures solved { IfOk result

@@ -1,6 +1,7 @@
 //! The outcome of a run: the reports of its files, and the book of its positions.
 
 ghost use Rattle.std.specs.Prelude.{◌≡◌, ◌⊎◌, ◌↔◌, ◌++◌, ◌≤◌, ℕ, List, length, map, All, Contains, IfOk, OnOk};
+ghost use Rattle.suite_reports.specs.Limits.{most_files};
 ghost use Rattle.othello_bits.specs.Pos.{PosView};
 ghost use Rattle.endgame_search.specs.Task.{TaskView};
 ghost use Rattle.suite_runs.specs.Outcome.{IsBookOf, canonicals, report_of_view, reports_of_views, tasks_of_views};
@@ -13,7 +14,7 @@ use endgame_search::Solved;
 use othello_rules::Scoring;
 use solved_book::Book;
 use std::alloc::{AllocError, Global};
-use suite_reports::{MOST_FILES, ReportRow, Settings, write_report};
+use suite_reports::{ReportRow, Settings, write_report};
 
 /// The reports and the book of a run.
 #[derive(Debug, Drop)]
@@ -37,7 +38,7 @@ fn report_of(alloc: Global, sender: u32, part: &Part) -> Result<Vec<u8>, AllocEr
 
 // The reports of the parts, in their order. The first part is that of sender 0.
 fn reports_of(alloc: Global, parts: &[Part]) -> Result<Vec<Vec<u8>>, AllocError>
-    requires few { length parts.now ≤ MOST_FILES }
+    requires few { length parts.now ≤ most_files }
     ensures { IfOk result (λ made. texts_of made.items
         ≡ reports_of_views 0 (map part_view_of parts.now)) }
 {
@@ -83,7 +84,7 @@ pub(crate) fn outcome_of(
     settings: &Settings,
     parts: &[Part],
 ) -> Result<Outcome, AllocError>
-    requires { (texts : List (List ℕ)) × (length texts ≤ MOST_FILES)
+    requires { (texts : List (List ℕ)) × (length texts ≤ most_files)
         × ArePartsOf settings.now texts parts.now }
     ensures { IfOk result (λ outcome. (texts : List (List ℕ))
         → ArePartsOf settings.now texts parts.now → Solves settings.now texts outcome) }

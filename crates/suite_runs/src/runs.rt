@@ -2,6 +2,7 @@
 
 ghost use Rattle.std.specs.Prelude.{◌≡◌, ◌≢◌, ◌<◌, ◌≤◌, ◌↔◌, ℕ, length, Some, None, Err, IfOk, IfSome, IsErrOf, IsOk};
 ghost use Rattle.std.specs.List.{position};
+ghost use Rattle.suite_reports.specs.Limits.{most_files};
 ghost use Rattle.suite_runs.specs.Outcome.{IsBookOf};
 ghost use Rattle.suite_reports.specs.Reports.{reports};
 ghost use Rattle.obf_text.specs.LineText.{texts_of};
@@ -40,7 +41,7 @@ fn first_large(files: &[Vec<u8>]) -> Option<usize>
 #[tactic(auto, unfolding(crate::specs::Runs::refusal_of), using(crate::proofs::RunLemmas::many_refused))]
 pub fn check_files(files: &[Vec<u8>]) -> Result<(), RunFault>
     ensures refuses { Refuses result (texts_of files.now) }
-    ensures few { IsOk result → length files.now ≤ MOST_FILES }
+    ensures few { IsOk result → length files.now ≤ most_files }
     ensures small { IsOk result → first_large (texts_of files.now) ≡ None }
 {
     if files.len() > MOST_FILES {
@@ -87,9 +88,9 @@ pub fn run_serial(
     settings: &Settings,
     claims: Option<&Claims>,
 ) -> Result<Outcome, RunFault>
-    ensures too_many { IsErrOf result TooManyFiles ↔ MOST_FILES < length files.now }
+    ensures too_many { IsErrOf result TooManyFiles ↔ most_files < length files.now }
     ensures too_large { (sender : ℕ) → IsErrOf result (FileTooLarge sender) ↔
-        ((length files.now ≤ MOST_FILES) × (first_large (texts_of files.now) ≡ Some sender)) }
+        ((length files.now ≤ most_files) × (first_large (texts_of files.now) ≡ Some sender)) }
     ensures unmixed { result ≢ Err Mixed }
     ensures reports { IfOk result (λ outcome. texts_of outcome.reports.items
         ≡ reports settings.now.scoring settings.now.max_empties (texts_of files.now)) }
@@ -136,9 +137,9 @@ pub fn run<R: Threads + Wait + Sync, G: Gate>(
     claims: Option<&Claims>,
     gate: &G,
 ) -> Result<Outcome, RunFault>
-    ensures too_many { IsErrOf result TooManyFiles ↔ MOST_FILES < length files.now }
+    ensures too_many { IsErrOf result TooManyFiles ↔ most_files < length files.now }
     ensures too_large { (sender : ℕ) → IsErrOf result (FileTooLarge sender) ↔
-        ((length files.now ≤ MOST_FILES) × (first_large (texts_of files.now) ≡ Some sender)) }
+        ((length files.now ≤ most_files) × (first_large (texts_of files.now) ≡ Some sender)) }
     ensures reports { IfOk result (λ outcome. texts_of outcome.reports.items
         ≡ reports settings.now.scoring settings.now.max_empties (texts_of files.now)) }
     ensures book { IfOk result (λ outcome. IsBookOf settings.now.scoring (all_tasks

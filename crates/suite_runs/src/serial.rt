@@ -1,6 +1,8 @@
 //! The parts of the files, solved on the calling thread.
 
 ghost use Rattle.std.specs.Prelude.{◌≡◌, ◌≤◌, length, All, IfOk, None};
+ghost use Rattle.endgame_search.specs.Limits.{most_empties};
+ghost use Rattle.suite_reports.specs.Limits.{most_bytes};
 ghost use Rattle.endgame_search.specs.Task.{TaskView};
 ghost use Rattle.suite_runs.specs.Part.{part_view, part_view_of};
 ghost use Rattle.suite_reports.specs.ParsedLine.{tasks_in};
@@ -13,7 +15,7 @@ use bound_table::Bounds;
 use endgame_search::Solved;
 use solved_book::Claims;
 use std::alloc::{AllocError, Global};
-use suite_reports::{MOST_BYTES, MOST_EMPTIES, NumberedLine, Settings, parse_lines, rows_of};
+use suite_reports::{NumberedLine, Settings, parse_lines, rows_of};
 
 // Solves the tasks of the lines, in the order of the lines.
 fn solve_all<T: Bounds>(
@@ -41,8 +43,8 @@ fn solve_text<T: Bounds>(
     limit: u8,
     solver: &Solver<'_, T>,
 ) -> Result<Part, AllocError>
-    requires few_empties { limit ≤ MOST_EMPTIES }
-    requires short { length text.now ≤ MOST_BYTES }
+    requires few_empties { limit ≤ most_empties }
+    requires short { length text.now ≤ most_bytes }
     ensures { IfOk result
         (λ part. part_view_of part ≡ part_view (T.scoring solver.now.table.now) limit text.now) }
 {

@@ -1,6 +1,7 @@
 //! The threads of a run: a client for each file, and the workers.
 
 ghost use Rattle.std.specs.Prelude.{◌≡◌, ◌<◌, ◌≤◌, ◌+◌, ◌++◌, ◌∷◌, length, map, IfOk, IfErr, Some, None, [], vec_len, vec_capacity};
+ghost use Rattle.suite_reports.specs.Limits.{most_bytes, most_files};
 ghost use Rattle.suite_runs.specs.Part.{GivesPart, GivesParts};
 ghost use Rattle.suite_runs.specs.RunFault.{worse_fault};
 ghost use Rattle.obf_text.specs.LineText.{texts_of};
@@ -22,7 +23,7 @@ use std::marker::Model;
 use std::sync::Wait;
 use std::thread;
 use std::thread::{Promise, PromisedHandle, Scope, Threads};
-use suite_reports::{MOST_BYTES, MOST_FILES, Settings};
+use suite_reports::Settings;
 
 /// The values that are made for a run, which its threads share.
 #[derive(Drop)]
@@ -35,7 +36,7 @@ pub(crate) struct Shared {
 
 impl Shared {
     fn new(alloc: Global, files: &[Vec<u8>], settings: &Settings) -> Result<Shared, AllocError>
-        requires { length files.now ≤ MOST_FILES }
+        requires { length files.now ≤ most_files }
         ensures scoring { IfOk result (λ shared. shared.table.scoring ≡ settings.now.scoring) }
         ensures settings { IfOk result (λ shared. shared.settings ≡ settings.now) }
     {
@@ -67,7 +68,7 @@ struct Crew<'a, R, G> {
 impl<'a, R: Wait, G: Gate> Crew<'a, R, G> {
     // Does the part of the client of one file.
     fn part(&self, sender: u32, text: &[u8]) -> Result<Part, RunFault>
-        requires { length text.now ≤ MOST_BYTES }
+        requires { length text.now ≤ most_bytes }
         ensures { GivesPart self.now.shared.now.table.scoring
             self.now.shared.now.settings.max_empties text.now result }
     {
@@ -158,7 +159,7 @@ fn start<'a, E, R: Threads + Wait + Sync, G: Gate>(
     sender: u32,
     text: &'a [u8],
 ) -> StartedClient<'a>
-    requires { length text.now ≤ MOST_BYTES }
+    requires { length text.now ≤ most_bytes }
     ensures { result ≡ started_view crew.now.shared.now.table.scoring
         crew.now.shared.now.settings.max_empties text.now }
 {
@@ -176,7 +177,7 @@ fn start<'a, E, R: Threads + Wait + Sync, G: Gate>(
     let spawned = scope.spawn_with(
         promise,
         move || -> Result<Part, RunFault>
-            requires { length text.now ≤ MOST_BYTES }
+            requires { length text.now ≤ most_bytes }
             ensures { GivesPart shared.entry.now.table.scoring shared.entry.now.settings.max_empties
                 text.entry.now result }
         {
@@ -204,7 +205,7 @@ fn start_all<'a, E, R: Threads + Wait + Sync, G: Gate>(
     files: &'a [Vec<u8>],
     clients: &mut Vec<StartedClient<'a>>,
 )
-    requires few { length files.now ≤ MOST_FILES }
+    requires few { length files.now ≤ most_files }
     requires small { first_large (texts_of files.now) ≡ None }
     requires none { clients.old.items ≡ [] }
     requires room { length files.now ≤ vec_capacity clients.old }
@@ -300,7 +301,7 @@ fn solve_in_scope<'a, E, R: Threads + Wait + Sync, G: Gate>(
     crew: &Crew<'a, R, G>,
     files: &'a [Vec<u8>],
 ) -> Result<Vec<Part>, RunFault>
-    requires few { length files.now ≤ MOST_FILES }
+    requires few { length files.now ≤ most_files }
     requires small { first_large (texts_of files.now) ≡ None }
     ensures { GivesParts crew.now.shared.now.table.scoring
         crew.now.shared.now.settings.max_empties (texts_of files.now) result }
@@ -325,7 +326,7 @@ pub(crate) fn solve_texts_on_threads<R: Threads + Wait + Sync, G: Gate>(
     claims: Option<&Claims>,
     gate: &G,
 ) -> Result<Vec<Part>, RunFault>
-    requires few { length files.now ≤ MOST_FILES }
+    requires few { length files.now ≤ most_files }
     requires small { first_large (texts_of files.now) ≡ None }
     ensures { GivesParts settings.now.scoring settings.now.max_empties (texts_of files.now) result }
 {
@@ -337,7 +338,7 @@ pub(crate) fn solve_texts_on_threads<R: Threads + Wait + Sync, G: Gate>(
         thread::scope_env(),
         rt,
         |scope| -> Result<Vec<Part>, RunFault>
-            requires { (length files.now ≤ MOST_FILES) × (first_large (texts_of files.now) ≡ None) }
+            requires { (length files.now ≤ most_files) × (first_large (texts_of files.now) ≡ None) }
             ensures { GivesParts shared.entry.now.table.scoring
                 shared.entry.now.settings.max_empties (texts_of files.entry.now) result }
         {

@@ -19,7 +19,7 @@ use Rattle.othello_rules.specs.Scores.{all_scorings, scoring_name}
 use Rattle.othello_rules.specs.declared.scoring.Scoring.TheVariants.{Winner}
 use Rattle.program_files.specs.Inputs.{names_of}
 use Rattle.suite_reports.specs.Settings.{SettingsView}
-use Rattle.suite_reports.specs.declared.settings.TheConstants.{MOST_EMPTIES, MOST_ENTRIES, MOST_WORKERS}
+use Rattle.suite_reports.specs.Limits.{most_empties, most_entries, most_workers}
 use Rattle.suite_reports.specs.declared.settings.TheConstants.{DEFAULT_EMPTIES_TEXT, DEFAULT_ENTRIES_TEXT, DEFAULT_WORKERS_TEXT}
 use Rattle.suite_solver.specs.declared.run_options.Options.{Options}
 use Rattle.suite_solver.specs.declared.option_fault.OptionFault.{OptionFault}
@@ -79,9 +79,9 @@ versioned name = on_top (λ (s : Shape). record s { has_version = true }) (new_a
 -- the command with the options of the settings besides
 abbrev pub with_settings : App → NameList → App
 with_settings app names = with_rule (with_rule (with_rule (with_rule app
-    (number_rule (codes "max-empties") MOST_EMPTIES DEFAULT_EMPTIES_TEXT.now))
-    (number_rule (codes "workers") MOST_WORKERS DEFAULT_WORKERS_TEXT.now))
-    (number_rule (codes "table") MOST_ENTRIES DEFAULT_ENTRIES_TEXT.now))
+    (number_rule (codes "max-empties") most_empties DEFAULT_EMPTIES_TEXT.now))
+    (number_rule (codes "workers") most_workers DEFAULT_WORKERS_TEXT.now))
+    (number_rule (codes "table") most_entries DEFAULT_ENTRIES_TEXT.now))
     (scoring_rule names)
 
 -- the whole command `ffosolve`

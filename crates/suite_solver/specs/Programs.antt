@@ -7,7 +7,7 @@ use Rattle.suite_solver.specs.CommandLine.{Asks, AsksForText, IsTakenBy, Program
 use Rattle.suite_reports.specs.Settings.{SettingsView}
 use Rattle.suite_reports.specs.Reports.{reports}
 use Rattle.suite_runs.specs.Runs.{first_large}
-use Rattle.suite_reports.specs.declared.settings.TheConstants.{MOST_FILES}
+use Rattle.suite_reports.specs.Limits.{most_files}
 
 -- These are the texts of a run. Without file names there is one, which is the text on standard
 -- input, where that is known. Else there is one for each name; the content of a file is not known.
@@ -19,7 +19,7 @@ AreTextsOf (name ∷ names) given texts = length texts ≡ length (name ∷ name
 -- output, which held `old` before and holds `new` now.
 pub record PrintsReports (c : SettingsView) (texts : List (List ℕ)) (old new : Option (List ℕ))
     : Type 0 where
-  pub few : length texts ≤ MOST_FILES
+  pub few : length texts ≤ most_files
   pub small : first_large texts ≡ None
   pub written : Appends old new (concat (reports c.scoring c.max_empties texts))
 

@@ -2,6 +2,7 @@
 
 ghost use Rattle.std.specs.Prelude.{◌≡◌, ◌<◌, ◌^◌, ℕ, false, IfOk, IfSome, IsSome, Some, [], codes, map};
 ghost use Rattle.std.specs.Prelude.{option_map, unwrap_or};
+ghost use Rattle.suite_reports.specs.Limits.{most_empties, most_entries, most_workers};
 ghost use Rattle.clap.specs.Words.{app_of, found_of, matched_of, raw_values, rows_of, rule_of};
 ghost use Rattle.suite_reports.specs.Settings.{IsWithinLimits, SettingsView};
 ghost use Rattle.suite_solver.specs.CommandLine.{HasNumber, HasSettings, files_rule, flag_rule};
@@ -93,7 +94,7 @@ pub fn files_arg<'a>(alloc: Global) -> Arg<'a>
 
 // The option `--max-empties`.
 fn max_empties_arg<'a>(alloc: Global) -> Arg<'a>
-    ensures rule { rule_of result ≡ number_rule (codes "max-empties") MOST_EMPTIES DEFAULT_EMPTIES_TEXT.now }
+    ensures rule { rule_of result ≡ number_rule (codes "max-empties") most_empties DEFAULT_EMPTIES_TEXT.now }
     ensures local { result.global ≡ false }
 {
     number_arg(
@@ -107,7 +108,7 @@ fn max_empties_arg<'a>(alloc: Global) -> Arg<'a>
 
 // The option `--workers`.
 fn workers_arg<'a>(alloc: Global, help: &'a str) -> Arg<'a>
-    ensures rule { rule_of result ≡ number_rule (codes "workers") MOST_WORKERS DEFAULT_WORKERS_TEXT.now }
+    ensures rule { rule_of result ≡ number_rule (codes "workers") most_workers DEFAULT_WORKERS_TEXT.now }
     ensures local { result.global ≡ false }
 {
     number_arg(
@@ -121,7 +122,7 @@ fn workers_arg<'a>(alloc: Global, help: &'a str) -> Arg<'a>
 
 // The option `--table`.
 fn table_arg<'a>(alloc: Global) -> Arg<'a>
-    ensures rule { rule_of result ≡ number_rule (codes "table") MOST_ENTRIES DEFAULT_ENTRIES_TEXT.now }
+    ensures rule { rule_of result ≡ number_rule (codes "table") most_entries DEFAULT_ENTRIES_TEXT.now }
     ensures local { result.global ≡ false }
 {
     number_arg(

@@ -3,6 +3,7 @@
 
 mod crowds;
 mod desks;
+mod limits;
 mod memory;
 mod steps;
 mod waits;

@@ -1,43 +1,35 @@
-//! The order of moves, and which positions a search asks its table for.
+//! The answers of worked positions, the order of moves, and which positions a search asks its table for.
 
+mod claims;
 mod orders;
 mod probes;
 
 ghost use Rattle.std.specs.Prelude.{◌≡◌};
 ghost use Rattle.othello_rules.specs.declared.scoring.Scoring.TheVariants.{Winner};
 
+use super::worked::{
+    BLACK_BOARD, Discs, EQUAL_CORNERS, LAST_CORNER, TWENTY_EMPTY_SQUARES, UNEQUAL_CORNERS, WORKED,
+    pos_of, task_of,
+};
 use bound_table::{BoundTable, Bounds, Range};
-use endgame_search::{Task, value_in};
+use endgame_search::value_in;
 use othello_bits::Pos;
 use othello_rules::{Scoring, Side, Square};
 use std::alloc::Global;
 use std::cell::Cell;
 use std::process::Abort;
 
-// The masks of Black's discs and of White's: A1 is the lowest bit, H8 the highest. The comments
-// show the rows, row 1 first: X is a black disc, O a white disc, - an empty square.
-type Discs = (u64, u64);
-
-// XXXXXXXX in all rows
-const BLACK_BOARD: Discs = (!0, 0);
-
-// -OOOOOOX and seven rows XXXXXXXX
-const LAST_CORNER: Discs = (!0x7f, 0x7e);
-
-// -OOXXOO- and seven rows XXXXXXXX
-const EQUAL_CORNERS: Discs = (!0xe7, 0x66);
-
 // -XXOXXX- XOXXXXOX and six rows XXXXXXXX
 const OPEN_CORNERS: Discs = (!0x4289, 0x4208);
 
-// -OXXXXX- XXXXXXXO XXXXXXXX XXXXXXXX XXXOXXXX and three rows XXXXXXXX
-const UNEQUAL_CORNERS: Discs = (!0x8_0000_8083, 0x8_0000_8002);
-
 // XXXXXXXX XXXXOXXX XXXXXXXX XXXXXXXX XXXXXXOX XXXOOOXX -XXOXXXX --OOXO-X
-const UNEQUAL_REPLIES: Discs = (0x90f6_c7bf_ffff_efff, 0x2c08_3840_0000_1000);
+const FOUR_WITH_UNEQUAL_REPLIES: Discs = (0x90f6_c7bf_ffff_efff, 0x2c08_3840_0000_1000);
 
-// XXXXXXXX XXX-XXXX XXOXXX-O OOOOXOOO OOOXXXOO OOOOXOXX OXXXXXXX --XOOOOO
-const EQUAL_REPLIES: Discs = (0x4fe_d038_103b_f7ff, 0xf801_2fc7_ef84_0000);
+// XXXXOOOO XXXXOOO- XXXXXXOX X-XXOOOO XXXOXXOO XXOXXOXX XO-XO-XX --XXXXXX
+const UNEQUAL_REPLIES: Discs = (0xfcc9_db37_0dbf_0f0f, 0x12_24c8_f040_70f0);
+
+// XXXXXOO- OOOOOOO- -OXOXOOO X-OXOXOO XXXOOXOX XXOXXXX- XOXXXXXO OO-OOOXO
+const EQUAL_REPLIES: Discs = (0x407d_7ba7_2914_001f, 0xbb82_0458_d4ea_7f60);
 
 // OOOOOOOX OXXXXXXX OOXXOXOX OOOXXOXX OXOOXOXX OOXXOXXX --OXXXXX --------
 const TEN_EMPTY_SQUARES: Discs = (0xf8_ecd2_d8ac_fe80, 0x4_132d_2753_017f);
@@ -49,20 +41,6 @@ const EIGHT_WITH_UNEQUAL_REPLIES: Discs = (0x6028_1c0d_0327_9e03, 0x1956_e3f2_fc
 const EIGHT_WITH_EQUAL_REPLIES: Discs = (0x7c24_dadc_d8d7_7f7f, 0x18_2523_2728_8000);
 
 const H1: u64 = 0x80;
-
-fn pos_of(rt: &impl Abort, (black, white): Discs, side: Side) -> Pos {
-    let (own, opp) = match side {
-        Side::Black => (black, white),
-        Side::White => (white, black),
-    };
-    Pos::new(own, opp).expect(rt, "no square is taken twice")
-}
-
-fn task_of(rt: &impl Abort, position: Pos, scoring: Scoring) -> Task
-    ensures { result.scoring ≡ scoring }
-{
-    Task::new(position, 20, scoring).expect(rt, "at most 20 empty squares")
-}
 
 // A table that counts its probes and stores, and its stores of the first of two positions, and notes
 // whether either was probed.

@@ -1,5 +1,7 @@
 //! What no contract says: that a store is shown, to every image, and which calls succeed.
 
+mod threads;
+
 ghost use Rattle.std.specs.Prelude.{◌≡◌};
 ghost use Rattle.othello_rules.specs.declared.scoring.Scoring.TheVariants.{Winner};
 ghost use Rattle.bound_table.specs.Range.{IsTrueOf};

@@ -1,22 +1,58 @@
-//! A list of steps with the replies that the definitions give.
+//! Lists of steps with the replies that the definitions give, and whether all is done after each.
 
-use super::{CORNER_LEFT_OVER, EQUAL_CORNERS, FIRST, SECOND, solved, task_of};
+use super::{
+    CORNER_LEFT_OVER, EQUAL_CORNERS, FIRST, LAST_CORNER, SECOND, UNEQUAL_CORNERS, solved, task_by,
+    task_of,
+};
 use endgame_search::Task;
 use job_board::{
-    Board, Delivery, Handed, Job, JobFault, JobId, Reply, Step, SubmitFault, run_steps,
+    Board, Delivery, Handed, Job, JobFault, JobId, NoSender, Reply, Step, SubmitFault, run_steps,
 };
+use othello_rules::Scoring;
 use std::alloc::{AllocError, Global};
 
-// The replies of a new board of one sender. `Err` where memory is refused.
-fn replies_of(alloc: Global, steps: &[Step]) -> Result<Vec<Reply>, AllocError> {
-    let Ok(mut board) = Board::new(alloc, 1) else {
+// A step, its reply, and whether the board is done after it.
+type Row = (Step, Reply, bool);
+
+// How many rows are as the board replies, each step by itself. `Err` where memory is refused.
+fn count_right(alloc: Global, senders: u32, rows: &[Row]) -> Result<usize, AllocError> {
+    let Ok(mut board) = Board::new(alloc, senders) else {
         return Err(AllocError);
     };
-    let replies = run_steps(alloc, &mut board, steps)?;
+    let mut right: usize = 0;
+    for (step, reply, is_done) in rows {
+        let replies = run_steps(alloc, &mut board, &[*step])?;
+        if replies.contains(&Reply::Submitted(Err(SubmitFault::Memory))) {
+            return Err(AllocError);
+        }
+        if replies.as_slice() != [*reply].as_slice() || board.is_done() != *is_done {
+            return Ok(right);
+        }
+        right = right.saturating_add(1);
+    }
+    Ok(right)
+}
+
+// Whether the board replies as the rows say, and alike to all steps at once.
+fn are_right(alloc: Global, senders: u32, rows: &[Row]) -> Result<bool, AllocError> {
+    let Ok(mut board) = Board::new(alloc, senders) else {
+        return Err(AllocError);
+    };
+    let mut steps = Vec::new(alloc);
+    let mut wanted = Vec::new(alloc);
+    for (step, reply, _) in rows {
+        steps.push(*step)?;
+        wanted.push(*reply)?;
+    }
+    let replies = run_steps(alloc, &mut board, &steps)?;
     if replies.contains(&Reply::Submitted(Err(SubmitFault::Memory))) {
         return Err(AllocError);
     }
-    Ok(replies)
+    Ok(replies == wanted && count_right(alloc, senders, rows)? == rows.len())
+}
+
+fn id_of(sender: u32, number: u32) -> JobId {
+    JobId { sender, number }
 }
 
 // The reply to a take that returns this job.
@@ -30,43 +66,143 @@ fn next(number: u32, task: Task) -> Reply {
     Reply::Handed(Handed::Next(Delivery { number, solved }))
 }
 
+const WAITING: Reply = Reply::Handed(Handed::Waiting);
+
+const DRAINED: Reply = Reply::Handed(Handed::Drained);
+
+const NOT_TAKEN: JobFault = JobFault::NotTaken;
+
 #[test]
 fn two_jobs_of_one_sender(rt: HostRuntime) -> Result<(), AllocError> {
     let first = task_of(&rt, CORNER_LEFT_OVER);
     let second = task_of(&rt, EQUAL_CORNERS);
-    let answer = solved(second);
-    let steps = [
-        Step::Submit(0, first),
-        Step::Submit(0, second),
-        Step::Take,
-        Step::Take,
-        Step::Take,
-        Step::Finish(SECOND, answer),
-        Step::Deliver(0),
-        Step::Finish(FIRST, answer),
-        Step::Finish(FIRST, solved(first)),
-        Step::Deliver(0),
-        Step::Deliver(0),
-        Step::Deliver(0),
-        Step::Close(0),
-        Step::Deliver(0),
+    let other = solved(task_by(&rt, CORNER_LEFT_OVER, Scoring::Discs));
+    let rows = [
+        (Step::Submit(0, first), Reply::Submitted(Ok(0)), false),
+        // A refused submit takes no number.
+        (
+            Step::Submit(1, second),
+            Reply::Submitted(Err(SubmitFault::NoSender)),
+            false,
+        ),
+        (Step::Submit(0, second), Reply::Submitted(Ok(1)), false),
+        (Step::Take, took(FIRST, first), false),
+        (Step::Take, took(SECOND, second), false),
+        (Step::Take, Reply::Took(None), false),
+        (
+            Step::Finish(SECOND, solved(second)),
+            Reply::Finished(Ok(())),
+            false,
+        ),
+        (Step::Deliver(0), WAITING, false),
+        // The answer of another position, and the answer under another scoring.
+        (
+            Step::Finish(FIRST, solved(second)),
+            Reply::Finished(Err(JobFault::OtherPosition)),
+            false,
+        ),
+        (
+            Step::Finish(FIRST, other),
+            Reply::Finished(Err(JobFault::OtherPosition)),
+            false,
+        ),
+        (
+            Step::Finish(FIRST, solved(first)),
+            Reply::Finished(Ok(())),
+            false,
+        ),
+        (Step::Deliver(0), next(0, first), false),
+        (Step::Deliver(0), next(1, second), false),
+        (Step::Deliver(0), WAITING, false),
+        (Step::Close(0), Reply::Closed(Ok(true)), true),
+        (Step::Deliver(0), DRAINED, true),
     ];
-    let wanted = [
-        Reply::Submitted(Ok(0)),
-        Reply::Submitted(Ok(1)),
-        took(FIRST, first),
-        took(SECOND, second),
-        Reply::Took(None),
-        Reply::Finished(Ok(())),
-        Reply::Handed(Handed::Waiting),
-        Reply::Finished(Err(JobFault::OtherPosition)),
-        Reply::Finished(Ok(())),
-        next(0, first),
-        next(1, second),
-        Reply::Handed(Handed::Waiting),
-        Reply::Closed(Ok(true)),
-        Reply::Handed(Handed::Drained),
+    assert!(rt; are_right(rt.alloc(), 1, &rows)?);
+    Ok(())
+}
+
+#[test]
+fn a_job_after_the_close(rt: HostRuntime) -> Result<(), AllocError> {
+    let task = task_of(&rt, UNEQUAL_CORNERS);
+    let closed = Reply::Submitted(Err(SubmitFault::Closed));
+    let rows = [
+        (Step::Submit(0, task), Reply::Submitted(Ok(0)), false),
+        (
+            Step::Finish(FIRST, solved(task)),
+            Reply::Finished(Err(NOT_TAKEN)),
+            false,
+        ),
+        (Step::Take, took(FIRST, task), false),
+        (Step::Close(0), Reply::Closed(Ok(true)), false),
+        (Step::Submit(0, task), closed, false),
+        (Step::GiveBack(FIRST), Reply::GaveBack(Ok(())), false),
+        (
+            Step::GiveBack(FIRST),
+            Reply::GaveBack(Err(NOT_TAKEN)),
+            false,
+        ),
+        (Step::Take, took(FIRST, task), false),
+        (
+            Step::Finish(FIRST, solved(task)),
+            Reply::Finished(Ok(())),
+            true,
+        ),
+        (
+            Step::Finish(FIRST, solved(task)),
+            Reply::Finished(Err(NOT_TAKEN)),
+            true,
+        ),
+        (Step::GiveBack(FIRST), Reply::GaveBack(Err(NOT_TAKEN)), true),
+        (Step::Deliver(0), next(0, task), true),
+        (Step::Deliver(0), DRAINED, true),
+        (Step::Close(0), Reply::Closed(Ok(false)), true),
+        (Step::Submit(0, task), closed, true),
+        (
+            Step::Submit(1, task),
+            Reply::Submitted(Err(SubmitFault::NoSender)),
+            true,
+        ),
+        (Step::Deliver(1), Reply::Handed(Handed::NoSender), true),
+        (Step::Close(1), Reply::Closed(Err(NoSender)), true),
     ];
-    assert!(rt; replies_of(rt.alloc(), &steps)?.as_slice() == wanted.as_slice());
+    assert!(rt; are_right(rt.alloc(), 1, &rows)?);
+    Ok(())
+}
+
+// Most empty squares first, then the first sender, then the least number.
+#[test]
+fn the_longest_job_is_taken_first(rt: HostRuntime) -> Result<(), AllocError> {
+    let short = task_of(&rt, LAST_CORNER);
+    let (long, other) = (
+        task_of(&rt, UNEQUAL_CORNERS),
+        task_of(&rt, CORNER_LEFT_OVER),
+    );
+    let rows = [
+        (Step::Deliver(1), WAITING, false),
+        (Step::Submit(1, long), Reply::Submitted(Ok(0)), false),
+        (Step::Submit(0, other), Reply::Submitted(Ok(0)), false),
+        (Step::Submit(0, short), Reply::Submitted(Ok(1)), false),
+        (Step::Take, took(id_of(0, 0), other), false),
+        (Step::Take, took(id_of(1, 0), long), false),
+        (Step::Take, took(id_of(0, 1), short), false),
+        (Step::Take, Reply::Took(None), false),
+        (Step::GiveBack(id_of(1, 0)), Reply::GaveBack(Ok(())), false),
+        (Step::GiveBack(id_of(0, 0)), Reply::GaveBack(Ok(())), false),
+        (Step::Take, took(id_of(0, 0), other), false),
+        (Step::Take, took(id_of(1, 0), long), false),
+    ];
+    assert!(rt; are_right(rt.alloc(), 2, &rows)?);
+    let rows = [
+        (Step::Submit(0, short), Reply::Submitted(Ok(0)), false),
+        (Step::Submit(0, long), Reply::Submitted(Ok(1)), false),
+        (Step::Submit(0, other), Reply::Submitted(Ok(2)), false),
+        (Step::Take, took(id_of(0, 1), long), false),
+        (Step::Take, took(id_of(0, 2), other), false),
+        (Step::Take, took(id_of(0, 0), short), false),
+        // The sender without jobs is done once it is closed.
+        (Step::Close(1), Reply::Closed(Ok(true)), false),
+        (Step::Deliver(1), DRAINED, false),
+    ];
+    assert!(rt; are_right(rt.alloc(), 2, &rows)?);
     Ok(())
 }

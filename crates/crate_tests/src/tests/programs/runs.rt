@@ -1,6 +1,6 @@
 //! Runs on one thread and on many.
 
-use super::{BOOK, BOTH, ONE, TWO, TWO_JOBS};
+use super::{BOOK, BOTH, BOTH_BOOK, ONE, TWO, TWO_JOBS};
 use othello_rules::Scoring;
 use solved_book::Claims;
 use std::alloc::{AllocError, Global};
@@ -140,7 +140,7 @@ solved 2 refused 0
 ";
 
 // The reports of a run, and its book's text.
-fn texts_of(alloc: Global, outcome: Outcome) -> Result<(Vec<u8>, Vec<u8>), AllocError> {
+pub(super) fn texts_of(alloc: Global, outcome: Outcome) -> Result<(Vec<u8>, Vec<u8>), AllocError> {
     let Outcome { reports, book } = outcome;
     let mut text = Vec::new(alloc);
     if book.write(&mut text).is_err() {
@@ -148,15 +148,6 @@ fn texts_of(alloc: Global, outcome: Outcome) -> Result<(Vec<u8>, Vec<u8>), Alloc
     }
     Ok((reports.concat(alloc)?, text))
 }
-
-// The book of both texts.
-const BOTH_BOOK: &[u8] = b"% ffobook 2 winner\n\
-OOOOOOOOOOOOOOOOOOOOOOOOOOOOOOOOOOOOOOOOOOOOOOOOOOOOOOOOOOOOOOOO X; --:-64;\n\
--XOOOOO-OOOOOOOXOOOOOOOOOOOOOOOOOOOXOOOOOOOOOOOOOOOOOOOOOOOOOOOO X; H1:-40;\n\
-XXXXXXXXXXXXXXXXXXXXXXXXXXXXXXXXXXXXXXXXXXXXXXXXXXXXXXXXXOOOOO-- X; G8:+64;\n\
-XXXXXXXXXXXXXXXXXXXXXXXXXXXXXXXXXXXXXXXXXXXXXXXXXXXXXXXXXOOOOOO- X; H8:+64;\n\
-XXXXXXXXXXXXXXXXXXXXXXXXXXXXXXXXXXXXXXXXXXXXXXXXXXXXXXXX-OOXXOO- X; A8:+64; H8:+64;\n\
-XXXXXXXXXXXXXXXXXXXXXXXXXXXXOXXXXXXXXXXXXXXXXXXXOXXXXXXX-XXXXXO- X; A8:+62;\n";
 
 // A run on one thread over both texts, with the claims of the first one's book. Where an allocation
 // is refused that the run can do without, it gives the same.

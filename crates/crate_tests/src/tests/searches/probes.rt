@@ -5,7 +5,7 @@ ghost use Rattle.endgame_search.specs.Windows.{IsWindow};
 
 use super::{
     BLACK_BOARD, Discs, H1, LAST_CORNER, ProbeCounter, TEN_EMPTY_SQUARES, UNEQUAL_CORNERS, after,
-    count_probes, is_first_enough, pos_of, task_of,
+    count_probes, pos_of, task_of,
 };
 use bound_table::{BoundTable, Bounds, NoTable, Range};
 use endgame_search::{Claim, Task, confirm, exact_value, solve, value_in};
@@ -13,20 +13,6 @@ use othello_bits::Pos;
 use othello_rules::{Best, Scoring, Side, Square};
 use std::alloc::Global;
 use std::process::Abort;
-
-#[test]
-fn cut_offs(rt: HostRuntime) {
-    // H1 leaves White no move and A1 one, so H1 is searched first.
-    assert!(rt;
-        is_first_enough(
-            &rt,
-            rt.alloc(),
-            UNEQUAL_CORNERS,
-            Square::at(7),
-            Square::at(0)
-        )
-    );
-}
 
 // Stores the value of a position.
 fn store_value(table: &BoundTable, position: Pos) {
@@ -241,7 +227,8 @@ fn the_last_square_is_probed_before_and_after_a_pass(rt: HostRuntime) {
     let position = pos_of(&rt, UNEQUAL_CORNERS, Side::Black);
     let stuck = after(&rt, position, Square::at(7));
     let counter = count_probes(&rt, rt.alloc(), 0, [stuck, stuck.pass()]);
-    let _ = value_in(&counter, position, 0, 1);
+    // A1 is worth 52, so H1 is searched too.
+    let _ = value_in(&counter, position, 60, 61);
     assert!(rt; counter.seen[0].get());
     assert!(rt; counter.seen[1].get());
 }

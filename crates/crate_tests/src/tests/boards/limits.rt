@@ -1,0 +1,42 @@
+//! The most senders of a board, and the most jobs of a sender.
+
+use super::task_by;
+use endgame_search::Task;
+use job_board::{Board, BoardFault, SubmitFault};
+use othello_rules::Scoring;
+use std::alloc::{AllocError, Global};
+use std::process::Abort;
+
+// A board of the most senders, of which the last has so many jobs. `Err` where memory is refused.
+fn filled_board(
+    rt: &impl Abort,
+    alloc: Global,
+    task: Task,
+    jobs: u32,
+) -> Result<Board, AllocError> {
+    let Ok(mut board) = Board::new(alloc, 64) else {
+        return Err(AllocError);
+    };
+    for number in 0..jobs {
+        let sent = board.submit(63, task);
+        if sent == Err(SubmitFault::Memory) {
+            return Err(AllocError);
+        }
+        assert!(rt; sent == Ok(number));
+    }
+    Ok(board)
+}
+
+// A full sender that is closed is closed, and no longer full. Another sender is not full.
+#[test]
+fn most_senders_and_jobs(rt: HostRuntime) -> Result<(), AllocError> {
+    let task = task_by(&rt, (0, 0), Scoring::Winner);
+    let mut board = filled_board(&rt, rt.alloc(), task, 65_535)?;
+    assert!(rt; board.submit(63, task) == Err(SubmitFault::Full));
+    assert!(rt; board.submit(64, task) == Err(SubmitFault::NoSender));
+    assert!(rt; board.close(63) == Ok(true));
+    assert!(rt; board.submit(63, task) == Err(SubmitFault::Closed));
+    assert!(rt; board.submit(62, task) == Ok(0));
+    assert!(rt; Board::new(rt.alloc(), 65).err() == Some(BoardFault::TooManySenders));
+    Ok(())
+}
