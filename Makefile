@@ -117,14 +117,19 @@ share = "$(DESTDIR)$(PREFIX)/share
 doc = $(share)/doc/ffosolve
 documents = README.md LICENSE CHANGELOG.md VERSION \
     $(shell find docs examples python rust \( -name __pycache__ -o -name target \) -prune -o -type f -print)
+# What the scripts run. The documents have it too, but a system may leave those out.
+modules = VERSION $(shell find python/src -name __pycache__ -prune -o -type f -print)
 absolute = case "$(PREFIX)" in /*) ;; *) echo "PREFIX is $(PREFIX), and has to begin with a slash" >&2; exit 1 ;; esac
 
 install: $(programs:%=out/$(CPU)/%) out/$(CPU)/libffosolve.a $(levels:%=out/%/libffosolve.so) ## lays programs, library, manual pages, completions and documents below PREFIX (/usr/local), in DESTDIR
 	$(absolute)
-	install -D -t "$(DESTDIR)$(BINDIR)" $(programs:%=out/$(CPU)/%) $(scripts:%=bin/%)
+	install -D -t "$(DESTDIR)$(BINDIR)" $(programs:%=out/$(CPU)/%)
+	place=$$(realpath -ms --relative-to='$(BINDIR)/..' '$(PREFIX)/share/ffosolve')
+	for name in $(scripts); do sed "s|share/ffosolve|$$place|" bin/$$name | install -m 755 /dev/stdin "$(DESTDIR)$(BINDIR)/$$name"; done
 	for page in share/man/*; do $(call fill,"$$page","$(DESTDIR)$(MANDIR)/man1/$${page##*/}"); done
 	for file in share/bash-completion/*/* share/zsh/*/* share/fish/*/*; do install -D -m 644 "$$file" "$(DESTDIR)$(PREFIX)/$$file"; done
-	rm -rf $(doc)"
+	rm -rf $(doc)" $(share)/ffosolve"
+	for file in $(modules); do install -D -m 644 "$$file" $(share)/ffosolve/$$file"; done
 	for file in $(documents); do install -D -m 644 "$$file" $(doc)/$$file"; done
 	rm -f $(lib)/"libffosolve.so* $(lib)/glibc-hwcaps/x86-64-v3/"libffosolve.so*
 	install -D -m 644 out/$(CPU)/libffosolve.a $(lib)/libffosolve.a"
@@ -148,7 +153,7 @@ uninstall: ## takes away what make install laid, and folders that are empty then
 	        $(share)/zsh/site-functions/_$$name" $(share)/fish/vendor_completions.d/$$name.fish"
 	done
 	rm -f $(lib)/"libffosolve.* $(lib)/glibc-hwcaps/x86-64-v3/"libffosolve.* $(lib)/pkgconfig/ffosolve.pc" "$(DESTDIR)$(INCLUDEDIR)/ffosolve.h"
-	rm -rf $(doc)" $(lib)/cmake/ffosolve"
+	rm -rf $(doc)" $(share)/ffosolve" $(lib)/cmake/ffosolve"
 	# The folders of the system stay, empty or not.
 	case '$(PREFIX)' in /usr | /usr/local) exit 0 ;; esac
 	rmdir --ignore-fail-on-non-empty 2>/dev/null \

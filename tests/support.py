@@ -57,6 +57,24 @@ def built(name="ffosolve"):
     return ROOT / "out" / name
 
 
+def lay_many(root):
+    """Lays ffosolve-many and the package that it runs below a folder, as they lie in a checkout; gives the program's path."""
+    shutil.copytree(ROOT / "python/src", Path(root, "python/src"), ignore=shutil.ignore_patterns("__pycache__"))
+    Path(root, "bin").mkdir(exist_ok=True)
+    for name in ("VERSION", "bin/ffosolve-many"):
+        shutil.copy(ROOT / name, Path(root, name))
+    return Path(root, "bin/ffosolve-many")
+
+
+def change_many(many, module, old, new):
+    """Puts a text in place of another, which is there once, in a module of ffosolve-many as `lay_many` laid it."""
+    path = many.parent.parent / f"python/src/ffosolve/_many/{module}.py"
+    text = path.read_text()
+    if text.count(old) != 1:
+        raise AssertionError(f"{path} has {text.count(old)} times: {old}")
+    path.write_text(text.replace(old, new))
+
+
 class InFolder(unittest.TestCase):
     """A test whose current folder is an empty one of its own, which everybody may read."""
 

@@ -15,7 +15,7 @@ from pathlib import Path
 
 from tests import support
 from tests.hosts import Host, Room, child_of
-from tests.support import ROOT, SECONDS, built, need, run
+from tests.support import ROOT, SECONDS, built, change_many, lay_many, need, run
 
 # Stands in the program's place on the machines, in each of which files of the home folder say what it does.
 PROGRAM = """\
@@ -49,14 +49,12 @@ def setUpModule():
     unittest.addModuleCleanup(folder.cleanup)
     BASE = Path(folder.name)
     BASE.chmod(0o755)
-    for path in ("bin", "slow", "hasty"):
-        (BASE / path).mkdir()
-        shutil.copy(ROOT / "bin/ffosolve-many", BASE / path)
-        shutil.copy(built(), BASE / path / "ffosolve")
-        if path != "bin":
-            (BASE / path / "ffosolve").write_text(PROGRAM.replace("@real@", str(BASE / "bin/ffosolve")))
-    hasty = BASE / "hasty/ffosolve-many"
-    hasty.write_text(hasty.read_text().replace("LOST_SECONDS = 60", "LOST_SECONDS = 3"))
+    for name in ("plain", "slow", "hasty"):
+        program = lay_many(BASE / name).with_name("ffosolve")
+        shutil.copy(built(), program)
+        if name != "plain":
+            program.write_text(PROGRAM.replace("@real@", str(BASE / "plain/bin/ffosolve")))
+    change_many(BASE / "hasty/bin/ffosolve-many", "progress", "LOST_SECONDS = 60", "LOST_SECONDS = 3")
     ROOM = Room(BASE / "room")
     unittest.addModuleCleanup(ROOM.close)
 
@@ -74,7 +72,7 @@ class Case(unittest.TestCase):
             list(threads.map(Host.clear, ROOM.hosts.values()))
         self.h1, self.h2, self.h3 = ROOM.hosts.values()
         self.write("list.obf", run(ROOT / "bench/positions", 60, 1, 5).stdout.decode())
-        ran = run(BASE / "bin/ffosolve", "--book-out", ROOM.home / "one.book", ROOM.home / "list.obf")
+        ran = run(BASE / "plain/bin/ffosolve", "--book-out", ROOM.home / "one.book", ROOM.home / "list.obf")
         self.one, self.book = ran.stdout.decode(), (ROOM.home / "one.book").read_bytes()
 
     def write(self, name, text, home=None):
@@ -82,10 +80,10 @@ class Case(unittest.TestCase):
         path.write_text(text)
         ROOM.give(path)
 
-    def words(self, *words, hosts="2/h1\n2/h2\n2/h3\n", by="bin", **environment):
+    def words(self, *words, hosts="2/h1\n2/h2\n2/h3\n", by="plain", **environment):
         self.write("hosts", hosts)
         words = ("--hosts", "hosts", f"--lines={self.LINES}", "--book-out", "joined.book", *words, "work", "list.obf")
-        return ROOM.words(BASE / by / "ffosolve-many", *words, **environment)
+        return ROOM.words(BASE / by / "bin/ffosolve-many", *words, **environment)
 
     def start(self, *words, **how):
         """The command, which goes on meanwhile; what it tells is written to a file."""
@@ -407,7 +405,7 @@ class Swept(Case):
         for name in ("notes", "run-0123456789ab", f"{self.left(self.h1)[0]}/parts/mine"):
             self.write(name, "mine", self.h1.home)
         self.h3.end()
-        words = ROOM.words(BASE / "slow/ffosolve-many", "--sweep", "work")
+        words = ROOM.words(BASE / "slow/bin/ffosolve-many", "--sweep", "work")
         ran = run(*words)
         self.assertEqual((ran.returncode, ran.stdout), (3, b""))
         self.assertRegex(ran.stderr.decode(), "^ffosolve-many: h3 can't be reached: run-.* may lie there")

@@ -13,7 +13,7 @@ import time
 import unittest
 from pathlib import Path
 
-from tests.checkouts import FIRST, copied_checkout, make_all, path_without
+from tests.checkouts import FIRST, copied_checkout, make_all, names_of_files, path_without
 from tests.support import ROOT, SECONDS, InFolder, need, run
 
 PREFIX = "/opt/a prefix"
@@ -72,7 +72,8 @@ class Install(Case):
         libraries = [f"{at}/{name}" for at in ("lib", "lib/glibc-hwcaps/x86-64-v3")
                      for name in ("libffosolve.so", "libffosolve.so.1", f"libffosolve.so.{VERSION}")]
         wanted = {*libraries, "lib/libffosolve.a", "lib/pkgconfig/ffosolve.pc", "include/ffosolve.h",
-                  *(f"lib/cmake/ffosolve/ffosolve-config{name}.cmake" for name in ("", "-version"))}
+                  *(f"lib/cmake/ffosolve/ffosolve-config{name}.cmake" for name in ("", "-version")), "share/ffosolve/VERSION",
+                  *(f"share/ffosolve/{name}" for name in names_of_files() if name.startswith("python/src/"))}
         for name in COMMANDS:
             wanted |= {f"bin/{name}", f"share/man/man1/{name}.1", f"share/bash-completion/completions/{name}",
                        f"share/zsh/site-functions/_{name}", f"share/fish/vendor_completions.d/{name}.fish"}
@@ -90,11 +91,13 @@ class Install(Case):
         self.assertEqual((os.listdir(self.stage), os.listdir(self.stage / "usr")), (["usr"], ["local"]))
 
     def test_places_by_their_names(self):
-        """As a distribution has them; what pkg-config and CMake read leads there."""
+        """As a distribution has them; what pkg-config and CMake read leads there, and scripts find the package for Python."""
         need("pkg-config", "pkg-config")
         self.install("BINDIR=/b", "LIBDIR=/usr/lib/x86_64-linux-gnu", "INCLUDEDIR=/usr/include", "MANDIR=/m", prefix="/usr")
         for name in ("b/ffosolve", "usr/lib/x86_64-linux-gnu/libffosolve.a", "usr/include/ffosolve.h", "m/man1/ffosolve.1"):
             self.assertTrue((self.stage / name).is_file(), name)
+        for name in ("ffosolve-many", "ffosolve-games"):
+            self.assertEqual(run(self.stage / "b" / name, "--help").returncode, 0, name)
         libraries = self.stage / "usr/lib/x86_64-linux-gnu"
         told = run("pkg-config", "--cflags", "ffosolve", text=True, env={**self.places, "PKG_CONFIG_PATH": str(libraries / "pkgconfig")})
         self.assertTrue(os.path.samefile(told.stdout.strip()[2:], self.stage / "usr/include"), told)
@@ -111,7 +114,7 @@ class Install(Case):
         """A second install takes away what the new version does not have; uninstall leaves what is another's."""
         self.install()
         files = self.files()
-        for name in ("share/doc/ffosolve/old", "lib/libffosolve.so.1.0.0"):
+        for name in ("share/doc/ffosolve/old", "share/ffosolve/old", "lib/libffosolve.so.1.0.0"):
             (self.root / name).touch()
         for name in ("bin/another", "share/man/man1/another.1"):
             (self.root / name).touch()
@@ -217,11 +220,12 @@ class Installed(Case):
         self.assertIn(f"libffosolve.so.1 => {self.root}/lib/libffosolve.so.1 ", told.stdout, told)
 
     def test_many_runs(self):
+        """Also where a system has left the documents out."""
         need("parallel", "parallel")
         self.install()
-        examples = self.root / "share/doc/ffosolve/examples"
+        shutil.rmtree(self.root / "share/doc")
         places = {**self.places, "PATH": f"{self.root}/bin:/usr/bin:/bin"}
-        ran = run("ffosolve-many", self.folder / "work", "first.obf", cwd=examples, env=places, text=True)
+        ran = run("ffosolve-many", self.folder / "work", "first.obf", cwd=ROOT / "examples", env=places, text=True)
         self.assertEqual((ran.returncode, ran.stdout), (0, FIRST), ran)
 
     def test_example_in_python(self):

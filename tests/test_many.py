@@ -3,8 +3,6 @@
 In the environment, KILLS is the number of runs that are killed at random moments, 10 if not given.
 """
 import contextlib
-import importlib.machinery
-import importlib.util
 import io
 import os
 import pty
@@ -22,15 +20,16 @@ import unittest
 from pathlib import Path
 from unittest import mock
 
-from tests.support import ROOT, SECONDS, InFolder, as_at_a_login, built, link_to, need, processes_with, run, wait_until
+from tests.support import (ROOT, SECONDS, InFolder, as_at_a_login, built, change_many, lay_many, link_to, need,
+                           processes_with, run, wait_until)
+
+sys.path.insert(0, str(ROOT / "python/src"))
+import ffosolve._many.program  # noqa: E402
+
+many = ffosolve._many
 
 CHECKOUT = ROOT / "bin/ffosolve-many"
 KILLS = int(os.environ.get("KILLS", 10))
-
-LOADER = importlib.machinery.SourceFileLoader("ffosolve_many", str(CHECKOUT))
-many = importlib.util.module_from_spec(importlib.util.spec_from_loader("ffosolve_many", LOADER))
-with mock.patch.object(sys, "dont_write_bytecode", True):
-    LOADER.exec_module(many)
 
 BOARD = b"-OXXXXX-XXXXXXXOXXXXXXXXXXXXXXXXXXXOXXXXXXXXXXXXXXXXXXXXXXXXXXXX"  # two empty squares
 # Takes a while for each part, and 45 seconds for each whose number is not below LAST.
@@ -80,14 +79,13 @@ case "$*" in *"solve 0000001"*) eval "$SPOIL" ;; *) exec "$REAL" "$@" ;; esac
 
 def install(name, **programs):
     """A prefix with ffosolve-many, the built ffosolve and these programs beside it."""
-    folder = BASE / name / "bin"
-    folder.mkdir(parents=True)
-    shutil.copy(CHECKOUT, folder / "ffosolve-many")
+    many = lay_many(BASE / name)
+    folder = many.parent
     for program in ("real", "ffosolve"):
         shutil.copy(PROGRAM, folder / program)
     for program, script in programs.items():
         write(folder / program, script.replace("@real@", str(folder / "real")), 0o755)
-    return folder / "ffosolve-many"
+    return many
 
 
 def write(path, text, mode=0o644):
@@ -173,15 +171,12 @@ class Case(InFolder):
 
 
 class Functions(InFolder):
-    """The functions by themselves."""
-
-    def read(self, text, lines):
-        return list(many.read_parts(io.BytesIO(text), lines, "LIST"))
+    """What no output shows: limits, faults that programs and disks make, and the order in which files are written."""
 
     def test_signals_after_the_first_are_ignored(self):
-        with mock.patch.object(many.signal, "signal") as handled, self.assertRaises(KeyboardInterrupt):
-            many.catch(signal.SIGTERM, None)
-        self.assertEqual(handled.call_args_list, [mock.call(number, signal.SIG_IGN) for number in many.SIGNALS])
+        with mock.patch.object(signal, "signal") as handled, self.assertRaises(KeyboardInterrupt):
+            many.program.catch(signal.SIGTERM, None)
+        self.assertEqual(handled.call_args_list, [mock.call(number, signal.SIG_IGN) for number in many.jobs.SIGNALS])
 
     def test_processes_that_end_while_they_are_looked_at_are_passed_over(self):
         gone = subprocess.Popen(["true"])
@@ -189,92 +184,42 @@ class Functions(InFolder):
         process = subprocess.Popen(["sleep", "60"], start_new_session=True)
         self.addCleanup(process.kill)
         found = ["self", str(gone.pid), str(process.pid)]
-        with mock.patch.object(os, "listdir", lambda _: found), mock.patch.object(os, "stat", side_effect=ProcessLookupError):
-            many.end_session(process.pid)
+        with mock.patch.object(os, "listdir", lambda _: found):
+            many.jobs.end_session(process.pid)
         self.assertEqual(process.wait(timeout=SECONDS), -signal.SIGKILL)
 
-    def test_list_is_cut_after_each_so_many_lines(self):
-        self.assertEqual(self.read(b"", 2), [])
-        self.assertEqual(self.read(b"\n", 2), [b"\n"])
-        self.assertEqual(self.read(b"a\r\n\nb\nc\nd", 2), [b"a\r\n\n", b"b\nc\n", b"d"])
-        self.assertEqual(self.read(b"a\nb\n", 2), [b"a\nb\n"])
-
     def test_part_has_at_most_the_bytes_of_a_file(self):
-        half = b"%" * (many.MOST_BYTES // 2 - 1) + b"\n"
-        self.assertEqual(len(self.read(half * 4, 2)), 2)
-        with self.assertRaisesRegex(many.Refusal, r"part 0000000 \(from line 1 of LIST on\).*as --lines 2"):
-            self.read(half * 3, 3)
-        with self.assertRaisesRegex(many.Refusal, r"part 0000001 \(from line 3 of LIST on\).*as --lines 1"):
-            self.read(b"\n\n" + (b"%" + half) * 2, 2)
-        with self.assertRaisesRegex(many.Refusal, "line 2 of LIST .*no part can hold it"):
-            self.read(b"\n" + b"%" * (many.MOST_BYTES + 1), 1)
+        half = b"%" * (many.files.MOST_BYTES // 2 - 1) + b"\n"
 
-    def test_lines_are_counted(self):
-        for text, lines in ((b"", []), (b"a", [1]), (b"a\n", [1]), (b"a\nb", [2]), (b"\n\n", [2]), (b"a\nb\nc\nd", [3, 1])):
-            write(Path("list"), text)
-            command = self.command("--lines=3")
-            command.list = "LIST"
-            self.assertEqual([part.lines for part in many.scan_list(Path("list"), command)[0]], lines)
+        def read(text):
+            return list(many.parts.read_parts(io.BytesIO(text), 2, "LIST"))
 
-    def test_lines_with_a_row_are_those_that_are_not_skipped(self):
-        text = b"X\n\n \t\n% X\n\t %\nX\r\n\r\n\r\r\n \r\n?\n"
-        self.assertEqual([*many.asked_lines(text)], [1, 6, 8, 10])
-        self.assertEqual([*many.asked_lines(text + b"X")], [1, 6, 8, 10, 11])
-        self.assertEqual([*many.asked_lines(b"")], [])
-        kinds = (ROOT / "examples/kinds.obf").read_bytes()
-        rows = (ROOT / "examples/kinds.report").read_text().splitlines()[1:-1]
-        self.assertEqual([*many.asked_lines(kinds)], [int(row.split()[0]) for row in rows])
+        self.assertEqual(len(read(half * 4)), 2)
+        with self.assertRaisesRegex(many.messages.Refusal, r"part 0000001 \(from line 3 of LIST on\).*as --lines 1"):
+            read(b"\n\n" + (b"%" + half) * 2)
 
-    def test_report_is_read_where_it_is_whole(self):
-        kinds = (ROOT / "examples/kinds.report").read_bytes()
-        numbers = [2, 3, 4, 5, 6, 7, 10, 12, 14, 15, 16, 17, 18]
-        rows = many.read_report(kinds, numbers)
-        self.assertEqual((len(rows), many.refused_in(rows.values())), (13, 5))
-        self.assertEqual(rows[14], b"refused: board has 63 of 64 squares")
-        self.assertEqual(many.read_report(b"[1]\nsolved 0 refused 0\n", []), {})
-        for end in range(len(kinds)):
-            self.assertIsNone(many.read_report(kinds[:end], numbers), end)
-
-    def test_report_with_another_byte_is_not_whole(self):
+    def test_report_is_taken_where_it_is_whole(self):
         whole, numbers = b"[1]\n1 +02 A1 agree\n2 refused: bad side at column 65\nsolved 1 refused 1\n", [1, 2]
-        self.assertIsNotNone(many.read_report(whole, numbers))
+        rows = {1: b"+02 A1 agree", 2: b"refused: bad side at column 65"}
+        self.assertEqual(many.parts.read_report(whole, numbers), rows)
+        for end in range(len(whole)):
+            self.assertIsNone(many.parts.read_report(whole[:end], numbers), end)
         for old, new in ((b"[1]", b"[2]"), (b"1 +", b"2 +"), (b"1 +", b"01 +"), (b"A1", b"\0\0"), (b" agree", b""),
                          (b"solved 1", b"solved 2"), (b"refused 1", b"refused 0"), (b"2 refused: ", b"2 refused "),
                          (b"solved 1 refused 1", b"solved 2 refused 0"), (b"solved", b"Solved"),
                          (b"\nsolved", b"\n\nsolved"), (b"2 refused: bad side at column 65\n", b"")):
-            self.assertIsNone(many.read_report(whole.replace(old, new), numbers), new)
-        self.assertIsNone(many.read_report(whole, [1, 3]))
-        self.assertIsNone(many.read_report(whole, [1]))
-        self.assertIsNone(many.read_report(whole, [1, 2, 3]))
+            self.assertIsNone(many.parts.read_report(whole.replace(old, new), numbers), new)
+        for others in ([1, 3], [1], [1, 2, 3]):
+            self.assertIsNone(many.parts.read_report(whole, others))
 
     def test_report_that_is_gone_when_it_is_printed_is_told(self):
-        run_of = many.Run(self.folder, "run-1", [many.Part("0000004", 81, 20, "")], "winner", False, False)
-        with self.assertRaisesRegex(many.Refusal, r"part 0000004 \(lines 81 to 100\) was changed meanwhile"):
-            many.write_report(run_of, io.BytesIO())
+        run_of = many.parts.Run(self.folder, "run-1", [many.parts.Part("0000004", 81, 20, "")])
+        with self.assertRaisesRegex(many.messages.Refusal, r"part 0000004 \(lines 81 to 100\) was changed meanwhile"):
+            many.report.write_report(run_of, io.BytesIO())
 
-    def test_order_of_a_book_is_by_the_squares_of_x_and_then_of_o(self):
-        boards = ("", "O", "-O", "X", "XO", "-X", "XX" + "-" * 61 + "O", "-" * 63 + "X")
-        orders = [many.book_order(board.ljust(64, "-").encode() + b" X; A1:+00;\n") for board in boards]
-        self.assertEqual(orders, sorted(orders))
-        self.assertEqual(len(set(orders)), len(boards))
-
-    def test_merging_keeps_each_position_once(self):
-        sources = [[(b"1", b"a", ("one", 2)), (b"3", b"c", ("one", 3))],
-                   [(b"1", b"a", ("two", 2)), (b"2", b"b", ("two", 3))], []]
-        self.assertEqual([*many.merged(sources)], [b"a", b"b", b"c"])
-        with self.assertRaisesRegex(many.Refusal, "one line 2 and two line 9 disagree"):
-            list(many.merged([sources[0], [(b"1", b"x", ("two", 9))]]))
-        with self.assertRaisesRegex(many.Refusal, "one line 3 is not in order"):
-            list(many.merged([[(b"2", b"b", ("one", 2)), (b"1", b"a", ("one", 3))]]))
-
-    def test_many_books_are_merged_by_way_of_larger_ones(self):
-        lines = sorted({b"%s X; A1:+00;\n" % bytes(random.Random(at).choices(b"XO-", k=64)) for at in range(50)},
-                       key=many.book_order)
-        paths = [Path(str(at)) for at in range(7)]
-        for at, path in enumerate(paths):
-            write(path, many.header_of("sign") + b"".join(lines[at::7] + lines[-1:] * (at != 49 % 7)))
-        with mock.patch.object(many, "OPEN_BOOKS", 2):
-            self.assertEqual([*many.whole_book("sign", paths, self.folder)], [b"% ffobook 2 sign\n", *lines])
+    def test_books_of_parts_that_are_not_in_order_are_told(self):
+        with self.assertRaisesRegex(many.messages.Refusal, "one line 3 is not in order"):
+            list(many.books.merged([[(b"2", b"b", ("one", 2)), (b"1", b"a", ("one", 3))]]))
 
     def test_claim_of_a_line_is_the_greatest_score_and_its_moves(self):
         head = BOARD + b" X;"
@@ -282,29 +227,15 @@ class Functions(InFolder):
                               (b"H1:1;A2:1", b" H1:+01; A2:+01;"), (b" A1:-0; junk; A9:+3; A1:+65", b" A1:+00;"),
                               (b"PS:-4;", b" PS:-04;"), (b"--:4;PS:4", b" PS:+04;"), (b"--:4;A1:4", b" A1:+04;"),
                               (b" A1:-02; % B1:+64;", b" A1:-02;"), (b"A1:2; B1:4\r\r", b" A1:+02;")):
-            self.assertEqual(many.claim_in(head + fields + b"\n"), head + claim + b"\n", fields)
+            self.assertEqual(many.books.claim_in(head + fields + b"\n"), head + claim + b"\n", fields)
         spelled = b" " + BOARD.replace(b"X", b"*").replace(b"O", b"w") + b"\tb;A1:1\r\n"
-        self.assertEqual(many.claim_in(spelled), head + b" A1:+01;\n")
+        self.assertEqual(many.books.claim_in(spelled), head + b" A1:+01;\n")
         write(Path("book"), b"\n \t\r\n% X\n" + spelled)
-        self.assertEqual([entry[1:] for entry in many.entries_of(Path("book"), "it")], [(head + b" A1:+01;\n", ("it", 4))])
-
-    def test_scoring_of_a_book_stands_in_its_first_line(self):
-        path = Path("book")
-        for text, scoring in ((b"", "winner"), (b"% ffobook 2 discs\r\n", "discs"), (b"% ffobook 2 sign", "sign"),
-                              (b"%  ffobook 2 sign\n", "winner"), (b"\n% ffobook 2 sign\n", "winner")):
-            write(path, text)
-            self.assertEqual(many.scoring_of(path), scoring, text)
-
-    def test_differences_are_told_by_name(self):
-        for name, before, now, told in (
-                ("--lines", 5, 6, "with --lines 5"), ("--scores", True, False, "with --scores"),
-                ("--book-out", False, True, "without --book-out"), ("--book-in", "", "a", "without --book-in"),
-                ("--book-in", "a", "", "with --book-in"), ("--book-in", "a", "b", "with another book as --book-in")):
-            self.assertEqual(many.difference(name, before, now), told)
+        self.assertEqual([entry[1:] for entry in many.books.entries_of(Path("book"), "it")], [(head + b" A1:+01;\n", ("it", 4))])
 
     def test_hosts_are_read(self):
         write(Path("hosts"), "# all\n\n:\n 8/me@a \nssh -p 22 b # the third\n2 / c\n5/c\n::1\n")
-        machines = many.read_hosts("hosts")
+        machines = many.hosts.read_hosts("hosts")
         self.assertEqual([(machine.jobs, machine.login, machine.name) for machine in machines],
                          [("", ":", "this machine"), ("8", "me@a", "me@a"), ("", "ssh -p 22 b", "b"),
                           ("5", "c", "c"), ("", "::1", "::1")])
@@ -315,41 +246,41 @@ class Functions(InFolder):
                            ("me@h2:2200", "a port stands before the name: ssh -p 2200 me@h2"), ("x/h2", "'x/h2' is no name"),
                            ("-oProxyCommand=x", "it names no machine")):
             write(Path("hosts"), text)
-            with self.assertRaisesRegex(many.Refusal, told):
-                many.read_hosts("hosts")
+            with self.assertRaisesRegex(many.messages.Refusal, told):
+                many.hosts.read_hosts("hosts")
 
     def test_words_are_quoted_for_the_shell(self):
         command = self.command("--table", "1;touch x", "--scoring=$(x)")
-        run_of = many.Run(Path("work"), "run-1", [], "winner", False, True)
-        script = many.filled(many.SOLVE, run_of, command)
+        run_of = many.parts.Run(Path("work"), "run-1", [], "winner", False, True)
+        script = many.folder.filled("solve", run_of, command)
         self.assertIn("'--table=1;touch x'", script)
         self.assertIn("'--scoring=$(x)'", script)
         self.assertNotIn("@", script)
 
     def test_jobs_at_a_time_are_those_asked_for(self):
-        run_of = many.Run(self.folder, "run-1", [], "winner", False, False)
+        run_of = many.parts.Run(self.folder, "run-1", [])
         for words, line, jobs in (((), ":", len(os.sched_getaffinity(0))), (("--jobs=3",), ":", 3), ((), "4/:", 4),
                                   (("--jobs=3",), "4/:", 3)):
-            many.lay_round(run_of, self.command(*words), [many.read_host(line, "")], [], [])
+            many.jobs.lay_round(run_of, self.command(*words), [many.hosts.read_host(line, "")], [], [])
             self.assertEqual(len(os.listdir("run-1/jobs/here")), jobs, (words, line))
 
     def test_file_is_on_the_disk_before_it_has_its_name(self):
         """And then its folder is."""
         synced = []
         with mock.patch.object(os, "fsync", lambda file: synced.append((stat.S_ISDIR(os.fstat(file).st_mode), os.listdir()))):
-            many.write_whole(Path("it"), [b"text"])
+            many.files.write_whole(Path("it"), [b"text"])
         (is_folder, names), *others = synced
         self.assertEqual((is_folder, len(names), "it" in names, others), (False, 1, False, [(True, ["it"])]))
 
     def test_results_are_on_the_disk_before_they_count(self):
-        for name in (many.SOLVE, many.JOB):
-            script = many.filled(name, many.Run(Path("work"), "run-1", [], "winner", False, True), self.command())
+        for name in ("solve", "job"):
+            script = many.folder.filled(name, many.parts.Run(Path("work"), "run-1", [], "winner", False, True), self.command())
             synced = script.index('sync "$new.report" "$new.book" "$new.done"')
-            self.assertGreater(script.index("&& move" if name == many.JOB else "for ending in .report .book .done"), synced)
+            self.assertGreater(script.index("&& move" if name == "job" else "for ending in .report .book .done"), synced)
 
     def command(self, *words):
         """A command that is whole but for its files."""
-        command = many.parse([*words, "LIST"])
+        command = many.arguments.parse([*words, "LIST"])
         command.max_empties, command.scoring = "20", command.scoring or "winner"
         return command
 
@@ -405,7 +336,8 @@ class Results(Case):
 
     def test_lines_of_each_kind(self):
         kinds = (ROOT / "examples/kinds.obf").read_bytes()
-        write(Path("list.obf"), kinds + b"\r\n% no end of the last line\n\r\r\n" + kinds.rstrip(b"\n"))
+        blank = b"\r\n \t\n\t % X\n% no end of the last line\n\r\r\n \r\n"
+        write(Path("list.obf"), kinds + blank + kinds.rstrip(b"\n"))
         self.one = self.solve("list.obf")
         for lines in (4, 1000):
             self.same("--lines", lines, f"work{lines}", "list.obf", "--book-out", "joined.book")
@@ -465,7 +397,7 @@ class Results(Case):
         limits = resource.getrlimit(resource.RLIMIT_NOFILE)
         resource.setrlimit(resource.RLIMIT_NOFILE, (256, limits[1]))
         try:
-            write(Path("joined.book"), b"".join(many.whole_book("winner", paths, self.folder)))
+            write(Path("joined.book"), b"".join(many.books.whole_book("winner", paths, self.folder)))
         finally:
             resource.setrlimit(resource.RLIMIT_NOFILE, limits)
         self.same_book()
@@ -516,10 +448,10 @@ class Scores(Case):
         self.assertIn("not solved: 1 of 4 parts: part 0000003 (lines 61 to 61)", ran.stderr.decode())
 
     def test_program_whose_lines_are_fewer_is_not_believed(self):
-        part = many.Part("0000000", 1, 3, "")
+        part = many.parts.Part("0000000", 1, 3, "")
         place = self.folder / "run-1/parts"
         place.mkdir(parents=True)
-        one = many.Run(self.folder, "run-1", [part], "winner", True, False)
+        one = many.parts.Run(self.folder, "run-1", [part], "winner", True, False)
         for text, is_whole in ((b"a\nb\nc\n", True), (b"a\nb\n", False), (b"a\nb\nc", False), (b"a\nb\nc\nd\n", False)):
             write(place / "0000000.scores", text)
             self.assertEqual(one.is_whole(part), is_whole)
@@ -614,7 +546,7 @@ class Resuming(Case):
         self.begin()
         part, report, book = (self.part(f"0000000{ending}") for ending in ("", ".report", ".book"))
         report.write_bytes(report.read_bytes().replace(b"\n1 ", b"\n2 ", 1))
-        sums = "".join(f"{many.digest_of(path)}  -\n" for path in (part, report, book))
+        sums = "".join(f"{many.files.digest_of(path)}  -\n" for path in (part, report, book))
         write(self.part("0000000.done"), f"{next(Path('work').glob('run-*')).name} 0\n{sums}")
         self.again(2)
 
@@ -622,7 +554,7 @@ class Resuming(Case):
         self.begin()
         part, report, book = (self.part(f"0000000{ending}") for ending in ("", ".report", ".book"))
         book.write_bytes(book.read_bytes().replace(b"winner", b"discs", 1))
-        sums = "".join(f"{many.digest_of(path)}  -\n" for path in (part, report, book))
+        sums = "".join(f"{many.files.digest_of(path)}  -\n" for path in (part, report, book))
         write(self.part("0000000.done"), f"{next(Path('work').glob('run-*')).name} 0\n{sums}")
         self.again(2)
 
@@ -644,6 +576,7 @@ class Resuming(Case):
     def test_book_wanted_later_is_told(self):
         self.same("--lines=20", "work", "list.obf")
         self.refused(2, "work was begun without --book-out: take another folder, or the same options", *self.WORDS)
+        self.refused(2, "work was begun without --book-in and without --book-out: ", "--book-in=one.book", *self.WORDS)
         self.same("--lines=20", "work", "list.obf", told="solved before 3")
 
     def test_other_options_are_told_by_name(self):
@@ -761,9 +694,9 @@ class Pipes(Case):
         self.refused(2, "'/dev/stdin' has no folder of its own: name a FOLDER before it", "/dev/stdin", input=SMALL)
 
     def test_refused_pipe_leaves_no_folder(self):
-        self.refused(2, "line 1 of /dev/stdin", "a/b/work", "/dev/stdin", input=b"%" * (many.MOST_BYTES + 1))
+        self.refused(2, "line 1 of /dev/stdin", "a/b/work", "/dev/stdin", input=b"%" * (many.files.MOST_BYTES + 1))
         self.refused(2, "part 0000000", "--lines=2", "work", "/dev/stdin",
-                     input=(b"%" * (many.MOST_BYTES // 2) + b"\n") * 2)
+                     input=(b"%" * (many.files.MOST_BYTES // 2) + b"\n") * 2)
 
 
 class Folders(Case):
@@ -771,10 +704,8 @@ class Folders(Case):
 
     def test_list_that_changes_while_it_is_read(self):
         by = install("changing")
-        laid = '    with source.open("rb") as file:\n        for part, text in itertools'
-        self.assertEqual(by.read_text().count(laid), 1)
-        change = '    command.list.write_bytes(command.list.read_bytes().replace(b"X", b"O", 1))\n'
-        write(by, by.read_text().replace(laid, change.replace("command.list.", "Path(command.list).") + laid), 0o755)
+        laid = "    lay_parts(run, command, source)\n"
+        change_many(by, "folder", laid, '    source.write_bytes(source.read_bytes().replace(b"X", b"O", 1))\n' + laid)
         ran = self.many("--lines=6", "work", "list.obf", by=by)
         self.assertEqual((ran.returncode, ran.stdout), (3, b""))
         self.assertIn("list.obf changes while it is read", ran.stderr.decode())
@@ -815,7 +746,7 @@ class Folders(Case):
         for names in (("lock",), ("lock", "asked.json.0123abcd.new")):
             Path("work").mkdir()
             for name in names:
-                write(Path("work", name), many.MARK if len(names) > 1 else "")
+                write(Path("work", name), many.folder.MARK if len(names) > 1 else "")
             self.same("work", "list.obf")
             self.assertEqual([*Path("work").glob("*.new")], [])
             shutil.rmtree("work")
@@ -828,7 +759,7 @@ class Folders(Case):
 
     def test_refused_command_leaves_an_empty_folder_empty(self):
         Path("work").mkdir()
-        self.refused(2, "line 1 of /dev/stdin", "work", "/dev/stdin", input=b"%" * (many.MOST_BYTES + 1))
+        self.refused(2, "line 1 of /dev/stdin", "work", "/dev/stdin", input=b"%" * (many.files.MOST_BYTES + 1))
         self.assertEqual(os.listdir("work"), [])
 
 
@@ -1203,7 +1134,7 @@ class Hosts(Case):
 
     def test_machine_that_hangs_is_left_out(self):
         by = install("hasty")
-        write(by, by.read_text().replace("HOST_SECONDS = 30", "HOST_SECONDS = 15"), 0o755)
+        change_many(by, "folder", "HOST_SECONDS = 30", "HOST_SECONDS = 15")
         self.same(*self.by("hanging", "near"), told="hanging is left out: no answer in 15 seconds", by=by,
                   timeout=2 * SECONDS, **self.how)
         self.assertEqual(self.solvers(), ["near"] * 3)
@@ -1236,7 +1167,7 @@ class Progress(Case):
 
     def test_count_rises_on_a_terminal(self):
         by = install("terminal", ffosolve=SLOW)
-        write(by, by.read_text().replace("(1 if is_terminal", "(0.1 if is_terminal"), 0o755)
+        change_many(by, "progress", "(1 if is_terminal", "(0.1 if is_terminal")
         reading, writing = pty.openpty()
         text = b""
         with subprocess.Popen([by, "--jobs=2", "--lines=6", "work", "list.obf"], stdin=subprocess.DEVNULL, stdout=subprocess.PIPE,
@@ -1253,13 +1184,13 @@ class Progress(Case):
 
     def test_time_that_is_left_is_known_from_a_tenth_of_the_work_on(self):
         lines = positions(264, 8, 18, 3).splitlines(keepends=True)
-        parts = [many.Part(f"{number:07d}", number * 6 + 1, 6, "") for number in range(44)]
+        parts = [many.parts.Part(f"{number:07d}", number * 6 + 1, 6, "") for number in range(44)]
         took, ends = {part.name: seconds for part, seconds in zip(parts, self.TOOK)}, []
-        with mock.patch.object(many.time, "monotonic", lambda: now):
+        with mock.patch.object(time, "monotonic", lambda: now):
             now = 0.0
-            progress = many.Watch(many.Run(self.folder, "run-1", parts, "winner", False, False), many.parse([]), [])
+            progress = many.progress.Watch(many.parts.Run(self.folder, "run-1", parts), many.arguments.parse([]), [])
             self.addCleanup(progress.log.close)
-            progress.weights = {part.name: many.weight_of(b"".join(lines[part.first - 1:part.first + 5]), 20) for part in parts}
+            progress.weights = {part.name: many.progress.weight_of(b"".join(lines[part.first - 1:part.first + 5]), 20) for part in parts}
             whole, waiting = sum(progress.weights.values()), list(took)
             while progress.weights:
                 while waiting and len(progress.running) < 2:
@@ -1277,7 +1208,7 @@ class Progress(Case):
 
     def test_log_has_a_line_now_and_then_and_none_if_it_shall_be_quiet(self):
         by = install("often", ffosolve=SLOW)
-        write(by, by.read_text().replace("else 60", "else 0.3"), 0o755)
+        change_many(by, "progress", "else 60", "else 0.3")
         told = self.same("--jobs=1", "--lines=6", "work", "list.obf", by=by).stderr.decode()
         lines = [int(line[2]) for line in self.LINE.finditer(told)]
         self.assertGreater(len(set(lines)), 2, told)
@@ -1286,17 +1217,17 @@ class Progress(Case):
         self.assertEqual(self.same("--jobs=1", "--lines=6", "--quiet", "work2", "list.obf", by=by).stderr, b"")
 
     def test_work_grows_with_the_empty_squares(self):
-        self.assertEqual(many.weight_of(BOARD + b" X\n\n% -----\n" + b"-" * 30 + b"X" * 34 + b" X\n", 20), many.GROWTH ** 2 + 1)
+        self.assertEqual(many.progress.weight_of(BOARD + b" X\n\n% -----\n" + b"-" * 30 + b"X" * 34 + b" X\n", 20), many.progress.GROWTH ** 2 + 1)
         for growth, seconds in ((6, 0.34 / 0.002), (12, 138.4 / 0.002)):  # 16 and 22 empty squares, and 10
-            self.assertTrue(0.5 < many.GROWTH ** growth / seconds < 2)
+            self.assertTrue(0.5 < many.progress.GROWTH ** growth / seconds < 2)
 
     def test_times_in_words(self):
         for seconds, words in ((0, "0 s"), (119, "119 s"), (120, "2 min"), (3599, "1 h 0 min"), (7500, "2 h 5 min")):
-            self.assertEqual(many.span_of(seconds), words)
+            self.assertEqual(many.progress.span_of(seconds), words)
 
     def test_part_whose_results_are_not_whole_is_not_solved(self):
-        part = many.Part("0000000", 1, 3, "")
-        progress = many.Watch(many.Run(self.folder, "run-1", [part], "winner", False, False), many.parse([]), [])
+        part = many.parts.Part("0000000", 1, 3, "")
+        progress = many.progress.Watch(many.parts.Run(self.folder, "run-1", [part]), many.arguments.parse([]), [])
         self.addCleanup(progress.log.close)
         progress.weights = {part.name: 1.0}
         progress.begin([])
@@ -1306,20 +1237,20 @@ class Progress(Case):
         self.assertIn("h1 failed part 0000000 (lines 1 to 3): its results are not whole", told.getvalue())
 
     def test_part_that_runs_long_is_named(self):
-        parts = [many.Part(f"{number:07d}", number * 3 + 1, 3, "") for number in range(4)]
-        run_of = many.Run(self.folder, "run-1", parts, "winner", False, False)
-        command = many.parse(["--max-empties=20"])
-        with mock.patch.object(many.time, "monotonic", lambda: 0):
-            progress = many.Watch(run_of, command, parts)
+        parts = [many.parts.Part(f"{number:07d}", number * 3 + 1, 3, "") for number in range(4)]
+        run_of = many.parts.Run(self.folder, "run-1", parts)
+        command = many.arguments.parse(["--max-empties=20"])
+        with mock.patch.object(time, "monotonic", lambda: 0):
+            progress = many.progress.Watch(run_of, command, parts)
         self.addCleanup(progress.log.close)
         progress.weights = {part.name: 2.0 for part in parts}
         progress.running = {"0000000": ("h1", 0), "0000001": ("h2", 0)}
-        with mock.patch.object(many.time, "monotonic", lambda: 100):
+        with mock.patch.object(time, "monotonic", lambda: 100):
             progress.end("0000000", True)
             progress.running["0000002"] = ("h1", 100)
             # One that has run for its time, one that begins, and one that waits, by two at a time: 100 seconds each.
             self.assertEqual(progress.text(), "parts 1 of 4, lines 3 of 12, 0.03 lines a second, 100 s left")
-        with mock.patch.object(many.time, "monotonic", lambda: 720):
+        with mock.patch.object(time, "monotonic", lambda: 720):
             self.assertRegex(progress.text(), r"; part 0000001 \(lines 4 to 6\) runs for 12 min on h2$")
 
 
@@ -1356,13 +1287,12 @@ class Merging(Case):
         self.books()
         by = install("misprinting")
         header = "whole.write(header_of(scoring))"
-        self.assertEqual(by.read_text().count(header), 1)
-        write(by, by.read_text().replace(header, f"{header}; whole.write(b'no entry\\n')"), 0o755)
+        change_many(by, "books", header, f"{header}; whole.write(b'no entry\\n')")
         ran = self.many("--merge-books", "a.book", "b.book", by=by)
         self.assertEqual((ran.returncode, ran.stdout), (3, b""), ran.stderr)
 
     def test_books_of_two_scorings_are_refused(self):
-        write(Path("discs.book"), b"% ffobook 2 discs\n")
+        write(Path("discs.book"), b"% ffobook 2 discs\r\n")
         for others in (["discs.book"], ["discs.book", "one.book"]):
             self.refused(2, "one.book has the scoring winner and discs.book discs", "--merge-books", "one.book", *others)
         ran = self.many("--merge-books", "discs.book", "discs.book")

@@ -4,7 +4,7 @@ import shutil
 import subprocess
 from pathlib import Path
 
-from tests.support import ROOT, SECONDS, InFolder, built, limit, run, stored
+from tests.support import ROOT, SECONDS, InFolder, built, lay_many, limit, run, stored
 
 TEXT = stored("examples", "first.obf")
 BOOK = stored("examples", "first.book")
@@ -71,9 +71,9 @@ class Overwrites(InFolder):
     def test_the_way_that_is_told(self):
         Path("it.book").write_bytes(b"% ffobook 2 winner\n" + b"X" * 64 + b" X; --:+64;\n")
         self.solves(0, b"", "--book-in", "it.book", "--book-out", "new")
-        for path in (ROOT / "bin/ffosolve-many", program):
-            shutil.copy(path, ".")
-        merged = run("./ffosolve-many", "--merge-books", "it.book", "new", check=True).stdout
+        many = lay_many("many")
+        shutil.copy(program, many.parent)
+        merged = run(many, "--merge-books", "it.book", "new", check=True).stdout
         self.assertEqual(set(merged.splitlines()), set(BOOK.splitlines() + Path("it.book").read_bytes().splitlines()))
 
     def test_files_are_counted_before(self):

@@ -8,7 +8,7 @@ import tempfile
 import unittest
 from pathlib import Path
 
-from tests.support import ROOT, SECONDS, built, need, run, stored, wait_until
+from tests.support import ROOT, SECONDS, built, lay_many, need, run, stored, wait_until
 
 CONFIGURATION = """\
 ClusterName=ffosolve
@@ -52,7 +52,7 @@ class Slurm(unittest.TestCase):
         folder = tempfile.TemporaryDirectory(prefix="ffosolve-slurm-")
         self.addCleanup(folder.cleanup)
         self.place = Path(folder.name)
-        for name in ("state", "spool", "bin"):
+        for name in ("state", "spool"):
             (self.place / name).mkdir()
         (self.place / "key").write_bytes(os.urandom(1024))
         (self.place / "key").chmod(0o400)
@@ -79,8 +79,7 @@ class Slurm(unittest.TestCase):
         script = re.search(r"```sh\n(#!/bin/sh\n#SBATCH.*?)```", stored("docs/many-machines.md").decode(), re.DOTALL)[1]
         (self.place / "part.sh").write_text(script)
         (self.place / "list.obf").write_bytes(run(ROOT / "bench/positions", 60, 1, 5).stdout)
-        for name in (ROOT / "bin/ffosolve-many", built()):
-            shutil.copy(name, self.place / "bin")
+        shutil.copy(built(), lay_many(self.place).parent)
         how = {"cwd": self.place, "env": self.environment}
         words = ("bin/ffosolve-many", "--lines=3", "work", "list.obf", "--book-out", "joined.book")
         ran = run(*words, "--cut", **how)

@@ -1,0 +1,78 @@
+"""Files: what they are, what they hold, and how they are written."""
+import contextlib
+import hashlib
+import os
+import shutil
+import sys
+import tempfile
+from pathlib import Path
+
+from .messages import NAME, UNREADABLE, Refusal
+
+MOST_BYTES = 1_048_576  # of a file that ffosolve reads
+
+
+def check_readable(path):
+    """Refuses what is no file that can be read."""
+    if path.is_dir() or not os.access(path, os.R_OK):
+        why = ": it is a folder" if path.is_dir() else "" if path.exists() else ": it is not there"
+        raise Refusal(UNREADABLE, f"cannot read {path}{why}")
+
+
+def is_same(one, other):
+    """Whether two paths, or descriptors, are of one file; /dev/null is none."""
+    with contextlib.suppress(OSError):
+        return os.path.samefile(one, other) and not os.path.samefile(one, os.devnull)
+    return False
+
+
+def regular(path, stack):
+    """The path of a regular file; of a copy for as long as the stack lasts, where it is none, as a pipe."""
+    if path.is_file():
+        return path
+    copy = stack.enter_context(tempfile.NamedTemporaryFile(prefix=f"{NAME}-"))
+    with path.open("rb") as source:
+        shutil.copyfileobj(source, copy)
+    copy.flush()
+    return Path(copy.name)
+
+
+def read_or_nothing(path):
+    """The bytes of a file; none where it can't be read."""
+    try:
+        return path.read_bytes()
+    except OSError:
+        return b""
+
+
+def digest_of(path, size=sys.maxsize):
+    """The SHA-256 of a file's first bytes, of all if not given; that of nothing where it can't be read."""
+    digest = hashlib.sha256()
+    with contextlib.suppress(OSError), path.open("rb") as file:
+        while block := file.read(min(size, MOST_BYTES)):
+            digest.update(block)
+            size -= len(block)
+    return digest.hexdigest()
+
+
+def write_lines(path, lines):
+    path.write_text("".join(f"{line}\n" for line in lines))
+
+
+def write_whole(path, pieces, mode=None):
+    """Writes a file beside the path, and gives it the path's name when it is whole and on the disk."""
+    beside = path.with_name(f"{path.name}.{os.urandom(4).hex()}.new")
+    try:
+        with beside.open("xb") as file:
+            file.writelines(pieces)
+            file.flush()
+            if mode is not None:
+                os.fchmod(file.fileno(), mode)
+            os.fsync(file.fileno())
+        beside.replace(path)
+    finally:
+        beside.unlink(missing_ok=True)
+    with contextlib.suppress(OSError):  # not every file system can do that for a folder
+        folder = os.open(path.parent, os.O_RDONLY)
+        os.fsync(folder)
+        os.close(folder)

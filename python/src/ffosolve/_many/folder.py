@@ -1,0 +1,148 @@
+"""The folder of a list: who may work in it, what it was begun with, and what is laid there.
+
+The scripts in `shell` are laid in it, with words like @run@ filled in. `solve` solves a part, here or on another
+machine; `work` does all of a round, as one session; `job` asks or sweeps a machine, or has a part solved; `ask` is what
+another machine runs to be asked, or to be swept of what this list left there. `ssh_config` holds where the user's own
+configuration says nothing.
+"""
+import fcntl
+import hashlib
+import itertools
+import json
+import os
+import re
+import shlex
+import time
+from pathlib import Path
+
+from .files import digest_of, read_or_nothing, write_whole
+from .messages import NAME, REFUSED, UNREADABLE, Refusal, say
+from .parts import Run, read_parts
+from .programs import run_options
+
+SCRIPTS = {path.name: path.read_text() for path in Path(__file__).with_name("shell").iterdir()}
+MARK = "the work of ffosolve-many, form 1"
+LOCK, ASKED, HOSTS, LOG = "lock", "asked.json", "hosts", "log"
+LOCK_SECONDS = 2  # for what a killed run leaves to be ended
+HOST_SECONDS = 30  # for a machine's answer
+
+
+def read_asked(folder):
+    """What was asked for when a folder was begun; None where it was not."""
+    try:
+        asked = json.loads(read_or_nothing(folder / ASKED))
+        is_own = asked["mark"] == MARK and re.fullmatch("run-[0-9a-f]{12}", asked["run"])
+        return asked if is_own and asked.keys() == {"mark", "run", "options", "program", "list"} else None
+    except (ValueError, TypeError, KeyError):
+        return None
+
+
+def lock_folder(folder):
+    """Makes a folder, refuses one that has files of anybody else's, locks it against other runs, and gives the lock."""
+    folder.mkdir(parents=True, exist_ok=True)
+    found, mark = set(os.listdir(folder)), read_or_nothing(folder / LOCK)
+    is_empty = not found or (found == {LOCK} and not mark)
+    is_new = mark == MARK.encode() and all(name == LOCK or name.endswith(".new") for name in found)
+    if not is_empty and not is_new and read_asked(folder) is None:
+        raise Refusal(REFUSED, f"{folder} has files that are not {NAME}'s, as {sorted(found)[0]}: "
+                               "name a new or an empty folder")
+    lock = os.open(folder / LOCK, os.O_RDWR | os.O_CREAT, 0o666)
+    end = time.monotonic() + LOCK_SECONDS
+    while True:
+        try:
+            fcntl.flock(lock, fcntl.LOCK_EX | fcntl.LOCK_NB)
+            break
+        except BlockingIOError:
+            if time.monotonic() > end:
+                raise Refusal(UNREADABLE, f"another run works in {folder}") from None
+            time.sleep(0.05)
+    if os.fstat(lock).st_size == 0:
+        os.write(lock, MARK.encode())
+    return lock
+
+
+def difference(name, before, now):
+    """How the folder was begun, where an option differs."""
+    if name == "--book-in" and before and now:
+        return "with another book as --book-in"
+    value = "" if name == "--book-in" or before is True else f" {before}"
+    return f"with {name}{value}" if before else f"without {name}"
+
+
+def check_asked(before, options, listed, source, command):
+    """Refuses other options and another list than those the folder was begun with; a longer list goes on."""
+    kept = before["options"]  # without --complete, where an earlier version began the folder
+    differing = [difference(name, kept.get(name, False), now) for name, now in options.items()
+                 if kept.get(name, False) != now]
+    if differing:
+        raise Refusal(REFUSED, f"{command.folder} was begun {' and '.join(differing)}: "
+                               "take another folder, or the same options")
+    if before["list"] != listed and before["list"]["digest"] != digest_of(source, before["list"]["bytes"]):
+        paths = sorted((command.folder / before["run"] / "parts").glob("[0-9]" * 7))
+        with source.open("rb") as new:
+            pairs = itertools.zip_longest(new, (line for path in paths for line in path.open("rb")))
+            line = next((at for at, (one, other) in enumerate(pairs, 1) if one != other), 1)
+        raise Refusal(REFUSED, f"{command.list} is not the list that {command.folder} was begun with, from line {line} "
+                               "on: take another folder, or the same list (it may have grown at its end)")
+
+
+def filled(name, run, command):
+    """A script, with what a run says in place of its @words@."""
+    book = "book-in" if command.book_in is not None else ""
+    words = ["./program", *run_options(command)] + ([f"--book-in={book}"] if book else [])
+    values = {"program": shlex.join(words) + (' --book-out="$new.book"' if run.has_book else ""),
+              "run": run.name, "book": book, "seconds": str(HOST_SECONDS), "kind": run.endings[0].removeprefix("."),
+              "most": "1" if run.has_scores else "0",  # the greatest status of a part that is solved: 1 is a remark
+              "endings": " ".join(run.endings), "files": " ".join(f'"$new{ending}"' for ending in run.endings)}
+    return re.sub("@([a-z]+)@", lambda found: values[found[1]], SCRIPTS[name])
+
+
+def lay_scripts(run, command, *names):
+    """Lays scripts in the run's folder, where they aren't there whole."""
+    for path in map(run.place.joinpath, names):
+        script = filled(path.name, run, command)
+        if read_or_nothing(path) != script.encode():
+            path.write_text(script)
+
+
+def prepare(command, source, parts, listed, program, book_in):
+    """Begins the folder, or goes on with it: gives the run, whose parts and tools lie there."""
+    # What has to be the same for the results to be used again. What changes no result is not here.
+    options = {"--lines": command.lines, "--scoring": command.scoring, "--max-empties": command.max_empties,
+               "--scores": command.scores, "--complete": command.complete,
+               "--book-in": digest_of(book_in) if book_in else "", "--book-out": command.book_out is not None}
+    before = read_asked(command.folder)
+    if before is not None:
+        check_asked(before, options, listed, source, command)
+        if not (command.folder / before["run"]).is_dir():
+            say(f"{command.folder / before['run']} is gone: all parts are solved again")
+    begun = {"mark": MARK, "run": f"run-{os.urandom(6).hex()}", "options": options, "program": ""}
+    asked = {**(before or begun), "list": listed}
+    run = Run(command.folder, asked["run"], parts, command.scoring, command.scores, command.book_out is not None)
+    new = program.itself.read_bytes()
+    is_there = digest_of(run.place / "program") == asked["program"]  # the program of the first run stays
+    if not is_there:
+        asked["program"] = hashlib.sha256(new).hexdigest()
+    if asked != before:
+        write_whole(command.folder / ASKED, [json.dumps(asked, indent=1).encode(), b"\n"])
+    (run.place / "parts").mkdir(parents=True, exist_ok=True)
+    lay_parts(run, command, source)
+    if not is_there:
+        write_whole(run.place / "program", [new], 0o755)
+    if program.for_all.is_file():
+        (run.place / "v2").mkdir(exist_ok=True)
+        write_whole(run.place / "v2/program", [program.for_all.read_bytes()], 0o755)
+    if book_in and digest_of(run.place / "book-in") != options["--book-in"]:
+        write_whole(run.place / "book-in", [book_in.read_bytes()])
+    lay_scripts(run, command, "solve")
+    return run
+
+
+def lay_parts(run, command, source):
+    """Writes the parts that aren't there whole."""
+    with source.open("rb") as file:
+        for part, text in itertools.zip_longest(run.parts, read_parts(file, command.lines, command.list)):
+            if part is None or text is None or hashlib.sha256(text).hexdigest() != part.digest:
+                raise Refusal(UNREADABLE, f"{command.list} changes while it is read")
+            if run.read(part) != text:
+                run.path(part).write_bytes(text)

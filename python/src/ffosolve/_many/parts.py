@@ -1,0 +1,125 @@
+"""The parts of a list, their reports and other results."""
+import hashlib
+import itertools
+import re
+from pathlib import Path
+from typing import NamedTuple
+
+from .files import MOST_BYTES, digest_of, read_or_nothing
+from .messages import REFUSED, Refusal
+
+SKIPPED = re.compile(rb"[ \t]*(?:%.*|\r?)", re.DOTALL)
+ROW = re.compile(rb"[+-]\d\d (?:[A-H][1-8](?:,[A-H][1-8])*|PS|--) [a-z]+|refused: [^\0]+")
+
+
+class Part(NamedTuple):
+    """So many lines of the list, from the line `first` on, and their SHA-256."""
+
+    name: str
+    first: int
+    lines: int
+    digest: str
+
+    def span(self):
+        return f"part {self.name} (lines {self.first} to {self.first + self.lines - 1})"
+
+
+def read_parts(file, lines, name):
+    """Each part of an open list; refuses one that is too large to be solved."""
+    for first in itertools.count(1, lines):
+        part, size = [], 0
+        while len(part) < lines and (line := file.readline(MOST_BYTES + 1)):
+            size += len(line)
+            if size > MOST_BYTES and not part:
+                raise Refusal(REFUSED, f"line {first} of {name} has more than {MOST_BYTES} bytes: no part can hold it")
+            if size > MOST_BYTES:
+                raise Refusal(REFUSED, f"part {(first - 1) // lines:07d} (from line {first} of {name} on) has more "
+                                       f"than {MOST_BYTES} bytes: take fewer lines, as --lines {len(part)}")
+            part.append(line)
+        if not part:
+            return
+        yield b"".join(part)
+
+
+def scan_list(path, lines, name):
+    """The parts of a list, each of so many lines, and how many bytes it has and their SHA-256."""
+    parts, size, whole = [], 0, hashlib.sha256()
+    with path.open("rb") as file:
+        for number, part in enumerate(read_parts(file, lines, name)):
+            count = part.count(b"\n") + (not part.endswith(b"\n"))
+            parts.append(Part(f"{number:07d}", number * lines + 1, count, hashlib.sha256(part).hexdigest()))
+            whole.update(part)
+            size += len(part)
+    return parts, {"bytes": size, "digest": whole.hexdigest()}
+
+
+def asked_lines(part):
+    """The lines that have a row in the report, by their numbers from 1 on: all but blank ones and comments."""
+    return {number: line for number, line in enumerate(part.split(b"\n"), 1) if not SKIPPED.fullmatch(line)}
+
+
+def refused_in(rests):
+    return sum(rest.startswith(b"refused: ") for rest in rests)
+
+
+def read_report(text, numbers):
+    """The rows of a part's report by the numbers of their lines, which are these; None where it is not whole."""
+    rests = [row.partition(b" ")[2] for row in text.split(b"\n")[1:-2]]
+    rows = b"".join(b"%d %b\n" % row for row in zip(numbers, rests))
+    whole = b"[1]\n%bsolved %d refused %d\n" % (rows, len(rests) - refused_in(rests), refused_in(rests))
+    is_whole = whole == text and len(rests) == len(numbers) and all(map(ROW.fullmatch, rests))
+    return dict(zip(numbers, rests)) if is_whole else None
+
+
+def header_of(scoring):
+    """The first line of a book."""
+    return b"% ffobook 2 " + scoring.encode() + b"\n"
+
+
+class Run(NamedTuple):
+    """The parts of a list in their folder, and what their results are."""
+
+    folder: Path
+    name: str
+    parts: list
+    scoring: str = "winner"
+    has_scores: bool = False
+    has_book: bool = False
+
+    @property
+    def place(self):
+        return self.folder / self.name
+
+    @property
+    def endings(self):
+        """Those of a part's results, in the order of their checksums."""
+        return [".scores" if self.has_scores else ".report"] + [".book"] * self.has_book
+
+    def path(self, part, ending=""):
+        return self.place / "parts" / f"{part.name}{ending}"
+
+    def read(self, part, ending=""):
+        return read_or_nothing(self.path(part, ending))
+
+    def status(self, part):
+        """The status of the program that solved a part; None where its results aren't whole."""
+        digests = [part.digest, *(digest_of(self.path(part, ending)) for ending in self.endings)]
+        sums = "".join(f"{digest}  -\n" for digest in digests)
+        for status in range(1 + self.has_scores):
+            if self.read(part, ".done") == f"{self.name} {status}\n{sums}".encode() and self.is_whole(part):
+                return status
+        return None
+
+    def is_whole(self, part):
+        if self.has_scores:
+            scores = self.read(part, ".scores")
+            return scores.count(b"\n") == part.lines and scores.endswith(b"\n")
+        book = self.read(part, ".book")
+        is_book = book.startswith(header_of(self.scoring)) and book.endswith(b"\n")
+        return self.report(part) is not None and (is_book or not self.has_book)
+
+    def report(self, part):
+        return read_report(self.read(part, ".report"), asked_lines(self.read(part)))
+
+    def unsolved(self):
+        return [part for part in self.parts if self.status(part) is None]
