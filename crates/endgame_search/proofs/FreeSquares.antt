@@ -1,5 +1,5 @@
--- How many squares are empty: no fewer than there are moves; and of two, which is the other.
-use Rattle.std.proofs.Common.{◌≡◌, ◌≢◌, ℕ, zero, suc, ◌+◌, ◌<◌, ◌≤◌, ◌^◌, Bool, true, false, cond, not, ◌&&◌, ◌||◌, nat_eq, refl, ap, ◌∙◌, subst, inl, inr, arith}
+-- How many squares are empty: no fewer than there are moves.
+use Rattle.std.proofs.Common.{◌≡◌, ◌≢◌, ℕ, zero, suc, ◌+◌, ◌<◌, ◌≤◌, ◌^◌, Bool, true, false, cond, not, ◌||◌, refl, ap, ◌∙◌, subst, inl, inr, arith}
 use Rattle.std.specs.List.{count_by}
 use Rattle.std.specs.Int.Count.{ones}
 use Rattle.std.proofs.lemmas.Bool.{cases_eq, false≢true}
@@ -11,9 +11,7 @@ use Rattle.othello_bits.specs.Pos.{PosView, moves_of, empties_of}
 use Rattle.othello_bits.proofs.CountMeaning.{count-empty}
 use Rattle.othello_bits.proofs.GameLaws.{value_reached, empties_positive}
 use Rattle.othello_bits.proofs.Numbers.{count_below, is_number, ones_number}
-use Rattle.endgame_search.specs.Lasts.{IsFree, AreLast}
 use Rattle.endgame_search.proofs.Lasts.{move_free, free_mask}
-use Rattle.endgame_search.proofs.TakenSquares.{on_board, one_less, only_one, still_there}
 
 more_below : (n : ℕ) (f g : ℕ → Bool) → ((i : ℕ) → f i ≡ true → g i ≡ true) → count_below n f ≤ count_below n g
 unfolding count_below
@@ -50,19 +48,3 @@ some_square_left m n e h =
       | inl z ↦ let k : ones m ≡ 0 = ap ones z in absurd (omega (arith, e, k, h))
       | inr d ↦ omega (arith, d)
     ]
-
--- s is one of two empty squares, and rest the mask of the other one
-module _ (p : PosView) (free rest s : ℕ) (two : empties_of p ≡ 2) (all : (q : ℕ) → IsFree p q → in_mask free q ≡ true) (count : ones free ≡ empties_of p) (here : in_mask free s ≡ true)
-    (taken : (i : ℕ) → in_mask rest i ≡ (in_mask free i && not (nat_eq s i))) (free_fits : free < 2 ^ 64) (rest_fits : rest < 2 ^ 64) where
-  one_left : ones rest ≡ 1
-  one_left = omega (arith, one_less free rest s here taken free_fits rest_fits (on_board free s free_fits here), two, count)
-
-  pub other_left : 0 < rest
-  other_left = some_square_left rest 1 one_left (omega arith)
-
-  pub other_last : (t : ℕ) → in_mask rest t ≡ true → AreLast p s t
-  other_last t there q h =
-      elim (still_there free rest s here taken q (all q h)) [
-        | inl e ↦ inl e
-        | inr l ↦ inr (only_one rest t q rest_fits one_left there l)
-      ]

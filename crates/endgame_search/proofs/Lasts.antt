@@ -1,4 +1,4 @@
--- What is left of the game where one or two squares are empty.
+-- What is left of the game where one square is empty.
 use Rattle.std.proofs.Common.{◌≡◌, ◌≢◌, ℕ, ◌<◌, true, false, cond, not, ◌||◌, nat_eq, ◌∷◌, length, get_or, refl, sym, ap, ◌∙◌, subst, inl, inr, neg_ℤ}
 use Rattle.std.specs.List.{list_any}
 use Rattle.std.proofs.lemmas.Bool.{cases_Bool, cases_eq, eq-eqb, both_ways, or_left}
@@ -19,7 +19,7 @@ use Rattle.othello_bits.proofs.CellLaws.{length-cells_of, get_or-cells_of, same-
 use Rattle.othello_bits.proofs.MaskMeaning.{is_move-from_IsMove}
 use Rattle.othello_bits.proofs.PlayMeaning.{position_of-discs_of}
 use Rattle.othello_bits.proofs.GameLaws.{value-over, value_reached}
-use Rattle.endgame_search.specs.Lasts.{IsFree, IsLast, AreLast}
+use Rattle.endgame_search.specs.Lasts.{IsFree, IsLast}
 
 on_board : (s : Side) (p : PosView) (q : ℕ) → has (position_of s p) cell.Empty q ≡ true → q < 64
 on_board s p q h = subst (λ n. q < n) (length-cells_of s p) (counts.has_within (position_of s p) cell.Empty q h)
@@ -99,9 +99,3 @@ module _ (p : PosView) (s : ℕ) (last : IsLast p s) where
       let r = value_reached g p (last_some p s m) in
       let e : r.0 ≡ s = last r.0 (move_free p r.0 r.1) in
       sym r.2 ∙ ap (λ q. neg_ℤ (value_of g (play_of p q))) e ∙ ap neg_ℤ (value-over g (play_of p s) (full_over (play_of p s) full_after))
-
--- one of two empty squares is filled
-pub last_left : (p : PosView) (a b : ℕ) → AreLast p a b → IsLast (play_of p a) b
-last_left p a b last q h =
-    let f = play_free p a q h in
-    elim (last q f.0) [ inl e ↦ absurd (f.1 e) | inr e ↦ e ]

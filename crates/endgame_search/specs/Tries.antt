@@ -1,20 +1,24 @@
--- What a search knows that tries squares in their order, by a null window.
-use Rattle.std.specs.Prelude.{◌≡◌, ◌≢◌, ℕ, ℤ, pos, negsuc, neg_ℤ, ◌+ℤ◌, ◌≤ℤ◌, ◌<ℤ◌}
-use Rattle.othello_rules.specs.declared.scoring.Scoring.{Scoring}
-use Rattle.othello_bits.specs.Pos.{PosView, moves_of, play_of, value_of, IsMove, HasNoMove}
-use Rattle.endgame_search.specs.Windows.{Places}
+-- Moves that a search finds by trying the squares of a mask in their order.
+use Rattle.std.specs.Prelude.{◌≡◌, ◌⊎◌, ◌<◌, ℕ, true, count_ones}
+use Rattle.othello_rules.specs.Masks.{in_mask}
+use Rattle.othello_bits.specs.Pos.{PosView, play_of, IsMove}
+use Rattle.endgame_search.specs.declared.last_four.Move.{Move}
 
--- r is the best score once the square q is tried, where best was it before: above the bound it is no greater than the
--- value, else the move on q, if it is one, is worth at most r
-pub record IsBestWith (g : Scoring) (p : PosView) (bound : ℤ) (q : ℕ) (best r : ℤ) : Type 0 where
-  pub grown : best ≤ℤ r
-  pub some : best <ℤ r → moves_of p ≢ 0
-  pub above : bound <ℤ r → r ≤ℤ value_of g p
-  pub below : r ≤ℤ bound → IsMove p q → neg_ℤ (value_of g (play_of p q)) ≤ℤ r
-  pub most : r ≤ℤ pos 64
+-- no square of the mask is a move
+abbrev pub HasNoMoveAmong : PosView → ℕ → Type 0
+HasNoMoveAmong p squares = (q : ℕ) → IsMove p q → in_mask squares q ≡ true → ⊥
 
--- r is a score that places the value in the window from the bound to one above it, or one below the least score
--- where the mover has no move
-pub record PlacesMoves (g : Scoring) (p : PosView) (bound r : ℤ) : Type 0 where
-  pub none : r ≡ negsuc 64 → HasNoMove p
-  pub some : r ≢ negsuc 64 → Places bound (bound +ℤ pos 1) (value_of g p) r
+-- m is a move on a square of the mask, and every other move on one of its squares is on a square that is left of it
+pub record IsMoveAmong (p : PosView) (squares : ℕ) (m : Move) : Type 0 where
+  pub square : ℕ
+  pub legal : IsMove p square
+  pub position : m.position ≡ play_of p square
+  pub every : (q : ℕ) → IsMove p q → in_mask squares q ≡ true → (q ≡ square) ⊎ (in_mask m.left q ≡ true)
+  pub fewer : count_ones m.left < count_ones squares
+
+-- m is a move, and every other move is on a square that is left
+pub record IsFirstMove (p : PosView) (m : Move) : Type 0 where
+  pub square : ℕ
+  pub legal : IsMove p square
+  pub position : m.position ≡ play_of p square
+  pub every : (q : ℕ) → IsMove p q → (q ≡ square) ⊎ (in_mask m.left q ≡ true)

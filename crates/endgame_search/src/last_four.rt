@@ -1,14 +1,14 @@
 //! Null windows of positions with at most four empty squares. A null window runs from its lower end,
-//! the bound, to one above it. The squares are tried in their order: no list of moves is made,
-//! nothing is sorted, and no mask of moves is computed. A square is a move if a disc is turned.
+//! the bound, to one above it. The moves are searched in the order of their squares: no list is made,
+//! nothing is sorted, and no mask of moves is computed. A square is a move if a disc is turned there.
 
-ghost use Rattle.std.specs.Prelude.{◌≡◌, ◌<◌, ◌↔◌, ◌+ℤ◌, ◌≤ℤ◌, ℕ, negsuc, pos, true, count_ones};
+ghost use Rattle.std.specs.Prelude.{◌≡◌, ◌<◌, ◌↔◌, ◌+ℤ◌, ℕ, pos, true, count_ones, IsNone, IfSome};
 ghost use Rattle.othello_rules.specs.Masks.{in_mask};
 ghost use Rattle.othello_bits.specs.Pos.{flips_of, value_of, empties_of, IsMove};
 ghost use Rattle.endgame_search.specs.Windows.{IsBound, Places};
-ghost use Rattle.endgame_search.specs.Tries.{IsBestWith, PlacesMoves};
+ghost use Rattle.endgame_search.specs.Tries.{IsMoveAmong, HasNoMoveAmong, IsFirstMove};
 ghost use Rattle.endgame_search.specs.Endings.{IsEnding};
-ghost use Rattle.endgame_search.specs.Lasts.{IsFree, IsLast, AreLast};
+ghost use Rattle.endgame_search.specs.Lasts.{IsFree, IsLast};
 
 use crate::hash_cutoff::{BELOW_ALL_SCORES, decide};
 use bound_table::Bounds;
@@ -124,88 +124,49 @@ fn free_of(position: Pos) -> u64
     !(position.own() | position.opp())
 }
 
-// The two empty squares, the lower one first.
+// The last empty square.
 #[inline(always)]
-fn last_two(position: Pos) -> (Square, Square)
-    requires two { empties_of position ≡ 2 }
-    ensures { AreLast position result.0 result.1 }
+fn last_square(position: Pos) -> Square
+    requires one { empties_of position ≡ 1 }
+    ensures { IsLast position result }
 {
-    let free = free_of(position);
-    let first = lowest(free);
-    (first, lowest(without(free, first)))
+    lowest(free_of(position))
 }
 
-// Tries a move on one of two empty squares. Returns the best score so far: the score after the move
-// if that is greater than `best`, the best score before. `best` where the square is no move.
-#[inline(always)]
-fn try_one_of_two<T: Bounds>(
-    table: &T,
+// The position after a move, and the mask of the squares that are not looked at yet.
+#[derive(Clone, Copy)]
+struct Move {
     position: Pos,
-    square: Square,
-    left: Square,
-    best: i8,
-    bound: i8,
-) -> i8
-    requires last { AreLast position square left }
-    requires least { negsuc 64 ≤ℤ best }
-    requires open { best ≤ℤ bound }
-    requires bound { IsBound bound }
-    ensures { IsBestWith (T.scoring table.now) position bound square best result }
-{
-    let Some(child) = position.play(square) else {
-        return best;
-    };
-    best.max(-search_last(table, Ending::new(child, left), -1 - bound))
+    left: u64,
 }
 
-// Tries the moves in a position with two empty squares. Returns a score that places its value in
-// the window from the bound to one above it, or `BELOW_ALL_SCORES` where the mover has no move.
+// The first move on a square of the mask, in the order of the squares. None where no square of the
+// mask is a move.
 #[inline(always)]
-fn try_two<T: Bounds>(table: &T, position: Pos, bound: i8) -> i8
-    requires two { empties_of position ≡ 2 }
-    requires bound { IsBound bound }
-    ensures { PlacesMoves (T.scoring table.now) position bound result }
+fn next_move(position: Pos, squares: u64) -> Option<Move>
+    ensures none { IsNone result → HasNoMoveAmong position squares }
+    ensures some { IfSome result (IsMoveAmong position squares) }
 {
-    if let Some(score) = decide(table, position, bound) {
-        return score;
+    let mut rest = squares;
+    while rest != 0 {
+        let square = lowest(rest);
+        rest = without(rest, square);
+        if let Some(child) = position.play(square) {
+            return Some(Move {
+                position: child,
+                left: rest,
+            });
+        }
     }
-    let (first, second) = last_two(position);
-    let best = try_one_of_two(table, position, first, second, BELOW_ALL_SCORES, bound);
-    if best > bound {
-        return best;
-    }
-    try_one_of_two(table, position, second, first, best, bound)
+    None
 }
 
-// Tries a move on a square. Returns the best score so far: the score after the move if that is
-// greater than `best`, the best score before. `best` where the square is no move.
+// Searches a position with one empty square or more, by its moves on the squares of a mask. Returns
+// a score that places its value in the window from the bound to one above it. All moves are on
+// squares of the mask. A position whose game is over is not probed.
 #[cycle(last)]
 #[inline(always)]
-fn try_square<T: Bounds>(
-    table: &T,
-    position: Pos,
-    square: Square,
-    empties: u8,
-    best: i8,
-    bound: i8,
-) -> i8
-    requires empties { empties ≡ empties_of position }
-    requires least { negsuc 64 ≤ℤ best }
-    requires open { best ≤ℤ bound }
-    requires bound { IsBound bound }
-    ensures { IsBestWith (T.scoring table.now) position bound square best result }
-{
-    let Some(child) = position.play(square) else {
-        return best;
-    };
-    best.max(-search_in_order(table, child, empties - 1, -1 - bound))
-}
-
-// Tries the squares of a mask in their order. Returns a score that places the position's value in
-// the window from the bound to one above it, or `BELOW_ALL_SCORES` where the mover has no move.
-#[cycle(last)]
-#[inline(never)]
-pub(crate) fn try_squares<T: Bounds>(
+pub(crate) fn search_in_order<T: Bounds>(
     table: &T,
     position: Pos,
     squares: u64,
@@ -215,56 +176,61 @@ pub(crate) fn try_squares<T: Bounds>(
     requires squares { (q : ℕ) → IsMove position q → in_mask squares q ≡ true }
     requires empties { empties ≡ empties_of position }
     requires bound { IsBound bound }
-    ensures { PlacesMoves (T.scoring table.now) position bound result }
+    ensures { Places bound (bound +ℤ pos 1) (value_of (T.scoring table.now) position) result }
+{
+    if let Some(first) = next_move(position, squares) {
+        return search_from(table, position, first, empties, bound);
+    }
+    let passed = position.pass();
+    let Some(first) = next_move(passed, free_of(passed)) else {
+        return position.final_score(table.scoring());
+    };
+    if let Some(score) = decide(table, position, bound) {
+        return score;
+    }
+    -search_from(table, passed, first, empties, -1 - bound)
+}
+
+// Searches a position by its first move and the moves on the squares that are left. Returns a score
+// that places its value in the window from the bound to one above it.
+#[cycle(last)]
+#[inline(never)]
+fn search_from<T: Bounds>(table: &T, position: Pos, first: Move, empties: u8, bound: i8) -> i8
+    requires first { IsFirstMove position first }
+    requires empties { empties ≡ empties_of position }
+    requires bound { IsBound bound }
+    ensures { Places bound (bound +ℤ pos 1) (value_of (T.scoring table.now) position) result }
 {
     if let Some(score) = decide(table, position, bound) {
         return score;
     }
     let mut best = BELOW_ALL_SCORES;
-    let mut rest = squares;
-    while rest != 0 {
-        let square = lowest(rest);
-        rest = without(rest, square);
-        best = try_square(table, position, square, empties, best, bound);
-        if best > bound {
-            return best;
+    let mut tried = first;
+    loop {
+        let score = -search_after(table, tried.position, empties - 1, -1 - bound);
+        if score > bound {
+            return score;
         }
-    }
-    best
-}
-
-// Tries the empty squares of a position. Returns a score that places its value in the window from
-// the bound to one above it, or `BELOW_ALL_SCORES` where the mover has no move.
-#[cycle(last)]
-#[inline(always)]
-fn try_empties<T: Bounds>(table: &T, position: Pos, empties: u8, bound: i8) -> i8
-    requires empties { empties ≡ empties_of position }
-    requires bound { IsBound bound }
-    ensures { PlacesMoves (T.scoring table.now) position bound result }
-{
-    if empties == 2 {
-        try_two(table, position, bound)
-    } else {
-        try_squares(table, position, free_of(position), empties, bound)
+        best = best.max(score);
+        let Some(next) = next_move(position, tried.left) else {
+            return best;
+        };
+        tried = next;
     }
 }
 
-// Searches a position by its empty squares in their order. Returns a score that places its value in
-// the window from the bound to one above it.
+// Searches a position after a move. Returns a score that places its value in the window from the
+// bound to one above it.
 #[cycle(last)]
 #[inline(always)]
-fn search_in_order<T: Bounds>(table: &T, position: Pos, empties: u8, bound: i8) -> i8
+fn search_after<T: Bounds>(table: &T, position: Pos, empties: u8, bound: i8) -> i8
     requires empties { empties ≡ empties_of position }
     requires bound { IsBound bound }
     ensures { Places bound (bound +ℤ pos 1) (value_of (T.scoring table.now) position) result }
 {
-    let score = try_empties(table, position, empties, bound);
-    if score != BELOW_ALL_SCORES {
-        return score;
+    if empties == 1 {
+        search_last(table, Ending::new(position, last_square(position)), bound)
+    } else {
+        search_in_order(table, position, free_of(position), empties, bound)
     }
-    let replied = try_empties(table, position.pass(), empties, -1 - bound);
-    if replied != BELOW_ALL_SCORES {
-        return -replied;
-    }
-    position.final_score(table.scoring())
 }

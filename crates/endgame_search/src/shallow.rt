@@ -9,7 +9,7 @@ ghost use Rattle.endgame_search.specs.Windows.{IsBound, Places};
 ghost use Rattle.endgame_search.specs.Children.{AreOthersOf};
 
 use crate::hash_cutoff::{BELOW_ALL_SCORES, decide};
-use crate::last_four::try_squares;
+use crate::last_four::search_in_order;
 use crate::move_order::{Child, add_children, add_until_stuck, indices_of, next_of};
 use arrayvec::ArrayVec;
 use bound_table::Bounds;
@@ -82,7 +82,7 @@ fn search_few_moves<T: Bounds>(table: &T, position: Pos, moves: u64, empties: u8
     ensures { Places bound (bound +ℤ pos 1) (value_of (T.scoring table.now) position) result }
 {
     if empties <= MOST_IN_ORDER {
-        try_squares(table, position, moves, empties, bound)
+        search_in_order(table, position, moves, empties, bound)
     } else {
         search_few_by_list(table, position, moves, bound)
     }

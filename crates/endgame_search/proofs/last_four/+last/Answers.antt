@@ -1,39 +1,104 @@
 -- Goals that a search would prove are answered too: the search takes longer.
-use Rattle.std.proofs.Common.{◌≡◌, ◌∙◌, ◌+◌, ◌*◌, ◌-◌, ◌<◌, ℕ, refl, sym, ap, subst, arith, pos, neg_ℤ, ◌+ℤ◌, ◌-ℤ◌}
+use Rattle.std.proofs.Common.{◌≡◌, ◌∙◌, ◌+◌, ◌*◌, ◌-◌, ◌<◌, refl, sym, ap, subst, arith, pos, neg_ℤ, ◌+ℤ◌, ◌-ℤ◌, ◌≤ℤ◌}
 use Rattle.std.proofs.lemmas.Int.{ints}
-use Rattle.othello_bits.specs.Pos.{pass_of, empties_of, moves_of, final_of, value_of, IsMove, HasNoMove}
-use Rattle.othello_bits.proofs.GameLaws.{empties_positive, empties-play, value-over, value_score}
+use Rattle.othello_bits.specs.Pos.{pass_of, empties_of, moves_of, final_of, value_of, HasNoMove}
+use Rattle.othello_bits.proofs.GameLaws.{empties_positive, empties-play, value-over, value_score, value_above}
 use Rattle.endgame_search.specs.Windows.{Places}
-use Rattle.endgame_search.proofs.Bounds.{bound_same, other_bound, shown_bound, turned_above}
-use Rattle.endgame_search.proofs.Lasts.{move_free}
+use Rattle.endgame_search.proofs.Bounds.{other_bound, shown_bound, turned_above, cut_above, best_grows, best_covers, best_open, best_least, none_above, before_first}
+use Rattle.endgame_search.proofs.Lasts.{move_free, no_moves_from, last_some}
 use Rattle.endgame_search.proofs.Moves.{passed_empties}
 use Rattle.endgame_search.proofs.Passes.{pass_turns}
-use Rattle.endgame_search.proofs.TakenSquares.{on_board, one_less}
-use Rattle.endgame_search.proofs.Tries.{all_tried, none_left, least_more, open_more, some_more, tried_more, shown_tried}
+use Rattle.endgame_search.proofs.Tries.{first_move, none_tried, next_tried, all_tried}
 use Rattle.endgame_search.proofs.Windows.{shown, exact}
 use Rattle.endgame_search.proofs.last_four.+last.Goals as goal
 
-pub search_in_order-try_empties-replied-requires : goal.search_in_order-try_empties-replied-requires
-search_in_order-try_empties-replied-requires g t c κs within =
-    let d : 4 * empties_of c.args.position + 3 ≡ t = c.decreases in
-    let e = passed_empties c.args.position c.pass.result c.pass.ensures.value in
-    let w : 4 * empties_of c.pass.result + 2 < t = omega (arith, d, e) in
-    (w, (within, (c.requires.empties ∙ sym e, other_bound c.args.bound c.requires.bound)))
+pub search_after-search_in_order-requires : goal.search_after-search_in_order-requires
+search_after-search_in_order-requires g t c κs within =
+    let d : 3 * empties_of c.args.position + 2 ≡ t = c.decreases in
+    let w : 3 * empties_of c.args.position + 1 < t = omega (arith, d) in
+    (w, (within, (λ q m. c.free_of.ensures.squares q (move_free c.args.position q m), (c.requires.empties, shown_bound c.args.bound c.requires.bound))))
 
-pub search_in_order-returns-then-replied : goal.search_in_order-returns-then-replied
-search_in_order-returns-then-replied g t c =
-    let r = g.T.Bounds.scoring c.args.table.now in
-    let none : HasNoMove c.args.position = c.try_empties-score.ensures.none (omega (arith, ints)) in
-    let w : value_of r c.args.position ≡ neg_ℤ (value_of r c.pass.result) = pass_turns r c.args.position none ∙ ap (λ d. neg_ℤ (value_of r d)) (sym c.pass.ensures.value) in
-    subst (λ z. Places c.args.bound (c.args.bound +ℤ pos 1) z (shown (pos 0 -ℤ shown c.try_empties-replied.result))) (sym w)
-    (turned_above c.args.bound _ _ c.requires.bound (c.try_empties-replied.ensures.some (λ e. c.if-replied.true (omega (arith, ints, e)))))
+pub search_from-loop-position-init : goal.search_from-loop-position-init
+search_from-loop-position-init g t c =
+    record {
+      tried = none_tried (g.T.Bounds.scoring c.args.table.now) c.args.position c.args.first _ c.requires.first;
+      least = omega (arith, ints);
+      open_left = before_first c.args.bound c.requires.bound;
+    }
 
-pub search_in_order-returns : goal.search_in_order-returns
-search_in_order-returns g t c =
+pub search_from-overflow_sub-empties : goal.search_from-overflow_sub-empties
+search_from-overflow_sub-empties g t c =
+    let first = c.requires.first in
+    let e = c.requires.empties in
+    omega (arith, e, empties_positive c.args.position first.square first.legal)
+
+pub search_from-search_after-score-requires : goal.search_from-search_after-score-requires
+search_from-search_after-score-requires g t c κs within =
+    let p = c.args.position in
+    let tried = c.loop-position.invariant.tried in
+    let d : 3 * empties_of p ≡ t = c.decreases in
+    let e : empties_of c.loop-position.tried.position ≡ empties_of p - 1 = ap empties_of tried.position ∙ empties-play p tried.square tried.legal in
+    let some = empties_positive p tried.square tried.legal in
+    let w : 3 * empties_of c.loop-position.tried.position + 2 < t = omega (arith, d, e, some) in
+    (w, (within, (ap (λ n. n - 1) c.requires.empties ∙ sym e, other_bound c.args.bound c.requires.bound)))
+
+pub search_from-returns-then-score-bound : goal.search_from-returns-then-score-bound
+search_from-returns-then-score-bound g t c =
     let r = g.T.Bounds.scoring c.args.table.now in
     let p = c.args.position in
-    let none : HasNoMove p = c.try_empties-score.ensures.none (omega (arith, ints)) in
-    let over : HasNoMove (pass_of p) = ap moves_of (sym c.pass.ensures.value) ∙ c.try_empties-replied.ensures.none (omega (arith, ints)) in
+    let tried = c.loop-position.invariant.tried in
+    let above = subst (λ d. neg_ℤ (value_of r d) ≤ℤ value_of r p) (sym tried.position) (value_above r p tried.square tried.legal) in
+    cut_above c.args.bound _ _ (shown (pos 0 -ℤ shown c.search_after-score.result)) c.requires.bound
+    (turned_above c.args.bound _ _ c.requires.bound c.search_after-score.ensures) above c.if-score-bound.true
+
+pub search_from-returns-in_default-next_move : goal.search_from-returns-in_default-next_move
+search_from-returns-in_default-next_move g t c =
+    let r = g.T.Bounds.scoring c.args.table.now in
+    let p = c.args.position in
+    let kept = c.loop-position.invariant in
+    let tried = kept.tried in
+    let above = subst (λ d. neg_ℤ (value_of r d) ≤ℤ value_of r p) (sym tried.position) (value_above r p tried.square tried.legal) in
+    let s = shown (pos 0 -ℤ shown c.search_after-score.result) in
+    let placed = turned_above c.args.bound _ _ c.requires.bound c.search_after-score.ensures in
+    let low = c.if-score-bound.false in
+    let is = c.max-best.ensures.value in
+    let grows = best_grows c.args.bound _ _ s c.requires.bound placed above low _ _ kept.least kept.open_left is in
+    let covers = best_covers c.args.bound _ _ s c.requires.bound placed above low _ _ kept.least kept.open_left is in
+    let open' = best_open c.args.bound _ _ s c.requires.bound placed above low _ _ kept.least kept.open_left is in
+    none_above c.args.bound _ _ c.requires.bound (value_score r p) open'
+    (all_tried r p c.loop-position.tried _ _ tried grows covers (last_some p tried.square tried.legal) (c.in_default-next_move.ensures.none refl))
+
+pub search_from-loop-position-smaller : goal.search_from-loop-position-smaller
+search_from-loop-position-smaller g t c = c.in-Some-next_move.ensures.some.fewer
+
+pub search_from-loop-position-preserved : goal.search_from-loop-position-preserved
+search_from-loop-position-preserved g t c =
+    let r = g.T.Bounds.scoring c.args.table.now in
+    let p = c.args.position in
+    let kept = c.loop-position.invariant in
+    let tried = kept.tried in
+    let above = subst (λ d. neg_ℤ (value_of r d) ≤ℤ value_of r p) (sym tried.position) (value_above r p tried.square tried.legal) in
+    let s = shown (pos 0 -ℤ shown c.search_after-score.result) in
+    let placed = turned_above c.args.bound _ _ c.requires.bound c.search_after-score.ensures in
+    let low = c.if-score-bound.false in
+    let is = c.max-best.ensures.value in
+    let grows = best_grows c.args.bound _ _ s c.requires.bound placed above low _ _ kept.least kept.open_left is in
+    let covers = best_covers c.args.bound _ _ s c.requires.bound placed above low _ _ kept.least kept.open_left is in
+    let open' = best_open c.args.bound _ _ s c.requires.bound placed above low _ _ kept.least kept.open_left is in
+    record {
+      tried = next_tried r p c.loop-position.tried _ _ tried grows covers _ c.in-Some-next_move.ensures.some;
+      least = best_least c.args.bound _ _ s c.requires.bound placed above low _ _ kept.least kept.open_left is;
+      open_left = open';
+    }
+
+pub search_in_order-returns-in_default-next_move : goal.search_in_order-returns-in_default-next_move
+search_in_order-returns-in_default-next_move g t c =
+    let r = g.T.Bounds.scoring c.args.table.now in
+    let p = c.args.position in
+    let d = c.pass-passed.result in
+    let none : HasNoMove p = no_moves_from p (λ q m. c.in_default.ensures.none refl q m (c.requires.squares q m)) in
+    let stuck : HasNoMove d = no_moves_from d (λ q m. c.in_default-next_move.ensures.none refl q m (c.free_of.ensures.squares q (move_free d q m))) in
+    let over : HasNoMove (pass_of p) = ap moves_of (sym c.pass-passed.ensures.value) ∙ stuck in
     let f = c.final_score.ensures.in_range in
     let l = f.low in
     let m = f.high in
@@ -41,62 +106,20 @@ search_in_order-returns g t c =
     exact _ _ _ _ (value_score r p)
     (n ∙ c.final_score.ensures.value ∙ ap (λ h. final_of h p) c.scoring.ensures ∙ sym (value-over r p (none, over)))
 
-pub try_empties-try_squares-requires : goal.try_empties-try_squares-requires
-try_empties-try_squares-requires g t c κs within =
-    let d : 4 * empties_of c.args.position + 2 ≡ t = c.decreases in
-    let w : 4 * empties_of c.args.position + 1 < t = omega (arith, d) in
-    (w, (within, (λ q m. c.free_of.ensures.squares q (move_free c.args.position q m), (c.requires.empties, shown_bound c.args.bound c.requires.bound))))
+pub search_in_order-search_from-requires-2 : goal.search_in_order-search_from-requires-2
+search_in_order-search_from-requires-2 g t c κs within =
+    let d : 3 * empties_of c.args.position + 1 ≡ t = c.decreases in
+    let p = c.pass-passed.result in
+    let e = passed_empties c.args.position p c.pass-passed.ensures.value in
+    let w : 3 * empties_of p < t = omega (arith, d, e) in
+    let first = first_move p c.free_of.result _ (λ q m. c.free_of.ensures.squares q (move_free p q m)) c.in-Some-next_move.ensures.some in
+    (w, (within, (first, (c.requires.empties ∙ sym e, other_bound c.args.bound c.requires.bound))))
 
-pub try_square-overflow_sub-empties : goal.try_square-overflow_sub-empties
-try_square-overflow_sub-empties g t c =
-    let legal : IsMove c.args.position c.args.square = c.in-Some.ensures.when.0 refl in
-    let e = c.requires.empties in
-    omega (arith, e, empties_positive c.args.position c.args.square legal)
-
-pub try_square-search_in_order-requires : goal.try_square-search_in_order-requires
-try_square-search_in_order-requires g t c κs within =
+pub search_in_order-returns : goal.search_in_order-returns
+search_in_order-returns g t c =
+    let r = g.T.Bounds.scoring c.args.table.now in
     let p = c.args.position in
-    let legal : IsMove p c.args.square = c.in-Some.ensures.when.0 refl in
-    let d : 4 * empties_of p ≡ t = c.decreases in
-    let e : empties_of c.in-Some.child ≡ empties_of p - 1 = ap empties_of c.in-Some.ensures.value ∙ empties-play p c.args.square legal in
-    let some = empties_positive p c.args.square legal in
-    let w : 4 * empties_of c.in-Some.child + 3 < t = omega (arith, d, e, some) in
-    let is : c.args.empties - 1 ≡ empties_of c.in-Some.child = ap (λ (n : ℕ). n - 1) c.requires.empties ∙ sym e in
-    (w, (within, (is, other_bound c.args.bound c.requires.bound)))
-
-pub try_square-returns : goal.try_square-returns
-try_square-returns g t c =
-    let r = g.T.Bounds.scoring c.args.table.now in
-    shown_tried r c.args.position c.in-Some.child c.args.bound c.args.square c.args.best _ c.max.result c.requires.bound c.requires.least c.requires.open (c.in-Some.ensures.when.0 refl) c.in-Some.ensures.value
-    (turned_above c.args.bound _ _ c.requires.bound c.search_in_order.ensures)
-    c.max.ensures.value
-
-pub try_squares-loop-rest-smaller : goal.try_squares-loop-rest-smaller
-try_squares-loop-rest-smaller g t c =
-    let small = c.loop-rest.invariant.small in
-    let here = c.lowest-square.ensures.member in
-    let k = one_less _ _ _ here c.without-rest.ensures small c.without-rest.type_inv (on_board _ _ small here) in
-    omega (arith, k)
-
-pub try_squares-loop-rest-preserved : goal.try_squares-loop-rest-preserved
-try_squares-loop-rest-preserved g t c =
-    let kept = c.loop-rest.invariant in
-    let r = g.T.Bounds.scoring c.args.table.now in
-    let h = c.try_square-best.ensures in
-    let low = c.if-best-bound.false in
-    record {
-      small = c.without-rest.type_inv;
-      tried = tried_more r c.args.position c.args.bound _ _ _ kept.least h low _ _ c.lowest-square.ensures.member c.without-rest.ensures kept.tried;
-      some = some_more r c.args.position c.args.bound _ _ _ kept.least h low kept.some;
-      least = least_more r c.args.position c.args.bound _ _ _ kept.least h low;
-      open_left = open_more r c.args.position c.args.bound _ _ _ kept.least h low;
-    }
-
-pub try_squares-returns : goal.try_squares-returns
-try_squares-returns g t c =
-    let kept = c.loop-rest.invariant in
-    let r = g.T.Bounds.scoring c.args.table.now in
-    let same = bound_same c.args.bound c.requires.bound in
-    let o = kept.open_left in
-    all_tried r c.args.position c.args.bound _ c.requires.bound (omega (arith, ints, same, o)) kept.least kept.some
-    (none_left r c.args.position c.loop-rest.rest _ c.loop-rest-test.false kept.tried)
+    let none : HasNoMove p = no_moves_from p (λ q m. c.in_default.ensures.none refl q m (c.requires.squares q m)) in
+    let w : value_of r p ≡ neg_ℤ (value_of r c.pass-passed.result) = pass_turns r p none ∙ ap (λ d. neg_ℤ (value_of r d)) (sym c.pass-passed.ensures.value) in
+    subst (λ z. Places c.args.bound (c.args.bound +ℤ pos 1) z (shown (pos 0 -ℤ shown c.search_from-2.result))) (sym w)
+    (turned_above c.args.bound _ _ c.requires.bound c.search_from-2.ensures)

@@ -66,8 +66,8 @@ search_few_pass-returns g t c =
     subst (λ z. Places c.args.bound (c.args.bound +ℤ pos 1) z (shown (pos 0 -ℤ shown c.search_few_moves.result))) (sym w)
     (turned_above c.args.bound _ _ c.requires.bound c.search_few_moves.ensures)
 
-pub search_few_moves-try_squares-requires : goal.search_few_moves-try_squares-requires
-search_few_moves-try_squares-requires g t c =
+pub search_few_moves-search_in_order-requires : goal.search_few_moves-search_in_order-requires
+search_few_moves-search_in_order-requires g t c =
     record {
       squares = λ q m. subst (λ n. in_mask n q ≡ true) (sym c.requires.moves) m;
       empties = c.requires.empties;
