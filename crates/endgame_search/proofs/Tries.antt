@@ -1,6 +1,6 @@
 -- Moves that are found by trying the squares of a mask in their order.
-use Rattle.std.proofs.Common.{◌≡◌, ◌≢◌, ◌⊎◌, ◌<◌, ℕ, ℤ, neg_ℤ, ◌≤ℤ◌, true, not, ◌&&◌, nat_eq, count_ones, inl, inr, sym, subst, arith}
-use Rattle.std.proofs.lemmas.Bool.{both_ways}
+use Rattle.std.proofs.Common.{◌≡◌, ◌≢◌, ◌⊎◌, ◌<◌, ℕ, ℤ, neg_ℤ, ◌≤ℤ◌, true, not, ◌&&◌, nat_eq, cond, count_ones, refl, ◌≤◌, inl, inr, sym, subst, arith}
+use Rattle.std.proofs.lemmas.Bool.{cases_eq, eq-eqb, ne_eqb, both_ways}
 use Rattle.std.proofs.lemmas.Int.{ints}
 use Rattle.othello_rules.specs.declared.scoring.Scoring.{Scoring}
 use Rattle.othello_rules.specs.Masks.{in_mask}
@@ -8,7 +8,7 @@ use Rattle.othello_bits.specs.Pos.{PosView, moves_of, play_of, value_of, IsMove}
 use Rattle.othello_bits.proofs.Bits.{none_from_zero}
 use Rattle.othello_bits.proofs.GameLaws.{value_reached}
 use Rattle.endgame_search.specs.declared.last_four.Move.{Move}
-use Rattle.endgame_search.specs.Tries.{IsMoveAmong, HasNoMoveAmong, IsFirstMove}
+use Rattle.endgame_search.specs.Tries.{IsMoveAmong, HasNoMoveAmong}
 use Rattle.endgame_search.proofs.TakenSquares.{still_there}
 
 -- each move on a square of the mask is on one of the squares that are left
@@ -36,10 +36,6 @@ module _ (p : PosView) (squares old new t : ℕ) (here : in_mask old t ≡ true)
         fewer = subst (λ z. count_ones z < count_ones squares) (sym left) fewer;
       }
 
--- all moves are on squares of the mask
-pub first_move : (p : PosView) (squares : ℕ) (m : Move) → ((q : ℕ) → IsMove p q → in_mask squares q ≡ true) → IsMoveAmong p squares m → IsFirstMove p m
-first_move p squares m all h = record { square = h.square; legal = h.legal; position = h.position; every = λ q k. h.every q k (all q k) }
-
 -- m is a move, and every other move is on a square that is left or is worth at most best
 pub record IsTriedUpTo (g : Scoring) (p : PosView) (m : Move) (best : ℤ) : Type 0 where
   pub square : ℕ
@@ -47,13 +43,14 @@ pub record IsTriedUpTo (g : Scoring) (p : PosView) (m : Move) (best : ℤ) : Typ
   pub position : m.position ≡ play_of p square
   pub every : (q : ℕ) → IsMove p q → (q ≡ square) ⊎ ((in_mask m.left q ≡ true) ⊎ (neg_ℤ (value_of g (play_of p q)) ≤ℤ best))
 
-pub none_tried : (g : Scoring) (p : PosView) (m : Move) (best : ℤ) → IsFirstMove p m → IsTriedUpTo g p m best
-none_tried g p m best h =
+-- all moves are on squares of the mask
+pub none_tried : (g : Scoring) (p : PosView) (squares : ℕ) (m : Move) (best : ℤ) → ((q : ℕ) → IsMove p q → in_mask squares q ≡ true) → IsMoveAmong p squares m → IsTriedUpTo g p m best
+none_tried g p squares m best all h =
     record {
       square = h.square;
       legal = h.legal;
       position = h.position;
-      every = λ q k. elim (h.every q k) [ inl e ↦ inl e | inr l ↦ inr (inl l) ];
+      every = λ q k. elim (h.every q k (all q k)) [ inl e ↦ inl e | inr l ↦ inr (inl l) ];
     }
 
 -- m is tried: it is worth at most more, which is no less than the best before
@@ -89,3 +86,16 @@ module _ (g : Scoring) (p : PosView) (m : Move) (best more : ℤ) (tried : IsTri
         | inl l ↦ absurd (none r.0 r.1 l)
         | inr w ↦ subst (λ z. z ≤ℤ more) r.2 w
       ]
+
+-- the part of a measure that falls where a pass is made: a position with the moves m passes where there is none
+abbrev pub passing : ℕ → ℕ
+passing m = cond (nat_eq m 0) 2 0
+
+pub passing_most : (m : ℕ) → passing m ≤ 2
+passing_most m = elim (cases_eq m 0) [ inl e ↦ rw (eq-eqb m 0 e) (omega arith) | inr d ↦ rw (ne_eqb m 0 d) (omega arith) ]
+
+pub passing_none : (m : ℕ) → m ≡ 0 → passing m ≡ 2
+passing_none m e = rw (eq-eqb m 0 e) refl
+
+pub passing_some : (m : ℕ) → m ≢ 0 → passing m ≡ 0
+passing_some m d = rw (ne_eqb m 0 d) refl

@@ -15,10 +15,3 @@ pub record IsMoveAmong (p : PosView) (squares : ℕ) (m : Move) : Type 0 where
   pub position : m.position ≡ play_of p square
   pub every : (q : ℕ) → IsMove p q → in_mask squares q ≡ true → (q ≡ square) ⊎ (in_mask m.left q ≡ true)
   pub fewer : count_ones m.left < count_ones squares
-
--- m is a move, and every other move is on a square that is left
-pub record IsFirstMove (p : PosView) (m : Move) : Type 0 where
-  pub square : ℕ
-  pub legal : IsMove p square
-  pub position : m.position ≡ play_of p square
-  pub every : (q : ℕ) → IsMove p q → (q ≡ square) ⊎ (in_mask m.left q ≡ true)

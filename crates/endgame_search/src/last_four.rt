@@ -4,9 +4,9 @@
 
 ghost use Rattle.std.specs.Prelude.{◌≡◌, ◌<◌, ◌↔◌, ◌+ℤ◌, ℕ, pos, true, count_ones, IsNone, IfSome};
 ghost use Rattle.othello_rules.specs.Masks.{in_mask};
-ghost use Rattle.othello_bits.specs.Pos.{flips_of, value_of, empties_of, IsMove};
+ghost use Rattle.othello_bits.specs.Pos.{flips_of, value_of, empties_of, IsMove, HasNoMove};
 ghost use Rattle.endgame_search.specs.Windows.{IsBound, Places};
-ghost use Rattle.endgame_search.specs.Tries.{IsMoveAmong, HasNoMoveAmong, IsFirstMove};
+ghost use Rattle.endgame_search.specs.Tries.{IsMoveAmong, HasNoMoveAmong};
 ghost use Rattle.endgame_search.specs.Endings.{IsEnding};
 ghost use Rattle.endgame_search.specs.Lasts.{IsFree, IsLast};
 
@@ -161,11 +161,11 @@ fn next_move(position: Pos, squares: u64) -> Option<Move>
     None
 }
 
-// Searches a position with one empty square or more, by its moves on the squares of a mask. Returns
-// a score that places its value in the window from the bound to one above it. All moves are on
-// squares of the mask. A position whose game is over is not probed.
+// Searches a position by its moves on the squares of a mask, in their order. All moves are on squares
+// of the mask. Returns a score that places the position's value in the window from the bound to one
+// above it.
 #[cycle(last)]
-#[inline(always)]
+#[inline(never)]
 pub(crate) fn search_in_order<T: Bounds>(
     table: &T,
     position: Pos,
@@ -178,29 +178,9 @@ pub(crate) fn search_in_order<T: Bounds>(
     requires bound { IsBound bound }
     ensures { Places bound (bound +ℤ pos 1) (value_of (T.scoring table.now) position) result }
 {
-    if let Some(first) = next_move(position, squares) {
-        return search_from(table, position, first, empties, bound);
-    }
-    let passed = position.pass();
-    let Some(first) = next_move(passed, free_of(passed)) else {
-        return position.final_score(table.scoring());
+    let Some(first) = next_move(position, squares) else {
+        return search_pass_in_order(table, position, empties, bound);
     };
-    if let Some(score) = decide(table, position, bound) {
-        return score;
-    }
-    -search_from(table, passed, first, empties, -1 - bound)
-}
-
-// Searches a position by its first move and the moves on the squares that are left. Returns a score
-// that places its value in the window from the bound to one above it.
-#[cycle(last)]
-#[inline(never)]
-fn search_from<T: Bounds>(table: &T, position: Pos, first: Move, empties: u8, bound: i8) -> i8
-    requires first { IsFirstMove position first }
-    requires empties { empties ≡ empties_of position }
-    requires bound { IsBound bound }
-    ensures { Places bound (bound +ℤ pos 1) (value_of (T.scoring table.now) position) result }
-{
     if let Some(score) = decide(table, position, bound) {
         return score;
     }
@@ -217,6 +197,27 @@ fn search_from<T: Bounds>(table: &T, position: Pos, first: Move, empties: u8, bo
         };
         tried = next;
     }
+}
+
+// Searches a position in which the mover has no move. Returns a score that places its value in the
+// window from the bound to one above it. A position whose game is over is not probed.
+#[cycle(last)]
+#[inline(never)]
+fn search_pass_in_order<T: Bounds>(table: &T, position: Pos, empties: u8, bound: i8) -> i8
+    requires none { HasNoMove position }
+    requires empties { empties ≡ empties_of position }
+    requires bound { IsBound bound }
+    ensures { Places bound (bound +ℤ pos 1) (value_of (T.scoring table.now) position) result }
+{
+    let passed = position.pass();
+    let replies = passed.moves();
+    if replies == 0 {
+        return position.final_score(table.scoring());
+    }
+    if let Some(score) = decide(table, position, bound) {
+        return score;
+    }
+    -search_in_order(table, passed, replies, empties, -1 - bound)
 }
 
 // Searches a position after a move. Returns a score that places its value in the window from the
