@@ -100,8 +100,8 @@ pub(crate) fn store_always<T: Bounds>(table: &T, position: Pos, low: i8, high: i
 }
 
 // The fewest empty squares of a position whose listed children are probed before one of them is
-// searched: with fewer, none of them is stored.
-const FEWEST_LOOKED_AHEAD: u8 = FEWEST_STORED + 1;
+// searched. With fewer, to find them in a large table takes more time than the cut-offs save.
+const FEWEST_LOOKED_AHEAD: u8 = 13;
 
 // Probes the children for a cut-off: a move that is worth more than the bound, by the table's range
 // of its child. Returns a lower bound of the move's worth. None where no child gives a cut-off, or
