@@ -1,12 +1,15 @@
 """The package for Python: many positions, pictures of boards, and the program that it installs."""
+import email
 import itertools
 import os
 import random
 import sys
+import tarfile
 import threading
 import time
 import unittest
 import xml.etree.ElementTree
+import zipfile
 
 from .support import ROOT, SECONDS, InFolder, lack, need, run, stored
 from .test_games import EMPTY, discs_of_black, positions_of, random_game, squares_of
@@ -175,6 +178,17 @@ class Many(unittest.TestCase):
                 list(call([(0.5, 1)]))
 
 
+class Lines(unittest.TestCase):
+    def test_worked_lines(self):
+        """tests/rows/lines.read follows from the grammar, and no program printed it; tests/library_lines.py has odd lines."""
+        told, refused = {}, []
+        for line in ffosolve.read_lines(stored("tests/rows/lines.obf"), refused=refused.append):
+            listed = "".join(f" {move}:{score}" for move, score in line.listed)
+            told[line.number] = f"{line.number} {line.own:016x} {line.opp:016x} {line.side}{listed}"
+        told.update((error.line, str(error).replace("line ", "").replace(":", " refused:")) for error in refused)
+        self.assertEqual([told[number] for number in sorted(told)], stored("tests/rows/lines.read").decode().splitlines())
+
+
 class Arrays(unittest.TestCase):
     def setUp(self):
         try:
@@ -309,18 +323,50 @@ class Boards(InFolder):
                 self.assertEqual(len(colours) > 3, is_scored, place)
 
 
+class Package(InFolder):
+    """The wheel and the source archive, as they are to be published."""
+
+    def setUp(self):
+        super().setUp()
+        words = "import ffosolve_wheel as made; made.build_wheel('{0}'), made.build_sdist('{0}')".format(self.folder)
+        run(sys.executable, "-Bc", words, cwd=ROOT / "python/backend", check=True)
+        self.head = f"ffosolve-{stored('VERSION').decode().strip()}"
+        with zipfile.ZipFile(f"{self.head}-py3-none-any.whl") as wheel:
+            self.wheel = {name: wheel.read(name) for name in wheel.namelist()}
+        with tarfile.open(f"{self.head}.tar.gz") as archive:
+            self.archive = {it.name: archive.extractfile(it).read() for it in archive.getmembers()}
+
+    def test_twine_passes_both(self):
+        need("twine", "twine")
+        ran = run("twine", "check", "--strict", f"{self.head}-py3-none-any.whl", f"{self.head}.tar.gz")
+        self.assertEqual((ran.returncode, ran.stdout.count(b"PASSED")), (0, 2), ran)
+
+    def test_licence_author_and_description(self):
+        for name in (self.wheel[f"{self.head}.dist-info/LICENSE"], self.archive[f"{self.head}/LICENSE"]):
+            self.assertEqual(name, stored("LICENSE"))
+        metadata = self.wheel[f"{self.head}.dist-info/METADATA"].decode()
+        self.assertEqual(self.archive[f"{self.head}/PKG-INFO"].decode(), metadata)
+        told = email.message_from_string(metadata)
+        for field in ("Summary", "Author", "Author-email", "License", "Project-URL", "Requires-Python"):
+            self.assertTrue(told[field], field)
+        self.assertEqual((told["Version"], told["Description-Content-Type"]), (ffosolve.__version__, "text/markdown"))
+        self.assertEqual(told.get_payload(), ffosolve.__doc__ + "\n" * (not ffosolve.__doc__.endswith("\n")))
+
+
 class Installed(InFolder):
     def test_the_program_that_pip_installs(self):
         if run(sys.executable, "-m", "pip", "--version").returncode != 0:
             lack("pip (Debian: python3-pip)")
         words = "install --quiet --no-index --no-deps --disable-pip-version-check --root-user-action=ignore --target site".split()
-        run("cp", "-r", ROOT / "python", ROOT / "VERSION", ".", check=True)
+        run("cp", "-r", ROOT / "python", ROOT / "VERSION", ROOT / "LICENSE", ".", check=True)
         run(sys.executable, "-m", "pip", *words, "./python", check=True, timeout=300)
         environment = {**os.environ, "PYTHONPATH": str(self.folder / "site")}
         ran = run("site/bin/ffosolve-games", "--version", env=environment)
         self.assertEqual(ran.stdout.decode(), f"ffosolve-games {stored('VERSION').decode()}", ran.stderr)
         ran = run("site/bin/ffosolve-games", "--empties", "59", input=b"f5", env=environment)
         self.assertRegex(ran.stdout.decode(), "^\\S{64} O; % standard input, game 1\n$", ran.stderr)
+        licence, = self.folder.glob("site/ffosolve-*.dist-info/LICENSE")
+        self.assertEqual(licence.read_bytes(), stored("LICENSE"))
 
 
 if __name__ == "__main__":
