@@ -2,11 +2,16 @@
 import os
 import random
 import re
+import resource
+import signal
+import stat
 import struct
+import subprocess
 import sys
 import unittest
+import unittest.mock
 
-from .support import ROOT, InFolder, built, need, run, stored
+from .support import ROOT, SECONDS, InFolder, built, need, run, stored, wait_until
 
 PROGRAM = ROOT / "bin/ffosolve-games"
 UNREADABLE = "ffosolve-games: {}: {}\n"
@@ -14,6 +19,7 @@ BLACK, WHITE, EMPTY = "X", "O", "-"
 NAMES = [column + row for row in "12345678" for column in "ABCDEFGH"]
 SQUARE_BYTES = [10 * row + column for row in range(1, 9) for column in range(1, 9)]  # A1, B1, .. H8 in a WTHOR file
 PASSES = ("pass", "ps", "--", "PS", "Pass")
+MOST_BYTES = 1_048_576  # of a line
 
 
 # A plain game player, on a list of 64 letters, which shares nothing with the library.
@@ -103,6 +109,19 @@ def discs_of_black(board, side):
     return 32 + (score(board, side) if side == BLACK else -score(board, side)) // 2
 
 
+def real_score(positions):
+    """Black's discs at the end of a game's positions; any number where the game is not over."""
+    board, side = positions[min(positions)]
+    return 40 if moves_of(board, side) or moves_of(board, other(side)) else discs_of_black(board, side)
+
+
+def best_moves(board, side):
+    """The names of the moves with the mover's exact score."""
+    scores = {NAMES[square]: -score(after(board, side, square), other(side)) for square in moves_of(board, side)}
+    pass_or_end = ["PS"] if moves_of(board, other(side)) else ["--"]
+    return [name for name in scores if scores[name] == max(scores.values())] or pass_or_end
+
+
 # Games as files have them.
 
 
@@ -117,9 +136,11 @@ def transcript(game, rng=None):
     return rng.choice(("", " ")) + between.join(words) + rng.choice(("", " ", "\r", "  % a comment"))
 
 
-def record(game, theoretical=33):
-    moves = bytes(SQUARE_BYTES[square] for square in squares_of(game))
-    return struct.pack("<HHHBB", 7, 300, 301, 40, theoretical) + moves.ljust(60, b"\0")
+def record(game, theoretical=33, real=None):
+    """A game of a WTHOR file, with its real score, where no other is given."""
+    squares = squares_of(game)
+    real = real_score(positions_of(squares)) if real is None else real
+    return struct.pack("<HHHBB", 7, 300, 301, real, theoretical) + bytes(map(SQUARE_BYTES.__getitem__, squares)).ljust(60, b"\0")
 
 
 def wthor(records, empties=22, count=None, board=8, kind=0, another=0):
@@ -143,8 +164,9 @@ def expected(name, games, empties, more=""):
         if empties in positions:
             lines += line_of(positions[empties], f"{name}, game {number}{more}")
         else:
+            left = f"{60 - len(squares)} empty square" + "s" * (len(squares) < 59)
             told += (f"ffosolve-games: {name}, game {number}, move {len(squares)}: "
-                     f"it ends with {60 - len(squares)} empty squares\n")
+                     f"it ends here, with {left}, and {empties} are asked for\n")
     return lines, told
 
 
@@ -176,7 +198,7 @@ class RandomGames(Case):
 
     def test_transcripts_and_records_give_the_positions_of_the_plain_player(self):
         self.write("games.txt", "\n".join(self.texts))
-        self.write("games.wtb", wthor([record(game) for game in self.played]))
+        self.write("games.wtb", wthor([record(squares, real=real_score(positions)) for squares, positions in self.known]))
         for empties in (22, 9):
             for name, score in (("games.txt", ""), ("games.wtb", ", theoretical score 33" * (empties == 22))):
                 out, told = expected(name, self.known, empties, score)
@@ -208,7 +230,7 @@ class Faults(Case):
             ("e4", "move 1: E4 is no move"),
             ("f5d6psc3", "move 3: it has a pass where there is a move"),
             ("pass", "move 1: it has a pass where there is a move"),
-            ("f5", "move 1: it ends with 59 empty squares"),
+            ("f5", "move 1: it ends here, with 59 empty squares, and 58 are asked for"),
             ("\0", "move 1: '\\x00' is no square"),
             ("f5d6c3d3c4f4c5b3c2\xff", "move 10: '\ufffd' is no square"),
         )
@@ -231,24 +253,68 @@ class Faults(Case):
     def test_records(self):
         game = squares_of(random_game(random.Random(2)))
         line = line_of(positions_of(game)[22], "it.wtb, game 1, theoretical score 33")
-        whole, score = record(game), record(game, 65)
+        whole = record(game)
         gap, no_square, twice = (whole[:18] + bytes([byte]) + whole[19:] for byte in (0, 99, whole[17]))
         name = NAMES[game[9]]
         for records, count, why in (
-            ([whole, whole[:67]], 2, "game 2: the file ends after 67 of its 68 bytes, and the header counts 2 games"),
-            ([whole, whole[:1]], 7, "game 2: the file ends after 1 of its 68 bytes, and the header counts 7 games"),
-            ([whole], 2, "game 2: the file ends after 0 of its 68 bytes, and the header counts 2 games"),
-            ([whole, whole], 1, "game 2: the file goes on, and the header counts 1 games"),
-            ([whole, b"\n"], 1, "game 2: the file goes on, and the header counts 1 games"),
-            ([whole, score], 2, "game 2: the theoretical score 65 is more than 64 discs"),
+            ([whole, whole[:67]], 2, "game 2: the file ends after 67 of the 68 bytes of this game, and {} 2"),
+            ([whole, whole[:1]], 7, "game 2: the file ends after 1 of the 68 bytes of this game, and {} 7"),
+            ([whole], 301, "game 2: the file ends before this game, and {} 301"),
+            ([whole, whole], 1, "game 2: the file goes on, and {} 1"),
+            ([whole, b"\n"], 1, "game 2: the file goes on, and {} 1"),
             ([whole, gap], 2, "game 2, move 11: 0 is no square"),
             ([whole, no_square], 2, "game 2, move 11: 99 is no square"),
             ([whole, twice], 2, f"game 2, move 11: {name} is no move"),
-            ([whole, record([])], 2, "game 2: it ends with 60 empty squares"),
-            ([whole, record(game[:37])], 2, "game 2, move 37: it ends with 23 empty squares"),
+            ([whole, record([])], 2, "game 2: it has no moves"),
+            ([whole, record(game[:37])], 2, "game 2, move 37: it ends here, with 23 empty squares, and 22 are asked for"),
         ):
             self.write("it.wtb", wthor(records, count=count))
+            why = why.format("the header's number of games is")
             self.games("it.wtb", status=1, out=line, told=f"ffosolve-games: it.wtb, {why}\n")
+
+    def test_a_game_that_ends_with_one_empty_square(self):
+        rng = random.Random(4)
+        game = next(squares for squares in iter(lambda: squares_of(random_game(rng)), None) if len(squares) == 59)
+        self.write("text", transcript(game))
+        told = "text, game 1, move 59: it ends here, with 1 empty square, and 0 are asked for"
+        self.games("--empties=0", "text", status=1, out="", told=f"ffosolve-games: {told}\n")
+
+    def test_scores_of_records(self):
+        """A game's line is printed, and what is wrong with its scores is told."""
+        game = squares_of(random_game(random.Random(2)))
+        at, real = positions_of(game), real_score(positions_of(game))
+        for squares, theoretical, written, why in (
+            (game, 64, real, ()),
+            (game, 65, real, ("its theoretical score is 65, more than 64 discs",)),
+            (game, 33, real + 1, (f"its real score is {real + 1}, and by its moves it is {real}",)),
+            (game, 255, 65, ("its theoretical score is 255, more than 64 discs", "its real score is 65, more than 64 discs")),
+            (game[:-1], 33, 0, ("its moves stop before the end of the game, so its real score 0 is not checked",)),
+            (game[:-1], 33, 200, ("its real score is 200, more than 64 discs",)),
+        ):
+            self.write("it.wtb", wthor([record(squares, theoretical, written)]))
+            line = line_of(at[22], f"it.wtb, game 1, theoretical score {theoretical}")
+            told = "".join(f"ffosolve-games: it.wtb, game 1: {it}\n" for it in why)
+            self.games("it.wtb", status=1 if why else 0, out=line, told=told)
+        self.write("it.wtb", wthor([record(game, 255, real + 1)]))
+        told = f"ffosolve-games: it.wtb, game 1: its real score is {real + 1}, and by its moves it is {real}\n"
+        self.games("it.wtb", "--empties=20", status=1, out=line_of(at[20], "it.wtb, game 1"), told=told)
+
+    def test_real_scores_of_games_that_end_early(self):
+        """The empty squares count for the winner; where both have as many discs, Black's score is 32."""
+        rng, kinds = random.Random(6), set()
+        while len(kinds) < 3:
+            game = squares_of(random_game(rng))
+            positions = positions_of(game)
+            board, _ = positions[min(positions)]
+            black, white, empty = (board.count(it) for it in (BLACK, WHITE, EMPTY))
+            kind = (black > white) - (black < white)
+            if (empty or kind == 0) and kind not in kinds:
+                kinds.add(kind)
+                real = {1: black + empty, 0: 32, -1: black}[kind]
+                for written in (real, 64 - real if kind else 31):
+                    self.write("it.wtb", wthor([record(game, real=written)], empties=30))
+                    told = f"ffosolve-games: it.wtb, game 1: its real score is {written}, and by its moves it is {real}\n"
+                    self.games("it.wtb", status=int(written != real), told=told if written != real else "")
 
     def test_headers(self):
         game = squares_of(random_game(random.Random(2)))
@@ -257,12 +323,14 @@ class Faults(Case):
             self.write("it.wtb", wthor([whole], board=board, kind=kind))
             self.games("it.wtb", out=line, told="")
         for content, why in (
-            (b"", "it has 0 of the 16 bytes of a header"),
-            (wthor([])[:15], "it has 15 of the 16 bytes of a header"),
-            (wthor([whole], board=10), "its board has the size 10"),
-            (wthor([whole], another=9), "its header is of another kind"),
-            (wthor([whole], kind=2), "its header is of another kind"),
-            (wthor([whole], empties=61), "its theoretical scores are for 61 empty squares"),
+            (b"", "it is empty"),
+            (wthor([])[:15], "it ends within its header of 16 bytes"),
+            (wthor([whole], board=10), "its board has 10 by 10 squares"),
+            (wthor([whole], another=9),
+             "its header counts 9 records of another kind, as in a file of players or tournaments"),
+            (wthor([whole], kind=2), "byte 14 of its header is 2, and has to be 0 or 1"),
+            (wthor([whole], empties=61), "its theoretical scores are for 61 empty squares, of which a game has 60"),
+            (b"f5d6c3d3c4f4c5b3c2\n", "it begins as a text does"),
         ):
             self.write("none.wtb", content)
             self.write("it.wtb", wthor([whole]))
@@ -338,12 +406,55 @@ class Use(Case):
         self.games("--empties=20", "none", ".", "text", status=3, out=self.line.format("text"), told=told)
 
     def test_a_text_from_windows(self):
-        self.write("text", b"\xef\xbb\xbf" + transcript(self.game).encode() + b"\r\n\r\n")
+        self.write("text", transcript(self.game) + "\r\n\r\n")
         self.games("--empties=20", "text", out=self.line.format("text"), told="")
+
+    def test_texts_that_are_refused(self):
+        """As a file, as standard input and as what is compared; a text that follows is read all the same."""
+        game = transcript(self.game).encode()
+        for content, why in (
+            (b"\xef\xbb\xbf" + game + b"\n", "it begins with a byte-order mark"),
+            ("\ufeff".encode("utf-16-le") + game.decode().encode("utf-16-le"), "it begins with a byte-order mark"),
+            ("\ufeff".encode("utf-16-be") + game.decode().encode("utf-16-be"), "it begins with a byte-order mark"),
+            (b"% games\r" + game + b"\r" + game + b"\r", "its lines end with CR alone"),
+            (b"\r" + game, "its lines end with CR alone"),
+        ):
+            self.write("bad", content)
+            self.games("--empties=20", "bad", "text", status=3, out=self.line.format("text"),
+                       told=UNREADABLE.format("cannot read bad", why))
+            for words in (("--empties=20",), ("compare", "-", "text")):
+                self.games(*words, input=content, status=3, out="", told=UNREADABLE.format("cannot read standard input", why))
+            self.games("compare", "text", "bad", status=3, out="", told=UNREADABLE.format("cannot read bad", why))
+
+    def test_a_text_with_a_nul(self):
+        """Only a name, or a beginning that no text has, makes a WTHOR file."""
+        self.write("text", b"f5\0d6\n" + transcript(self.game).encode())
+        told = "ffosolve-games: text, game 1, move 2: '\\x00d' is no square\n"
+        self.games("--empties=20", "text", status=1, out=self.line.format("text").replace("game 1", "game 2"), told=told)
+
+    def test_long_lines(self):
+        """They are refused by their size, with no more read; what stands before them is printed."""
+        why = f"its line 2 has more than {MOST_BYTES} bytes"
+        listed = line_of(positions_of(self.game)[20], "x.wtb, game 1, theoretical score 30")
+        for words, before, out in (
+            (("--empties=20", "-"), transcript(self.game) + "\n", self.line.format("standard input")),
+            (("compare", "-", "text"), listed, ""),
+            (("compare", "listed", "-"), "[1]\n", ""),
+        ):
+            self.write("listed", listed)
+            self.write("long", before + "f5")
+            os.truncate("long", 300_000_000)
+            with open("long", "rb") as file:
+                self.games(*words, stdin=file, status=3, out=out, told=UNREADABLE.format("cannot read standard input", why),
+                           preexec_fn=lambda: resource.setrlimit(resource.RLIMIT_AS, (500_000_000,) * 2))
+                self.assertLess(os.lseek(file.fileno(), 0, os.SEEK_CUR), 2 * MOST_BYTES)
+        self.write("longest", (transcript(self.game) + "%").ljust(MOST_BYTES - 1, "x") + "\n")
+        self.games("--empties=20", "longest", out=self.line.format("longest"), told="")
 
     def test_the_command_line(self):
         for words in (("--empties", "61"), ("--empties", "-1"), ("--empties", "x"), ("--empties",), ("--emp", "3"), ("--no",),
-                      ("compare",), ("compare", "text"), ("compare", "text", "text", "text")):
+                      ("compare",), ("compare", "text"), ("compare", "text", "text", "text"), ("compare", "-", "-"),
+                      ("compare", "text", "text", "--fix")):
             out, told = self.games(*words, status=2)
             self.assertEqual(out, "")
             self.assertIn("usage: ffosolve-games", told)
@@ -353,20 +464,35 @@ class Use(Case):
             self.assertRegex(" ".join(told.split()), "Black's discs.*with the empty squares to the winner")
             self.assertLessEqual(max(map(len, told.splitlines())), 80)
 
-    def test_standard_output(self):
+    def test_standard_output_that_fails(self):
+        """As on a full disk, and where it is closed; of a short output, of a long one, and of what is printed of the program."""
         self.write("many", (transcript(self.game) + "\n") * 1000)
-        for name in ("text", "many"):
-            for how, why in (("> /dev/full", "No space left on device"), (">&-", "Bad file descriptor")):
-                ran = run("sh", "-c", f'"$0" "$@" {how}', PROGRAM, "--empties=20", name)
-                told = UNREADABLE.format("cannot write standard output", why)
-                self.assertEqual((ran.returncode, ran.stderr.decode()), (3, told))
-        ran = run("sh", "-c", '{ "$0" "$@"; echo $? >&2; } | :', PROGRAM, "--empties=20", "many")
-        self.assertEqual(ran.stderr.decode(), UNREADABLE.format("cannot write standard output", "Broken pipe") + "3\n")
+        for words in (("--empties=20", "text"), ("--empties=20", "many"), ("--help",), ("--version",), ("compare", "--help")):
+            for size, is_unbuffered in ((0, ""), (1, ""), (1, "1")):
+                with open("out", "wb") as out:
+                    ran = run(PROGRAM, *words, stdout=out, stderr=subprocess.PIPE, capture_output=False,
+                              env={**os.environ, "PYTHONUNBUFFERED": is_unbuffered},
+                              preexec_fn=lambda: resource.setrlimit(resource.RLIMIT_FSIZE, (size, size)))
+                told = UNREADABLE.format("cannot write standard output", "File too large")
+                self.assertEqual((ran.returncode, ran.stderr.decode()), (3, told), words)
+            ran = run("sh", "-c", '"$0" "$@" >&-', PROGRAM, *words)
+            told = UNREADABLE.format("cannot write standard output", "it is closed")
+            self.assertEqual((ran.returncode, ran.stdout, ran.stderr.decode()), (3, b"", told), words)
+
+    def test_a_pipe_that_nobody_reads(self):
+        self.write("many", (transcript(self.game) + "\n") * 1000)
+        for words in (("--empties=20", "text"), ("--empties=20", "many"), ("--help",), ("--version",), ("compare", "--help")):
+            reader, writer = os.pipe()
+            os.close(reader)
+            ran = run(PROGRAM, *words, stdout=writer, stderr=subprocess.PIPE, capture_output=False)
+            os.close(writer)
+            self.assertEqual((ran.returncode, ran.stderr), (-signal.SIGPIPE, b""), words)
 
     def test_without_the_library(self):
-        ran = run(PROGRAM, "--empties=20", "text", env={**os.environ, "FFOSOLVE_LIBRARY": "/nowhere"})
-        self.assertEqual((ran.returncode, ran.stdout), (4, b""))
-        self.assertRegex(ran.stderr.decode(), "^ffosolve-games: /nowhere: .*\n$")
+        for words in (("--empties=20", "text"), ("compare", "text", "text")):
+            ran = run(PROGRAM, *words, env={**os.environ, "FFOSOLVE_LIBRARY": "/nowhere"})
+            self.assertEqual((ran.returncode, ran.stdout), (4, b""))
+            self.assertRegex(ran.stderr.decode(), "^ffosolve-games: /nowhere: .*\n$")
 
 
 class Compare(Case):
