@@ -496,58 +496,276 @@ class Use(Case):
 
 
 class Compare(Case):
-    BOARD = "".join(beginning())
+    """Positions of examples/kinds.obf, whose scores are +62, -64 and +32, the first and the last also in the other colours."""
+
+    TWO = "-OXXXXX-XXXXXXXOXXXXXXXXXXXXXXXXXXXOXXXXXXXXXXXXXXXXXXXXXXXXXXXX"
+    PASS = "-OOOOOOXXXXXXXXXXXXXXXXXXXXXXXXXXXXXXXXXXXXXXXXXXXXXXXXXXXXXXXXX"
+    OVER = "XXXXXXXXXXXXXXXXXXXXXXXXXXXXXXXX----------------OOOOOOOOOOOOOOOO"
     LISTED = (
         "% what ffosolve-games prints\n"
-        f"{BOARD} X; % a, b.wtb, game 7, theoretical score 34\n"
-        f"{BOARD} O; % a, b.wtb, game 8, theoretical score 34\n"
-        f"{BOARD} X; % a, b.wtb, game 9, theoretical score 64\n"
+        f"{TWO} X; % a, b.wtb, game 7, theoretical score 63\n"
+        f"{TWO.translate(str.maketrans('XO', 'OX'))} O; % a, b.wtb, game 8, theoretical score 34\n"
+        f"{PASS} O; % a, b.wtb, game 9, theoretical score 0\n"
         "\n"
-        f"{BOARD} O; % c, game 1\n"
-        f"{BOARD} O; % c, game 2, theoretical score 0\n"
+        f"{OVER} X; % c, game 1\n"
+        f"{OVER} O; % c, game 2, theoretical score 48\n"
     )
-    REPORT = "[1]\n2 +04 D3 unlisted\n3 +04 C4,D3 unlisted\n4 -64 PS unlisted\n6 +00 -- agree\n7 +64 A1 differ\nsolved 5 refused 0\n"
+    REPORT = "[1]\n2 +62 H1 unlisted\n3 +62 H1 unlisted\n4 -64 PS unlisted\n6 +32 -- unlisted\n7 -32 -- unlisted\nsolved 5 refused 0\n"
 
     def compare(self, listed, report, **expected):
         self.write("list", listed)
         self.write("report", report)
         self.games("compare", "list", "report", **expected)
 
+    def unfit(self, listed, report, why):
+        self.compare(listed, report, status=3, out="", told=f"ffosolve-games: report is no report of list: {why}\n")
+
     def test_scores_are_discs_of_black(self):
-        out = ("a, b.wtb, game 8: published 34, exact 30, difference +4\n"
-               "a, b.wtb, game 9: published 64, exact 0, difference +64\n"
+        out = ("a, b.wtb, game 8: published 34, exact 1, difference +33\n"
+               "a, b.wtb, game 9: published 0, exact 64, difference -64\n"
                "compared 4 differ 2 refused 0 unscored 1\n")
         self.compare(self.LISTED, self.REPORT, status=1, out=out, told="")
         self.games("compare", "-", "report", input=self.LISTED.encode(), status=1, out=out, told="")
+        self.games("compare", "list", "-", input=self.REPORT.encode(), status=1, out=out, told="")
 
     def test_all_is_exact(self):
-        report = self.REPORT.replace("3 +04", "3 -04").replace("4 -64", "4 +64")
-        self.compare(self.LISTED, report, out="compared 4 differ 0 refused 0 unscored 1\n", told="")
+        listed = self.LISTED.replace("score 34", "score 1").replace("score 0", "score 64")
+        self.compare(listed, self.REPORT, out="compared 4 differ 0 refused 0 unscored 1\n", told="")
 
     def test_a_refused_position_is_not_compared(self):
-        report = self.REPORT.replace("3 +04 C4,D3 unlisted", "3 refused: 60 empties, limit 20").replace("4 -64", "4 +64")
-        self.compare(self.LISTED, report, status=1, out="compared 3 differ 0 refused 1 unscored 1\n", told="")
+        for line, old, why in ((2, "+62 H1 unlisted", "2 empties, limit 1"), (7, "-32 -- unlisted", "16 empties, limit 15")):
+            report = self.REPORT.replace(f"{line} {old}", f"{line} refused: {why}").replace("solved 5 refused 0", "solved 4 refused 1")
+            listed = self.LISTED.replace("score 34", "score 1").replace("score 0", "score 64")
+            self.compare(listed, report, status=1, out="compared 3 differ 0 refused 1 unscored 1\n", told="")
 
-    def test_what_does_not_fit(self):
+    def test_a_line_that_holds_no_position(self):
+        listed = self.LISTED.replace(self.PASS, self.PASS[1:])
+        report = self.REPORT.replace("4 -64 PS unlisted", "4 refused: bad square at column 64")
+        report = report.replace("solved 5 refused 0", "solved 4 refused 1")
+        self.compare(listed, report, status=1, out="a, b.wtb, game 8: published 34, exact 1, difference +33\n"
+                     "compared 3 differ 1 refused 0 unscored 2\n", told="")
+        self.unfit(listed, self.REPORT,
+                   "line 4 of the list is refused: bad square at column 64; and the report says: that it is solved")
+
+    def test_what_is_no_report(self):
         rows = self.REPORT.splitlines(True)
-        no_row, no_position = "line 4 of the list has no row in the report", "line 5 of the list is no position"
+        cut = "the report does not end with the line `solved N refused N`, so it is not whole"
         for report, why in (
-            ("", "the report is not whole, or none of one list"),
-            ("".join(rows[:-1]), "the report is not whole, or none of one list"),
-            ("".join(rows[1:]), "the report is not whole, or none of one list"),
-            ("".join(rows[:3] + rows[4:]), no_row),
-            (self.REPORT.replace("4 -64", "5 -64"), no_row),
-            ("".join(rows[:4] + ["5 +00 -- agree\n"] + rows[4:]), no_position),
-            ("".join(rows[:3] + ["[2]\n"] + rows[3:]), "line 4 of the report is no row of one list"),
-            (self.REPORT.replace("2 +04", "2 +05"),
-             "the score of line 2 is odd, so the report is of another scoring than winner"),
+            ("", "the report is empty"),
+            ("".join(rows[1:]), "the report does not begin with the line `[1]`"),
+            (self.LISTED, "the report does not begin with the line `[1]`"),
+            ("".join(rows[:-1]), cut),
+            (self.REPORT[:-12], cut),
+            ("[1]\n", cut),
+            ("".join(rows[:-1] + ["[2]\n"] + rows[1:]), "the report is of several lists"),
+            ("".join(rows[:3] + ["x\n"] + rows[3:]), "line 4 of the report is no row"),
+            (self.REPORT.replace("2 +62 H1", "2 +62 H9"), "line 2 of the report is no row"),
+            ("".join(rows[:3] + rows[2:]), "line 4 of the report is a second row of line 3 of the list"),
+            ("".join(rows[:2] + rows[3:]), "the report ends with `solved 5 refused 0`, and has 4 rows, of which 0 are refused"),
         ):
-            told = f"ffosolve-games: report is no report of list: {why}\n"
-            self.compare(self.LISTED, report, status=3, out="", told=told)
-        told = "ffosolve-games: report is no report of list: no line of the list has a theoretical score\n"
-        self.compare(re.sub(", theo.*", "", self.LISTED), self.REPORT, status=3, out="", told=told)
+            self.unfit(self.LISTED, report, why)
+        self.unfit(re.sub(", theo.*", "", self.LISTED), self.REPORT, "no line of the list has a theoretical score")
         self.games("compare", "list", "none", status=3, out="",
                    told=UNREADABLE.format("cannot read none", "No such file or directory"))
+
+    def test_what_is_of_another_list(self):
+        for old, new, why in (
+            ("2 +62 H1", "2 +62 G1", "2 of the list has no legal move G1, which the report calls best"),
+            ("2 +62 H1", "2 +62 A1,H1,H2", "2 of the list has no legal move H2, which the report calls best"),
+            ("3 +62 H1", "3 +62 PS", "3 of the list has no legal move PS, which the report calls best"),
+            ("3 +62 H1", "3 +62 --", "3 of the list has no legal move --, which the report calls best"),
+            ("4 -64 PS", "4 -64 A1", "4 of the list has no legal move A1, which the report calls best"),
+            ("4 -64 PS", "4 -64 --", "4 of the list has no legal move --, which the report calls best"),
+            ("7 -32 --", "7 -32 PS", "7 of the list has no legal move PS, which the report calls best"),
+            ("7 -32 --", "7 -32 A1", "7 of the list has no legal move A1, which the report calls best"),
+            ("7 -32 --", "7 -30 --", "7 of the list is the end of a game with the score -32, and not -30"),
+            ("2 +62 H1", "2 +61 H1", "2 of the list has the odd score +61 in the report, which is of another scoring than winner"),
+            ("2 +62 H1 unlisted", "2 +62 H1 agree", "2 of the list lists no move, and the report says agree"),
+            ("4 -64", "5 -64", "4 of the list has no row in the report"),
+            ("2 +62", "1 +62", "1 of the list is no position, and the report has a row of it"),
+            ("7 -32", "8 -32", "7 of the list has no row in the report"),
+        ):
+            self.unfit(self.LISTED, self.REPORT.replace(old, new), f"line {why}")
+        listed = self.LISTED.replace(" X; % a", " X; H1:+62; % a")
+        self.unfit(listed, self.REPORT, "line 2 of the list lists a move, and the report says unlisted")
+        for says in ("3 empties, limit 1", "board has 2 of 64 squares"):
+            report = self.REPORT.replace("3 +62 H1 unlisted", f"3 refused: {says}").replace("solved 5 refused 0", "solved 4 refused 1")
+            self.unfit(self.LISTED, report, f"line 3 of the list has 2 empty squares, and the report says: {says}")
+
+    def test_a_whole_report_of_another_list(self):
+        """Of other games, as many, and as many empty squares; the first best move that is not legal shows it."""
+        rng = random.Random(11)
+        known = [positions_of(squares_of(random_game(rng))) for _ in range(60)]
+        mine, others = ([at[5] for at in known if 5 in at][start::2][:20] for start in (0, 1))
+        self.write("list", "".join(line_of(at, f"x.wtb, game {number}, theoretical score 32") for number, at in enumerate(mine, 1)))
+        for listed, status in ((mine, 1), (others, 3)):
+            best = [best_moves(*at) for at in listed]
+            rows = [f"{number} {score(*at):+03} {','.join(names)} unlisted\n" for number, (at, names) in enumerate(zip(listed, best), 1)]
+            self.write("report", "[1]\n" + "".join(rows) + "solved 20 refused 0\n")
+            out, told = self.games("compare", "list", "report", status=status)
+        wrong = [(number, name) for number, (at, names) in enumerate(zip(mine, best), 1) for name in names
+                 if name not in [NAMES[square] for square in moves_of(*at)]]
+        self.assertEqual((out, told), ("", "ffosolve-games: report is no report of list: line {} of the list has no legal move {}, "
+                                           "which the report calls best\n".format(*wrong[0])))
+
+
+class Fix(Case):
+    """The WTHOR file with exact scores, which `compare --fix` writes."""
+
+    def setUp(self):
+        super().setUp()
+        rng = random.Random(7)
+        games = [squares_of(game) for game in (random_game(rng) for _ in range(12))]
+        self.games_of_file = [game for game in games if 5 in positions_of(game)]
+        self.exact = [discs_of_black(*positions_of(game)[5]) for game in self.games_of_file]
+        published = [it + {2: -2, 5: 7}.get(number, 0) for number, it in enumerate(self.exact)]
+        self.records = [record(*both) for both in zip(self.games_of_file, published)]
+        self.write("it.wtb", wthor(self.records, empties=5) + b"more")
+        self.write_list("it.wtb")
+        self.whole = self.content("it.wtb")
+        self.wanted = wthor([record(*both) for both in zip(self.games_of_file, self.exact)], empties=5) + b"more"
+        self.told = f"new.wtb: 2 of {len(self.exact)} theoretical scores are changed, 0 are not compared"
+
+    def write_list(self, *names, skipped=()):
+        ran = run(PROGRAM, *names)
+        self.write("list", ran.stdout)
+        rows = ""
+        for number, line in enumerate(ran.stdout.decode().splitlines(), 1):
+            at = list(line[:64]), line[65]
+            said = "refused: 5 empties, limit 4" if number in skipped else f"{score(*at):+03} {','.join(best_moves(*at))} unlisted"
+            rows += f"{number} {said}\n"
+        self.write("report", f"[1]\n{rows}solved {number - len(skipped)} refused {len(skipped)}\n")
+
+    def content(self, name):
+        return (self.folder / name).read_bytes()
+
+    def fix(self, status, told, place="new.wtb", **how):
+        """Runs the program, which may make the new file and no other one, and leaves the one that is read as it is."""
+        before = set(os.listdir())
+        out, _ = self.games("compare", "list", "report", "--fix", place, status=status, told=f"ffosolve-games: {told}\n", **how)
+        self.assertEqual(set(os.listdir()), before | ({place} if status < 3 else set()))
+        if "it.wtb" in before:
+            self.assertEqual(self.content("it.wtb"), self.whole)
+        return out
+
+    def test_the_scores_that_are_wrong_are_changed_and_no_other_byte(self):
+        out = self.fix(1, self.told)
+        self.assertEqual(self.content("new.wtb"), self.wanted)
+        self.assertEqual(out, self.games("compare", "list", "report", status=1)[0])
+        self.assertEqual(stat.S_IMODE(os.stat("new.wtb").st_mode), 0o644)
+        self.write_list("new.wtb")
+        self.games("compare", "list", "report", out=f"compared {len(self.exact)} differ 0 refused 0 unscored 0\n", told="")
+        again = f"again.wtb: 0 of {len(self.exact)} theoretical scores are changed, 0 are not compared"
+        self.fix(0, again, place="again.wtb")
+        self.assertEqual(self.content("again.wtb"), self.wanted)
+
+    def test_games_that_are_not_compared_stay(self):
+        """One whose position is refused in the report, and one with a move that is not legal, which is not in the list."""
+        self.records[0] = self.records[0][:8] + b"\x63" + self.records[0][9:]
+        self.whole = wthor(self.records, empties=5)
+        self.write("it.wtb", self.whole)
+        self.write_list("it.wtb", skipped=[2])
+        self.fix(1, f"new.wtb: 1 of {len(self.exact)} theoretical scores are changed, 2 are not compared")
+        self.records[5] = record(self.games_of_file[5], self.exact[5])
+        self.assertEqual(self.content("new.wtb"), wthor(self.records, empties=5))
+
+    def test_no_file_is_written_over(self):
+        """Neither the one that is read, by any of its names, nor another."""
+        os.symlink("it.wtb", "link.wtb")
+        os.link("it.wtb", "twin.wtb")
+        os.symlink("nowhere", "broken.wtb")
+        os.mkdir("folder.wtb")
+        self.write("other.wtb", "other")
+        for name in ("it.wtb", "./it.wtb", "link.wtb", "twin.wtb", "broken.wtb", "folder.wtb", "other.wtb", "list", "report"):
+            self.fix(3, f"{name} is there already, and would be overwritten", place=name)
+        self.assertEqual(self.content("other.wtb"), b"other")
+        self.assertEqual(os.readlink("broken.wtb"), "nowhere")
+
+    def test_a_full_disk(self):
+        for size in (0, 1, 16, len(self.whole) - 1):
+            self.fix(3, "cannot write new.wtb: File too large",
+                     preexec_fn=lambda: resource.setrlimit(resource.RLIMIT_FSIZE, (size, size)))
+
+    def test_a_place_that_is_not_there(self):
+        self.fix(3, "cannot write none/new.wtb: No such file or directory", place="none/new.wtb")
+
+    def test_a_file_system_without_hard_links(self):
+        """Where a file appears meanwhile it is kept where there are hard links, and no file is left beside."""
+        sys.path.insert(0, str(ROOT / "python/src"))
+        self.addCleanup(sys.path.remove, str(ROOT / "python/src"))
+        from ffosolve._fixed import write_new
+
+        with unittest.mock.patch("os.link", side_effect=PermissionError):
+            write_new("new.wtb", [b"new", b"file"])
+        self.assertEqual(self.content("new.wtb"), b"newfile")
+        with self.assertRaises(FileExistsError):
+            write_new("new.wtb", [b"other"])
+        self.assertEqual(self.content("new.wtb"), b"newfile")
+        self.assertEqual(sorted(os.listdir()), ["it.wtb", "list", "new.wtb", "report"])
+
+    def test_a_file_that_is_not_that_of_the_list(self):
+        why = "it.wtb is not the WTHOR file of the list: "
+        another = record(self.games_of_file[0], self.records[3][7])
+        for records, told in (
+            (self.records[:3] + [another] + self.records[4:], why + "its game 4 has another position or theoretical score"),
+            (self.records[:3] + [record([], self.records[3][7])] + self.records[4:],
+             why + "its game 4 has another position or theoretical score"),
+            (self.records[:3] + [record(self.games_of_file[3], self.exact[3] + 1)] + self.records[4:],
+             why + "its game 4 has another position or theoretical score"),
+            (self.records[:3], why + "it has no game 4"),
+        ):
+            self.whole = wthor(records, empties=5)
+            self.write("it.wtb", self.whole)
+            self.fix(3, told)
+        self.whole = b"text"
+        self.write("it.wtb", self.whole)
+        self.fix(3, why + "it ends within its header of 16 bytes")
+        os.remove("it.wtb")
+        self.fix(3, "cannot read it.wtb, which the list names: No such file or directory")
+        os.mkfifo("it.wtb")
+        self.assertEqual(self.games("compare", "list", "report", "--fix", "new.wtb", status=3)[1],
+                         "ffosolve-games: it.wtb, which the list names, is no regular file\n")
+
+    def test_a_list_that_names_no_one_file(self):
+        self.write("other.wtb", self.whole)
+        self.write_list("it.wtb", "other.wtb")
+        self.fix(3, "--fix takes a list of one WTHOR file, and this one is of 2")
+        self.write_list("it.wtb", skipped=range(1, len(self.exact) + 1))
+        self.fix(3, "no theoretical score is compared, so --fix has none to write")
+        self.write("list", run(PROGRAM, "-", input=self.whole).stdout)
+        self.write_list("it.wtb")
+        self.write("list", self.content("list").replace(b"it.wtb", b"standard input"))
+        self.fix(3, "cannot read standard input, which the list names: No such file or directory")
+
+    def test_two_at_once(self):
+        """One of them writes the file, whole, and the others are told that it is there."""
+        words = [sys.executable, PROGRAM, "compare", "list", "report", "--fix", "new.wtb"]
+        runs = [subprocess.Popen(words, stdout=subprocess.PIPE, stderr=subprocess.PIPE) for _ in range(6)]
+        told = sorted(it.communicate(timeout=SECONDS)[1].decode() for it in runs)
+        lost = "ffosolve-games: new.wtb is there already, and would be overwritten\n"
+        self.assertEqual(told, sorted([f"ffosolve-games: {self.told}\n"] + 5 * [lost]))
+        self.assertEqual(sorted(it.returncode for it in runs), [1] + 5 * [3])
+        self.assertEqual(self.content("new.wtb"), self.wanted)
+        self.assertEqual(sorted(os.listdir()), ["it.wtb", "list", "new.wtb", "report"])
+
+    def test_a_run_that_is_ended_in_the_middle(self):
+        """It leaves no new file under the name; by Ctrl-C nothing at all. The same command then writes it."""
+        rest = bytes(68 * 2_000_000)
+        self.write("it.wtb", wthor(self.records, empties=5, count=len(self.records) + 2_000_000) + rest)
+        for number in (signal.SIGINT, signal.SIGKILL):
+            words = [sys.executable, PROGRAM, "compare", "list", "report", "--fix", "new.wtb"]
+            child = subprocess.Popen(words, stdout=subprocess.PIPE, stderr=subprocess.PIPE)
+            self.addCleanup(child.kill)
+            wait_until(lambda: list(self.folder.glob("new.wtb.*.new")))
+            child.send_signal(number)
+            child.communicate(timeout=SECONDS)
+            self.assertFalse((self.folder / "new.wtb").exists())
+            self.assertEqual(bool(list(self.folder.glob("new.wtb.*.new"))), number == signal.SIGKILL)
+        self.assertEqual(self.games("compare", "list", "report", "--fix", "new.wtb", status=1)[1],
+                         f"ffosolve-games: new.wtb: 2 of {len(self.records) + 2_000_000} theoretical scores are changed, "
+                         "2000000 are not compared\n")
+        self.assertEqual(self.content("new.wtb")[16:][:68 * len(self.records)], self.wanted[16:-4])
+        self.assertEqual(os.stat("new.wtb").st_size, os.stat("it.wtb").st_size)
 
 
 class Recipe(Case):

@@ -281,10 +281,11 @@ def compare(options: argparse.Namespace, find: Callable[[], Optional[str]], outp
 
 def fix(place: str, found: Comparison, player: Player) -> None:
     """Writes the WTHOR file of a comparison with exact scores."""
-    files = sorted({it.file for it in found.compared})
-    if len(files) != 1:
-        told = f"games of {len(files)} files" if files else "no game"
-        raise Stop(UNREADABLE, f"{told} are compared, and --fix takes those of one WTHOR file")
+    files = list({it.file for it in found.compared})
+    if not files:
+        raise Stop(UNREADABLE, "no theoretical score is compared, so --fix has none to write")
+    if len(files) > 1:
+        raise Stop(UNREADABLE, f"--fix takes a list of one WTHOR file, and this one is of {len(files)}")
     (name,) = files
     with opened_again(name) as source:
         fixed = Fixed(source, found.compared, player)
