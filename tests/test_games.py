@@ -454,7 +454,7 @@ class Use(Case):
     def test_the_command_line(self):
         for words in (("--empties", "61"), ("--empties", "-1"), ("--empties", "x"), ("--empties",), ("--emp", "3"), ("--no",),
                       ("compare",), ("compare", "text"), ("compare", "text", "text", "text"), ("compare", "-", "-"),
-                      ("compare", "text", "text", "--fix")):
+                      ("compare", "text", "text", "--fix"), ("--fix", "new.wtb", "compare", "text", "text")):
             out, told = self.games(*words, status=2)
             self.assertEqual(out, "")
             self.assertIn("usage: ffosolve-games", told)
@@ -769,12 +769,11 @@ class Fix(Case):
 
 
 class Recipe(Case):
-    def test_the_wrong_scores_of_a_file_are_found_by_the_commands_of_the_guide(self):
+    """The wrong scores of a WTHOR file are found by the commands that a user is shown."""
+
+    def check(self, commands, names):
         need("parallel", "parallel")
         built("ffosolve")
-        guide = stored("docs", "user-guide.md").decode()
-        commands = re.search(r"theoretical scores of a WTHOR file\n.*?^```sh\n(.*?)^```", guide, re.M | re.S)[1]
-        self.assertEqual(len(commands.splitlines()), 3)
         rng = random.Random(7)
         games = [squares_of(game) for game in (random_game(rng) for _ in range(20))]
         exact = [discs_of_black(*positions_of(game)[6]) for game in games]
@@ -783,11 +782,27 @@ class Recipe(Case):
         name = re.search(r"\S+\.wtb", commands)[0]
         self.write(name, wthor([record(*both) for both in zip(games, published)], empties=6))
         (self.folder / "bin").symlink_to(ROOT / "bin")
-        ran = run("sh", "-e", "-c", commands, timeout=300)
+        ran = run("sh", "-e", "-c", commands, timeout=300, env={**os.environ, "PATH": f"{ROOT}/bin:{os.environ['PATH']}"})
         rows = "".join(f"{name}, game {at + 1}: published {published[at]}, exact {exact[at]}, difference {less}\n"
                        for at, less in ((4, "-2"), (13, "+7")))
         self.assertEqual(ran.stdout.decode(), rows + "compared 20 differ 2 refused 0 unscored 0\n", ran.stderr)
         self.assertEqual(ran.returncode, 1)
+        self.assertLessEqual({name, *names}, set(os.listdir()))
+        return wthor([record(*both) for both in zip(games, exact)], empties=6)
+
+    def test_the_guide(self):
+        guide = stored("docs", "user-guide.md").decode()
+        commands = re.search(r"theoretical scores of a WTHOR file\n.*?^```sh\n(.*?)^```", guide, re.M | re.S)[1]
+        self.assertEqual(len(commands.splitlines()), 3)
+        self.check(commands, ["list.obf", "list.report"])
+
+    def test_the_help(self):
+        """It keeps the list, which compare needs, and writes a file with exact scores."""
+        commands = re.search(r"^examples:\n.*?\n\n(.*?)\n\n", self.games("--help")[0], re.M | re.S)[1]
+        self.assertEqual(len(commands.splitlines()), 3)
+        new = commands.split()[-1]
+        wanted = self.check(commands, ["list.obf", "list.report", new])
+        self.assertEqual((self.folder / new).read_bytes(), wanted)
 
 
 if __name__ == "__main__":

@@ -37,8 +37,8 @@ class Fixed:
     def _exact(self, record: bytes, it: Compared) -> bytes:
         game = game_of(it.game, record)
         try:
-            played = self._player.play(game, it.position.empties)
-            is_same = (played.position, played.is_black) == (it.position, it.position.side == "X")
+            position = self._player.play(game, it.position.empties).position
+            is_same = (position, position.side) == (it.position, it.position.side)
         except Fault:
             is_same = False
         if not is_same or game.score != it.published:

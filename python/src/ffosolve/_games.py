@@ -4,6 +4,7 @@ import re
 import struct
 from typing import BinaryIO, Iterator, NamedTuple, Optional, Sequence, Tuple
 
+from ._boards import OTHER
 from ._library import CPosition
 from ._positions import Position
 from ._squares import NAMES, square_name
@@ -49,7 +50,6 @@ class Played(NamedTuple):
     """What playing a game to its end shows."""
 
     position: Position  # the first one with the empty squares that are asked for
-    is_black: bool  # whether Black is its mover
     discs: Optional[int]  # Black's at the end, with the empty squares to the winner; None where the moves stop before
 
 
@@ -113,9 +113,9 @@ def final_score(own: int, opp: int) -> int:
     return mine - theirs + (64 - mine - theirs) * ((mine > theirs) - (mine < theirs))
 
 
-def discs_of_black(score: int, is_black: bool) -> int:
-    """Black's discs by the mover's score."""
-    return 32 + (score if is_black else -score) // 2
+def discs_of_black(score: int, side: str) -> int:
+    """Black's discs by the score of the mover, who is "X" (black) or "O" (white)."""
+    return 32 + (score if side == "X" else -score) // 2
 
 
 class Player:
@@ -130,23 +130,23 @@ class Player:
         if game.fault is not None:
             raise Fault(game.fault)
         play, found = self._play, None
-        at, after, is_black, left = CPosition(*START), CPosition(), True, START.empties
+        at, after, side, left = CPosition(*START), CPosition(), START.side, START.empties
         for index, square in enumerate(game.moves):
             if left == empties and found is None:
-                found = Position(at.own, at.opp), is_black
+                found = Position(at.own, at.opp, side)
             if play(at, square, after):
-                at, is_black = self._passed(at, game, index), not is_black
+                at, side = self._passed(at, game, index), OTHER[side]
                 if square == PASS:
                     continue
                 if play(at, square, after):
                     raise self._fault(at, game, index)
-            at, after, is_black, left = after, at, not is_black, left - 1
+            at, after, side, left = after, at, OTHER[side], left - 1
         if left > empties:
             told = f"it ends here, with {left} empty square{'s' * (left > 1)}, and {empties} are asked for"
             raise Fault(told, START.empties - left) if game.moves else Fault("it has no moves")
         is_over = not self._has_move(at) and not self._has_move(CPosition(at.opp, at.own))
-        discs = discs_of_black(final_score(at.own, at.opp), is_black) if is_over else None
-        return Played(*(found or (Position(at.own, at.opp), is_black)), discs)
+        discs = discs_of_black(final_score(at.own, at.opp), side) if is_over else None
+        return Played(found or Position(at.own, at.opp, side), discs)
 
     def _passed(self, at: CPosition, game: Game, index: int) -> CPosition:
         """The position after the pass that a game has before a move, or as that."""

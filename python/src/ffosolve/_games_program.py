@@ -35,7 +35,7 @@ standard error in its place. A line there also tells a game of a WTHOR file
 whose real score is not that of its moves, or whose moves stop before the end.
 
 `ffosolve-games compare LIST REPORT` compares the theoretical scores of a list
-with the exact ones, and writes a WTHOR file with these.
+with the exact ones, and with --fix writes a WTHOR file that has these.
 
 examples:
   ffosolve-games --empties 20 games.txt >list.obf
@@ -75,6 +75,7 @@ status:
 example:
   ffosolve-games compare list.obf list.report --fix WTH_2001.new.wtb
 """
+FIX = "where the WTHOR file of LIST is written with the exact theoretical scores; no such file may be there yet"
 
 
 class Stop(Exception):
@@ -157,17 +158,19 @@ def games_options(words: List[str]) -> argparse.Namespace:
     parser.add_argument("--empties", metavar="N", type=number_of_empties,
                         help=f"the empty squares of the positions, 0 to {MOST_EMPTIES}; those of the theoretical scores "
                              "of a WTHOR file, if not given")
+    parser.add_argument("--fix", metavar="FILE", help=f"with compare: {FIX}")
     parser.add_argument("--version", "-V", action="version", version=f"{NAME} {__version__}")
-    return parser.parse_intermixed_args(words)
+    options = parser.parse_intermixed_args(words)
+    if options.fix is not None:
+        parser.error("--fix goes with compare, which is the first word")
+    return options
 
 
 def compare_options(words: List[str]) -> argparse.Namespace:
     parser = parser_of(f"{NAME} compare", WHAT_COMPARE, MORE_COMPARE)
     parser.add_argument("list", metavar="LIST", help="the list, or `-` for standard input")
     parser.add_argument("report", metavar="REPORT", help="the report, or `-` for standard input")
-    parser.add_argument("--fix", metavar="FILE",
-                        help="where the WTHOR file of LIST is written, with the exact theoretical scores; no such file may "
-                             "be there yet")
+    parser.add_argument("--fix", metavar="FILE", help=FIX)
     options = parser.parse_intermixed_args(words)
     if options.list == options.report == "-":
         parser.error("LIST and REPORT are both standard input")
@@ -244,8 +247,7 @@ def games_of(name: str, file: BufferedReader, wanted: Optional[int]) -> Tuple[It
 
 def line_of(name: str, game: Game, played: Played) -> str:
     score = "" if game.score is None else f", theoretical score {game.score}"
-    side = "X" if played.is_black else "O"
-    return f"{played.position.to_obf(side)} % {shown(name)}, game {game.number}{score}"
+    return f"{played.position.to_obf()} % {shown(name)}, game {game.number}{score}"
 
 
 def wrong_scores(game: Game, played: Played) -> Iterator[str]:

@@ -62,7 +62,7 @@ class Comparison:
             elif row.score is None or line.position is None:
                 self.refused += 1
             else:
-                exact = discs_of_black(row.score, line.position.side == "X")
+                exact = discs_of_black(row.score, line.position.side)
                 self.compared.append(Compared(line.position, line.file, line.game, line.score, exact))
         if not self.compared and not self.refused:
             raise Unfit("no line of the list has a theoretical score")
