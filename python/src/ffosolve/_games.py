@@ -1,6 +1,5 @@
 """Games: how transcripts and WTHOR files are read, and how a game is played by the library's rules."""
 import ctypes
-import re
 import struct
 from typing import BinaryIO, Iterator, NamedTuple, Optional, Sequence, Tuple
 
@@ -9,11 +8,11 @@ from ._library import CPosition
 from ._positions import Position
 from ._squares import NAMES, square_name
 from ._text import text_lines
+from ._transcripts import words_of
 
 START = Position(0x0000000810000000, 0x0000001008000000)  # Black, on E4 and D5, is the mover
 PASS, NO_SQUARE = 64, 255  # in the place of a square's number
-WORD = re.compile("[a-h][1-8]|pass|ps|--|..?", re.DOTALL)
-WORDS = {**{name.lower(): number for number, name in enumerate(NAMES)}, "pass": PASS, "ps": PASS, "--": PASS}
+WORDS = {**{name.lower(): number for number, name in enumerate(NAMES)}, "--": PASS}
 HEADER = struct.Struct("<4x I H 2x B B B x")  # games, another number, size of the board, kind, empty squares
 RECORD, REAL, SCORE, FIRST_MOVE = 68, 6, 7, 8  # bytes of a game, and places in it
 MOST_DISCS = 64
@@ -56,8 +55,7 @@ class Played(NamedTuple):
 def transcripts(file: BinaryIO, name: str) -> Iterator[Game]:
     """The games of a text, one a line; lines without a move, and all from `%` on, are skipped. Raises NotText."""
     for number, line in enumerate(text_lines(file, name), 1):
-        text = line.decode("utf-8", "replace").partition("%")[0]
-        words = WORD.findall("".join(text.split()).lower())
+        words = words_of(line.decode("utf-8", "replace").partition("%")[0])
         if words:
             yield Game(number, [WORDS.get(word, NO_SQUARE) for word in words], words)
 
