@@ -1,4 +1,5 @@
 """ffosolve-games: games to positions, and theoretical scores to differences, beside a plain game player."""
+import functools
 import os
 import random
 import re
@@ -115,6 +116,11 @@ def real_score(positions):
     return 40 if moves_of(board, side) or moves_of(board, other(side)) else discs_of_black(board, side)
 
 
+@functools.lru_cache(maxsize=None)
+def real_score_of(squares):
+    return real_score(positions_of(squares))
+
+
 def best_moves(board, side):
     """The names of the moves with the mover's exact score."""
     scores = {NAMES[square]: -score(after(board, side, square), other(side)) for square in moves_of(board, side)}
@@ -139,7 +145,7 @@ def transcript(game, rng=None):
 def record(game, theoretical=33, real=None):
     """A game of a WTHOR file, with its real score, where no other is given."""
     squares = squares_of(game)
-    real = real_score(positions_of(squares)) if real is None else real
+    real = real_score_of(tuple(squares)) if real is None else real
     return struct.pack("<HHHBB", 7, 300, 301, real, theoretical) + bytes(map(SQUARE_BYTES.__getitem__, squares)).ljust(60, b"\0")
 
 
@@ -231,7 +237,6 @@ class Faults(Case):
             ("f5d6psc3", "move 3: it has a pass where there is a move"),
             ("pass", "move 1: it has a pass where there is a move"),
             ("f5", "move 1: it ends here, with 59 empty squares, and 58 are asked for"),
-            ("\0", "move 1: '\\x00' is no square"),
             ("f5d6c3d3c4f4c5b3c2\xff", "move 10: '\ufffd' is no square"),
         )
         self.write("games", "\n".join(text for text, _ in lines).encode("latin-1"))
@@ -427,10 +432,11 @@ class Use(Case):
             self.games("compare", "text", "bad", status=3, out="", told=UNREADABLE.format("cannot read bad", why))
 
     def test_a_text_with_a_nul(self):
-        """Only a name, or a beginning that no text has, makes a WTHOR file."""
-        self.write("text", b"f5\0d6\n" + transcript(self.game).encode())
-        told = "ffosolve-games: text, game 1, move 2: '\\x00d' is no square\n"
-        self.games("--empties=20", "text", status=1, out=self.line.format("text").replace("game 1", "game 2"), told=told)
+        """It is no WTHOR file: those have a name, or a beginning, that no text has. An archive is neither."""
+        for content in (b"f5\0d6\n" + transcript(self.game).encode(), b"PK\3\4\24\0\0\0"):
+            self.write("bad", content)
+            told = UNREADABLE.format("cannot read bad", "its line 1 has a NUL, which no text has")
+            self.games("--empties=20", "bad", "text", status=3, out=self.line.format("text"), told=told)
 
     def test_long_lines(self):
         """They are refused by their size, with no more read; what stands before them is printed."""
@@ -454,7 +460,8 @@ class Use(Case):
     def test_the_command_line(self):
         for words in (("--empties", "61"), ("--empties", "-1"), ("--empties", "x"), ("--empties",), ("--emp", "3"), ("--no",),
                       ("compare",), ("compare", "text"), ("compare", "text", "text", "text"), ("compare", "-", "-"),
-                      ("compare", "text", "text", "--fix"), ("--fix", "new.wtb", "compare", "text", "text")):
+                      ("compare", "text", "text", "--fix"), ("--fix", "new.wtb", "compare", "text", "text"),
+                      ("compare", "text", "text", "--fix=-")):
             out, told = self.games(*words, status=2)
             self.assertEqual(out, "")
             self.assertIn("usage: ffosolve-games", told)
@@ -560,6 +567,7 @@ class Compare(Case):
             ("".join(rows[:-1] + ["[2]\n"] + rows[1:]), "the report is of several lists"),
             ("".join(rows[:3] + ["x\n"] + rows[3:]), "line 4 of the report is no row"),
             (self.REPORT.replace("2 +62 H1", "2 +62 H9"), "line 2 of the report is no row"),
+            (self.REPORT.replace("2 +62 H1", "9" * 5000 + " +62 H1"), "line 2 of the report is no row"),
             ("".join(rows[:3] + rows[2:]), "line 4 of the report is a second row of line 3 of the list"),
             ("".join(rows[:2] + rows[3:]), "the report ends with `solved 5 refused 0`, and has 4 rows, of which 0 are refused"),
         ):
@@ -579,7 +587,8 @@ class Compare(Case):
             ("7 -32 --", "7 -32 PS", "7 of the list has no legal move PS, which the report calls best"),
             ("7 -32 --", "7 -32 A1", "7 of the list has no legal move A1, which the report calls best"),
             ("7 -32 --", "7 -30 --", "7 of the list is the end of a game with the score -32, and not -30"),
-            ("2 +62 H1", "2 +61 H1", "2 of the list has the odd score +61 in the report, which is of another scoring than winner"),
+            ("2 +62 H1", "2 +61 H1", "2 of the list has the score +61 in the report, which is of another scoring than winner"),
+            ("2 +62 H1", "2 -98 H1", "2 of the list has the score -98 in the report, which is of another scoring than winner"),
             ("2 +62 H1 unlisted", "2 +62 H1 agree", "2 of the list lists no move, and the report says agree"),
             ("4 -64", "5 -64", "4 of the list has no row in the report"),
             ("2 +62", "1 +62", "1 of the list is no position, and the report has a row of it"),
@@ -688,6 +697,7 @@ class Fix(Case):
 
     def test_a_place_that_is_not_there(self):
         self.fix(3, "cannot write none/new.wtb: No such file or directory", place="none/new.wtb")
+        self.fix(3, "cannot write '': No such file or directory", place="")
 
     def test_a_file_system_without_hard_links(self):
         """Where a file appears meanwhile it is kept where there are hard links, and no file is left beside."""

@@ -130,7 +130,7 @@ def tell(reason: object, status: int) -> int:
 
 def shown(name: str) -> str:
     """A file's name as it is printed, on one line."""
-    return "standard input" if name == "-" else "".join(letter if letter >= " " else "?" for letter in name)
+    return "standard input" if name == "-" else "".join(letter if letter >= " " else "?" for letter in name) or "''"
 
 
 def opened(name: str) -> BufferedReader:
@@ -174,6 +174,8 @@ def compare_options(words: List[str]) -> argparse.Namespace:
     options = parser.parse_intermixed_args(words)
     if options.list == options.report == "-":
         parser.error("LIST and REPORT are both standard input")
+    if options.fix == "-":
+        parser.error("--fix takes a file, and not standard output")
     return options
 
 

@@ -8,10 +8,10 @@ from ._positions import Line, Position
 from ._refusals import LineRefused, NoPosition
 from ._squares import square_names
 
-COMMENT = re.compile(r"[^%]*% (.+), game ([0-9]+)(?:, theoretical score ([0-9]+))?")
-ROW = re.compile(r"([0-9]+) (?:([+-][0-9]{2}) ([A-H][1-8](?:,[A-H][1-8])*|PS|--) (\w+)|refused: (.+))")
-EMPTIES = re.compile("([0-9]+) empties, limit [0-9]+")
-LAST = re.compile("solved ([0-9]+) refused ([0-9]+)")
+COMMENT = re.compile(r"[^%]*% (.+), game ([0-9]{1,10})(?:, theoretical score ([0-9]{1,3}))?")
+ROW = re.compile(r"([0-9]{1,18}) (?:([+-][0-9]{2}) ([A-H][1-8](?:,[A-H][1-8])*|PS|--) (\w+)|refused: (.+))")
+EMPTIES = re.compile("([0-9]{1,2}) empties, limit [0-9]{1,2}")
+LAST = re.compile("solved ([0-9]{1,18}) refused ([0-9]{1,18})")
 
 
 class Unfit(Exception):
@@ -145,8 +145,8 @@ def other_answer(position: Line, score: int, row: Row, moves: Callable[[Position
             return f"has no legal move {name}, which the report calls best"
     if (row.word == "unlisted") != (not position.listed):
         return f"lists {'a move' if position.listed else 'no move'}, and the report says {row.word}"
-    if score % 2:
-        return f"has the odd score {score:+03} in the report, which is of another scoring than winner"
+    if score % 2 or abs(score) > 64:
+        return f"has the score {score:+03} in the report, which is of another scoring than winner"
     if row.best == ["--"] and score != final_score(position.own, position.opp):
         return f"is the end of a game with the score {final_score(position.own, position.opp):+03}, and not {score:+03}"
     return ""

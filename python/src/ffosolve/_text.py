@@ -19,5 +19,7 @@ def text_lines(file: BinaryIO, name: str) -> Iterator[bytes]:
     while line:
         if len(line) > MOST_BYTES:
             raise NotText(f"cannot read {name}: its line {number} has more than {MOST_BYTES} bytes")
+        if b"\0" in line:
+            raise NotText(f"cannot read {name}: its line {number} has a NUL, which no text has")
         yield line
         number, line = number + 1, file.readline(MOST_BYTES + 1)
