@@ -564,7 +564,7 @@ class Compare(Case):
             ("".join(rows[:-1]), cut),
             (self.REPORT[:-12], cut),
             ("[1]\n", cut),
-            ("".join(rows[:-1] + ["[2]\n"] + rows[1:]), "the report is of several lists"),
+            (self.REPORT + self.REPORT.replace("[1]", "[2]"), "the report is of several lists"),
             ("".join(rows[:3] + ["x\n"] + rows[3:]), "line 4 of the report is no row"),
             (self.REPORT.replace("2 +62 H1", "2 +62 H9"), "line 2 of the report is no row"),
             (self.REPORT.replace("2 +62 H1", "9" * 5000 + " +62 H1"), "line 2 of the report is no row"),
@@ -633,7 +633,7 @@ class Fix(Case):
         self.write_list("it.wtb")
         self.whole = self.content("it.wtb")
         self.wanted = wthor([record(*both) for both in zip(self.games_of_file, self.exact)], empties=5) + b"more"
-        self.told = f"new.wtb: 2 of {len(self.exact)} theoretical scores are changed, 0 are not compared"
+        self.told = f"new.wtb: theoretical scores changed 2 of {len(self.exact)}, not compared 0"
 
     def write_list(self, *names, skipped=()):
         ran = run(PROGRAM, *names)
@@ -664,7 +664,7 @@ class Fix(Case):
         self.assertEqual(stat.S_IMODE(os.stat("new.wtb").st_mode), 0o644)
         self.write_list("new.wtb")
         self.games("compare", "list", "report", out=f"compared {len(self.exact)} differ 0 refused 0 unscored 0\n", told="")
-        again = f"again.wtb: 0 of {len(self.exact)} theoretical scores are changed, 0 are not compared"
+        again = f"again.wtb: theoretical scores changed 0 of {len(self.exact)}, not compared 0"
         self.fix(0, again, place="again.wtb")
         self.assertEqual(self.content("again.wtb"), self.wanted)
 
@@ -674,7 +674,7 @@ class Fix(Case):
         self.whole = wthor(self.records, empties=5)
         self.write("it.wtb", self.whole)
         self.write_list("it.wtb", skipped=[2])
-        self.fix(1, f"new.wtb: 1 of {len(self.exact)} theoretical scores are changed, 2 are not compared")
+        self.fix(1, f"new.wtb: theoretical scores changed 1 of {len(self.exact)}, not compared 2")
         self.records[5] = record(self.games_of_file[5], self.exact[5])
         self.assertEqual(self.content("new.wtb"), wthor(self.records, empties=5))
 
@@ -772,8 +772,8 @@ class Fix(Case):
             self.assertFalse((self.folder / "new.wtb").exists())
             self.assertEqual(bool(list(self.folder.glob("new.wtb.*.new"))), number == signal.SIGKILL)
         self.assertEqual(self.games("compare", "list", "report", "--fix", "new.wtb", status=1)[1],
-                         f"ffosolve-games: new.wtb: 2 of {len(self.records) + 2_000_000} theoretical scores are changed, "
-                         "2000000 are not compared\n")
+                         f"ffosolve-games: new.wtb: theoretical scores changed 2 of {len(self.records) + 2_000_000}, "
+                         "not compared 2000000\n")
         self.assertEqual(self.content("new.wtb")[16:][:68 * len(self.records)], self.wanted[16:-4])
         self.assertEqual(os.stat("new.wtb").st_size, os.stat("it.wtb").st_size)
 

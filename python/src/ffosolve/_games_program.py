@@ -301,8 +301,7 @@ def fix(place: str, found: Comparison, player: Player) -> None:
             raise Stop(UNREADABLE, f"{shown(name)} is not the WTHOR file of the list: {why}") from None
         except OSError as error:
             raise unwritable(shown(place), error) from None
-    told = f"{fixed.changed} of {fixed.games} theoretical scores are changed, {fixed.others} are not compared"
-    tell(f"{shown(place)}: {told}", DONE)
+    tell(f"{shown(place)}: theoretical scores changed {fixed.changed} of {fixed.games}, not compared {fixed.others}", DONE)
 
 
 def opened_again(name: str) -> BufferedReader:

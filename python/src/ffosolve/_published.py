@@ -98,7 +98,7 @@ def read_report(lines: Iterable[bytes]) -> Dict[int, Row]:
     for place, text in enumerate(texts[1:-1], 2):
         match = ROW.fullmatch(text)
         if match is None:
-            raise Unfit("the report is of several lists" if text == "[2]" else f"line {place} of the report is no row")
+            raise Unfit("the report is of several lists" if LAST.fullmatch(text) else f"line {place} of the report is no row")
         number, score, best, word, refusal = match.groups("")
         if int(number) in found:
             raise Unfit(f"line {place} of the report is a second row of line {number} of the list")
