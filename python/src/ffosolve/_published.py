@@ -80,9 +80,11 @@ def read_list(lines: Iterable[bytes]) -> Dict[int, Listed]:
         except LineRefused as why:
             found[number] = Listed(None, str(why))
             continue
+        found[number] = Listed(position)
         match = COMMENT.fullmatch(os.fsdecode(text.rstrip(b"\r\n")))
-        said = (match[1], int(match[2]), None if match[3] is None else int(match[3])) if match else ()
-        found[number] = Listed(position, "", *said)
+        if match is not None:
+            published = int(match[3]) if match[3] else None
+            found[number] = Listed(position, "", match[1], int(match[2]), published)
     return found
 
 
