@@ -486,6 +486,18 @@ class Use(Case):
             told = UNREADABLE.format("cannot write standard output", "it is closed")
             self.assertEqual((ran.returncode, ran.stdout, ran.stderr.decode()), (3, b"", told), words)
 
+    def test_standard_error_that_fails(self):
+        """It changes no status, and nothing that is printed."""
+        self.write("wrong", "a1\n" + transcript(self.game))
+        out = self.line.format("wrong").replace("game 1", "game 2").encode() + self.line.format("text").encode()
+        for words, status, out in ((("wrong", "text"), 1, out), (("none", "text"), 3, self.line.format("text").encode())):
+            with open("told", "wb") as told:
+                ran = run(PROGRAM, "--empties=20", *words, stdout=subprocess.PIPE, stderr=told, capture_output=False,
+                          preexec_fn=lambda: resource.setrlimit(resource.RLIMIT_FSIZE, (1, 1)))
+            self.assertEqual((ran.returncode, ran.stdout), (status, out))
+            ran = run("sh", "-c", '"$0" "$@" 2>&-', PROGRAM, "--empties=20", *words)
+            self.assertEqual((ran.returncode, ran.stdout), (status, out))
+
     def test_a_pipe_that_nobody_reads(self):
         self.write("many", (transcript(self.game) + "\n") * 1000)
         for words in (("--empties=20", "text"), ("--empties=20", "many"), ("--help",), ("--version",), ("compare", "--help")):

@@ -1,11 +1,12 @@
 """The program ffosolve-games."""
 import argparse
+import contextlib
+import io
 import os
 import re
 import signal
 import stat
 import sys
-from io import BufferedReader
 from typing import Callable, Iterator, List, Optional, Tuple
 
 from . import __version__
@@ -122,9 +123,9 @@ def unreadable(name: str, error: OSError) -> FileRefused:
 
 
 def tell(reason: object, status: int) -> int:
-    """Prints a line on standard error, where that is open, and gives the status."""
-    if sys.stderr is not None:
-        print(f"{NAME}: {reason}", file=sys.stderr, flush=True)
+    """Prints a line on standard error, where that can be written, and gives the status."""
+    with contextlib.suppress(OSError):
+        print(f"{NAME}: {reason}", file=sys.stderr or io.StringIO(), flush=True)
     return status
 
 
@@ -133,7 +134,7 @@ def shown(name: str) -> str:
     return "standard input" if name == "-" else "".join(letter if letter >= " " else "?" for letter in name) or "''"
 
 
-def opened(name: str) -> BufferedReader:
+def opened(name: str) -> io.BufferedReader:
     """A file, or standard input for `-`, to be read. Raises FileRefused."""
     try:
         return open(0 if name == "-" else name, "rb", closefd=name != "-")
@@ -208,7 +209,7 @@ def print_games(options: argparse.Namespace, find: Callable[[], Optional[str]], 
     return status
 
 
-def print_file(name: str, file: BufferedReader, wanted: Optional[int], player: Player, output: Output) -> int:
+def print_file(name: str, file: io.BufferedReader, wanted: Optional[int], player: Player, output: Output) -> int:
     """Prints the line of each game of a file, and on standard error why it has none, and which of its scores are wrong."""
     status = DONE
     try:
@@ -232,7 +233,7 @@ def print_file(name: str, file: BufferedReader, wanted: Optional[int], player: P
     return status
 
 
-def games_of(name: str, file: BufferedReader, wanted: Optional[int]) -> Tuple[Iterator[Game], int]:
+def games_of(name: str, file: io.BufferedReader, wanted: Optional[int]) -> Tuple[Iterator[Game], int]:
     """The games of a file, and how many empty squares their positions have. Raises NotGames and FileRefused."""
     if not is_wthor(name, file.peek(HEADER.size)):
         if wanted is None:
@@ -304,7 +305,7 @@ def fix(place: str, found: Comparison, player: Player) -> None:
     tell(f"{shown(place)}: theoretical scores changed {fixed.changed} of {fixed.games}, not compared {fixed.others}", DONE)
 
 
-def opened_again(name: str) -> BufferedReader:
+def opened_again(name: str) -> io.BufferedReader:
     """The WTHOR file that a list names. Raises Stop."""
     try:
         if not stat.S_ISREG(os.stat(name).st_mode):
