@@ -20,8 +20,10 @@ import os
 
 from ._answers import Answer, Kind
 from ._boards import Board
+from ._games import START, Game
 from ._library import MOST_EMPTIES, MOST_ENTRIES, LibraryNotFound
 from ._positions import Line, Position, read_lines
+from ._read_games import GameRefused, read_games
 from ._refusals import (
     BadSide,
     BadSquare,
@@ -51,10 +53,13 @@ __all__ = [
     "MOST_EMPTIES",
     "MOST_ENTRIES",
     "NO_SCORE",
+    "START",
     "Answer",
     "BadSide",
     "BadSquare",
     "Board",
+    "Game",
+    "GameRefused",
     "Kind",
     "LibraryNotFound",
     "Line",
@@ -74,6 +79,7 @@ __all__ = [
     "TooManyEntries",
     "UnequalLengths",
     "UnknownScoring",
+    "read_games",
     "read_lines",
     "square_name",
     "square_names",

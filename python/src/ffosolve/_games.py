@@ -1,7 +1,7 @@
 """Games: how transcripts and WTHOR files are read, and how a game is played by the library's rules."""
 import ctypes
 import struct
-from typing import BinaryIO, Iterator, NamedTuple, Optional, Sequence, Tuple
+from typing import BinaryIO, Iterator, List, NamedTuple, Optional, Sequence, Tuple
 
 from ._boards import OTHER
 from ._library import CPosition
@@ -35,14 +35,36 @@ class Fault(Exception):
 
 
 class Game(NamedTuple):
-    """A game as a file has it. Its scores are Black's discs, with the empty squares to the winner."""
+    """A game as a file has it, right or wrong.
 
-    number: int  # from 1: a transcript's line, or the place among the games of a WTHOR file
+    `number` is the game's, from 1: its line in a text, or its place in a WTHOR file. The scores of a WTHOR file are
+    Black's discs, 0 to 64, with the empty squares to the winner: `score` is the theoretical score, under perfect play from
+    the position with so many `empties` on (None where the file does not tell that), and `real` that of the moves that were
+    played.
+    """
+
+    number: int
     moves: Sequence[int] = ()  # squares' numbers, PASS or NO_SQUARE
     words: Sequence[object] = ()  # each move as it is written
-    score: Optional[int] = None  # the theoretical score, under perfect play
-    real: Optional[int] = None  # the score at the end of the game as it was played
+    score: Optional[int] = None
+    real: Optional[int] = None
     fault: Optional[str] = None  # why it can't be read
+    empties: Optional[int] = None
+
+    @classmethod
+    def of_text(cls, text: str, number: int = 1) -> "Game":
+        """The game of a transcript: its squares, as `f5d6c3` or `1. F5 2. D6`, with blanks, commas or hyphens between
+        them or none, and with the moves' numbers or without. A pass is left out, or written `pass`, `ps`, `pa` or `--`.
+        A result at the end, as `33-31`, is skipped, and so is all from `%` on."""
+        words = words_of(text.partition("%")[0])
+        return cls(number, [WORDS.get(word, NO_SQUARE) for word in words], words)
+
+    @property
+    def squares(self) -> List[str]:
+        """The names of the squares that were moved to, "F5", "D6", .., without passes; and what is written in the place
+        of one."""
+        names = zip(self.moves, self.words)
+        return [str(word) if move == NO_SQUARE else square_name(move) for move, word in names if move != PASS]
 
 
 class Played(NamedTuple):
@@ -55,9 +77,9 @@ class Played(NamedTuple):
 def transcripts(file: BinaryIO, name: str) -> Iterator[Game]:
     """The games of a text, one a line; lines without a move, and all from `%` on, are skipped. Raises NotText."""
     for number, line in enumerate(text_lines(file, name), 1):
-        words = words_of(line.decode("utf-8", "replace").partition("%")[0])
-        if words:
-            yield Game(number, [WORDS.get(word, NO_SQUARE) for word in words], words)
+        game = Game.of_text(line.decode("utf-8", "replace"), number)
+        if game.moves:
+            yield game
 
 
 def is_wthor(name: str, head: bytes) -> bool:
@@ -125,26 +147,34 @@ class Player:
     def play(self, game: Game, empties: int) -> Played:
         """What a game's first position with so many empty squares is, and how the game ends. It is played to its end,
         since a move that is not legal tells that an earlier one may be wrong. Raises Fault."""
+        states = list(self._states(game))
+        (own, opp, side), left = states[-1], START.empties + 1 - len(states)
+        if left > empties:
+            told = f"it ends here, with {left} empty square{'s' * (left > 1)}, and {empties} are asked for"
+            raise Fault(told, START.empties - left) if game.moves else Fault("it has no moves")
+        is_over = not self._has_move(CPosition(own, opp)) and not self._has_move(CPosition(opp, own))
+        discs = discs_of_black(final_score(own, opp), side) if is_over else None
+        return Played(Position(*states[START.empties - empties]), discs)
+
+    def positions(self, game: Game) -> List[Position]:
+        """The positions of a game: its start, and that after each move. Raises Fault."""
+        return [Position(*state) for state in self._states(game)]
+
+    def _states(self, game: Game) -> Iterator[Tuple[int, int, str]]:
+        """The masks and the mover's colour of each position."""
         if game.fault is not None:
             raise Fault(game.fault)
-        play, found = self._play, None
-        at, after, side, left = CPosition(*START), CPosition(), START.side, START.empties
+        play, at, after, side = self._play, CPosition(*START), CPosition(), START.side
+        yield (*START, side)
         for index, square in enumerate(game.moves):
-            if left == empties and found is None:
-                found = Position(at.own, at.opp, side)
             if play(at, square, after):
                 at, side = self._passed(at, game, index), OTHER[side]
                 if square == PASS:
                     continue
                 if play(at, square, after):
                     raise self._fault(at, game, index)
-            at, after, side, left = after, at, OTHER[side], left - 1
-        if left > empties:
-            told = f"it ends here, with {left} empty square{'s' * (left > 1)}, and {empties} are asked for"
-            raise Fault(told, START.empties - left) if game.moves else Fault("it has no moves")
-        is_over = not self._has_move(at) and not self._has_move(CPosition(at.opp, at.own))
-        discs = discs_of_black(final_score(at.own, at.opp), side) if is_over else None
-        return Played(found or Position(at.own, at.opp, side), discs)
+            at, after, side = after, at, OTHER[side]
+            yield at.own, at.opp, side
 
     def _passed(self, at: CPosition, game: Game, index: int) -> CPosition:
         """The position after the pass that a game has before a move, or as that."""

@@ -13,8 +13,10 @@ from typing import TYPE_CHECKING, Any, Callable, Dict, Iterable, Iterator, List,
 from ._answers import Answer, Kind
 from ._boards import OTHER
 from ._bulk import Part, checked_threads, empties_of, in_order, parts_of
+from ._games import Fault, Game, Player
 from ._library import MOST_EMPTIES, MOST_ENTRIES, CAnswer, CMoveScores, CPosition, load
 from ._positions import Position
+from ._read_games import refusal_of_game
 from ._refusals import Refused, Status, TooManyEntries, UnknownScoring, refusal_of
 from ._squares import NAMES, square_number
 
@@ -162,6 +164,18 @@ class Solver:
         asked = given(position)
         accept(self._library.ffosolve_play(asked, number if 0 <= number < 64 else 255, after))
         return Position(after.own, after.opp, OTHER[getattr(position, "side", "X")])
+
+    def positions(self, game: Union[Game, str]) -> List[Position]:
+        """The positions of a game, or of a transcript: the start, and that after each move, so that the one at index n
+        has 60 - n empty squares. A pass has none: where the mover has to pass, the position is that before it. Raises
+        GameRefused where a move is not legal, or no square."""
+        game = Game.of_text(game) if isinstance(game, str) else game
+        if not isinstance(game, Game):
+            raise TypeError(f"a game is a Game or the text of a transcript, and not {reprlib.repr(game)}")
+        try:
+            return Player(self._library).positions(game)
+        except Fault as fault:
+            raise refusal_of_game(game, fault) from None
 
     def _entries_for(self, empties: int) -> int:
         return table_entries(empties) if self._entries is None else self._entries
