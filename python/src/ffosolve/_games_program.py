@@ -23,11 +23,12 @@ WHAT = """\
 Prints of each game the position with N empty squares, as a line of OBF.
 
 A FILE is a WTHOR file (.wtb), or a text with one game a line: its squares, as
-f5d6c3, with blanks or none; a pass is left out, or written `pass`, `ps` or
-`--`. A line's comment names the file and the game, which is the text's line or
-the place in the WTHOR file; and the theoretical score where the WTHOR file has
-one for N empty squares. That is Black's discs at the end of perfect play, 0 to
-64, with the empty squares to the winner.
+f5d6c3 or `1. F5 2. D6`, with blanks, commas, hyphens or nothing between them. A
+pass is left out, or written `pass`, `ps`, `pa` or `--`; a result at the end, as
+33-31, is skipped. A line's comment names the file and the game, which is the
+text's line or the place in the WTHOR file; and the theoretical score where the
+WTHOR file has one for N empty squares. That is Black's discs at the end of
+perfect play, 0 to 64, with the empty squares to the winner.
 """
 MORE = """\
 The first position with N empty squares is printed; its mover may have to pass.
