@@ -12,7 +12,7 @@ import sys
 import unittest
 import unittest.mock
 
-from .support import ROOT, SECONDS, InFolder, built, need, run, stored, wait_until
+from .support import ROOT, SECONDS, InFolder, built, limit, need, run, stored, wait_until
 
 PROGRAM = ROOT / "bin/ffosolve-games"
 UNREADABLE = "ffosolve-games: {}: {}\n"
@@ -20,7 +20,7 @@ BLACK, WHITE, EMPTY = "X", "O", "-"
 NAMES = [column + row for row in "12345678" for column in "ABCDEFGH"]
 SQUARE_BYTES = [10 * row + column for row in range(1, 9) for column in range(1, 9)]  # A1, B1, .. H8 in a WTHOR file
 PASSES = ("pass", "ps", "--", "PS", "Pass")
-MOST_BYTES = 1_048_576  # of a line
+MOST_BYTES = limit("MOST_BYTES")  # of a line
 
 
 # A plain game player, on a list of 64 letters, which shares nothing with the library.
