@@ -116,7 +116,7 @@ lib = "$(DESTDIR)$(LIBDIR)
 share = "$(DESTDIR)$(PREFIX)/share
 doc = $(share)/doc/ffosolve
 documents = README.md LICENSE CHANGELOG.md VERSION \
-    $(shell find docs examples python rust \( -name __pycache__ -o -name target \) -prune -o -type f -print)
+    $(shell find docs examples python rust \( -name __pycache__ -o -name target -o -name Cargo.lock \) -prune -o -type f -print)
 # What the scripts run. The documents have it too, but a system may leave those out.
 modules = VERSION $(shell find python/src -name __pycache__ -prune -o -type f -print)
 absolute = case "$(PREFIX)" in /*) ;; *) echo "PREFIX is $(PREFIX), and has to begin with a slash" >&2; exit 1 ;; esac

@@ -1,12 +1,18 @@
 """ffosolve-games: games to positions, and theoretical scores to differences, beside a plain game player."""
+import functools
 import os
 import random
 import re
+import resource
+import signal
+import stat
 import struct
+import subprocess
 import sys
 import unittest
+import unittest.mock
 
-from .support import ROOT, InFolder, built, need, run, stored
+from .support import ROOT, SECONDS, InFolder, built, limit, need, run, stored, wait_until
 
 PROGRAM = ROOT / "bin/ffosolve-games"
 UNREADABLE = "ffosolve-games: {}: {}\n"
@@ -14,6 +20,7 @@ BLACK, WHITE, EMPTY = "X", "O", "-"
 NAMES = [column + row for row in "12345678" for column in "ABCDEFGH"]
 SQUARE_BYTES = [10 * row + column for row in range(1, 9) for column in range(1, 9)]  # A1, B1, .. H8 in a WTHOR file
 PASSES = ("pass", "ps", "--", "PS", "Pass")
+MOST_BYTES = limit("MOST_BYTES")  # of a line
 
 
 # A plain game player, on a list of 64 letters, which shares nothing with the library.
@@ -103,6 +110,24 @@ def discs_of_black(board, side):
     return 32 + (score(board, side) if side == BLACK else -score(board, side)) // 2
 
 
+def real_score(positions):
+    """Black's discs at the end of a game's positions; any number where the game is not over."""
+    board, side = positions[min(positions)]
+    return 40 if moves_of(board, side) or moves_of(board, other(side)) else discs_of_black(board, side)
+
+
+@functools.lru_cache(maxsize=None)
+def real_score_of(squares):
+    return real_score(positions_of(squares))
+
+
+def best_moves(board, side):
+    """The names of the moves with the mover's exact score."""
+    scores = {NAMES[square]: -score(after(board, side, square), other(side)) for square in moves_of(board, side)}
+    pass_or_end = ["PS"] if moves_of(board, other(side)) else ["--"]
+    return [name for name in scores if scores[name] == max(scores.values())] or pass_or_end
+
+
 # Games as files have them.
 
 
@@ -117,9 +142,11 @@ def transcript(game, rng=None):
     return rng.choice(("", " ")) + between.join(words) + rng.choice(("", " ", "\r", "  % a comment"))
 
 
-def record(game, theoretical=33):
-    moves = bytes(SQUARE_BYTES[square] for square in squares_of(game))
-    return struct.pack("<HHHBB", 7, 300, 301, 40, theoretical) + moves.ljust(60, b"\0")
+def record(game, theoretical=33, real=None):
+    """A game of a WTHOR file, with its real score, where no other is given."""
+    squares = squares_of(game)
+    real = real_score_of(tuple(squares)) if real is None else real
+    return struct.pack("<HHHBB", 7, 300, 301, real, theoretical) + bytes(map(SQUARE_BYTES.__getitem__, squares)).ljust(60, b"\0")
 
 
 def wthor(records, empties=22, count=None, board=8, kind=0, another=0):
@@ -143,8 +170,9 @@ def expected(name, games, empties, more=""):
         if empties in positions:
             lines += line_of(positions[empties], f"{name}, game {number}{more}")
         else:
+            left = f"{60 - len(squares)} empty square" + "s" * (len(squares) < 59)
             told += (f"ffosolve-games: {name}, game {number}, move {len(squares)}: "
-                     f"it ends with {60 - len(squares)} empty squares\n")
+                     f"it ends here, with {left}, and {empties} are asked for\n")
     return lines, told
 
 
@@ -176,7 +204,7 @@ class RandomGames(Case):
 
     def test_transcripts_and_records_give_the_positions_of_the_plain_player(self):
         self.write("games.txt", "\n".join(self.texts))
-        self.write("games.wtb", wthor([record(game) for game in self.played]))
+        self.write("games.wtb", wthor([record(squares, real=real_score(positions)) for squares, positions in self.known]))
         for empties in (22, 9):
             for name, score in (("games.txt", ""), ("games.wtb", ", theoretical score 33" * (empties == 22))):
                 out, told = expected(name, self.known, empties, score)
@@ -208,8 +236,7 @@ class Faults(Case):
             ("e4", "move 1: E4 is no move"),
             ("f5d6psc3", "move 3: it has a pass where there is a move"),
             ("pass", "move 1: it has a pass where there is a move"),
-            ("f5", "move 1: it ends with 59 empty squares"),
-            ("\0", "move 1: '\\x00' is no square"),
+            ("f5", "move 1: it ends here, with 59 empty squares, and 58 are asked for"),
             ("f5d6c3d3c4f4c5b3c2\xff", "move 10: '\ufffd' is no square"),
         )
         self.write("games", "\n".join(text for text, _ in lines).encode("latin-1"))
@@ -231,24 +258,68 @@ class Faults(Case):
     def test_records(self):
         game = squares_of(random_game(random.Random(2)))
         line = line_of(positions_of(game)[22], "it.wtb, game 1, theoretical score 33")
-        whole, score = record(game), record(game, 65)
+        whole = record(game)
         gap, no_square, twice = (whole[:18] + bytes([byte]) + whole[19:] for byte in (0, 99, whole[17]))
         name = NAMES[game[9]]
         for records, count, why in (
-            ([whole, whole[:67]], 2, "game 2: the file ends after 67 of its 68 bytes, and the header counts 2 games"),
-            ([whole, whole[:1]], 7, "game 2: the file ends after 1 of its 68 bytes, and the header counts 7 games"),
-            ([whole], 2, "game 2: the file ends after 0 of its 68 bytes, and the header counts 2 games"),
-            ([whole, whole], 1, "game 2: the file goes on, and the header counts 1 games"),
-            ([whole, b"\n"], 1, "game 2: the file goes on, and the header counts 1 games"),
-            ([whole, score], 2, "game 2: the theoretical score 65 is more than 64 discs"),
+            ([whole, whole[:67]], 2, "game 2: the file ends after 67 of the 68 bytes of this game, and {} 2"),
+            ([whole, whole[:1]], 7, "game 2: the file ends after 1 of the 68 bytes of this game, and {} 7"),
+            ([whole], 301, "game 2: the file ends before this game, and {} 301"),
+            ([whole, whole], 1, "game 2: the file goes on, and {} 1"),
+            ([whole, b"\n"], 1, "game 2: the file goes on, and {} 1"),
             ([whole, gap], 2, "game 2, move 11: 0 is no square"),
             ([whole, no_square], 2, "game 2, move 11: 99 is no square"),
             ([whole, twice], 2, f"game 2, move 11: {name} is no move"),
-            ([whole, record([])], 2, "game 2: it ends with 60 empty squares"),
-            ([whole, record(game[:37])], 2, "game 2, move 37: it ends with 23 empty squares"),
+            ([whole, record([])], 2, "game 2: it has no moves"),
+            ([whole, record(game[:37])], 2, "game 2, move 37: it ends here, with 23 empty squares, and 22 are asked for"),
         ):
             self.write("it.wtb", wthor(records, count=count))
+            why = why.format("the header's number of games is")
             self.games("it.wtb", status=1, out=line, told=f"ffosolve-games: it.wtb, {why}\n")
+
+    def test_a_game_that_ends_with_one_empty_square(self):
+        rng = random.Random(4)
+        game = next(squares for squares in iter(lambda: squares_of(random_game(rng)), None) if len(squares) == 59)
+        self.write("text", transcript(game))
+        told = "text, game 1, move 59: it ends here, with 1 empty square, and 0 are asked for"
+        self.games("--empties=0", "text", status=1, out="", told=f"ffosolve-games: {told}\n")
+
+    def test_scores_of_records(self):
+        """A game's line is printed, and what is wrong with its scores is told."""
+        game = squares_of(random_game(random.Random(2)))
+        at, real = positions_of(game), real_score(positions_of(game))
+        for squares, theoretical, written, why in (
+            (game, 64, real, ()),
+            (game, 65, real, ("its theoretical score is 65, more than 64 discs",)),
+            (game, 33, real + 1, (f"its real score is {real + 1}, and by its moves it is {real}",)),
+            (game, 255, 65, ("its theoretical score is 255, more than 64 discs", "its real score is 65, more than 64 discs")),
+            (game[:-1], 33, 0, ("its moves stop before the end of the game, so its real score 0 is not checked",)),
+            (game[:-1], 33, 200, ("its real score is 200, more than 64 discs",)),
+        ):
+            self.write("it.wtb", wthor([record(squares, theoretical, written)]))
+            line = line_of(at[22], f"it.wtb, game 1, theoretical score {theoretical}")
+            told = "".join(f"ffosolve-games: it.wtb, game 1: {it}\n" for it in why)
+            self.games("it.wtb", status=1 if why else 0, out=line, told=told)
+        self.write("it.wtb", wthor([record(game, 255, real + 1)]))
+        told = f"ffosolve-games: it.wtb, game 1: its real score is {real + 1}, and by its moves it is {real}\n"
+        self.games("it.wtb", "--empties=20", status=1, out=line_of(at[20], "it.wtb, game 1"), told=told)
+
+    def test_real_scores_of_games_that_end_early(self):
+        """The empty squares count for the winner; where both have as many discs, Black's score is 32."""
+        rng, kinds = random.Random(6), set()
+        while len(kinds) < 3:
+            game = squares_of(random_game(rng))
+            positions = positions_of(game)
+            board, _ = positions[min(positions)]
+            black, white, empty = (board.count(it) for it in (BLACK, WHITE, EMPTY))
+            kind = (black > white) - (black < white)
+            if (empty or kind == 0) and kind not in kinds:
+                kinds.add(kind)
+                real = {1: black + empty, 0: 32, -1: black}[kind]
+                for written in (real, 64 - real if kind else 31):
+                    self.write("it.wtb", wthor([record(game, real=written)], empties=30))
+                    told = f"ffosolve-games: it.wtb, game 1: its real score is {written}, and by its moves it is {real}\n"
+                    self.games("it.wtb", status=int(written != real), told=told if written != real else "")
 
     def test_headers(self):
         game = squares_of(random_game(random.Random(2)))
@@ -257,12 +328,14 @@ class Faults(Case):
             self.write("it.wtb", wthor([whole], board=board, kind=kind))
             self.games("it.wtb", out=line, told="")
         for content, why in (
-            (b"", "it has 0 of the 16 bytes of a header"),
-            (wthor([])[:15], "it has 15 of the 16 bytes of a header"),
-            (wthor([whole], board=10), "its board has the size 10"),
-            (wthor([whole], another=9), "its header is of another kind"),
-            (wthor([whole], kind=2), "its header is of another kind"),
-            (wthor([whole], empties=61), "its theoretical scores are for 61 empty squares"),
+            (b"", "it is empty"),
+            (wthor([])[:15], "it ends within its header of 16 bytes"),
+            (wthor([whole], board=10), "its board has 10 by 10 squares"),
+            (wthor([whole], another=9),
+             "its header counts 9 records of another kind, as in a file of players or tournaments"),
+            (wthor([whole], kind=2), "byte 14 of its header is 2, and has to be 0 or 1"),
+            (wthor([whole], empties=61), "its theoretical scores are for 61 empty squares, of which a game has 60"),
+            (b"f5d6c3d3c4f4c5b3c2\n", "it begins as a text does"),
         ):
             self.write("none.wtb", content)
             self.write("it.wtb", wthor([whole]))
@@ -338,12 +411,57 @@ class Use(Case):
         self.games("--empties=20", "none", ".", "text", status=3, out=self.line.format("text"), told=told)
 
     def test_a_text_from_windows(self):
-        self.write("text", b"\xef\xbb\xbf" + transcript(self.game).encode() + b"\r\n\r\n")
+        self.write("text", transcript(self.game) + "\r\n\r\n")
         self.games("--empties=20", "text", out=self.line.format("text"), told="")
+
+    def test_texts_that_are_refused(self):
+        """As a file, as standard input and as what is compared; a text that follows is read all the same."""
+        game = transcript(self.game).encode()
+        for content, why in (
+            (b"\xef\xbb\xbf" + game + b"\n", "it begins with a byte-order mark"),
+            ("\ufeff".encode("utf-16-le") + game.decode().encode("utf-16-le"), "it begins with a byte-order mark"),
+            ("\ufeff".encode("utf-16-be") + game.decode().encode("utf-16-be"), "it begins with a byte-order mark"),
+            (b"% games\r" + game + b"\r" + game + b"\r", "its lines end with CR alone"),
+            (b"\r" + game, "its lines end with CR alone"),
+        ):
+            self.write("bad", content)
+            self.games("--empties=20", "bad", "text", status=3, out=self.line.format("text"),
+                       told=UNREADABLE.format("cannot read bad", why))
+            for words in (("--empties=20",), ("compare", "-", "text")):
+                self.games(*words, input=content, status=3, out="", told=UNREADABLE.format("cannot read standard input", why))
+            self.games("compare", "text", "bad", status=3, out="", told=UNREADABLE.format("cannot read bad", why))
+
+    def test_a_text_with_a_nul(self):
+        """It is no WTHOR file: those have a name, or a beginning, that no text has. An archive is neither."""
+        for content in (b"f5\0d6\n" + transcript(self.game).encode(), b"PK\3\4\24\0\0\0"):
+            self.write("bad", content)
+            told = UNREADABLE.format("cannot read bad", "its line 1 has a NUL, which no text has")
+            self.games("--empties=20", "bad", "text", status=3, out=self.line.format("text"), told=told)
+
+    def test_long_lines(self):
+        """They are refused by their size, with no more read; what stands before them is printed."""
+        why = f"its line 2 has more than {MOST_BYTES} bytes"
+        listed = line_of(positions_of(self.game)[20], "x.wtb, game 1, theoretical score 30")
+        for words, before, out in (
+            (("--empties=20", "-"), transcript(self.game) + "\n", self.line.format("standard input")),
+            (("compare", "-", "text"), listed, ""),
+            (("compare", "listed", "-"), "[1]\n", ""),
+        ):
+            self.write("listed", listed)
+            self.write("long", before + "f5")
+            os.truncate("long", 300_000_000)
+            with open("long", "rb") as file:
+                self.games(*words, stdin=file, status=3, out=out, told=UNREADABLE.format("cannot read standard input", why),
+                           preexec_fn=lambda: resource.setrlimit(resource.RLIMIT_AS, (500_000_000,) * 2))
+                self.assertLess(os.lseek(file.fileno(), 0, os.SEEK_CUR), 2 * MOST_BYTES)
+        self.write("longest", (transcript(self.game) + "%").ljust(MOST_BYTES - 1, "x") + "\n")
+        self.games("--empties=20", "longest", out=self.line.format("longest"), told="")
 
     def test_the_command_line(self):
         for words in (("--empties", "61"), ("--empties", "-1"), ("--empties", "x"), ("--empties",), ("--emp", "3"), ("--no",),
-                      ("compare",), ("compare", "text"), ("compare", "text", "text", "text")):
+                      ("compare",), ("compare", "text"), ("compare", "text", "text", "text"), ("compare", "-", "-"),
+                      ("compare", "text", "text", "--fix"), ("--fix", "new.wtb", "compare", "text", "text"),
+                      ("compare", "text", "text", "--fix=-")):
             out, told = self.games(*words, status=2)
             self.assertEqual(out, "")
             self.assertIn("usage: ffosolve-games", told)
@@ -353,84 +471,331 @@ class Use(Case):
             self.assertRegex(" ".join(told.split()), "Black's discs.*with the empty squares to the winner")
             self.assertLessEqual(max(map(len, told.splitlines())), 80)
 
-    def test_standard_output(self):
+    def test_standard_output_that_fails(self):
+        """As on a full disk, and where it is closed; of a short output, of a long one, and of what is printed of the program."""
         self.write("many", (transcript(self.game) + "\n") * 1000)
-        for name in ("text", "many"):
-            for how, why in (("> /dev/full", "No space left on device"), (">&-", "Bad file descriptor")):
-                ran = run("sh", "-c", f'"$0" "$@" {how}', PROGRAM, "--empties=20", name)
-                told = UNREADABLE.format("cannot write standard output", why)
-                self.assertEqual((ran.returncode, ran.stderr.decode()), (3, told))
-        ran = run("sh", "-c", '{ "$0" "$@"; echo $? >&2; } | :', PROGRAM, "--empties=20", "many")
-        self.assertEqual(ran.stderr.decode(), UNREADABLE.format("cannot write standard output", "Broken pipe") + "3\n")
+        for words in (("--empties=20", "text"), ("--empties=20", "many"), ("--help",), ("--version",), ("compare", "--help")):
+            for size, is_unbuffered in ((0, ""), (1, ""), (1, "1")):
+                with open("out", "wb") as out:
+                    ran = run(PROGRAM, *words, stdout=out, stderr=subprocess.PIPE, capture_output=False,
+                              env={**os.environ, "PYTHONUNBUFFERED": is_unbuffered},
+                              preexec_fn=lambda: resource.setrlimit(resource.RLIMIT_FSIZE, (size, size)))
+                told = UNREADABLE.format("cannot write standard output", "File too large")
+                self.assertEqual((ran.returncode, ran.stderr.decode()), (3, told), words)
+            ran = run("sh", "-c", '"$0" "$@" >&-', PROGRAM, *words)
+            told = UNREADABLE.format("cannot write standard output", "it is closed")
+            self.assertEqual((ran.returncode, ran.stdout, ran.stderr.decode()), (3, b"", told), words)
+
+    def test_standard_error_that_fails(self):
+        """It changes no status, and nothing that is printed."""
+        self.write("wrong", "a1\n" + transcript(self.game))
+        out = self.line.format("wrong").replace("game 1", "game 2").encode() + self.line.format("text").encode()
+        for words, status, out in ((("wrong", "text"), 1, out), (("none", "text"), 3, self.line.format("text").encode())):
+            with open("told", "wb") as told:
+                ran = run(PROGRAM, "--empties=20", *words, stdout=subprocess.PIPE, stderr=told, capture_output=False,
+                          preexec_fn=lambda: resource.setrlimit(resource.RLIMIT_FSIZE, (1, 1)))
+            self.assertEqual((ran.returncode, ran.stdout), (status, out))
+            ran = run("sh", "-c", '"$0" "$@" 2>&-', PROGRAM, "--empties=20", *words)
+            self.assertEqual((ran.returncode, ran.stdout), (status, out))
+
+    def test_a_pipe_that_nobody_reads(self):
+        self.write("many", (transcript(self.game) + "\n") * 1000)
+        for words in (("--empties=20", "text"), ("--empties=20", "many"), ("--help",), ("--version",), ("compare", "--help")):
+            reader, writer = os.pipe()
+            os.close(reader)
+            ran = run(PROGRAM, *words, stdout=writer, stderr=subprocess.PIPE, capture_output=False)
+            os.close(writer)
+            self.assertEqual((ran.returncode, ran.stderr), (-signal.SIGPIPE, b""), words)
 
     def test_without_the_library(self):
-        ran = run(PROGRAM, "--empties=20", "text", env={**os.environ, "FFOSOLVE_LIBRARY": "/nowhere"})
-        self.assertEqual((ran.returncode, ran.stdout), (4, b""))
-        self.assertRegex(ran.stderr.decode(), "^ffosolve-games: /nowhere: .*\n$")
+        for words in (("--empties=20", "text"), ("compare", "text", "text")):
+            ran = run(PROGRAM, *words, env={**os.environ, "FFOSOLVE_LIBRARY": "/nowhere"})
+            self.assertEqual((ran.returncode, ran.stdout), (4, b""))
+            self.assertRegex(ran.stderr.decode(), "^ffosolve-games: /nowhere: .*\n$")
 
 
 class Compare(Case):
-    BOARD = "".join(beginning())
+    """Positions of examples/kinds.obf, whose scores are +62, -64 and +32, the first and the last also in the other colours."""
+
+    TWO = "-OXXXXX-XXXXXXXOXXXXXXXXXXXXXXXXXXXOXXXXXXXXXXXXXXXXXXXXXXXXXXXX"
+    PASS = "-OOOOOOXXXXXXXXXXXXXXXXXXXXXXXXXXXXXXXXXXXXXXXXXXXXXXXXXXXXXXXXX"
+    OVER = "XXXXXXXXXXXXXXXXXXXXXXXXXXXXXXXX----------------OOOOOOOOOOOOOOOO"
     LISTED = (
         "% what ffosolve-games prints\n"
-        f"{BOARD} X; % a, b.wtb, game 7, theoretical score 34\n"
-        f"{BOARD} O; % a, b.wtb, game 8, theoretical score 34\n"
-        f"{BOARD} X; % a, b.wtb, game 9, theoretical score 64\n"
+        f"{TWO} X; % a, b.wtb, game 7, theoretical score 63\n"
+        f"{TWO.translate(str.maketrans('XO', 'OX'))} O; % a, b.wtb, game 8, theoretical score 34\n"
+        f"{PASS} O; % a, b.wtb, game 9, theoretical score 0\n"
         "\n"
-        f"{BOARD} O; % c, game 1\n"
-        f"{BOARD} O; % c, game 2, theoretical score 0\n"
+        f"{OVER} X; % c, game 1\n"
+        f"{OVER} O; % c, game 2, theoretical score 48\n"
     )
-    REPORT = "[1]\n2 +04 D3 unlisted\n3 +04 C4,D3 unlisted\n4 -64 PS unlisted\n6 +00 -- agree\n7 +64 A1 differ\nsolved 5 refused 0\n"
+    REPORT = "[1]\n2 +62 H1 unlisted\n3 +62 H1 unlisted\n4 -64 PS unlisted\n6 +32 -- unlisted\n7 -32 -- unlisted\nsolved 5 refused 0\n"
 
     def compare(self, listed, report, **expected):
         self.write("list", listed)
         self.write("report", report)
         self.games("compare", "list", "report", **expected)
 
+    def unfit(self, listed, report, why):
+        self.compare(listed, report, status=3, out="", told=f"ffosolve-games: report is no report of list: {why}\n")
+
     def test_scores_are_discs_of_black(self):
-        out = ("a, b.wtb, game 8: published 34, exact 30, difference +4\n"
-               "a, b.wtb, game 9: published 64, exact 0, difference +64\n"
+        out = ("a, b.wtb, game 8: published 34, exact 1, difference +33\n"
+               "a, b.wtb, game 9: published 0, exact 64, difference -64\n"
                "compared 4 differ 2 refused 0 unscored 1\n")
         self.compare(self.LISTED, self.REPORT, status=1, out=out, told="")
         self.games("compare", "-", "report", input=self.LISTED.encode(), status=1, out=out, told="")
+        self.games("compare", "list", "-", input=self.REPORT.encode(), status=1, out=out, told="")
 
     def test_all_is_exact(self):
-        report = self.REPORT.replace("3 +04", "3 -04").replace("4 -64", "4 +64")
-        self.compare(self.LISTED, report, out="compared 4 differ 0 refused 0 unscored 1\n", told="")
+        listed = self.LISTED.replace("score 34", "score 1").replace("score 0", "score 64")
+        self.compare(listed, self.REPORT, out="compared 4 differ 0 refused 0 unscored 1\n", told="")
 
     def test_a_refused_position_is_not_compared(self):
-        report = self.REPORT.replace("3 +04 C4,D3 unlisted", "3 refused: 60 empties, limit 20").replace("4 -64", "4 +64")
-        self.compare(self.LISTED, report, status=1, out="compared 3 differ 0 refused 1 unscored 1\n", told="")
+        for line, old, why in ((2, "+62 H1 unlisted", "2 empties, limit 1"), (7, "-32 -- unlisted", "16 empties, limit 15")):
+            report = self.REPORT.replace(f"{line} {old}", f"{line} refused: {why}").replace("solved 5 refused 0", "solved 4 refused 1")
+            listed = self.LISTED.replace("score 34", "score 1").replace("score 0", "score 64")
+            self.compare(listed, report, status=1, out="compared 3 differ 0 refused 1 unscored 1\n", told="")
 
-    def test_what_does_not_fit(self):
+    def test_a_line_that_holds_no_position(self):
+        listed = self.LISTED.replace(self.PASS, self.PASS[1:])
+        report = self.REPORT.replace("4 -64 PS unlisted", "4 refused: bad square at column 64")
+        report = report.replace("solved 5 refused 0", "solved 4 refused 1")
+        self.compare(listed, report, status=1, out="a, b.wtb, game 8: published 34, exact 1, difference +33\n"
+                     "compared 3 differ 1 refused 0 unscored 2\n", told="")
+        self.unfit(listed, self.REPORT,
+                   "line 4 of the list is refused: bad square at column 64; and the report says: that it is solved")
+
+    def test_what_is_no_report(self):
         rows = self.REPORT.splitlines(True)
-        no_row, no_position = "line 4 of the list has no row in the report", "line 5 of the list is no position"
+        cut = "the report does not end with the line `solved N refused N`, so it is not whole"
         for report, why in (
-            ("", "the report is not whole, or none of one list"),
-            ("".join(rows[:-1]), "the report is not whole, or none of one list"),
-            ("".join(rows[1:]), "the report is not whole, or none of one list"),
-            ("".join(rows[:3] + rows[4:]), no_row),
-            (self.REPORT.replace("4 -64", "5 -64"), no_row),
-            ("".join(rows[:4] + ["5 +00 -- agree\n"] + rows[4:]), no_position),
-            ("".join(rows[:3] + ["[2]\n"] + rows[3:]), "line 4 of the report is no row of one list"),
-            (self.REPORT.replace("2 +04", "2 +05"),
-             "the score of line 2 is odd, so the report is of another scoring than winner"),
+            ("", "the report is empty"),
+            ("".join(rows[1:]), "the report does not begin with the line `[1]`"),
+            (self.LISTED, "the report does not begin with the line `[1]`"),
+            ("".join(rows[:-1]), cut),
+            (self.REPORT[:-12], cut),
+            ("[1]\n", cut),
+            (self.REPORT + self.REPORT.replace("[1]", "[2]"), "the report is of several lists"),
+            ("".join(rows[:3] + ["x\n"] + rows[3:]), "line 4 of the report is no row"),
+            (self.REPORT.replace("2 +62 H1", "2 +62 H9"), "line 2 of the report is no row"),
+            (self.REPORT.replace("2 +62 H1", "9" * 5000 + " +62 H1"), "line 2 of the report is no row"),
+            ("".join(rows[:3] + rows[2:]), "line 4 of the report is a second row of line 3 of the list"),
+            ("".join(rows[:2] + rows[3:]), "the report ends with `solved 5 refused 0`, and has 4 rows, of which 0 are refused"),
         ):
-            told = f"ffosolve-games: report is no report of list: {why}\n"
-            self.compare(self.LISTED, report, status=3, out="", told=told)
-        told = "ffosolve-games: report is no report of list: no line of the list has a theoretical score\n"
-        self.compare(re.sub(", theo.*", "", self.LISTED), self.REPORT, status=3, out="", told=told)
+            self.unfit(self.LISTED, report, why)
+        self.unfit(re.sub(", theo.*", "", self.LISTED), self.REPORT, "no line of the list has a theoretical score")
         self.games("compare", "list", "none", status=3, out="",
                    told=UNREADABLE.format("cannot read none", "No such file or directory"))
 
+    def test_what_is_of_another_list(self):
+        for old, new, why in (
+            ("2 +62 H1", "2 +62 G1", "2 of the list has no legal move G1, which the report calls best"),
+            ("2 +62 H1", "2 +62 A1,H1,H2", "2 of the list has no legal move H2, which the report calls best"),
+            ("3 +62 H1", "3 +62 PS", "3 of the list has no legal move PS, which the report calls best"),
+            ("3 +62 H1", "3 +62 --", "3 of the list has no legal move --, which the report calls best"),
+            ("4 -64 PS", "4 -64 A1", "4 of the list has no legal move A1, which the report calls best"),
+            ("4 -64 PS", "4 -64 --", "4 of the list has no legal move --, which the report calls best"),
+            ("7 -32 --", "7 -32 PS", "7 of the list has no legal move PS, which the report calls best"),
+            ("7 -32 --", "7 -32 A1", "7 of the list has no legal move A1, which the report calls best"),
+            ("7 -32 --", "7 -30 --", "7 of the list is the end of a game with the score -32, and not -30"),
+            ("2 +62 H1", "2 +61 H1", "2 of the list has the score +61 in the report, which is of another scoring than winner"),
+            ("2 +62 H1", "2 -98 H1", "2 of the list has the score -98 in the report, which is of another scoring than winner"),
+            ("2 +62 H1 unlisted", "2 +62 H1 agree", "2 of the list lists no move, and the report says agree"),
+            ("4 -64", "5 -64", "4 of the list has no row in the report"),
+            ("2 +62", "1 +62", "1 of the list is no position, and the report has a row of it"),
+            ("7 -32", "8 -32", "7 of the list has no row in the report"),
+        ):
+            self.unfit(self.LISTED, self.REPORT.replace(old, new), f"line {why}")
+        listed = self.LISTED.replace(" X; % a", " X; H1:+62; % a")
+        self.unfit(listed, self.REPORT, "line 2 of the list lists a move, and the report says unlisted")
+        for says in ("3 empties, limit 1", "board has 2 of 64 squares"):
+            report = self.REPORT.replace("3 +62 H1 unlisted", f"3 refused: {says}").replace("solved 5 refused 0", "solved 4 refused 1")
+            self.unfit(self.LISTED, report, f"line 3 of the list has 2 empty squares, and the report says: {says}")
+
+    def test_a_whole_report_of_another_list(self):
+        """Of other games, as many, and as many empty squares; the first best move that is not legal shows it."""
+        rng = random.Random(11)
+        known = [positions_of(squares_of(random_game(rng))) for _ in range(60)]
+        mine, others = ([at[5] for at in known if 5 in at][start::2][:20] for start in (0, 1))
+        self.write("list", "".join(line_of(at, f"x.wtb, game {number}, theoretical score 32") for number, at in enumerate(mine, 1)))
+        for listed, status in ((mine, 1), (others, 3)):
+            best = [best_moves(*at) for at in listed]
+            rows = [f"{number} {score(*at):+03} {','.join(names)} unlisted\n" for number, (at, names) in enumerate(zip(listed, best), 1)]
+            self.write("report", "[1]\n" + "".join(rows) + "solved 20 refused 0\n")
+            out, told = self.games("compare", "list", "report", status=status)
+        wrong = [(number, name) for number, (at, names) in enumerate(zip(mine, best), 1) for name in names
+                 if name not in [NAMES[square] for square in moves_of(*at)]]
+        self.assertEqual((out, told), ("", "ffosolve-games: report is no report of list: line {} of the list has no legal move {}, "
+                                           "which the report calls best\n".format(*wrong[0])))
+
+
+class Fix(Case):
+    """The WTHOR file with exact scores, which `compare --fix` writes."""
+
+    def setUp(self):
+        super().setUp()
+        rng = random.Random(7)
+        games = [squares_of(game) for game in (random_game(rng) for _ in range(12))]
+        self.games_of_file = [game for game in games if 5 in positions_of(game)]
+        self.exact = [discs_of_black(*positions_of(game)[5]) for game in self.games_of_file]
+        published = [it + {2: -2, 5: 7}.get(number, 0) for number, it in enumerate(self.exact)]
+        self.records = [record(*both) for both in zip(self.games_of_file, published)]
+        self.write("it.wtb", wthor(self.records, empties=5) + b"more")
+        self.write_list("it.wtb")
+        self.whole = self.content("it.wtb")
+        self.wanted = wthor([record(*both) for both in zip(self.games_of_file, self.exact)], empties=5) + b"more"
+        self.told = f"new.wtb: theoretical scores changed 2 of {len(self.exact)}, not compared 0"
+
+    def write_list(self, *names, skipped=()):
+        ran = run(PROGRAM, *names)
+        self.write("list", ran.stdout)
+        rows = ""
+        for number, line in enumerate(ran.stdout.decode().splitlines(), 1):
+            at = list(line[:64]), line[65]
+            said = "refused: 5 empties, limit 4" if number in skipped else f"{score(*at):+03} {','.join(best_moves(*at))} unlisted"
+            rows += f"{number} {said}\n"
+        self.write("report", f"[1]\n{rows}solved {number - len(skipped)} refused {len(skipped)}\n")
+
+    def content(self, name):
+        return (self.folder / name).read_bytes()
+
+    def fix(self, status, told, place="new.wtb", **how):
+        """Runs the program, which may make the new file and no other one, and leaves the one that is read as it is."""
+        before = set(os.listdir())
+        out, _ = self.games("compare", "list", "report", "--fix", place, status=status, told=f"ffosolve-games: {told}\n", **how)
+        self.assertEqual(set(os.listdir()), before | ({place} if status < 3 else set()))
+        if "it.wtb" in before:
+            self.assertEqual(self.content("it.wtb"), self.whole)
+        return out
+
+    def test_the_scores_that_are_wrong_are_changed_and_no_other_byte(self):
+        out = self.fix(1, self.told)
+        self.assertEqual(self.content("new.wtb"), self.wanted)
+        self.assertEqual(out, self.games("compare", "list", "report", status=1)[0])
+        self.assertEqual(stat.S_IMODE(os.stat("new.wtb").st_mode), 0o644)
+        self.write_list("new.wtb")
+        self.games("compare", "list", "report", out=f"compared {len(self.exact)} differ 0 refused 0 unscored 0\n", told="")
+        again = f"again.wtb: theoretical scores changed 0 of {len(self.exact)}, not compared 0"
+        self.fix(0, again, place="again.wtb")
+        self.assertEqual(self.content("again.wtb"), self.wanted)
+
+    def test_games_that_are_not_compared_stay(self):
+        """One whose position is refused in the report, and one with a move that is not legal, which is not in the list."""
+        self.records[0] = self.records[0][:8] + b"\x63" + self.records[0][9:]
+        self.whole = wthor(self.records, empties=5)
+        self.write("it.wtb", self.whole)
+        self.write_list("it.wtb", skipped=[2])
+        self.fix(1, f"new.wtb: theoretical scores changed 1 of {len(self.exact)}, not compared 2")
+        self.records[5] = record(self.games_of_file[5], self.exact[5])
+        self.assertEqual(self.content("new.wtb"), wthor(self.records, empties=5))
+
+    def test_no_file_is_written_over(self):
+        """Neither the one that is read, by any of its names, nor another."""
+        os.symlink("it.wtb", "link.wtb")
+        os.link("it.wtb", "twin.wtb")
+        os.symlink("nowhere", "broken.wtb")
+        os.mkdir("folder.wtb")
+        self.write("other.wtb", "other")
+        for name in ("it.wtb", "./it.wtb", "link.wtb", "twin.wtb", "broken.wtb", "folder.wtb", "other.wtb", "list", "report"):
+            self.fix(3, f"{name} is there already, and would be overwritten", place=name)
+        self.assertEqual(self.content("other.wtb"), b"other")
+        self.assertEqual(os.readlink("broken.wtb"), "nowhere")
+
+    def test_a_full_disk(self):
+        for size in (0, 1, 16, len(self.whole) - 1):
+            self.fix(3, "cannot write new.wtb: File too large",
+                     preexec_fn=lambda: resource.setrlimit(resource.RLIMIT_FSIZE, (size, size)))
+
+    def test_a_place_that_is_not_there(self):
+        self.fix(3, "cannot write none/new.wtb: No such file or directory", place="none/new.wtb")
+        self.fix(3, "cannot write '': No such file or directory", place="")
+
+    def test_a_file_system_without_hard_links(self):
+        """Where a file appears meanwhile it is kept where there are hard links, and no file is left beside."""
+        sys.path.insert(0, str(ROOT / "python/src"))
+        self.addCleanup(sys.path.remove, str(ROOT / "python/src"))
+        from ffosolve._fixed import write_new
+
+        with unittest.mock.patch("os.link", side_effect=PermissionError):
+            write_new("new.wtb", [b"new", b"file"])
+        self.assertEqual(self.content("new.wtb"), b"newfile")
+        with self.assertRaises(FileExistsError):
+            write_new("new.wtb", [b"other"])
+        self.assertEqual(self.content("new.wtb"), b"newfile")
+        self.assertEqual(sorted(os.listdir()), ["it.wtb", "list", "new.wtb", "report"])
+
+    def test_a_file_that_is_not_that_of_the_list(self):
+        why = "it.wtb is not the WTHOR file of the list: "
+        another = record(self.games_of_file[0], self.records[3][7])
+        for records, told in (
+            (self.records[:3] + [another] + self.records[4:], why + "its game 4 has another position or theoretical score"),
+            (self.records[:3] + [record([], self.records[3][7])] + self.records[4:],
+             why + "its game 4 has another position or theoretical score"),
+            (self.records[:3] + [record(self.games_of_file[3], self.exact[3] + 1)] + self.records[4:],
+             why + "its game 4 has another position or theoretical score"),
+            (self.records[:3], why + "it has no game 4"),
+        ):
+            self.whole = wthor(records, empties=5)
+            self.write("it.wtb", self.whole)
+            self.fix(3, told)
+        self.whole = b"text"
+        self.write("it.wtb", self.whole)
+        self.fix(3, why + "it ends within its header of 16 bytes")
+        os.remove("it.wtb")
+        self.fix(3, "cannot read it.wtb, which the list names: No such file or directory")
+        os.mkfifo("it.wtb")
+        self.assertEqual(self.games("compare", "list", "report", "--fix", "new.wtb", status=3)[1],
+                         "ffosolve-games: it.wtb, which the list names, is no regular file\n")
+
+    def test_a_list_that_names_no_one_file(self):
+        self.write("other.wtb", self.whole)
+        self.write_list("it.wtb", "other.wtb")
+        self.fix(3, "--fix takes a list of one WTHOR file, and this one is of 2")
+        self.write_list("it.wtb", skipped=range(1, len(self.exact) + 1))
+        self.fix(3, "no theoretical score is compared, so --fix has none to write")
+        self.write("list", run(PROGRAM, "-", input=self.whole).stdout)
+        self.write_list("it.wtb")
+        self.write("list", self.content("list").replace(b"it.wtb", b"standard input"))
+        self.fix(3, "cannot read standard input, which the list names: No such file or directory")
+
+    def test_two_at_once(self):
+        """One of them writes the file, whole, and the others are told that it is there."""
+        words = [sys.executable, PROGRAM, "compare", "list", "report", "--fix", "new.wtb"]
+        runs = [subprocess.Popen(words, stdout=subprocess.PIPE, stderr=subprocess.PIPE) for _ in range(6)]
+        told = sorted(it.communicate(timeout=SECONDS)[1].decode() for it in runs)
+        lost = "ffosolve-games: new.wtb is there already, and would be overwritten\n"
+        self.assertEqual(told, sorted([f"ffosolve-games: {self.told}\n"] + 5 * [lost]))
+        self.assertEqual(sorted(it.returncode for it in runs), [1] + 5 * [3])
+        self.assertEqual(self.content("new.wtb"), self.wanted)
+        self.assertEqual(sorted(os.listdir()), ["it.wtb", "list", "new.wtb", "report"])
+
+    def test_a_run_that_is_ended_in_the_middle(self):
+        """It leaves no new file under the name; by Ctrl-C nothing at all. The same command then writes it."""
+        rest = bytes(68 * 2_000_000)
+        self.write("it.wtb", wthor(self.records, empties=5, count=len(self.records) + 2_000_000) + rest)
+        for number in (signal.SIGINT, signal.SIGKILL):
+            words = [sys.executable, PROGRAM, "compare", "list", "report", "--fix", "new.wtb"]
+            child = subprocess.Popen(words, stdout=subprocess.PIPE, stderr=subprocess.PIPE)
+            self.addCleanup(child.kill)
+            wait_until(lambda: list(self.folder.glob("new.wtb.*.new")))
+            child.send_signal(number)
+            child.communicate(timeout=SECONDS)
+            self.assertFalse((self.folder / "new.wtb").exists())
+            self.assertEqual(bool(list(self.folder.glob("new.wtb.*.new"))), number == signal.SIGKILL)
+        self.assertEqual(self.games("compare", "list", "report", "--fix", "new.wtb", status=1)[1],
+                         f"ffosolve-games: new.wtb: theoretical scores changed 2 of {len(self.records) + 2_000_000}, "
+                         "not compared 2000000\n")
+        self.assertEqual(self.content("new.wtb")[16:][:68 * len(self.records)], self.wanted[16:-4])
+        self.assertEqual(os.stat("new.wtb").st_size, os.stat("it.wtb").st_size)
+
 
 class Recipe(Case):
-    def test_the_wrong_scores_of_a_file_are_found_by_the_commands_of_the_guide(self):
+    """The wrong scores of a WTHOR file are found by the commands that a user is shown."""
+
+    def check(self, commands, names):
         need("parallel", "parallel")
         built("ffosolve")
-        guide = stored("docs", "user-guide.md").decode()
-        commands = re.search(r"theoretical scores of a WTHOR file\n.*?^```sh\n(.*?)^```", guide, re.M | re.S)[1]
-        self.assertEqual(len(commands.splitlines()), 3)
         rng = random.Random(7)
         games = [squares_of(game) for game in (random_game(rng) for _ in range(20))]
         exact = [discs_of_black(*positions_of(game)[6]) for game in games]
@@ -439,11 +804,27 @@ class Recipe(Case):
         name = re.search(r"\S+\.wtb", commands)[0]
         self.write(name, wthor([record(*both) for both in zip(games, published)], empties=6))
         (self.folder / "bin").symlink_to(ROOT / "bin")
-        ran = run("sh", "-e", "-c", commands, timeout=300)
+        ran = run("sh", "-e", "-c", commands, timeout=300, env={**os.environ, "PATH": f"{ROOT}/bin:{os.environ['PATH']}"})
         rows = "".join(f"{name}, game {at + 1}: published {published[at]}, exact {exact[at]}, difference {less}\n"
                        for at, less in ((4, "-2"), (13, "+7")))
         self.assertEqual(ran.stdout.decode(), rows + "compared 20 differ 2 refused 0 unscored 0\n", ran.stderr)
         self.assertEqual(ran.returncode, 1)
+        self.assertLessEqual({name, *names}, set(os.listdir()))
+        return wthor([record(*both) for both in zip(games, exact)], empties=6)
+
+    def test_the_guide(self):
+        guide = stored("docs", "user-guide.md").decode()
+        commands = re.search(r"theoretical scores of a WTHOR file\n.*?^```sh\n(.*?)^```", guide, re.M | re.S)[1]
+        self.assertEqual(len(commands.splitlines()), 3)
+        self.check(commands, ["list.obf", "list.report"])
+
+    def test_the_help(self):
+        """It keeps the list, which compare needs, and writes a file with exact scores."""
+        commands = re.search(r"^examples:\n.*?\n\n(.*?)\n\n", self.games("--help")[0], re.M | re.S)[1]
+        self.assertEqual(len(commands.splitlines()), 3)
+        new = commands.split()[-1]
+        wanted = self.check(commands, ["list.obf", "list.report", new])
+        self.assertEqual((self.folder / new).read_bytes(), wanted)
 
 
 if __name__ == "__main__":

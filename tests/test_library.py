@@ -213,7 +213,7 @@ class Prefix:
         return self.work / "rust"
 
     def cargo(self, verb, manifest, *words, **how):
-        return self.make("cargo", verb, "--locked", "--manifest-path", manifest / "Cargo.toml", *words, **how)
+        return self.make("cargo", verb, "--manifest-path", manifest / "Cargo.toml", *words, **how)
 
     def rust_client(self, name, source):
         """A program of its own over the crate."""
@@ -250,11 +250,12 @@ class Library(unittest.TestCase):
             self.assertIn(part, told)
 
     def test_one_version_everywhere(self):
-        """What the file VERSION has; the number is defined in the crate as well, and called."""
+        """What the file VERSION has; the crate for Rust has it as well, and the library its number."""
         places = {
             PREFIX.header: f'#define FFOSOLVE_VERSION_TEXT "{PREFIX.version}"\n#define FFOSOLVE_VERSION {PREFIX.number}\n',
             PREFIX.libraries / "pkgconfig/ffosolve.pc": f"Version: {PREFIX.version}\n",
             PREFIX.libraries / "cmake/ffosolve/ffosolve-config-version.cmake": f'set(PACKAGE_VERSION "{PREFIX.version}")\n',
+            ROOT / "rust/Cargo.toml": f'\nversion = "{PREFIX.version}"\n',
             ROOT / "crates/ffosolve_c/src/calls.rt": f"\nconst VERSION: u32 = {int(PREFIX.number):_};\n",
         }
         for place, words in places.items():

@@ -1,15 +1,22 @@
 """The package for Python: many positions, pictures of boards, and the program that it installs."""
+import contextlib
+import email
+import gzip
+import io
 import itertools
 import os
+import pickle
 import random
 import sys
+import tarfile
 import threading
 import time
 import unittest
 import xml.etree.ElementTree
+import zipfile
 
 from .support import ROOT, SECONDS, InFolder, lack, need, run, stored
-from .test_games import EMPTY, discs_of_black, positions_of, random_game, squares_of
+from .test_games import EMPTY, discs_of_black, positions_of, random_game, record, squares_of, transcript, wthor
 
 SOURCES = ROOT / "python/src"
 sys.path.insert(0, str(SOURCES))
@@ -175,6 +182,120 @@ class Many(unittest.TestCase):
                 list(call([(0.5, 1)]))
 
 
+class Lines(unittest.TestCase):
+    def test_worked_lines(self):
+        """tests/rows/lines.read follows from the grammar, and no program printed it; tests/library_lines.py has odd lines."""
+        told, refused = {}, []
+        for line in ffosolve.read_lines(stored("tests/rows/lines.obf"), refused=refused.append):
+            listed = "".join(f" {move}:{score}" for move, score in line.listed)
+            told[line.number] = f"{line.number} {line.own:016x} {line.opp:016x} {line.side}{listed}"
+        told.update((error.line, str(error).replace("line ", "").replace(":", " refused:")) for error in refused)
+        self.assertEqual([told[number] for number in sorted(told)], stored("tests/rows/lines.read").decode().splitlines())
+
+
+class Games(InFolder):
+    """Beside the plain player of test_games."""
+
+    @classmethod
+    def setUpClass(cls):
+        rng = random.Random(66)
+        cls.played = [random_game(rng) for _ in range(60)]
+        cls.solver = Solver()
+
+    def shown(self, positions):
+        return [(list(position.to_obf()[:64]), position.side) for position in positions]
+
+    def expected(self, game):
+        """The plain player's positions, from the start on."""
+        at = positions_of(squares_of(game))
+        return [at[empties] for empties in sorted(at, reverse=True)]
+
+    def test_transcripts_in_many_ways(self):
+        rng = random.Random(5)
+        for game in self.played:
+            names = [ffosolve.square_name(square) for square in squares_of(game)]
+            names = [rng.choice((str.lower, str.upper))(name) for name in names]
+            with_passes = [name if name is None else ffosolve.square_name(name) for name in game]
+            pairs = [" ".join(names[at:at + 2]) for at in range(0, len(names), 2)]
+            texts = ["".join(names), *(between.join(names) for between in (" ", ",", ", ", "-", " - ", "\t"))]
+            for form in ("{}. {}", "{}.{}", "{}) {}", "{}: {}", "{} {}", "{}... {}", "{}{}"):
+                for moves in (names, pairs):
+                    texts.append(rng.choice((" ", ", ")).join(form.format(*it) for it in enumerate(moves, 1)))
+            for word in ("--", "pass", "PS", "pa"):
+                texts.append(rng.choice((" ", "-", "", ", ")).join(name or word for name in with_passes))
+            for text in texts:
+                end = rng.choice(("", " 33-31", " (40:24)", ", 1-0", " 1/2-1/2", " +2", " -12", " [+4]", " 0", "\r\n", "  % f5"))
+                found = ffosolve.Game.of_text(text + end)
+                self.assertEqual(found.squares, [name.upper() for name in names], text + end)
+                self.assertEqual(self.shown(self.solver.positions(text + end)), self.expected(game), text + end)
+
+    def test_what_is_no_transcript(self):
+        for text, move, why in (
+            ("f5d6d5", 3, "D5 is no move"), ("1. f5 2. d5 3. c3", 2, "D5 is no move"), ("f5,d6,z9", 3, "'z9' is no square"),
+            ("f5d6c33d3", 4, "'3d' is no square"), ("f5d6c33-31", 4, "'3-' is no square"), ("f5 d6 33-31 c3", 3, "'33' is no square"),
+            ("f5 d6 100-3", 3, "'10' is no square"), ("f5--d6", 2, "it has a pass where there is a move"),
+        ):
+            with self.assertRaisesRegex(ffosolve.GameRefused, f"^game 7, move {move}: {why}$") as refused:
+                self.solver.positions(ffosolve.Game.of_text(text, 7))
+            for it in (refused.exception, pickle.loads(pickle.dumps(refused.exception))):
+                self.assertEqual((it.game, it.move, it.reason, isinstance(it, ValueError)), (7, move, why, True))
+        with self.assertRaisesRegex(TypeError, "^a game is a Game or the text of a transcript, and not "):
+            self.solver.positions(5)
+
+    def test_files(self):
+        """By their paths, and as files of some kinds: a text, and a WTHOR file with its scores."""
+        records = wthor([record(game, 20 + at, 40) for at, game in enumerate(self.played[:30])], empties=22)
+        text = "".join(f"{transcript(game)}\n\n" for game in self.played[:30]).encode()
+        for content, name, wanted in (
+            (records, "it.wtb", [(at + 1, 20 + at, 40, 22) for at in range(30)]),
+            (text, "it.txt", [(2 * at + 1, None, None, None) for at in range(30)]),
+        ):
+            (self.folder / name).write_bytes(content)
+            (self.folder / "packed").write_bytes(gzip.compress(content))
+            with open(name, "rb") as file, open(name, "rb", buffering=0) as raw, gzip.open("packed") as packed:
+                inside = io.BytesIO(content)
+                for source in (name, self.folder / name, file, raw, packed, inside):
+                    games = list(ffosolve.read_games(source))
+                    self.assertEqual([(it.number, it.score, it.real, it.empties) for it in games], wanted)
+                    for it, game in zip(games, self.played):
+                        self.assertEqual(self.shown(self.solver.positions(it)), self.expected(game))
+                self.assertEqual((inside.read(), file.closed, raw.closed), (b"", False, False))
+        (self.folder / "it.wtb").write_bytes(wthor([record(self.played[0])], empties=0))
+        self.assertEqual([it.empties for it in ffosolve.read_games("it.wtb")], [None])
+
+    def test_wrong_theoretical_scores_as_the_docstring_finds_them(self):
+        games = [game for game in self.played if 8 in positions_of(squares_of(game))][:20]
+        exact = [discs_of_black(*positions_of(squares_of(game))[8]) for game in games]
+        published = [it ^ (at in (3, 11)) for at, it in enumerate(exact)]
+        (self.folder / "WTH_2001.wtb").write_bytes(wthor(map(record, games, published), empties=8, count=20))
+        code = ffosolve.read_games.__doc__.split(":\n\n")[1].replace("\n        ", "\n").strip()
+        told = io.StringIO()
+        with contextlib.redirect_stdout(told):
+            exec(code, {"solver": self.solver, "read_games": ffosolve.read_games})
+        self.assertEqual(told.getvalue(), f"4 {published[3]}\n12 {published[11]}\n")
+
+    def test_what_is_refused(self):
+        whole = record(self.played[0])
+        for count, why in ((2, "the file ends"), (0, "the file goes on")):
+            (self.folder / "it.wtb").write_bytes(wthor([whole], count=count))
+            wrong = []
+            self.assertEqual(len(list(ffosolve.read_games("it.wtb", refused=wrong.append))), min(count, 1))
+            self.assertEqual([(it.game, it.move) for it in wrong], [(count or 1, None)])
+            with self.assertRaisesRegex(ffosolve.GameRefused, f"^game {count or 1}: {why}"):
+                list(ffosolve.read_games("it.wtb"))
+        for content in (b"", b"f5d6c3" * 20, wthor([whole], board=10)):
+            (self.folder / "it.wtb").write_bytes(content)
+            with self.assertRaisesRegex(ValueError, "^it.wtb is no WTHOR file of games: "):
+                list(ffosolve.read_games("it.wtb"))
+        with self.assertRaisesRegex(ValueError, "its line 1 has more than [0-9]+ bytes$"):
+            list(ffosolve.read_games(io.BytesIO(b"f5" * 1_000_000)))
+        for source in (5, b"f5d6c3", io.StringIO("f5d6c3"), ["f5d6c3"], None):
+            with self.assertRaisesRegex(TypeError, "^games are read from a path or from a file opened for bytes, and not from "):
+                list(ffosolve.read_games(source))
+        with self.assertRaises(FileNotFoundError):
+            list(ffosolve.read_games("nowhere"))
+
+
 class Arrays(unittest.TestCase):
     def setUp(self):
         try:
@@ -309,18 +430,50 @@ class Boards(InFolder):
                 self.assertEqual(len(colours) > 3, is_scored, place)
 
 
+class Package(InFolder):
+    """The wheel and the source archive, as they are to be published."""
+
+    def setUp(self):
+        super().setUp()
+        words = "import ffosolve_wheel as made; made.build_wheel('{0}'), made.build_sdist('{0}')".format(self.folder)
+        run(sys.executable, "-Bc", words, cwd=ROOT / "python/backend", check=True)
+        self.head = f"ffosolve-{stored('VERSION').decode().strip()}"
+        with zipfile.ZipFile(f"{self.head}-py3-none-any.whl") as wheel:
+            self.wheel = {name: wheel.read(name) for name in wheel.namelist()}
+        with tarfile.open(f"{self.head}.tar.gz") as archive:
+            self.archive = {it.name: archive.extractfile(it).read() for it in archive.getmembers()}
+
+    def test_twine_passes_both(self):
+        need("twine", "twine")
+        ran = run("twine", "check", "--strict", f"{self.head}-py3-none-any.whl", f"{self.head}.tar.gz")
+        self.assertEqual((ran.returncode, ran.stdout.count(b"PASSED")), (0, 2), ran)
+
+    def test_licence_author_and_description(self):
+        for name in (self.wheel[f"{self.head}.dist-info/LICENSE"], self.archive[f"{self.head}/LICENSE"]):
+            self.assertEqual(name, stored("LICENSE"))
+        metadata = self.wheel[f"{self.head}.dist-info/METADATA"].decode()
+        self.assertEqual(self.archive[f"{self.head}/PKG-INFO"].decode(), metadata)
+        told = email.message_from_string(metadata)
+        for field in ("Summary", "Author", "Author-email", "License", "Project-URL", "Requires-Python"):
+            self.assertTrue(told[field], field)
+        self.assertEqual((told["Version"], told["Description-Content-Type"]), (ffosolve.__version__, "text/markdown"))
+        self.assertEqual(told.get_payload(), ffosolve.__doc__ + "\n" * (not ffosolve.__doc__.endswith("\n")))
+
+
 class Installed(InFolder):
     def test_the_program_that_pip_installs(self):
         if run(sys.executable, "-m", "pip", "--version").returncode != 0:
             lack("pip (Debian: python3-pip)")
         words = "install --quiet --no-index --no-deps --disable-pip-version-check --root-user-action=ignore --target site".split()
-        run("cp", "-r", ROOT / "python", ROOT / "VERSION", ".", check=True)
+        run("cp", "-r", ROOT / "python", ROOT / "VERSION", ROOT / "LICENSE", ".", check=True)
         run(sys.executable, "-m", "pip", *words, "./python", check=True, timeout=300)
         environment = {**os.environ, "PYTHONPATH": str(self.folder / "site")}
         ran = run("site/bin/ffosolve-games", "--version", env=environment)
         self.assertEqual(ran.stdout.decode(), f"ffosolve-games {stored('VERSION').decode()}", ran.stderr)
         ran = run("site/bin/ffosolve-games", "--empties", "59", input=b"f5", env=environment)
         self.assertRegex(ran.stdout.decode(), "^\\S{64} O; % standard input, game 1\n$", ran.stderr)
+        licence, = self.folder.glob("site/ffosolve-*.dist-info/LICENSE")
+        self.assertEqual(licence.read_bytes(), stored("LICENSE"))
 
 
 if __name__ == "__main__":

@@ -42,5 +42,7 @@ def main():
 
 try:
     main()
-except (Refused, LibraryNotFound) as error:
+except Refused as error:
+    sys.exit(error.reason if error.index is None else f"position {error.index + 1}: {error.reason}")
+except LibraryNotFound as error:
     sys.exit(str(error))

@@ -2,6 +2,7 @@
 
 pyproject.toml names it, so that `pip install ./python` takes nothing from a network.
 """
+import ast
 import base64
 import hashlib
 import io
@@ -15,17 +16,28 @@ SOURCES = os.path.join(FOLDER, "src", "ffosolve")
 LIBRARIES = os.environ.get("FFOSOLVE_WHEEL_LIBRARIES")
 
 
-def setting(name):
-    """A setting of pyproject.toml that is one text on one line."""
-    with open(os.path.join(FOLDER, "pyproject.toml"), encoding="utf-8") as text:
-        return re.search(rf'^{name} = "(.*)"$', text.read(), re.MULTILINE).group(1)
+def settings(name):
+    """The texts of a setting of pyproject.toml, of which the standard library reads such files from Python 3.11 on."""
+    project = next(texts("pyproject.toml"))
+    return re.findall('"(.*?)"', re.search(rf"^{name} = (\[[^]]*\]|.*)", project, re.MULTILINE).group(1))
+
+
+def texts(*places):
+    """The texts of those of these files that are there."""
+    for place in filter(os.path.exists, (os.path.join(FOLDER, place) for place in places)):
+        with open(place, encoding="utf-8") as text:
+            yield text.read()
 
 
 def version():
     """The file VERSION of the package, where this is a source archive, else that of the repository."""
-    places = (os.path.join(SOURCES, "VERSION"), os.path.join(FOLDER, "..", "VERSION"))
-    with open(next(filter(os.path.exists, places)), encoding="utf-8") as text:
-        return text.read().strip()
+    return next(texts("src/ffosolve/VERSION", "../VERSION")).strip()
+
+
+def licences(name):
+    """LICENSE of a source archive or of the repository, or as a package for Debian calls it, if it is there."""
+    for text in list(texts("LICENSE", "../LICENSE", "../copyright"))[:1]:
+        yield name, text.encode()
 
 
 def head():
@@ -33,11 +45,16 @@ def head():
 
 
 def metadata():
-    return (
-        f"Metadata-Version: 2.1\nName: ffosolve\nVersion: {version()}\nSummary: {setting('description')}\n"
-        f"Requires-Python: {setting('requires-python')}\nLicense: MIT\nClassifier: Typing :: Typed\n"
-        "Classifier: Operating System :: POSIX :: Linux\n"
-    )
+    (summary,), (python,), (terms,) = map(settings, ("description", "requires-python", "license"))
+    (author, address), (home,) = settings("authors"), settings("urls")
+    fields = [
+        ("Metadata-Version", "2.1"), ("Name", "ffosolve"), ("Version", version()), ("Summary", summary),
+        ("Author", author), ("Author-email", f"{author} <{address}>"), ("License", terms),
+        ("Project-URL", f"Homepage, {home}"), *(("Classifier", it) for it in settings("classifiers")),
+        ("Requires-Python", python), ("Description-Content-Type", "text/markdown"),
+    ]
+    told = ast.get_docstring(ast.parse(next(texts("src/ffosolve/__init__.py"))))
+    return "".join(f"{name}: {text}\n" for name, text in fields) + f"\n{told}\n"
 
 
 def tag():
@@ -81,7 +98,8 @@ def write_wheel(folder, files):
 def dist_info():
     yield f"{head()}.dist-info/METADATA", metadata().encode()
     yield f"{head()}.dist-info/WHEEL", tags().encode()
-    program = f"[console_scripts]\nffosolve-games = {setting('ffosolve-games')}\n"
+    yield from licences(f"{head()}.dist-info/LICENSE")
+    program = f"[console_scripts]\nffosolve-games = {settings('ffosolve-games')[0]}\n"
     yield f"{head()}.dist-info/entry_points.txt", program.encode()
 
 
@@ -108,7 +126,8 @@ def build_sdist(sdist_directory, config_settings=None):
             archive.add(os.path.join(FOLDER, path), f"{head()}/{path}")
         for path, content in package_files():
             add_bytes(archive, f"{head()}/src/{path}", content)
-        add_bytes(archive, f"{head()}/PKG-INFO", metadata().encode())
+        for path, content in (*licences(f"{head()}/LICENSE"), (f"{head()}/PKG-INFO", metadata().encode())):
+            add_bytes(archive, path, content)
     return name
 
 

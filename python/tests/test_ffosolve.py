@@ -2,10 +2,13 @@
 
     python3 -m unittest discover python/tests
 """
+import copy
 import gc
 import io
 import os
+import pathlib
 import pickle
+import re
 import subprocess
 import sys
 import tempfile
@@ -52,6 +55,13 @@ for call, word in (
 if ffosolve.Solver(entries=0).solve(position) != claim:
     sys.exit("without a table no memory is wanted")
 """
+LATER = """
+import sys, ffosolve
+position = ffosolve.Position.from_obf(sys.argv[1])
+line, = ffosolve.read_lines([position.to_obf()])
+position.show()
+print(ffosolve.Solver(sys.argv[2]).solve(position).squares)
+"""
 
 
 class Calls(unittest.TestCase):
@@ -77,6 +87,8 @@ class Calls(unittest.TestCase):
         self.assertEqual(len({ANSWER, Answer(*ANSWER), self.solver.solve(POSITION)}), 1)
         self.assertEqual(repr(POSITION), f"Position(own={POSITION.own}, opp={POSITION.opp})")
         self.assertEqual(repr(line), f"Line(own={POSITION.own}, opp={POSITION.opp})")
+        self.assertEqual(repr(Position(1, 2, "O")), "Position(own=1, opp=2, side='O')")
+        self.assertEqual((Position(1, 2, "O"), hash(Position(1, 2, "O"))), (Position(1, 2), hash(Position(1, 2))))
         self.assertEqual(repr(POSITION.show()), str(POSITION))
 
     def test_answers_differ_in_each_member(self):
@@ -107,6 +119,28 @@ class Calls(unittest.TestCase):
         after = Position(0x0000001000000000, 0x0000000818080000)
         self.assertEqual(self.solver.play(START, "d3"), after)
         self.assertEqual(self.solver.play(START, 19), after)
+
+    def test_a_position_keeps_its_colours(self):
+        """After f5 d6 c3, the colours by hand: Black has turned E5, White D5, and Black D4."""
+        board, positions = "".join(
+            "--------" "--------" "--X-----" "---XX---" "---OXX--" "---O----" "--------" "--------"), [START]
+        for square in ("f5", "d6", "c3"):
+            positions.append(self.solver.play(positions[-1], square))
+        self.assertEqual([position.side for position in positions], ["X", "O", "X", "O"])
+        self.assertEqual(positions[-1].to_obf(), board + " O;")
+        self.assertEqual("".join(re.findall("^[1-8] (.*)$", str(positions[-1]), re.M)).replace(" ", ""), board)
+        self.assertEqual(str(positions[-1]).splitlines()[-1], "O is to move")
+        self.assertEqual(positions[-1]._repr_svg_(), Position.from_obf(board + " O;")._repr_svg_())
+        self.assertEqual(positions[-1].passed().to_obf(), board + " X;")
+        self.assertEqual(self.solver.play(tuple(START), "f5").side, "O")
+        white = Position(1, 2, "O")
+        for copied in (pickle.loads(pickle.dumps(white)), copy.deepcopy(white), white._replace(own=4)):
+            self.assertEqual(copied.side, "O")
+        for text in (white.to_obf(), "oB" + "." * 62 + "w;A1:+2;"):
+            self.assertEqual(Position.from_obf(text).to_obf(), "OX" + "-" * 62 + " O;")
+        self.assertEqual(white.to_obf("X"), "XO" + "-" * 62 + " X;")
+        with self.assertRaisesRegex(ValueError, "^the side to move is 'X' or 'O', and not 'black'$"):
+            Position(1, 2, "black")
 
     def test_what_is_told(self):
         """Scorings, numbers of empty squares, limits and versions."""
@@ -182,7 +216,7 @@ class Refusals(unittest.TestCase):
         self.refused(ffosolve.SharedSquare, solver.moves, shared)
         self.refused(ffosolve.SharedSquare, solver.play, shared, 0)
         self.refused(ffosolve.TooManyEmpties, solver.solve_all, [POSITION, wide, shared], index=1)
-        with self.assertRaisesRegex(ffosolve.SharedSquare, "^position 3: the masks share a square$"):
+        with self.assertRaisesRegex(ffosolve.SharedSquare, "^position at index 2: the masks share a square$"):
             solver.solve_all([POSITION, POSITION, shared])
 
     def test_settings(self):
@@ -204,10 +238,10 @@ class Refusals(unittest.TestCase):
             (ffosolve.NoMemory, 7, "out of memory"),
         ):
             self.assertEqual((refusal.status, str(refusal()), refusal().index), (number, reason, None))
-            self.assertEqual((str(refusal(1)), refusal(1).index), (f"position 2: {reason}", 1))
+            self.assertEqual((str(refusal(1)), refusal(1).index), (f"position at index 1: {reason}", 1))
             self.assertTrue(issubclass(refusal, MemoryError if number == 7 else ValueError))
             again = pickle.loads(pickle.dumps(refusal(1)))
-            self.assertEqual((type(again), str(again), again.index), (refusal, f"position 2: {reason}", 1))
+            self.assertEqual((type(again), str(again), again.index), (refusal, f"position at index 1: {reason}", 1))
 
     def test_reasons_of_lines(self):
         """The numbers of ffosolve.h, and the texts of a report."""
@@ -250,8 +284,35 @@ class Refusals(unittest.TestCase):
             for call in (Solver().solve, Solver().moves, Solver().move_scores, lambda p: Solver().solve_all([p])):
                 with self.assertRaisesRegex(ValueError, "mask"):
                     call(Position(mask, 0))
-        with self.assertRaises(TypeError):
-            Solver().solve(Position(1.5, 0))
+
+    def test_what_is_no_position(self):
+        solver = Solver()
+        one = (solver.solve, solver.move_scores, solver.moves, lambda it: solver.play(it, "d3"),
+               lambda it: solver.confirm(it, ANSWER))
+        many = (solver.solve_all, solver.move_scores_all, lambda them: list(solver.solve_iter(them)),
+                lambda them: list(solver.move_scores_iter(them)))
+        for it in ("x", "ab", None, 5, ANSWER, (1,), (1, 2, 3), (0.5, 1), Position("a", "b"), CORNERS):
+            for call in (*one, *(lambda it, call=call: call([POSITION, it]) for call in many)):
+                with self.assertRaisesRegex(TypeError, r"^a position is two masks, as Position\(own, opp\) and .* not "):
+                    call(it)
+        for call in many:
+            with self.assertRaisesRegex(TypeError, "^a position is two masks, .* not [0-9.]+$"):
+                call(POSITION)
+
+    def test_what_is_no_claim_and_no_scores(self):
+        line = Position.from_obf(CORNERS)
+        for it in (line.listed, 62, None, (62, 0, 0x80)):
+            with self.assertRaisesRegex(TypeError, r"^a claim is an Answer\(score, kind, best\), and not "):
+                Solver().confirm(POSITION, it)
+        for it in (62, [("H1", 62)], line.listed):
+            with self.assertRaisesRegex(TypeError, "^scores are an Answer, or by squares' names as move_scores gives them, and not "):
+                POSITION.show(it)
+        self.assertEqual(str(line.show(ANSWER)), str(line.show({"H1": 62})))
+        for it in (Answer(-64, Kind.PASS, 0), Answer(32, Kind.OVER, 0)):
+            self.assertEqual(str(line.show(it)), str(line))
+        for it in (5, None, ["a"]):
+            with self.assertRaisesRegex(TypeError, "^a line of OBF text is of the type str or bytes, and not "):
+                Position.from_obf(it)
 
     def test_no_memory(self):
         told = subprocess.run([sys.executable, "-c", SMALL], capture_output=True, text=True, timeout=100)
@@ -264,9 +325,19 @@ class Refusals(unittest.TestCase):
             with self.assertRaises(ffosolve.LibraryNotFound):
                 Solver(empty.name)
         with self.assertRaisesRegex(ffosolve.LibraryNotFound, "ffosolve_solve"):
-            Solver("libc.so.6" if os.path.exists("libc.so.6") else find_libc())
+            Solver("libc.so.6" if os.path.exists("libc.so.6") else loaded("/libc.so.6", "/libc-"))
         with self.assertRaisesRegex(ffosolve.LibraryNotFound, f"^{os.getcwd()}/libc.so.6: "):
             Solver("libc.so.6")  # a file of this folder, and not the system's
+        with self.assertRaisesRegex(ffosolve.LibraryNotFound, "nowhere"):
+            Solver(pathlib.Path("/nowhere/libffosolve.so"))
+
+    def test_a_library_that_only_a_solver_names(self):
+        """README's order: the position is read, shown and written before."""
+        Solver()
+        words = [sys.executable, "-c", LATER, CORNERS, loaded("/libffosolve.so")]
+        told = subprocess.run(words, capture_output=True, text=True, timeout=100,
+                              env={**os.environ, "FFOSOLVE_LIBRARY": "/nowhere/libffosolve.so"})
+        self.assertEqual((told.returncode, told.stdout), (0, "['H1']\n"), told.stderr)
 
     def test_places(self):
         with mock.patch.dict(os.environ, {"FFOSOLVE_LIBRARY": "/of/mine.so"}):
@@ -279,9 +350,10 @@ class Refusals(unittest.TestCase):
             self.assertEqual(places(), [*of_package, name, *others])
 
 
-def find_libc():
+def loaded(*words):
+    """The path of a library of this process, which has one of these words."""
     with open("/proc/self/maps") as maps:
-        return next(line.split()[-1] for line in maps if "/libc.so.6" in line or "/libc-" in line)
+        return next(line.split()[-1] for line in maps if any(word in line for word in words))
 
 
 class Obf(unittest.TestCase):

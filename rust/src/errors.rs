@@ -45,7 +45,7 @@ impl fmt::Display for Error {
             Error::TooManyEntries => write!(f, "more than {MOST_ENTRIES} table entries"),
             Error::SharedSquare => f.write_str("the masks share a square"),
             Error::TooManyEmpties { index } => {
-                write!(f, "position {}: more than {MOST_EMPTIES} empty squares", index + 1)
+                write!(f, "position at index {index}: more than {MOST_EMPTIES} empty squares")
             }
             Error::NoMove => f.write_str("no move"),
             Error::NoMemory => f.write_str("out of memory"),

@@ -88,7 +88,7 @@ fn refuses() {
     assert_eq!(large.solve_all(&[]), Err(Error::TooManyEntries));
     assert_eq!(Solver::new().entries(ffosolve::MOST_ENTRIES).solve(corners()), Ok(ANSWER));
     let told: Box<dyn std::error::Error + Send + Sync> = Error::TooManyEmpties { index: 1 }.into();
-    assert!(told.to_string().starts_with("position 2: more than "));
+    assert!(told.to_string().starts_with("position at index 1: more than "));
 }
 
 #[test]
@@ -112,7 +112,7 @@ fn says_why() {
     }
     let numbers = [ffosolve::MOST_ENTRIES, ffosolve::MOST_EMPTIES].map(|number| format!("more than {number} "));
     assert_eq!(Error::TooManyEntries.to_string(), format!("{}table entries", numbers[0]));
-    assert_eq!(Error::TooManyEmpties { index: 0 }.to_string(), format!("position 1: {}empty squares", numbers[1]));
+    assert_eq!(Error::TooManyEmpties { index: 0 }.to_string(), format!("position at index 0: {}empty squares", numbers[1]));
     assert_eq!("?".parse::<Square>().map_err(|error| error.to_string()), Err("no square has the name".to_string()));
 }
 

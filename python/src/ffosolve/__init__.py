@@ -10,17 +10,20 @@
     >>> solver.move_scores(position)
     {'A1': 52, 'H1': 62}
 
-This package calls the shared library libffosolve.so.1, which has to be installed, or named by its path:
-`Solver(library="FOLDER/libffosolve.so")`. A call can't be stopped, not by Ctrl-C either, and two more empty squares
-take some 3 to 16 times as long: a program that has to be able to stop one makes it in a process of its own
-(`multiprocessing`). Calls from several threads run at once.
+A Solver calls the shared library libffosolve.so.1, which a wheel of `make wheel` has; else it has to be installed, or
+named by its path: `Solver("FOLDER/libffosolve.so")`. Reading and showing positions needs no library.
+
+A call can't be stopped, not by Ctrl-C either, and two more empty squares take some 3 to 16 times as long: a program that
+has to be able to stop one makes it in a process of its own (`multiprocessing`). Calls from several threads run at once.
 """
 import os
 
 from ._answers import Answer, Kind
 from ._boards import Board
+from ._games import START, Game
 from ._library import MOST_EMPTIES, MOST_ENTRIES, LibraryNotFound
 from ._positions import Line, Position, read_lines
+from ._read_games import GameRefused, read_games
 from ._refusals import (
     BadSide,
     BadSquare,
@@ -50,10 +53,13 @@ __all__ = [
     "MOST_EMPTIES",
     "MOST_ENTRIES",
     "NO_SCORE",
+    "START",
     "Answer",
     "BadSide",
     "BadSquare",
     "Board",
+    "Game",
+    "GameRefused",
     "Kind",
     "LibraryNotFound",
     "Line",
@@ -73,6 +79,7 @@ __all__ = [
     "TooManyEntries",
     "UnequalLengths",
     "UnknownScoring",
+    "read_games",
     "read_lines",
     "square_name",
     "square_names",

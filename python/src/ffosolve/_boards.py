@@ -4,10 +4,17 @@ from typing import Dict, Iterator, Mapping, Optional, Tuple
 from ._squares import NAMES, square_name, square_number
 
 SIDES = {"X": "Black", "O": "White"}
+OTHER = {"X": "O", "O": "X"}
 SQUARE, MARGIN, FOOT = 44, 22, 34  # pixels
 BOARD = 8 * SQUARE
 COLOURS = {"X": "#111111", "O": "#fafafa"}
 GREEN, LINES, INK, MARK = "#2f8f5b", "#14472c", "#333333", "#ffd54a"
+
+
+def checked_side(side: str) -> str:
+    if side not in SIDES:
+        raise ValueError(f"the side to move is 'X' or 'O', and not {side!r}")
+    return side
 
 
 class Board:
@@ -18,10 +25,7 @@ class Board:
     Raises ValueError for another side, and for a score where no square is empty."""
 
     def __init__(self, own: int, opp: int, side: str, scores: Optional[Mapping[str, int]] = None) -> None:
-        if side not in SIDES:
-            raise ValueError(f"the side to move is 'X' or 'O', and not {side!r}")
-        other = "O" if side == "X" else "X"
-        self.side = side
+        self.side, other = checked_side(side), OTHER[side]
         self.letters = [side if own >> at & 1 else other if opp >> at & 1 else "-" for at in range(64)]
         self.scores: Dict[int, int] = {square_number(name): score for name, score in (scores or {}).items()}
         self.best = max(self.scores.values(), default=None)

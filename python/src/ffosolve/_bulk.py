@@ -1,5 +1,6 @@
 """Many positions: they are cut into parts, which threads solve, and the results come in order."""
 import operator
+import reprlib
 import time
 from collections import deque
 from concurrent.futures import ThreadPoolExecutor
@@ -32,8 +33,17 @@ if hasattr(int, "bit_count"):  # as Python 3.10 and later have it
     size_of = operator.methodcaller("bit_count")
 
 
-def empties_of(own: int, opp: int) -> int:
-    return 64 - size_of(own | opp)
+def no_position(it: object) -> TypeError:
+    return TypeError("a position is two masks, as Position(own, opp) and Position.from_obf(line) give them, and not "
+                     + reprlib.repr(it))
+
+
+def empties_of(position: Sequence[int]) -> int:
+    try:
+        own, opp = position
+        return 64 - size_of(own | opp)
+    except (TypeError, ValueError):
+        raise no_position(position) from None
 
 
 def parts_of(
@@ -46,8 +56,11 @@ def parts_of(
     clock = time.monotonic
     start, most, weight, part, end = 0, 0, 0, [], clock() + most_seconds  # type: ignore[var-annotated]
     for position in positions:
-        own, opp = position
-        empties = 64 - size_of(own | opp)
+        try:
+            own, opp = position
+            empties = 64 - size_of(own | opp)
+        except (TypeError, ValueError):
+            raise no_position(position) from None
         if check is not None and (own & opp or empties > MOST_EMPTIES):
             check(start + len(part), position)
         if empties > most:
@@ -62,7 +75,7 @@ def parts_of(
 
 
 def checked_threads(threads: int) -> int:
-    if threads < 1:
+    if operator.index(threads) < 1:
         raise ValueError("there is at least one thread")
     return threads
 

@@ -1,27 +1,29 @@
 """Games: how transcripts and WTHOR files are read, and how a game is played by the library's rules."""
 import ctypes
-import re
 import struct
-from typing import BinaryIO, Iterator, NamedTuple, Optional, Sequence, Tuple
+from typing import BinaryIO, Iterator, List, NamedTuple, Optional, Sequence, Tuple
 
+from ._boards import OTHER
 from ._library import CPosition
 from ._positions import Position
 from ._squares import NAMES, square_name
+from ._text import text_lines
+from ._transcripts import words_of
 
 START = Position(0x0000000810000000, 0x0000001008000000)  # Black, on E4 and D5, is the mover
 PASS, NO_SQUARE = 64, 255  # in the place of a square's number
-WORD = re.compile("[a-h][1-8]|pass|ps|--|..?", re.DOTALL)
-WORDS = {**{name.lower(): number for number, name in enumerate(NAMES)}, "pass": PASS, "ps": PASS, "--": PASS}
+WORDS = {**{name.lower(): number for number, name in enumerate(NAMES)}, "--": PASS}
 HEADER = struct.Struct("<4x I H 2x B B B x")  # games, another number, size of the board, kind, empty squares
-RECORD, FIRST_MOVE, SCORE = 68, 8, 7  # bytes of a game, and places in it
+RECORD, REAL, SCORE, FIRST_MOVE = 68, 6, 7, 8  # bytes of a game, and places in it
 MOST_DISCS = 64
 SQUARES = bytearray([NO_SQUARE] * 256)  # of each byte of a WTHOR file's moves: ten times the row, and the column
 for square in range(64):
     SQUARES[10 * (square // 8 + 1) + square % 8 + 1] = square
+TEXT = bytes([*b"\t\n\v\f\r", *range(32, 256)])  # what a text begins with, and the century of a WTHOR file is not
 
 
 class NotGames(Exception):
-    """Why a file is none of games."""
+    """Why a file is no WTHOR file of games."""
 
 
 class Fault(Exception):
@@ -33,22 +35,56 @@ class Fault(Exception):
 
 
 class Game(NamedTuple):
-    """A game as a file has it."""
+    """A game as a file has it, right or wrong.
 
-    number: int  # from 1: a transcript's line, or the place among the games of a WTHOR file
+    `number` is the game's, from 1: its line in a text, or its place in a WTHOR file. The scores of a WTHOR file are
+    Black's discs, 0 to 64, with the empty squares to the winner: `score` is the theoretical score, under perfect play from
+    the position with so many `empties` on (None where the file does not tell that), and `real` that of the moves that were
+    played.
+    """
+
+    number: int
     moves: Sequence[int] = ()  # squares' numbers, PASS or NO_SQUARE
     words: Sequence[object] = ()  # each move as it is written
-    score: Optional[int] = None  # the theoretical score: Black's discs, with the empty squares to the winner
+    score: Optional[int] = None
+    real: Optional[int] = None
     fault: Optional[str] = None  # why it can't be read
+    empties: Optional[int] = None
+
+    @classmethod
+    def of_text(cls, text: str, number: int = 1) -> "Game":
+        """The game of a transcript: its squares, as `f5d6c3` or `1. F5 2. D6`, with blanks, commas or hyphens between
+        them or none, and with the moves' numbers or without. A pass is left out, or written `pass`, `ps`, `pa` or `--`.
+        A result at the end, as `33-31`, is skipped, and so is all from `%` on."""
+        words = words_of(text.partition("%")[0])
+        return cls(number, [WORDS.get(word, NO_SQUARE) for word in words], words)
+
+    @property
+    def squares(self) -> List[str]:
+        """The names of the squares that were moved to, "F5", "D6", .., without passes; and what is written in the place
+        of one."""
+        names = zip(self.moves, self.words)
+        return [str(word) if move == NO_SQUARE else square_name(move) for move, word in names if move != PASS]
 
 
-def transcripts(file: BinaryIO) -> Iterator[Game]:
-    """The games of a text, one a line; lines without a move, and all from `%` on, are skipped."""
-    for number, line in enumerate(file, 1):
-        text = line.decode("utf-8", "replace").partition("%")[0].replace("\ufeff", "")
-        words = WORD.findall("".join(text.split()).lower())
-        if words:
-            yield Game(number, [WORDS.get(word, NO_SQUARE) for word in words], words)
+class Played(NamedTuple):
+    """What playing a game to its end shows."""
+
+    position: Position  # the first one with the empty squares that are asked for
+    discs: Optional[int]  # Black's at the end, with the empty squares to the winner; None where the moves stop before
+
+
+def transcripts(file: BinaryIO, name: str) -> Iterator[Game]:
+    """The games of a text, one a line; lines without a move, and all from `%` on, are skipped. Raises NotText."""
+    for number, line in enumerate(text_lines(file, name), 1):
+        game = Game.of_text(line.decode("utf-8", "replace"), number)
+        if game.moves:
+            yield game
+
+
+def is_wthor(name: str, head: bytes) -> bool:
+    """Whether a file with this name and beginning is read as a WTHOR file, and not as a text."""
+    return name.lower().endswith(".wtb") or head[:1].strip(TEXT) != b""
 
 
 class Wthor:
@@ -57,31 +93,49 @@ class Wthor:
     def __init__(self, file: BinaryIO) -> None:
         head = file.read(HEADER.size)
         if len(head) < HEADER.size:
-            raise NotGames(f"it has {len(head)} of the {HEADER.size} bytes of a header")
+            raise NotGames(f"it ends within its header of {HEADER.size} bytes" if head else "it is empty")
         self._file = file
         self.count, other, board, kind, self.empties = HEADER.unpack(head)
+        if b"\0" not in head:
+            raise NotGames("it begins as a text does")
         if board not in (0, 8):
-            raise NotGames(f"its board has the size {board}")
-        if other != 0 or kind > 1:
-            raise NotGames("its header is of another kind")
+            raise NotGames(f"its board has {board} by {board} squares")
+        if other != 0:
+            raise NotGames(f"its header counts {other} records of another kind, as in a file of players or tournaments")
+        if kind > 1:
+            raise NotGames(f"byte 14 of its header is {kind}, and has to be 0 or 1")
         if self.empties > START.empties:
-            raise NotGames(f"its theoretical scores are for {self.empties} empty squares")
+            raise NotGames(f"its theoretical scores are for {self.empties} empty squares, of which a game has {START.empties}")
 
     def games(self, has_scores: bool) -> Iterator[Game]:
         """The games, each with its theoretical score where those are wanted."""
         for number in range(1, self.count + 1):
             record = self._file.read(RECORD)
             if len(record) < RECORD:
-                told = f"the file ends after {len(record)} of its {RECORD} bytes, and the header counts {self.count} games"
-                yield Game(number, fault=told)
+                where = f"after {len(record)} of the {RECORD} bytes of this game" if record else "before this game"
+                yield Game(number, fault=f"the file ends {where}, and the header's number of games is {self.count}")
                 return
-            written, score = record[FIRST_MOVE:].rstrip(b"\0"), record[SCORE]
-            if has_scores and score > MOST_DISCS:
-                yield Game(number, fault=f"the theoretical score {score} is more than {MOST_DISCS} discs")
-            else:
-                yield Game(number, written.translate(SQUARES), written, score if has_scores else None)
+            game = game_of(number, record)
+            yield game if has_scores else game._replace(score=None)
         if self._file.read(1):
-            yield Game(self.count + 1, fault=f"the file goes on, and the header counts {self.count} games")
+            yield Game(self.count + 1, fault=f"the file goes on, and the header's number of games is {self.count}")
+
+
+def game_of(number: int, record: bytes) -> Game:
+    """The game of a number in a WTHOR file, by its bytes."""
+    written = record[FIRST_MOVE:].rstrip(b"\0")
+    return Game(number, written.translate(SQUARES), written, record[SCORE], record[REAL])
+
+
+def final_score(own: int, opp: int) -> int:
+    """The mover's score of a finished game: discs less the other side's, the empty squares counted for the winner."""
+    mine, theirs = bin(own).count("1"), bin(opp).count("1")
+    return mine - theirs + (64 - mine - theirs) * ((mine > theirs) - (mine < theirs))
+
+
+def discs_of_black(score: int, side: str) -> int:
+    """Black's discs by the score of the mover, who is "X" (black) or "O" (white)."""
+    return 32 + (score if side == "X" else -score) // 2
 
 
 class Player:
@@ -90,26 +144,37 @@ class Player:
     def __init__(self, library: ctypes.CDLL) -> None:
         self._play, self._moves = library.ffosolve_play, library.ffosolve_moves
 
-    def position(self, game: Game, empties: int) -> Tuple[Position, bool]:
-        """The first position of a game with so many empty squares, and whether Black is its mover. The game is played
-        to its end, since a move that is not legal tells that an earlier one may be wrong. Raises Fault."""
+    def play(self, game: Game, empties: int) -> Played:
+        """What a game's first position with so many empty squares is, and how the game ends. It is played to its end,
+        since a move that is not legal tells that an earlier one may be wrong. Raises Fault."""
+        states = list(self._states(game))
+        (own, opp, side), left = states[-1], START.empties + 1 - len(states)
+        if left > empties:
+            told = f"it ends here, with {left} empty square{'s' * (left > 1)}, and {empties} are asked for"
+            raise Fault(told, START.empties - left) if game.moves else Fault("it has no moves")
+        is_over = not self._has_move(CPosition(own, opp)) and not self._has_move(CPosition(opp, own))
+        discs = discs_of_black(final_score(own, opp), side) if is_over else None
+        return Played(Position(*states[START.empties - empties]), discs)
+
+    def positions(self, game: Game) -> List[Position]:
+        """The positions of a game: its start, and that after each move. Raises Fault."""
+        return [Position(*state) for state in self._states(game)]
+
+    def _states(self, game: Game) -> Iterator[Tuple[int, int, str]]:
+        """The masks and the mover's colour of each position."""
         if game.fault is not None:
             raise Fault(game.fault)
-        play, found = self._play, None
-        at, after, is_black, left = CPosition(*START), CPosition(), True, START.empties
+        play, at, after, side = self._play, CPosition(*START), CPosition(), START.side
+        yield (*START, side)
         for index, square in enumerate(game.moves):
-            if left == empties and found is None:
-                found = Position(at.own, at.opp), is_black
             if play(at, square, after):
-                at, is_black = self._passed(at, game, index), not is_black
+                at, side = self._passed(at, game, index), OTHER[side]
                 if square == PASS:
                     continue
                 if play(at, square, after):
                     raise self._fault(at, game, index)
-            at, after, is_black, left = after, at, not is_black, left - 1
-        if left > empties:
-            raise Fault(f"it ends with {left} empty squares", START.empties - left or None)
-        return found or (Position(at.own, at.opp), is_black)
+            at, after, side = after, at, OTHER[side]
+            yield at.own, at.opp, side
 
     def _passed(self, at: CPosition, game: Game, index: int) -> CPosition:
         """The position after the pass that a game has before a move, or as that."""

@@ -1,16 +1,21 @@
 """The program ffosolve-games."""
 import argparse
+import contextlib
+import io
 import os
 import re
+import signal
+import stat
 import sys
-from io import BufferedReader
 from typing import Callable, Iterator, List, Optional, Tuple
 
 from . import __version__
-from ._games import HEADER, Fault, Game, NotGames, Player, Wthor, transcripts
+from ._fixed import Fixed, write_new
+from ._games import HEADER, MOST_DISCS, Fault, Game, NotGames, Played, Player, Wthor, is_wthor, transcripts
 from ._library import MOST_EMPTIES, LibraryNotFound, load
-from ._positions import Position
 from ._published import Comparison, Unfit
+from ._solvers import Solver
+from ._text import NotText, text_lines
 
 NAME = "ffosolve-games"
 DONE, REMARKED, MISUSED, UNREADABLE, NO_LIBRARY, INTERRUPTED = 0, 1, 2, 3, 4, 130
@@ -18,29 +23,35 @@ WHAT = """\
 Prints of each game the position with N empty squares, as a line of OBF.
 
 A FILE is a WTHOR file (.wtb), or a text with one game a line: its squares, as
-f5d6c3, with blanks or none; a pass is left out, or written `pass`, `ps` or
-`--`. A line's comment names the file and the game, which is the text's line or
-the place in the WTHOR file; and the theoretical score where the WTHOR file has
-one for N empty squares. That is Black's discs at the end of perfect play, 0 to
-64, with the empty squares to the winner.
+f5d6c3 or `1. F5 2. D6`, with blanks, commas, hyphens or nothing between them. A
+pass is left out, or written `pass`, `ps`, `pa` or `--`; a result at the end, as
+33-31, is skipped. A line's comment names the file and the game, which is the
+text's line or the place in the WTHOR file; and the theoretical score where the
+WTHOR file has one for N empty squares. That is Black's discs at the end of
+perfect play, 0 to 64, with the empty squares to the winner.
 """
 MORE = """\
 The first position with N empty squares is printed; its mover may have to pass.
 A game with a move that is not legal, or that ends before, has a line on
-standard error in its place.
+standard error in its place. A line there also tells a game of a WTHOR file
+whose real score is not that of its moves, or whose moves stop before the end.
 
 `ffosolve-games compare LIST REPORT` compares the theoretical scores of a list
-with the exact ones.
+with the exact ones, and with --fix writes a WTHOR file that has these.
 
 examples:
   ffosolve-games --empties 20 games.txt >list.obf
-  ffosolve-games WTH_2001.wtb | ffosolve --max-empties 24 >list.report
+
+  ffosolve-games WTH_2001.wtb >list.obf
+  ffosolve-many list.obf --max-empties 24 >list.report
+  ffosolve-games compare list.obf list.report --fix WTH_2001.new.wtb
 
 status:
   0  done
-  1  a game is refused
+  1  a game is refused, or its real score is wrong or can't be checked
   2  the command line is refused, or --empties is missing
-  3  a file can't be read, or is no WTHOR file; or the output can't be written
+  3  a file can't be read, or is no WTHOR file and no text; or the output can't
+     be written
   4  the library can't be found
 """
 WHAT_COMPARE = """\
@@ -52,16 +63,21 @@ Black's discs, 0 to 64, with the empty squares to the winner, as WTHOR files
 have them; the difference is the published score less the exact one.
 """
 MORE_COMPARE = """\
+--fix reads the WTHOR file again that LIST names. A score that is not compared
+stays, and standard error tells how many do.
+
 status:
   0  all theoretical scores are exact
   1  one is not, or its position is refused in REPORT
   2  the command line is refused
-  3  a file can't be read, or REPORT is not of LIST; or the output can't be
-     written
+  3  a file can't be read, or REPORT is not of LIST; or the output or FILE can't
+     be written
+  4  the library can't be found
 
 example:
-  ffosolve-games compare list.obf list.report
+  ffosolve-games compare list.obf list.report --fix WTH_2001.new.wtb
 """
+FIX = "where the WTHOR file of LIST is written with the exact theoretical scores; no such file may be there yet"
 
 
 class Stop(Exception):
@@ -80,28 +96,27 @@ class Output:
     """Standard output. Raises Stop where it can't be written."""
 
     def __enter__(self) -> "Output":
-        try:
-            self._file = open(1, "wb", closefd=False)
-        except OSError as error:
-            raise unwritable(error) from None
+        if sys.stdout is None:
+            raise Stop(UNREADABLE, "cannot write standard output: it is closed")
+        sys.stdout = open(1, "w", closefd=False)  # PYTHONUNBUFFERED's loses what a write on a full disk leaves
         return self
 
     def line(self, text: str) -> None:
         try:
-            self._file.write(os.fsencode(text) + b"\n")
+            sys.stdout.buffer.write(os.fsencode(text) + b"\n")
         except OSError as error:
-            raise unwritable(error) from None
+            raise unwritable("standard output", error) from None
 
     def __exit__(self, *_: object) -> None:
         try:
-            self._file.flush()
+            sys.stdout.flush()
         except OSError as error:
             os.dup2(os.open(os.devnull, os.O_WRONLY), 1)  # for what is left, which Python would try to write at its end
-            raise unwritable(error) from None
+            raise unwritable("standard output", error) from None
 
 
-def unwritable(error: OSError) -> Stop:
-    return Stop(UNREADABLE, f"cannot write standard output: {error.strerror}")
+def unwritable(name: str, error: OSError) -> Stop:
+    return Stop(UNREADABLE, f"cannot write {name}: {error.strerror}")
 
 
 def unreadable(name: str, error: OSError) -> FileRefused:
@@ -109,18 +124,18 @@ def unreadable(name: str, error: OSError) -> FileRefused:
 
 
 def tell(reason: object, status: int) -> int:
-    """Prints a line on standard error, where that is open, and gives the status."""
-    if sys.stderr is not None:
-        print(f"{NAME}: {reason}", file=sys.stderr, flush=True)
+    """Prints a line on standard error, where that can be written, and gives the status."""
+    with contextlib.suppress(OSError):
+        print(f"{NAME}: {reason}", file=sys.stderr or io.StringIO(), flush=True)
     return status
 
 
 def shown(name: str) -> str:
     """A file's name as it is printed, on one line."""
-    return "standard input" if name == "-" else "".join(letter if letter >= " " else "?" for letter in name)
+    return "standard input" if name == "-" else "".join(letter if letter >= " " else "?" for letter in name) or "''"
 
 
-def opened(name: str) -> BufferedReader:
+def opened(name: str) -> io.BufferedReader:
     """A file, or standard input for `-`, to be read. Raises FileRefused."""
     try:
         return open(0 if name == "-" else name, "rb", closefd=name != "-")
@@ -145,72 +160,86 @@ def games_options(words: List[str]) -> argparse.Namespace:
     parser.add_argument("--empties", metavar="N", type=number_of_empties,
                         help=f"the empty squares of the positions, 0 to {MOST_EMPTIES}; those of the theoretical scores "
                              "of a WTHOR file, if not given")
+    parser.add_argument("--fix", metavar="FILE", help=f"with compare: {FIX}")
     parser.add_argument("--version", "-V", action="version", version=f"{NAME} {__version__}")
-    return parser.parse_intermixed_args(words)
+    options = parser.parse_intermixed_args(words)
+    if options.fix is not None:
+        parser.error("--fix goes with compare, which is the first word")
+    return options
 
 
 def compare_options(words: List[str]) -> argparse.Namespace:
     parser = parser_of(f"{NAME} compare", WHAT_COMPARE, MORE_COMPARE)
     parser.add_argument("list", metavar="LIST", help="the list, or `-` for standard input")
     parser.add_argument("report", metavar="REPORT", help="the report, or `-` for standard input")
-    return parser.parse_args(words)
+    parser.add_argument("--fix", metavar="FILE", help=FIX)
+    options = parser.parse_intermixed_args(words)
+    if options.list == options.report == "-":
+        parser.error("LIST and REPORT are both standard input")
+    if options.fix == "-":
+        parser.error("--fix takes a file, and not standard output")
+    return options
 
 
 def main(find: Callable[[], Optional[str]] = lambda: None) -> int:
     """Runs the program with the words of this process's command line, and gives its status. `find` gives the path of the
     library, where that is known."""
+    signal.signal(signal.SIGPIPE, signal.SIG_DFL)  # nobody reads the output any more: that ends the program, and says nothing
     words = sys.argv[1:]
     try:
-        if words[:1] == ["compare"]:
-            return compare(compare_options(words[1:]))
-        return print_games(games_options(words), find)
+        with Output() as output:
+            if words[:1] == ["compare"]:
+                return compare(compare_options(words[1:]), find, output)
+            return print_games(games_options(words), find, output)
+    except LibraryNotFound as why:
+        return tell(why, NO_LIBRARY)
     except Stop as why:
         return tell(why, why.status)
     except KeyboardInterrupt:
         return INTERRUPTED
 
 
-def print_games(options: argparse.Namespace, find: Callable[[], Optional[str]]) -> int:
-    try:
-        player = Player(load(find()))
-    except LibraryNotFound as why:
-        raise Stop(NO_LIBRARY, str(why)) from None
-    status = DONE
-    with Output() as output:
-        for name in options.files or ["-"]:
-            try:
-                with opened(name) as file:
-                    status = max(status, print_file(name, file, options.empties, player, output))
-            except FileRefused as why:
-                status = max(status, tell(why, why.status))
+def print_games(options: argparse.Namespace, find: Callable[[], Optional[str]], output: Output) -> int:
+    player, status = Player(load(find())), DONE
+    for name in options.files or ["-"]:
+        try:
+            with opened(name) as file:
+                status = max(status, print_file(name, file, options.empties, player, output))
+        except FileRefused as why:
+            status = max(status, tell(why, why.status))
     return status
 
 
-def print_file(name: str, file: BufferedReader, wanted: Optional[int], player: Player, output: Output) -> int:
-    """Prints the line of each game of a file, or on standard error why it has none."""
+def print_file(name: str, file: io.BufferedReader, wanted: Optional[int], player: Player, output: Output) -> int:
+    """Prints the line of each game of a file, and on standard error why it has none, and which of its scores are wrong."""
     status = DONE
     try:
         games, empties = games_of(name, file, wanted)
         for game in games:
             try:
-                output.line(line_of(name, game, *player.position(game, empties)))
+                played = player.play(game, empties)
             except Fault as fault:
                 move = "" if fault.move is None else f", move {fault.move}"
                 status = tell(f"{shown(name)}, game {game.number}{move}: {fault}", REMARKED)
+                continue
+            output.line(line_of(name, game, played))
+            for wrong in wrong_scores(game, played):
+                status = tell(f"{shown(name)}, game {game.number}: {wrong}", REMARKED)
     except NotGames as why:
         raise FileRefused(UNREADABLE, f"{shown(name)} is no WTHOR file of games: {why}") from None
+    except NotText as why:
+        raise FileRefused(UNREADABLE, str(why)) from None
     except OSError as error:
         raise unreadable(name, error) from None
     return status
 
 
-def games_of(name: str, file: BufferedReader, wanted: Optional[int]) -> Tuple[Iterator[Game], int]:
+def games_of(name: str, file: io.BufferedReader, wanted: Optional[int]) -> Tuple[Iterator[Game], int]:
     """The games of a file, and how many empty squares their positions have. Raises NotGames and FileRefused."""
-    is_wthor = name.lower().endswith(".wtb") or b"\0" in file.peek(HEADER.size)[: HEADER.size]
-    if not is_wthor:
+    if not is_wthor(name, file.peek(HEADER.size)):
         if wanted is None:
             raise FileRefused(MISUSED, f"{shown(name)} is a text, whose games need --empties N")
-        return transcripts(file), wanted
+        return transcripts(file, shown(name)), wanted
     wthor = Wthor(file)
     if wanted is not None:
         return wthor.games(has_scores=wthor.empties in (0, wanted)), wanted
@@ -220,27 +249,82 @@ def games_of(name: str, file: BufferedReader, wanted: Optional[int]) -> Tuple[It
     return wthor.games(has_scores=True), wthor.empties
 
 
-def line_of(name: str, game: Game, position: Position, is_black: bool) -> str:
+def line_of(name: str, game: Game, played: Played) -> str:
     score = "" if game.score is None else f", theoretical score {game.score}"
-    return f"{position.to_obf('X' if is_black else 'O')} % {shown(name)}, game {game.number}{score}"
+    return f"{played.position.to_obf()} % {shown(name)}, game {game.number}{score}"
 
 
-def compare(options: argparse.Namespace) -> int:
+def wrong_scores(game: Game, played: Played) -> Iterator[str]:
+    """What is wrong about the scores of a game of a WTHOR file, as far as its moves show it."""
+    for kind, score in (("theoretical", game.score), ("real", game.real)):
+        if score is not None and score > MOST_DISCS:
+            yield f"its {kind} score is {score}, more than {MOST_DISCS} discs"
+    if game.real is not None and game.real <= MOST_DISCS and played.discs != game.real:
+        if played.discs is None:
+            yield f"its moves stop before the end of the game, so its real score {game.real} is not checked"
+        else:
+            yield f"its real score is {game.real}, and by its moves it is {played.discs}"
+
+
+def compare(options: argparse.Namespace, find: Callable[[], Optional[str]], output: Output) -> int:
+    path = find()
+    solver = Solver(path)
+    if options.fix is not None and os.path.lexists(options.fix):
+        raise would_be_lost(options.fix)
     try:
-        found = Comparison(lines_of(options.list), lines_of(options.report))
+        found = Comparison(lines_of(options.list), lines_of(options.report), solver.moves)
     except Unfit as why:
         raise Stop(UNREADABLE, f"{shown(options.report)} is no report of {shown(options.list)}: {why}") from None
-    with Output() as output:
-        for game, published, exact in found.differences:
-            output.line(f"{game}: published {published}, exact {exact}, difference {published - exact:+}")
-        output.line(f"compared {found.compared} differ {len(found.differences)} refused {len(found.refusals)}"
-                    f" unscored {found.unscored}")
-    return REMARKED if found.differences or found.refusals else DONE
+    if options.fix is not None:
+        fix(options.fix, found, Player(load(path)))
+    for it in found.differences:
+        told = f"published {it.published}, exact {it.exact}, difference {it.published - it.exact:+}"
+        output.line(f"{it.file}, game {it.game}: {told}")
+    output.line(f"compared {len(found.compared)} differ {len(found.differences)} refused {found.refused}"
+                f" unscored {found.unscored}")
+    return REMARKED if found.differences or found.refused else DONE
 
 
-def lines_of(name: str) -> Iterator[str]:
+def fix(place: str, found: Comparison, player: Player) -> None:
+    """Writes the WTHOR file of a comparison with exact scores."""
+    files = list({it.file for it in found.compared})
+    if not files:
+        raise Stop(UNREADABLE, "no theoretical score is compared, so --fix has none to write")
+    if len(files) > 1:
+        raise Stop(UNREADABLE, f"--fix takes a list of one WTHOR file, and this one is of {len(files)}")
+    (name,) = files
+    with opened_again(name) as source:
+        fixed = Fixed(source, found.compared, player)
+        try:
+            write_new(place, fixed)
+        except FileExistsError:
+            raise would_be_lost(place) from None
+        except (NotGames, Unfit) as why:
+            raise Stop(UNREADABLE, f"{shown(name)} is not the WTHOR file of the list: {why}") from None
+        except OSError as error:
+            raise unwritable(shown(place), error) from None
+    tell(f"{shown(place)}: theoretical scores changed {fixed.changed} of {fixed.games}, not compared {fixed.others}", DONE)
+
+
+def opened_again(name: str) -> io.BufferedReader:
+    """The WTHOR file that a list names. Raises Stop."""
+    try:
+        if not stat.S_ISREG(os.stat(name).st_mode):
+            raise FileRefused(UNREADABLE, f"{shown(name)}, which the list names, is no regular file")
+        return open(name, "rb")
+    except OSError as error:
+        raise FileRefused(UNREADABLE, f"cannot read {shown(name)}, which the list names: {error.strerror}") from None
+
+
+def would_be_lost(name: str) -> Stop:
+    return Stop(UNREADABLE, f"{shown(name)} is there already, and would be overwritten")
+
+
+def lines_of(name: str) -> Iterator[bytes]:
     try:
         with opened(name) as file:
-            yield from map(os.fsdecode, file)
+            yield from text_lines(file, shown(name))
+    except NotText as why:
+        raise FileRefused(UNREADABLE, str(why)) from None
     except OSError as error:
         raise unreadable(name, error) from None

@@ -3,7 +3,7 @@ import ctypes
 import functools
 import os
 import sys
-from typing import List, Optional
+from typing import List, Optional, Union
 
 NAME = "libffosolve.so.1"
 MAJOR = 1
@@ -21,14 +21,6 @@ class CPosition(ctypes.Structure):
 
 class CAnswer(ctypes.Structure):
     _fields_ = [("score", ctypes.c_int32), ("kind", ctypes.c_int32), ("best", ctypes.c_uint64)]
-
-
-class CLine(ctypes.Structure):
-    _fields_ = [("position", CPosition), ("listed", ctypes.c_size_t), ("side", ctypes.c_int32)]
-
-
-class CListed(ctypes.Structure):
-    _fields_ = [("score", ctypes.c_int32), ("kind", ctypes.c_int32), ("square", ctypes.c_uint8)]
 
 
 CScores = ctypes.c_int8 * 64
@@ -50,12 +42,12 @@ def places() -> List[str]:
     return [*filter(os.path.exists, own), NAME, *(os.path.join(prefix, "lib", NAME) for prefix in dict.fromkeys(prefixes))]
 
 
-def load(path: Optional[str] = None) -> ctypes.CDLL:
+def load(path: Union[str, "os.PathLike[str]", None] = None) -> ctypes.CDLL:
     """The library of a path, or else the first that is found."""
     told = []
-    for place in [path] if path is not None else places():
+    for place in [os.path.abspath(path)] if path is not None else places():
         try:
-            return declared(os.path.abspath(place) if os.sep not in place and path is not None else place)
+            return declared(place)
         except OSError as error:
             told.append(str(error))
     hint = "install ffosolve, or name the library by its path or by FFOSOLVE_LIBRARY"
@@ -73,7 +65,6 @@ def declared(place: str) -> ctypes.CDLL:
         "move_scores_all": [to(CPosition), size, number, size, to(CMoveScores), size, to(size)],
         "moves": [CPosition, to(ctypes.c_uint64)],
         "play": [CPosition, ctypes.c_uint8, to(CPosition)],
-        "read_line": [ctypes.c_char_p, size, to(CLine), to(CListed), size, to(size)],
         "limit": [number],
         "version": [],
     }

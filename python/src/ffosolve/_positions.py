@@ -1,27 +1,51 @@
 """Positions, and the lines of OBF text that hold them."""
-import ctypes
-import functools
-import struct
+import re
+import reprlib
 from typing import Callable, Iterable, Iterator, Mapping, NamedTuple, Optional, Tuple, Union
 
-from ._boards import Board
-from ._library import CLine, CListed, load
-from ._refusals import LineRefused, NoMemory, Refused, Status, refusal_of
+from ._answers import Answer
+from ._boards import OTHER, Board, checked_side
+from ._refusals import BadSide, BadSquare, LineRefused, NoMemory, NoPosition, ShortBoard
 from ._squares import NAMES
 
-SIDES = "XO"  # by the numbers of enum ffosolve_side
-MOVES = (NAMES, {64: "PS"}, {64: "--"})  # by the numbers of enum ffosolve_kind, and of squares
-LINE, LISTED = struct.Struct("QQNi"), struct.Struct("iiB3x")  # CLine, of which the last bytes are left out, and CListed
+BLANKS = b" \t"
+LINE = re.compile(rb"[ \t]*([Xx*BbOoWw.-]{64})[ \t]*([Xx*BbOoWw])([^%]*)")
+SQUARES = re.compile(rb"[Xx*BbOoWw.-]{0,64}")
+MOVES = {name.encode(): name for name in (*NAMES, "PS", "--")}
+LISTED = re.compile(rb"(?:\A|;)[ \t]*([A-Ha-h][1-8]|[Pp][Ss]|--):([+-]?[0-9]{1,2})[ \t]*(?=;|\Z)")
+MOST_SCORE = 64
 
 
-class Position(NamedTuple):
-    """The masks of the mover's discs (the mover is the side to move) and of the other side's.
+def bits_of(letters: bytes) -> bytes:
+    """A table that makes 1 of these letters, and 0 of all others."""
+    return bytes(b"01"[byte in letters] for byte in range(256))
 
-    Square A1 is bit 0 of a mask and H8 bit 63. Any two numbers can be put in; a Solver refuses what is no position.
-    """
+
+BLACK, WHITE = bits_of(b"Xx*Bb"), bits_of(b"OoWw")
+
+
+class Masks(NamedTuple):
+    """The masks of a position, without the mover's colour."""
 
     own: int
     opp: int
+
+
+class Position(Masks):
+    """The masks of the mover's discs (the mover is the side to move) and of the other side's, and the mover's colour.
+
+    Square A1 is bit 0 of a mask and H8 bit 63. Any two numbers can be put in; a Solver refuses what is no position.
+    `side` is the mover's colour, "X" (black) or "O" (white): positions are printed and shown in their colours, and no
+    answer depends on them, so positions with equal masks are equal. Raises ValueError for another side.
+    """
+
+    side: str = "X"
+
+    def __new__(cls, own: int, opp: int, side: str = "X") -> "Position":
+        position = super().__new__(cls, own, opp)
+        if side != "X":
+            position.side = checked_side(side)
+        return position
 
     @classmethod
     def from_obf(cls, text: Union[str, bytes]) -> "Line":
@@ -30,97 +54,100 @@ class Position(NamedTuple):
 
         Black is one of `X x * B b`, white one of `O o W w`, and an empty square `-` or `.`. Blanks before the squares
         and before the side are skipped. Raises NoPosition, ShortBoard, BadSquare and BadSide, which are ValueErrors, and
-        NoMemory. The library reads the line: the one that a Solver has loaded, or else the first that is found.
+        NoMemory. No library is needed.
         """
-        reader = Reader()
-        status, line = reader.read(without_end(text), None)
-        if line is None:
-            raise reader.refusal(status, None)
-        return line
+        return read_line(text, None)
 
-    def to_obf(self, side: str = "X") -> str:
-        """The position as an OBF line in which the mover has X, or O: 64 squares, and ` X;` or ` O;`."""
-        return "".join(Board(self.own, self.opp, side).letters) + f" {side};"
+    def to_obf(self, side: Optional[str] = None) -> str:
+        """The position as an OBF line: 64 squares, and ` X;` or ` O;`. The mover has its own colour, or that of
+        `side`."""
+        board = self.show(side=side)
+        return "".join(board.letters) + f" {board.side};"
 
     @property
     def empties(self) -> int:
         """How many squares are empty."""
         return 64 - bin(self.own | self.opp).count("1")
 
-    def show(self, scores: Optional[Mapping[str, int]] = None, side: Optional[str] = None) -> Board:
+    def show(self, scores: Union[Mapping[str, int], Answer, None] = None, side: Optional[str] = None) -> Board:
         """The board, which a notebook shows as a picture and print() as a text. Of `scores`, as `Solver.move_scores` gives
-        them, each is written into its square, and the best ones are marked. `side` is the mover's colour, "X" (black) or
-        "O" (white); without it that of a Line, and else black. Raises ValueError for another side, and for a score where
-        no square is empty."""
-        known: str = getattr(self, "side", "X")
-        return Board(self.own, self.opp, known if side is None else side, scores)
+        them, each is written into its square, and the best ones are marked; of an Answer, its score at each best move.
+        The mover has its own colour, or that of `side`. Raises ValueError for another side, and for a score where no
+        square is empty, and TypeError for other scores."""
+        if isinstance(scores, Answer):
+            scores = dict.fromkeys(scores.squares, scores.score)
+        elif scores is not None and not isinstance(scores, Mapping):
+            told = "scores are an Answer, or by squares' names as move_scores gives them"
+            raise TypeError(f"{told}, and not {reprlib.repr(scores)}")
+        return Board(self.own, self.opp, self.side if side is None else side, scores)
 
     def __str__(self) -> str:
         return str(self.show())
+
+    def __repr__(self) -> str:
+        told = super().__repr__()
+        return told if self.side == "X" else f"{told[:-1]}, side={self.side!r})"
+
+    def _replace(self, **masks: int) -> "Position":
+        return Position(*super()._replace(**masks), self.side)
+
+    __replace__ = _replace
 
     def _repr_svg_(self) -> str:
         return self.show()._repr_svg_()
 
     def passed(self) -> "Position":
         """The position after a pass: the other side is the mover."""
-        return Position(self.opp, self.own)
+        return Position(self.opp, self.own, OTHER[self.side])
 
 
 class Line(Position):
-    """A position that a line of OBF text holds, which equals the bare position, and what else the line says.
+    """A position that a line of OBF text holds, and what else the line says.
 
-    `side` is the side to move, "X" (black) or "O" (white). `listed` has the moves that the line lists, in their order,
-    each with its score from -64 to 64: `(("H1", 62), ("A1", 52))`; "PS" is a pass, and "--" the end of the game. They
-    are as the line has them, right or wrong. `number` is that of the line, from 1, where many were read, else None.
+    `listed` has the moves that the line lists, in their order, each with its score from -64 to 64:
+    `(("H1", 62), ("A1", 52))`; "PS" is a pass, and "--" the end of the game. They are as the line has them, right or
+    wrong. `number` is that of the line, from 1, where many were read, else None.
     """
 
-    side: str = "X"
     listed: Tuple[Tuple[str, int], ...] = ()
     number: Optional[int] = None
 
 
-@functools.lru_cache(maxsize=None)
-def read_line_call() -> Callable[..., int]:
-    """The call of the library that is found; one that a Solver has loaded by its path is found by its name."""
-    call: Callable[..., int] = load().ffosolve_read_line
-    return call
+def read_line(text: Union[str, bytes], number: Optional[int]) -> Line:
+    """The position of a line of a number, of which the refusals tell."""
+    try:
+        found = LINE.match(without_end(text))
+        if found is None:
+            raise fault_of(without_end(text), number)
+        letters, side, rest = found.groups()
+        squares = letters[::-1]
+        black, white = int(squares.translate(BLACK), 2), int(squares.translate(WHITE), 2)
+        line = Line(black, white) if side in b"Xx*Bb" else Line(white, black, "O")
+        line.number = number
+        if rest:
+            listed = [(MOVES[move.upper()], int(score)) for move, score in LISTED.findall(rest)]
+            line.listed = tuple([it for it in listed if -MOST_SCORE <= it[1] <= MOST_SCORE])
+        return line
+    except MemoryError:
+        raise NoMemory() from None
 
 
-class Reader:
-    """Calls of ffosolve_read_line that write to one place."""
-
-    def __init__(self) -> None:
-        self._call = read_line_call()
-        self._line, self.at = CLine(), ctypes.c_size_t()
-        self._make_room(32)
-
-    def _make_room(self, room: int) -> None:
-        self._room, self._bytes = room, bytearray(room * LISTED.size)
-        self._listed = (CListed * room).from_buffer(self._bytes)
-
-    def read(self, text: bytes, number: Optional[int]) -> Tuple[int, Optional[Line]]:
-        """The status of a line, and its position, if that is DONE."""
-        status = self._call(text, len(text), self._line, self._listed, self._room, self.at)
-        if status != 0:
-            return status, None
-        own, opp, count, side = LINE.unpack_from(self._line)
-        if count > self._room:
-            self._make_room(count)
-            return self.read(text, number)
-        line = Line(own, opp)
-        line.side, line.number = SIDES[side], number
-        if count:
-            listed = LISTED.iter_unpack(memoryview(self._bytes)[: count * LISTED.size])
-            line.listed = tuple([(MOVES[kind][square], score) for score, kind, square in listed])
-        return status, line
-
-    def refusal(self, status: int, number: Optional[int]) -> Refused:
-        """Why the line of a number that was read last holds no position, by its status."""
-        return NoMemory() if status == Status.NO_MEMORY else refusal_of(status, self.at.value, number)
+def fault_of(line: bytes, number: Optional[int]) -> LineRefused:
+    """Why a line holds no position: the first fault from the left."""
+    content = line.lstrip(BLANKS)
+    if not content or content.startswith(b"%"):
+        return NoPosition(0, number)
+    start = len(line) - len(content)
+    squares = SQUARES.match(content).end()  # type: ignore[union-attr]
+    if squares < 64:
+        return ShortBoard(squares, number) if squares == len(content) else BadSquare(start + squares + 1, number)
+    return BadSide(len(line) - len(content[64:].lstrip(BLANKS)) + 1, number)
 
 
 def without_end(text: Union[str, bytes]) -> bytes:
     """The bytes of a line without its end: an LF, and a CR before it."""
+    if not isinstance(text, (str, bytes, bytearray)):
+        raise TypeError(f"a line of OBF text is of the type str or bytes, and not {type(text).__name__}")
     line = text.encode("utf-8", "surrogatepass") if isinstance(text, str) else text
     if line[-1:] == b"\n":
         line = line[:-1]
@@ -143,13 +170,14 @@ def read_lines(
         lines = lines.encode("utf-8", "surrogatepass")
     if isinstance(lines, (bytes, bytearray)):
         lines = bytes(lines).split(b"\n")
-    reader = Reader()
     for number, text in enumerate(lines, 1):
-        status, line = reader.read(without_end(text), number)
-        if line is not None:
-            yield line
-        elif status != Status.SKIPPED:
-            error = reader.refusal(status, number)
-            if refused is None or not isinstance(error, LineRefused):
-                raise error
+        try:
+            line = read_line(text, number)
+        except NoPosition:
+            continue
+        except LineRefused as error:
+            if refused is None:
+                raise
             refused(error)
+        else:
+            yield line

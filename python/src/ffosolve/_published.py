@@ -1,82 +1,154 @@
 """Published scores: the list of ffosolve-games is joined with the report of its solved positions."""
+import os
 import re
-from typing import Dict, Iterable, Iterator, NamedTuple, Optional, Union
+from typing import Callable, Dict, Iterable, List, NamedTuple, Optional, Tuple
 
-LISTED = re.compile(r"[^%]{64}[ \t]*([Xx*BbOoWw])[^%]*% (.+, game [0-9]+)(?:, theoretical score ([0-9]+))?")
-ROW = re.compile(r"([0-9]+) (?:([+-][0-9]{2}) \S+ \w+|refused: (.+))")
-LAST = re.compile("solved [0-9]+ refused [0-9]+")
+from ._games import discs_of_black, final_score
+from ._positions import Line, Position
+from ._refusals import LineRefused, NoPosition
+from ._squares import square_names
+
+COMMENT = re.compile(r"[^%]*% (.+), game ([0-9]{1,10})(?:, theoretical score ([0-9]{1,3}))?")
+ROW = re.compile(r"([0-9]{1,18}) (?:([+-][0-9]{2}) ([A-H][1-8](?:,[A-H][1-8])*|PS|--) (\w+)|refused: (.+))")
+EMPTIES = re.compile("([0-9]{1,2}) empties, limit [0-9]{1,2}")
+LAST = re.compile("solved ([0-9]{1,18}) refused ([0-9]{1,18})")
 
 
 class Unfit(Exception):
-    """Why a list and a report can't be joined."""
+    """Why a list and a report, or the WTHOR file of the list, can't be joined."""
 
 
-class Published(NamedTuple):
-    """A theoretical score of a list: Black's discs, with the empty squares to the winner."""
+class Listed(NamedTuple):
+    """A line of a list: its position, or why it is refused, and what the comment says."""
 
-    game: str  # the file, and the game's number
-    score: int
-    is_black: bool  # whether Black is the position's mover
+    position: Optional[Line]
+    refusal: str = ""
+    file: str = ""
+    game: int = 0
+    score: Optional[int] = None  # the theoretical one: Black's discs, with the empty squares to the winner
 
 
-class Difference(NamedTuple):
-    """A theoretical score that is not the exact one, in Black's discs."""
+class Row(NamedTuple):
+    """A row of a report: the mover's score, the best moves and the word, or why the line is refused."""
 
-    game: str
+    score: Optional[int]
+    best: List[str]
+    word: str
+    refusal: str
+
+
+class Compared(NamedTuple):
+    """A theoretical score and the exact one, in Black's discs."""
+
+    position: Line
+    file: str
+    game: int
     published: int
     exact: int
 
 
 class Comparison:
-    """What a list's theoretical scores are by a report of it. Raises Unfit."""
+    """What a list's theoretical scores are by a report of it. `moves` gives the mask of a position's moves. Raises
+    Unfit."""
 
-    def __init__(self, listed: Iterable[str], report: Iterable[str]) -> None:
-        published, rows = read_list(listed), read_report(report)
-        for line in sorted(published.keys() ^ rows.keys()):
-            raise Unfit(f"line {line} of the list " + ("is no position" if line in rows else "has no row in the report"))
-        scored = {line: it for line, it in published.items() if it is not None}
-        if published and not scored:
+    def __init__(self, listed: Iterable[bytes], report: Iterable[bytes], moves: Callable[[Position], int]) -> None:
+        lines, rows = read_list(listed), read_report(report)
+        self.compared: List[Compared] = []
+        self.refused = self.unscored = 0
+        for number in sorted(lines.keys() | rows.keys()):
+            line, row = fitting(number, lines.get(number), rows.get(number), moves)
+            if line.score is None:
+                self.unscored += 1
+            elif row.score is None or line.position is None:
+                self.refused += 1
+            else:
+                exact = discs_of_black(row.score, line.position.side)
+                self.compared.append(Compared(line.position, line.file, line.game, line.score, exact))
+        if not self.compared and not self.refused:
             raise Unfit("no line of the list has a theoretical score")
-        self.unscored = len(published) - len(scored)
-        self.refusals = {line: rows[line] for line in scored if isinstance(rows[line], str)}
-        self.compared = len(scored) - len(self.refusals)
-        self.differences = list(differences(scored, rows))
+        self.differences = [it for it in self.compared if it.published != it.exact]
 
 
-def read_list(lines: Iterable[str]) -> Dict[int, Optional[Published]]:
-    """What is published of the position in each line; None where nothing is."""
-    found: Dict[int, Optional[Published]] = {}
-    for number, line in enumerate(lines, 1):
-        text = line.strip(" \t\r\n")
-        if text and text[0] != "%":
-            match = LISTED.fullmatch(text)
-            found[number] = None
-            if match is not None and match[3] is not None:
-                found[number] = Published(match[2], int(match[3]), match[1] in "Xx*Bb")
+def read_list(lines: Iterable[bytes]) -> Dict[int, Listed]:
+    """The lines of a list that are no comment and not blank, by their numbers."""
+    found: Dict[int, Listed] = {}
+    for number, text in enumerate(lines, 1):
+        try:
+            position = Position.from_obf(text)
+        except NoPosition:
+            continue
+        except LineRefused as why:
+            found[number] = Listed(None, str(why))
+            continue
+        found[number] = Listed(position)
+        match = COMMENT.fullmatch(os.fsdecode(text.rstrip(b"\r\n")))
+        if match is not None:
+            published = int(match[3]) if match[3] else None
+            found[number] = Listed(position, "", match[1], int(match[2]), published)
     return found
 
 
-def read_report(lines: Iterable[str]) -> Dict[int, Union[int, str]]:
-    """The score in each row of a report of one list, or why its line was refused."""
-    texts = [line.rstrip("\r\n") for line in lines]
-    if len(texts) < 2 or texts[0] != "[1]" or not LAST.fullmatch(texts[-1]):
-        raise Unfit("the report is not whole, or none of one list")
-    found: Dict[int, Union[int, str]] = {}
+def read_report(lines: Iterable[bytes]) -> Dict[int, Row]:
+    """The rows of a report of one list, by the numbers of the list's lines."""
+    texts = [os.fsdecode(line.rstrip(b"\r\n")) for line in lines]
+    if not texts or texts[0] != "[1]":
+        raise Unfit("the report does not begin with the line `[1]`" if texts else "the report is empty")
+    last = LAST.fullmatch(texts[-1])
+    if last is None:
+        raise Unfit("the report does not end with the line `solved N refused N`, so it is not whole")
+    found: Dict[int, Row] = {}
     for place, text in enumerate(texts[1:-1], 2):
         match = ROW.fullmatch(text)
         if match is None:
-            raise Unfit(f"line {place} of the report is no row of one list")
-        found[int(match[1])] = int(match[2]) if match[2] else match[3]
+            raise Unfit("the report is of several lists" if LAST.fullmatch(text) else f"line {place} of the report is no row")
+        number, score, best, word, refusal = match.groups("")
+        if int(number) in found:
+            raise Unfit(f"line {place} of the report is a second row of line {number} of the list")
+        found[int(number)] = Row(None if refusal else int(score), best.split(","), word, refusal)
+    refused = sum(row.score is None for row in found.values())
+    if (len(found) - refused, refused) != (int(last[1]), int(last[2])):
+        raise Unfit(f"the report ends with `{texts[-1]}`, and has {len(found)} rows, of which {refused} are refused")
     return found
 
 
-def differences(scored: Dict[int, Published], rows: Dict[int, Union[int, str]]) -> Iterator[Difference]:
-    for line, it in scored.items():
-        score = rows[line]
-        if isinstance(score, str):
-            continue
-        if score % 2:
-            raise Unfit(f"the score of line {line} is odd, so the report is of another scoring than winner")
-        exact = 32 + (score if it.is_black else -score) // 2
-        if exact != it.score:
-            yield Difference(it.game, it.score, exact)
+def fitting(
+    number: int, line: Optional[Listed], row: Optional[Row], moves: Callable[[Position], int]
+) -> Tuple[Listed, Row]:
+    """A line of a list and its row, of which nothing shows that they are of different lists. Raises Unfit."""
+    if line is None:
+        raise Unfit(f"line {number} of the list is no position, and the report has a row of it")
+    if row is None:
+        raise Unfit(f"line {number} of the list has no row in the report")
+    if line.position is None or row.score is None:
+        why = other_refusal(line, row)
+    else:
+        why = other_answer(line.position, row.score, row, moves)
+    if why:
+        raise Unfit(f"line {number} of the list {why}")
+    return line, row
+
+
+def other_refusal(line: Listed, row: Row) -> str:
+    """What shows that a row is not of a line, one of which is refused; nothing where they fit."""
+    said = row.refusal or "that it is solved"
+    if line.position is None:
+        return "" if row.refusal == line.refusal else f"is refused: {line.refusal}; and the report says: {said}"
+    match = EMPTIES.fullmatch(said)
+    if match is not None and int(match[1]) == line.position.empties:
+        return ""
+    return f"has {line.position.empties} empty squares, and the report says: {said}"
+
+
+def other_answer(position: Line, score: int, row: Row, moves: Callable[[Position], int]) -> str:
+    """What shows that a row is not of a position; nothing where they fit."""
+    legal = square_names(moves(position)) or (["PS"] if moves(position.passed()) else ["--"])
+    for name in row.best:
+        if name not in legal:
+            return f"has no legal move {name}, which the report calls best"
+    if (row.word == "unlisted") != (not position.listed):
+        return f"lists {'a move' if position.listed else 'no move'}, and the report says {row.word}"
+    if score % 2 or abs(score) > 64:
+        return f"has the score {score:+03} in the report, which is of another scoring than winner"
+    if row.best == ["--"] and score != final_score(position.own, position.opp):
+        return f"is the end of a game with the score {final_score(position.own, position.opp):+03}, and not {score:+03}"
+    return ""

@@ -23,13 +23,13 @@ class Status(enum.IntEnum):
 
 
 class Refused(Exception):
-    """A call was refused. `index` is that of the position to blame, where the call was for a list, else None."""
+    """A call was refused. `index` is that of the position to blame, from 0, where the call was for a list, else None."""
 
     status: int  # a Status, but of an OtherRefusal
     reason: str
 
     def __init__(self, index: Optional[int] = None) -> None:
-        super().__init__(self.reason if index is None else f"position {index + 1}: {self.reason}")
+        super().__init__(self.reason if index is None else f"position at index {index}: {self.reason}")
         self.index = index
 
     def __reduce__(self) -> Tuple[Type["Refused"], Tuple[Optional[int], ...]]:

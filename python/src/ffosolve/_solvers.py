@@ -5,13 +5,18 @@ import enum
 import itertools
 import math
 import operator
+import os
+import reprlib
 import struct
 from typing import TYPE_CHECKING, Any, Callable, Dict, Iterable, Iterator, List, Optional, Sequence, Tuple, TypeVar, Union
 
 from ._answers import Answer, Kind
+from ._boards import OTHER
 from ._bulk import Part, checked_threads, empties_of, in_order, parts_of
+from ._games import Fault, Game, Player
 from ._library import MOST_EMPTIES, MOST_ENTRIES, CAnswer, CMoveScores, CPosition, load
 from ._positions import Position
+from ._read_games import refusal_of_game
 from ._refusals import Refused, Status, TooManyEntries, UnknownScoring, refusal_of
 from ._squares import NAMES, square_number
 
@@ -54,7 +59,7 @@ class Solver:
 
     def __init__(
         self,
-        library: Optional[str] = None,
+        library: Union[str, "os.PathLike[str]", None] = None,
         *,
         scoring: Union[Scoring, int] = Scoring.WINNER,
         entries: Optional[int] = None,
@@ -84,7 +89,7 @@ class Solver:
         """The answer of a position. Raises SharedSquare, TooManyEmpties and NoMemory, and ValueError for a mask that is
         no number from 0 to 2**64 - 1."""
         answer = CAnswer()
-        entries = self._entries_for(empties_of(*position))
+        entries = self._entries_for(empties_of(position))
         accept(self._library.ffosolve_solve(given(position), self._scoring, entries, answer))
         return Answer(answer.score, KINDS[answer.kind], answer.best)
 
@@ -92,15 +97,17 @@ class Solver:
         """The answer of a position, for which a claim is tested first. Any claim may be made; it is right if it equals
         the answer. It pays for claims that are mostly right, from 10 empty squares on with a table. Raises what
         `solve` does."""
-        answer, claimed = CAnswer(), CAnswer(claim.score, claim.kind, claim.best)
-        entries = self._entries_for(empties_of(*position))
+        if not isinstance(claim, Answer):
+            raise TypeError(f"a claim is an Answer(score, kind, best), and not {reprlib.repr(claim)}")
+        answer, claimed = CAnswer(), CAnswer(*claim)
+        entries = self._entries_for(empties_of(position))
         accept(self._library.ffosolve_confirm(given(position), self._scoring, entries, claimed, answer))
         return Answer(answer.score, KINDS[answer.kind], answer.best)
 
     def move_scores(self, position: Position) -> Dict[str, int]:
         """The score of each of the mover's moves as the mover sees it, by the square's name, in the order A1, B1, ..
         H8; empty where the mover has none. All by searches over one table. Raises what `solve` does."""
-        found, refusal = self._score_part(Part(0, empties_of(*position), [position]))
+        found, refusal = self._score_part(Part(0, empties_of(position), [position]))
         if refusal is not None:
             raise type(refusal)()
         return found[0]
@@ -151,12 +158,24 @@ class Solver:
 
     def play(self, position: Position, square: Union[int, str]) -> Position:
         """The position after the mover moved to a square, which is a number from 0 to 63 or a name as "H1": the other
-        side is the mover then. Raises SharedSquare and NoMove."""
+        side, in its own colour, is the mover then. Raises SharedSquare and NoMove."""
         after = CPosition()
         number = square_number(square) if isinstance(square, str) else operator.index(square)
         asked = given(position)
         accept(self._library.ffosolve_play(asked, number if 0 <= number < 64 else 255, after))
-        return Position(after.own, after.opp)
+        return Position(after.own, after.opp, OTHER[getattr(position, "side", "X")])
+
+    def positions(self, game: Union[Game, str]) -> List[Position]:
+        """The positions of a game, or of a transcript: the start, and that after each move, so that the one at index n
+        has 60 - n empty squares. A pass has none: where the mover has to pass, the position is that before it. Raises
+        GameRefused where a move is not legal, or no square."""
+        game = Game.of_text(game) if isinstance(game, str) else game
+        if not isinstance(game, Game):
+            raise TypeError(f"a game is a Game or the text of a transcript, and not {reprlib.repr(game)}")
+        try:
+            return Player(self._library).positions(game)
+        except Fault as fault:
+            raise refusal_of_game(game, fault) from None
 
     def _entries_for(self, empties: int) -> int:
         return table_entries(empties) if self._entries is None else self._entries
@@ -217,6 +236,7 @@ def one_by_one(parts: "Iterable[Results[A]]") -> Iterator[A]:
 
 
 def given(position: Sequence[int]) -> CPosition:
+    empties_of(position)  # refuses what is none
     found: CPosition = c_positions([position])[0]
     return found
 

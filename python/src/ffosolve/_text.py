@@ -1,0 +1,25 @@
+"""Texts: how their lines are read, and what is refused."""
+from typing import BinaryIO, Iterator
+
+MOST_BYTES = 1_048_576  # of a line with its end, as of a whole list of ffosolve
+MARKS = (b"\xef\xbb\xbf", b"\xff\xfe", b"\xfe\xff")  # of UTF-8 and UTF-16
+
+
+class NotText(Exception):
+    """Why a text is refused, with its name."""
+
+
+def text_lines(file: BinaryIO, name: str) -> Iterator[bytes]:
+    """The lines of a text, each with its end. No more than MOST_BYTES are read of one, but for a byte. Raises NotText."""
+    number, line = 1, file.readline(MOST_BYTES + 1)
+    if line.startswith(MARKS):
+        raise NotText(f"cannot read {name}: it begins with a byte-order mark")
+    if not line.endswith(b"\n") and b"\r" in line.rstrip():
+        raise NotText(f"cannot read {name}: its lines end with CR alone")
+    while line:
+        if len(line) > MOST_BYTES:
+            raise NotText(f"cannot read {name}: its line {number} has more than {MOST_BYTES} bytes")
+        if b"\0" in line:
+            raise NotText(f"cannot read {name}: its line {number} has a NUL, which no text has")
+        yield line
+        number, line = number + 1, file.readline(MOST_BYTES + 1)
