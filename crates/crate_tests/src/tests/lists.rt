@@ -67,29 +67,45 @@ impl Write for SlowWriter {
     }
 }
 
-// Whether a front is printed where so many calls are left, each line sent on as soon as it is
+// The first line of what is printed, which is sent on by itself.
+const FIRST: usize = 12;
+
+// How many bytes of a line are taken by so many calls that are not interrupted.
+fn taken_of(len: usize, calls: usize) -> usize {
+    len.min(calls.saturating_mul(3))
+}
+
+// How many bytes are taken by so many calls, every other of which is interrupted.
+fn taken_by(calls: usize) -> usize {
+    let takes = calls / 2;
+    let second = TWO_PRINTED.len().saturating_sub(FIRST);
+    let behind = taken_of(second, takes.saturating_sub(FIRST / 3));
+    taken_of(FIRST, takes).saturating_add(behind)
+}
+
+// Whether just the front is printed that so many calls take, each line sent on as soon as it is
 // whole, and the fault told.
 fn stops_so<R: Threads + Wait>(rt: &R, alloc: Global, calls_left: u32) -> Result<bool, AllocError> {
     let mut writer = SlowWriter {
-        held: Vec::new(alloc),
+        held: Vec::with_capacity(alloc, TWO_PRINTED.len())?,
         calls_left,
         flushed: 0,
     };
     let ended = print_text(rt, alloc, &mut writer, TWO)?;
-    let first = 12;
-    let sent = if writer.held.len() == TWO_PRINTED.len() {
-        TWO_PRINTED.len()
-    } else if writer.held.len() >= first {
-        first
+    let taken = taken_by(calls_left as usize);
+    let (sent, told) = if taken == TWO_PRINTED.len() {
+        (taken, Ok(false))
+    } else if taken >= FIRST {
+        (FIRST, Err(ListFault::CannotWrite))
     } else {
-        0
+        (0, Err(ListFault::CannotWrite))
     };
-    let told = if sent == TWO_PRINTED.len() {
-        Ok(false)
-    } else {
-        Err(ListFault::CannotWrite)
-    };
-    Ok(ended == told && TWO_PRINTED.starts_with(&writer.held) && writer.flushed == sent)
+    Ok(
+        ended == told
+            && writer.held.len() == taken
+            && TWO_PRINTED.starts_with(&writer.held)
+            && writer.flushed == sent,
+    )
 }
 
 #[test]
