@@ -18,7 +18,7 @@ use std::process::Abort;
 // before one in front of it.
 #[derive(Drop)]
 struct OrderNoter {
-    children: ArrayVec<Pos, 8>,
+    children: ArrayVec<Option<Pos>, 8>,
     met: Cell<usize>,
     is_mixed: Cell<bool>,
 }
@@ -32,7 +32,11 @@ impl Bounds for OrderNoter {
 
     fn probe(&self, position: &Pos) -> Option<Range> {
         let met = self.met.get();
-        match self.children.iter().position(|child| child == position) {
+        let index = self
+            .children
+            .iter()
+            .position(|child| *child == Some(*position));
+        match index {
             Some(index) if index == met => self.met.set(met.wrapping_add(1)),
             Some(index) if index > met => self.is_mixed.set(true),
             _ => {}
@@ -54,7 +58,7 @@ fn are_searched_so(rt: &impl Abort, discs: Discs, names: &[&[u8]]) -> bool {
     };
     for name in names {
         let child = after(rt, position, square_of(rt, name));
-        let _ = noter.children.try_push(child);
+        let _ = noter.children.try_push(Some(child));
     }
     value_in(&noter, position, 63, 64) < 64
         && position.moves().count_ones() as usize == names.len()
