@@ -76,7 +76,7 @@ WRONG = [
     ("text || length", "text || room"),
     ("listed || room", "listed || length"),
 ]
-LIMITS = ("ENTRIES", "EMPTIES")
+LIMITS = {"ENTRIES": "4194304", "EMPTIES": "60"}  # as callers are promised
 LINES = 10_000  # odd ones
 REFUSED = ("board has N of N squares", "bad square at column N", "bad side at column N", "N empties, limit N")
 SMALL, LARGE = 9, 10  # positions of examples/masks.txt, without the one of 20 empty squares and with it
@@ -326,10 +326,8 @@ class Calls(unittest.TestCase):
     SOURCE = TESTS / "library_calls.c"
 
     def setUp(self):
-        limits = (re.search(rf"^#define FFOSOLVE_MOST_{name} (\d+)$", PREFIX.text, re.MULTILINE)[1] for name in LIMITS)
-        values = zip(("VERSION", "NUMBER", *LIMITS), (PREFIX.version, str(PREFIX.number), *limits))
         self.wanted = (TESTS / "library_calls.txt").read_text()
-        for name, value in values:
+        for name, value in {"VERSION": PREFIX.version, "NUMBER": str(PREFIX.number), **LIMITS}.items():
             self.wanted = self.wanted.replace(f"@{name}@", value)
 
     def test_from_c_and_cxx(self):
