@@ -76,7 +76,6 @@ WRONG = [
     ("text || length", "text || room"),
     ("listed || room", "listed || length"),
 ]
-LIMITS = {"ENTRIES": "4194304", "EMPTIES": "60"}  # as callers are promised
 LINES = 10_000  # odd ones
 REFUSED = ("board has N of N squares", "bad square at column N", "bad side at column N", "N empties, limit N")
 SMALL, LARGE = 9, 10  # positions of examples/masks.txt, without the one of 20 empty squares and with it
@@ -327,7 +326,7 @@ class Calls(unittest.TestCase):
 
     def setUp(self):
         self.wanted = (TESTS / "library_calls.txt").read_text()
-        for name, value in {"VERSION": PREFIX.version, "NUMBER": str(PREFIX.number), **LIMITS}.items():
+        for name, value in (("VERSION", PREFIX.version), ("NUMBER", str(PREFIX.number))):
             self.wanted = self.wanted.replace(f"@{name}@", value)
 
     def test_from_c_and_cxx(self):
