@@ -162,6 +162,9 @@ class Files(Books):
             put(name, b"of another")
         self.solves(REFUSED)
         self.assertEqual((content("it.book"), content("it.book.part")), (OLD, b"of another"))
+        os.remove("it.book.99.part")
+        self.solves(DONE)
+        self.assertEqual((content("it.book"), os.path.exists("it.book.99.part")), (BOOK, False))
 
     def test_what_comes_meanwhile_stays(self):
         """The report is more than a pipe holds, so the program waits for its reader: the place is tried by then, and the name
