@@ -8,11 +8,12 @@ import shutil
 import signal
 import stat
 import subprocess
+import sys
 import tempfile
 import unittest
 from pathlib import Path
 
-from tests.support import SECONDS, InFolder, built, limit, preload, run, stored
+from tests.support import ROOT, SECONDS, InFolder, built, limit, preload, run, stored
 
 TEXT = stored("examples", "first.obf")
 BOOK = stored("examples", "first.book")
@@ -85,6 +86,14 @@ class Files(Books):
                 run(PROGRAM, *words, input=list_of_one, check=True)
                 book = b"%% ffobook 2 %s\n%s X; G8:%s;\n" % (scoring.encode(), b"X" * 57 + b"OOOOO--", score)
                 self.assertEqual((content("it.book"), content("read.book")), (book, BOOK))
+
+    def test_book_of_many_positions(self):
+        """A thousand random positions, no two of which are alike; the book is read again."""
+        put("list", run(sys.executable, ROOT / "bench/positions", 1000, 3, 6, check=True).stdout)
+        run(PROGRAM, "--book-out", "it.book", "list", check=True)
+        self.assertEqual(len(content("it.book").splitlines()), 1 + 1000)
+        run(PROGRAM, "--book-in", "it.book", "--book-out", "again.book", "list", check=True)
+        self.assertEqual(content("again.book"), content("it.book"))
 
     def test_old_file_keeps_its_permissions(self):
         """A new file takes its place: a second name of it has what it had."""
