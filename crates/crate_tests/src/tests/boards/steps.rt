@@ -235,17 +235,17 @@ fn are_submitted(rt: &impl Abort, board: &mut Board) -> Result<bool, AllocError>
 
 // Whether so many jobs are taken, each before those behind it.
 fn are_taken_in_order(board: &mut Board, count: u32) -> bool {
-    let mut last: Option<Job> = None;
-    for _ in 0..count {
+    let Some(mut last) = board.take() else {
+        return false;
+    };
+    for _ in 1..count {
         let Some(job) = board.take() else {
             return false;
         };
-        if let Some(before) = last {
-            if !is_before(before, job) {
-                return false;
-            }
+        if !is_before(last, job) {
+            return false;
         }
-        last = Some(job);
+        last = job;
     }
     true
 }
