@@ -41,18 +41,24 @@ int main(void) {
     ffosolve_line line = {{0, 0}, 0, 0};
     ffosolve_listed listed = {0, 0, 0};
     size_t at = 0;
-    int32_t statuses[8];
+    int32_t statuses[14];
     statuses[0] = ffosolve_solve_all_or_null(NULL, 0, 1, 64, NULL, 0, NULL);
     statuses[1] = ffosolve_read_line_or_null(NULL, 0, &line, NULL, 0, NULL);
-    statuses[6] = ffosolve_move_scores_all_or_null(NULL, 0, 1, 64, NULL, 0, NULL);
+    statuses[2] = ffosolve_move_scores_all_or_null(NULL, 0, 1, 64, NULL, 0, NULL);
     given[0] = &position, given[1] = &found, given[2] = &at;
-    statuses[7] = ffosolve_move_scores_all_or_null(&position, 1, 2, 65, &found, 1, &at);
+    statuses[3] = ffosolve_move_scores_all_or_null(&position, 1, 2, 65, &found, 1, &at);
+    statuses[4] = ffosolve_move_scores_all_or_null(NULL, 0, 2, 65, &found, 1, &at);
+    statuses[5] = ffosolve_move_scores_all_or_null(&position, 1, 2, 65, NULL, 0, &at);
     given[1] = &answer;
-    statuses[2] = ffosolve_solve_all_or_null(&position, 1, 2, 65, &answer, 1, &at);
-    statuses[3] = ffosolve_solve_all_or_null(&position, 0, 0, 66, &answer, 0, &at);
+    statuses[6] = ffosolve_solve_all_or_null(&position, 1, 2, 65, &answer, 1, &at);
+    statuses[7] = ffosolve_solve_all_or_null(&position, 0, 0, 66, &answer, 0, &at);
+    statuses[8] = ffosolve_solve_all_or_null(NULL, 0, 0, 66, &answer, 1, &at);
+    statuses[9] = ffosolve_solve_all_or_null(&position, 1, 0, 66, NULL, 0, &at);
     given[0] = "-", given[1] = &listed;
-    statuses[4] = ffosolve_read_line_or_null((const char *)given[0], 1, &line, &listed, 1, &at);
-    statuses[5] = ffosolve_read_line_or_null((const char *)given[0], 0, &line, &listed, 0, &at);
+    statuses[10] = ffosolve_read_line_or_null((const char *)given[0], 1, &line, &listed, 1, &at);
+    statuses[11] = ffosolve_read_line_or_null((const char *)given[0], 0, &line, &listed, 0, &at);
+    statuses[12] = ffosolve_read_line_or_null(NULL, 0, &line, &listed, 1, &at);
+    statuses[13] = ffosolve_read_line_or_null((const char *)given[0], 1, &line, NULL, 0, &at);
     for (size_t i = 0; i < sizeof statuses / sizeof *statuses; i++) {
         if (statuses[i] != FFOSOLVE_NO_MEMORY) return 1;
     }

@@ -8,11 +8,12 @@ import shutil
 import signal
 import stat
 import subprocess
+import sys
 import tempfile
 import unittest
 from pathlib import Path
 
-from tests.support import SECONDS, InFolder, built, limit, preload, run, stored
+from tests.support import ROOT, SECONDS, InFolder, built, limit, preload, run, stored
 
 TEXT = stored("examples", "first.obf")
 BOOK = stored("examples", "first.book")
@@ -86,6 +87,14 @@ class Files(Books):
                 book = b"%% ffobook 2 %s\n%s X; G8:%s;\n" % (scoring.encode(), b"X" * 57 + b"OOOOO--", score)
                 self.assertEqual((content("it.book"), content("read.book")), (book, BOOK))
 
+    def test_book_of_many_positions(self):
+        """A thousand random positions, no two of which are alike; the book is read again."""
+        put("list", run(sys.executable, ROOT / "bench/positions", 1000, 3, 6, check=True).stdout)
+        run(PROGRAM, "--book-out", "it.book", "list", check=True)
+        self.assertEqual(len(content("it.book").splitlines()), 1 + 1000)
+        run(PROGRAM, "--book-in", "it.book", "--book-out", "again.book", "list", check=True)
+        self.assertEqual(content("again.book"), content("it.book"))
+
     def test_old_file_keeps_its_permissions(self):
         """A new file takes its place: a second name of it has what it had."""
         put("it.book", OLD, 0o640)
@@ -114,6 +123,14 @@ class Files(Books):
                 self.solves(REFUSED, prepare=give_up_rights)
                 self.has(it=OLD)
 
+    def test_file_that_may_be_written_and_not_read(self):
+        """It may be no book."""
+        put("it.book", OLD, 0o222)
+        os.chmod(".", 0o777)
+        self.solves((3, False, b"ffosolve: cannot read it.book\n"), prepare=give_up_rights)
+        os.chmod("it.book", 0o644)
+        self.has(it=OLD)
+
     def test_full_disk(self):
         put("it.book", OLD)
         self.solves(UNWRITTEN, prepare=short_files)
@@ -122,11 +139,22 @@ class Files(Books):
         self.solves(UNWRITTEN, prepare=short_files)
         self.has()
 
+    def watched(self, **more):
+        """An environment in which the calls that put a file into its place are told in the file `watched`."""
+        return {**os.environ, "LD_PRELOAD": str(preload("watch", ".")), "WATCHED": str(self.folder / "watched"), **more}
+
     def test_new_file_is_synced_before_it_takes_the_old_ones_place(self):
-        library, watched = preload("watch", "."), Path("watched").resolve()
         for _ in range(2):
-            self.solves(DONE, env={**os.environ, "LD_PRELOAD": str(library), "WATCHED": str(watched)})
-        self.assertEqual(watched.read_text(), "sync rename " * 2)
+            self.solves(DONE, env=self.watched())
+        self.assertEqual(Path("watched").read_text(), "sync rename " * 2)
+
+    def test_disk_that_does_not_keep_it(self):
+        put("it.book", OLD)
+        self.solves(UNWRITTEN, env=self.watched(NO_SYNC="1"))
+        self.assertEqual(content("it.book"), OLD)
+        os.remove("it.book")
+        self.solves(UNWRITTEN, env=self.watched(NO_SYNC="1"))
+        self.assertEqual(sorted(os.listdir()), ["watch.so", "watched"])
 
     def test_files_beside_are_left_alone(self):
         put("it.book", OLD)
@@ -143,6 +171,9 @@ class Files(Books):
             put(name, b"of another")
         self.solves(REFUSED)
         self.assertEqual((content("it.book"), content("it.book.part")), (OLD, b"of another"))
+        os.remove("it.book.99.part")
+        self.solves(DONE)
+        self.assertEqual((content("it.book"), os.path.exists("it.book.99.part")), (BOOK, False))
 
     def test_what_comes_meanwhile_stays(self):
         """The report is more than a pipe holds, so the program waits for its reader: the place is tried by then, and the name
@@ -150,7 +181,7 @@ class Files(Books):
         put("list", TEXT * 2000)
         os.chmod(".", 0o777)
         for name, new, new_mode in (("it.book", b"notes, and no book\n", 0o666), ("it.book", BOOK, 0o444),
-                                    ("it.book.0.part", b"of another", 0o666)):
+                                    ("it.book", OLD, 0o222), ("it.book.0.part", b"of another", 0o666)):
             with self.subTest(name=name, new=new[:9]):
                 put("it.book", OLD, 0o666)
                 pipes = {"stdout": subprocess.PIPE, "stderr": subprocess.PIPE}
@@ -160,9 +191,32 @@ class Files(Books):
                 put(name, new, new_mode)
                 report, told = program.communicate(timeout=SECONDS)
                 self.assertEqual((begun, program.returncode, told, report[-3:]), (b"[", *REFUSED[::2], b" 0\n"))
+                os.chmod(name, 0o644)
                 self.assertEqual(content(name), new)
                 os.remove(name)
                 self.assertLessEqual(set(os.listdir()), {"list", "it.book"})
+
+    def test_folder_that_is_closed_meanwhile(self):
+        """Nobody may look for the place once the reports are printed."""
+        put("list", TEXT * 2000)
+        os.mkdir("there")
+        self.addCleanup(os.chmod, "there", 0o755)
+        for old in ({}, {"it.book": OLD}):
+            with self.subTest(old=list(old)):
+                os.chmod("there", 0o777)
+                for name, text in old.items():
+                    put(f"there/{name}", text, 0o666)
+                words = [PROGRAM, "--book-out", "there/it.book", "list"]
+                pipes = {"stdout": subprocess.PIPE, "stderr": subprocess.PIPE}
+                program = subprocess.Popen(words, preexec_fn=give_up_rights, **pipes)
+                self.addCleanup(program.kill)
+                begun = program.stdout.read(1)
+                os.chmod("there", 0)
+                report, told = program.communicate(timeout=SECONDS)
+                self.assertEqual((begun, program.returncode, report[-3:]), (b"[", 3, b" 0\n"))
+                self.assertEqual(told, b"ffosolve: cannot write there/it.book\n")
+                os.chmod("there", 0o755)
+                self.assertEqual({name: content(f"there/{name}") for name in os.listdir("there")}, old)
 
     def test_places_of_no_file(self):
         """A name that is too long, a folder that is missing, and a folder that is a file."""
@@ -201,18 +255,32 @@ class Links(Books):
 
 class Streams(Books):
     def test_pipe(self):
+        """By its name, and by a link to it."""
         os.mkfifo("it.book")
-        with subprocess.Popen(["cat", "it.book"], stdout=subprocess.PIPE) as reader:
-            self.addCleanup(reader.kill)
-            self.solves(DONE)
-            self.assertEqual(reader.communicate(timeout=SECONDS)[0], BOOK)
-        self.assertTrue(stat.S_ISFIFO(os.lstat("it.book").st_mode))
+        os.symlink("it.book", "link.book")
+        for name in ("it.book", "link.book"):
+            with self.subTest(name=name), subprocess.Popen(["cat", "it.book"], stdout=subprocess.PIPE) as reader:
+                self.addCleanup(reader.kill)
+                self.solves(DONE, name)
+                self.assertEqual(reader.communicate(timeout=SECONDS)[0], BOOK)
+        self.assertTrue(stat.S_ISFIFO(os.lstat("it.book").st_mode) and os.path.islink("link.book"))
+
+    def device(self, name, number):
+        """A device of memory in the folder, since root can replace those of the machine."""
+        if os.getuid() != 0:
+            return f"/dev/{name}"
+        os.mknod(name, stat.S_IFCHR | 0o666, os.makedev(1, number))
+        return name
 
     def test_full_device(self):
-        self.solves((3, True, b"ffosolve: cannot write /dev/full\n"), "/dev/full")
+        name = self.device("full", 7)
+        self.solves((3, True, f"ffosolve: cannot write {name}\n".encode()), name)
+        self.assertTrue(stat.S_ISCHR(os.lstat(name).st_mode))
 
     def test_device_that_is_read(self):
-        self.solves(DONE, "/dev/null", "/dev/null")
+        name = self.device("null", 3)
+        self.solves(DONE, name, name)
+        self.assertTrue(stat.S_ISCHR(os.lstat(name).st_mode))
 
 
 class Lists(Books):

@@ -69,8 +69,13 @@ WRONG = [
     ("listed || room ? listed : &no_move", "listed"),
     ("room,\n                              at ? at : &nobody_asks", "room,\n                              at"),
     ("answers || room ? answers", "answers && room ? answers"),
+    ("solve_all(positions || count", "solve_all(positions || room"),
+    ("scores_all(positions || count", "scores_all(positions || room"),
+    ("answers || room", "answers || count"),
+    ("found || room", "found || count"),
+    ("text || length", "text || room"),
+    ("listed || room", "listed || length"),
 ]
-LIMITS = ("ENTRIES", "EMPTIES")
 LINES = 10_000  # odd ones
 REFUSED = ("board has N of N squares", "bad square at column N", "bad side at column N", "N empties, limit N")
 SMALL, LARGE = 9, 10  # positions of examples/masks.txt, without the one of 20 empty squares and with it
@@ -78,10 +83,16 @@ NULLS = """solve_all 0 1 64 0: positions other, answers other, at other
 read_line 0 0: text other, line given, listed other, at other
 move_scores_all 0 1 64 0: positions other, found other, at other
 move_scores_all 1 2 65 1: positions given, found given, at given
+move_scores_all 0 2 65 1: positions other, found given, at given
+move_scores_all 1 2 65 0: positions given, found other, at given
 solve_all 1 2 65 1: positions given, answers given, at given
 solve_all 0 0 66 0: positions given, answers given, at given
+solve_all 0 0 66 1: positions other, answers given, at given
+solve_all 1 0 66 0: positions given, answers other, at given
 read_line 1 1: text given, line given, listed given, at given
 read_line 0 0: text given, line given, listed given, at given
+read_line 0 1: text other, line given, listed given, at given
+read_line 1 0: text given, line given, listed other, at given
 """  # what tests/library_nulls.c has to print
 BAD = "fffffff7ffff7f7c 0000000800008002\n0000000000000003 0000000000000002\n"
 BAD_TEXT = "position 2: the masks share a square"
@@ -315,10 +326,8 @@ class Calls(unittest.TestCase):
     SOURCE = TESTS / "library_calls.c"
 
     def setUp(self):
-        limits = (re.search(rf"^#define FFOSOLVE_MOST_{name} (\d+)$", PREFIX.text, re.MULTILINE)[1] for name in LIMITS)
-        values = zip(("VERSION", "NUMBER", *LIMITS), (PREFIX.version, str(PREFIX.number), *limits))
         self.wanted = (TESTS / "library_calls.txt").read_text()
-        for name, value in values:
+        for name, value in (("VERSION", PREFIX.version), ("NUMBER", str(PREFIX.number))):
             self.wanted = self.wanted.replace(f"@{name}@", value)
 
     def test_from_c_and_cxx(self):

@@ -14,6 +14,7 @@ from tests.test_threads import refuse_threads
 
 WORKERS = ("0", "1", "3", "64")
 RUNS = int(os.environ.get("RUNS", 75))
+OFTEN = 500  # one in fifteen runs hung where a thread was not woken
 SHORT = b"-OXXXXX-XXXXXXXOXXXXXXXXXXXXXXXXXXXOXXXXXXXXXXXXXXXXXXXXXXXXXXXX X;\n"
 SHORT_SCORED = SHORT[:-1] + b" H1:+62; A1:+52;\n"
 HOURS = b"-" * 27 + b"OX------XO" + b"-" * 27 + b" X;\n"
@@ -68,6 +69,13 @@ class SameBytes(InFolder):
                 with self.subTest(workers=workers):
                     found = run(PROGRAM, "--workers", workers, "list.obf", preexec_fn=prepare)
                     self.assertEqual((found.returncode, found.stdout, found.stderr), (0, wanted.stdout, b""))
+
+    def test_short_lists_often(self):
+        """Each run ends: no thread waits to be woken."""
+        kinds = ROOT / "examples/kinds.obf"
+        for number in range(OFTEN):
+            found = run(PROGRAM, "--workers", "3", kinds)
+            self.assertEqual((found.returncode, found.stdout), (1, stored("examples", "kinds.scores")), f"run {number}")
 
     def test_shuffled_mix(self):
         lines = positions(40, 1, 9) + positions(24, 10, 11) + positions(6, 12, 13)

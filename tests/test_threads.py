@@ -6,10 +6,11 @@ In the environment, RUNS is the number of runs of 64 files with 64 workers, 100 
 import os
 import statistics
 import subprocess
+import sys
 import time
 from pathlib import Path
 
-from tests.support import SECONDS, InFolder, built, refuse_threads
+from tests.support import ROOT, SECONDS, InFolder, built, refuse_threads, run
 
 RUNS = int(os.environ.get("RUNS", 100))
 # A position with 17 empty squares, which takes two tenths of a second, and boards with two.
@@ -107,5 +108,17 @@ class Threads(InFolder):
                 found, seen = self.run_of(SCORES, "--workers", workers, "list.obf")
                 self.assertEqual((found, statistics.mode(seen)), (wanted or found, threads))
                 wanted = found
+        self.write("many.obf", [HARD] * 80)
+        found, seen = self.run_of(SCORES, "--workers", "64", "many.obf")
+        self.assertEqual((found, max(seen)), (wanted * 10, 66))
         found, seen = self.run_of(SCORES, "--workers", "4", "list.obf", prepare=refuse_threads)
         self.assertEqual((found, max(seen)), (wanted, 1))
+
+    def test_lines_of_scores_that_take_a_millisecond(self):
+        """They are scored on threads too, several lines on each, up to as many threads as the workers allow."""
+        for empties in (10, 11, 12):
+            lines = run(sys.executable, ROOT / "bench/positions", 40, empties, empties, check=True).stdout.decode().splitlines()
+            self.write("list.obf", lines * 25)
+            with self.subTest(empties=empties):
+                _, seen = self.run_of(SCORES, "--workers", "4", "--table", "0", "list.obf")
+                self.assertTrue(3 <= max(seen) <= 6, sorted(set(seen)))

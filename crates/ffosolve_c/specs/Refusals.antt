@@ -2,8 +2,8 @@
 use Rattle.std.specs.Prelude.{◌≡◌, ◌⊎◌, ℕ, ℤ, pos, All, List, length, Option, Some, None, is_some}
 use Rattle.std.specs.Prelude.{option_and_then, position, slice_get, bit_and, nat_eq, nat_lt, if◌then◌else◌}
 use Rattle.othello_bits.specs.Pos.{empties_of}
-use Rattle.bound_table.specs.declared.bound_table.TheConstants.BoundTable.{MOST_ENTRIES}
-use Rattle.endgame_search.specs.declared.task.TheConstants.Task.{MOST_EMPTIES}
+use Rattle.bound_table.specs.Limits.{most_entries}
+use Rattle.endgame_search.specs.Limits.{most_empties}
 use Rattle.ffosolve_c.specs.declared.position.FfosolvePosition.{FfosolvePosition}
 use Rattle.ffosolve_c.specs.declared.call_refusal.CallRefusal.{CallRefusal}
 use Rattle.ffosolve_c.specs.declared.call_refusal.CallRefusal.TheVariants.{UnknownScoring, TooManyEntries}
@@ -29,14 +29,14 @@ first_of None next = next
 unfoldable pub table_refusal : ℕ → ℕ → Option CallRefusal
 table_refusal scoring entries =
     if is_some (numbered_scoring scoring)
-    then (if nat_lt MOST_ENTRIES entries then Some TooManyEntries else None)
+    then (if nat_lt most_entries entries then Some TooManyEntries else None)
     else Some UnknownScoring
 
 -- why a position is not solved: its masks share a square, or too many squares are empty
 unfoldable pub position_refusal : FfosolvePosition → Option CallRefusal
 position_refusal p =
     if nat_eq (bit_and p.own p.opp) 0
-    then (if nat_lt MOST_EMPTIES (empties_of (discs_at p)) then Some TooManyEmpties else None)
+    then (if nat_lt most_empties (empties_of (discs_at p)) then Some TooManyEmpties else None)
     else Some SharedSquare
 
 -- each of the positions can be solved

@@ -2,6 +2,7 @@
 
 ghost use Rattle.std.specs.Prelude.{◌≡◌, ◌≢◌, ◌≤◌, Some, None, IsNone, IfOk, IfSome, IfErr, OnOk, OnErr};
 ghost use Rattle.std.specs.Prelude.{length, map};
+ghost use Rattle.bound_table.specs.Limits.{most_entries};
 ghost use Rattle.ffosolve_c.specs.declared.call_refusal.CallRefusal.TheVariants as refusal;
 ghost use Rattle.ffosolve_c.specs.Answers.{answer_at, numbered_scoring, scores_at};
 ghost use Rattle.ffosolve_c.specs.Answers.{AreAnswers, AreScoresOfAll};
@@ -79,7 +80,7 @@ fn accepted_scoring(
     at: &mut usize,
 ) -> Result<Scoring, CallRefusal>
     ensures scoring { IfOk result (λ g. numbered_scoring scoring ≡ Some g) }
-    ensures few { IfOk result (λ g. entries ≤ BoundTable.MOST_ENTRIES) }
+    ensures few { IfOk result (λ g. entries ≤ most_entries) }
     ensures lengths { IfOk result (λ g. length positions.now ≡ room) }
     ensures solvable { IfOk result (λ g. AreSolvable positions.now) }
     ensures good { IfOk result (λ g. refusal_of_all scoring entries positions.now room ≡ None) }

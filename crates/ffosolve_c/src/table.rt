@@ -1,6 +1,7 @@
 //! The table of a call, and the scoring that it is for.
 
 ghost use Rattle.std.specs.Prelude.{◌≡◌, ◌≢◌, ◌≤◌, Some, None, IfOk, IfErr};
+ghost use Rattle.bound_table.specs.Limits.{most_entries};
 ghost use Rattle.ffosolve_c.specs.declared.call_refusal.CallRefusal.TheVariants as refusal;
 ghost use Rattle.ffosolve_c.specs.Answers.{numbered_scoring};
 ghost use Rattle.ffosolve_c.specs.Refusals.{status_of, table_refusal, IsOfPosition};
@@ -22,7 +23,7 @@ fn numbered_scoring(number: u32) -> Option<Scoring>
 #[tactic(auto, unfolding(crate::specs::Refusals::table_refusal, crate::specs::Answers::numbered_scoring))]
 pub fn table_scoring(number: u32, entries: usize) -> Result<Scoring, CallRefusal>
     ensures good { IfOk result (λ g. table_refusal number entries ≡ None) }
-    ensures few { IfOk result (λ g. entries ≤ BoundTable.MOST_ENTRIES) }
+    ensures few { IfOk result (λ g. entries ≤ most_entries) }
     ensures scoring { IfOk result (λ g. numbered_scoring number ≡ Some g) }
     ensures refused { IfErr result (λ r. table_refusal number entries ≡ Some r) }
     ensures kinds { IfErr result (λ r. IsOfPosition (status_of r) → ⊥) }
@@ -39,7 +40,7 @@ pub fn table_scoring(number: u32, entries: usize) -> Result<Scoring, CallRefusal
 
 /// A new table of `entries` entries. `NoMemory` where memory was refused, and never with 0 entries.
 pub fn table_of(alloc: Global, entries: usize, scoring: Scoring) -> Result<BoundTable, CallRefusal>
-    requires { entries ≤ BoundTable.MOST_ENTRIES }
+    requires { entries ≤ most_entries }
     ensures made { IfOk result
         (λ table. table ≡ record { scoring = scoring; entries = entries }) }
     ensures refused { IfErr result (λ r. r ≡ refusal.NoMemory) }

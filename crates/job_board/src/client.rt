@@ -2,6 +2,7 @@
 
 ghost use Rattle.std.specs.Prelude.{◌≡◌, ◌≢◌, ◌<◌, ◌+◌, length, IfOk, IfErr, IfSome, IfNone, OnOk};
 ghost use Rattle.std.specs.Prelude.{OnErr, Err, slice_get};
+ghost use Rattle.job_board.specs.Limits.{most_jobs};
 ghost use Rattle.job_board.specs.declared.faults.SubmitFault.TheVariants as fault;
 ghost use Rattle.job_board.specs.declared.client.Turn.TheVariants.{Next, Drained};
 
@@ -139,7 +140,7 @@ impl Client {
 
     // Counts a delivery that is the client's next answer. `Mixed` at any other.
     fn accept(&mut self, delivery: Delivery) -> Result<Turn, Mixed>
-        requires { delivery.number < 65535 }
+        requires { delivery.number < most_jobs }
         ensures ok { IfOk result (λ turn.
             (turn ≡ Next delivery) × TurnGives self.old self.new turn) }
         ensures err { OnErr result ((IsNext self.old delivery → ⊥) × (self.new ≡ self.old)) }

@@ -1,6 +1,7 @@
 //! The jobs of one sender at a board.
 
 ghost use Rattle.std.specs.Prelude.{◌≡◌, ◌<◌, ◌≤◌, Some, length, slice_get, not, OnOk, OnErr};
+ghost use Rattle.job_board.specs.Limits.{most_jobs};
 ghost use Rattle.job_board.specs.declared.jobs.Stage.TheVariants.{Waiting, Taken, Finished};
 
 use crate::faults::{JobFault, SubmitFault};
@@ -159,7 +160,7 @@ impl Sender {
     /// next job is not finished, or where there is none and the sender is open; `Drained` where
     /// there is none and the sender is closed.
     pub(crate) fn deliver(&mut self) -> Handed
-        requires { self.old.handed ≤ 65535 }
+        requires { self.old.handed ≤ most_jobs }
         ensures reply { result ≡ deliver_reply_of self.old }
         ensures state { self.new ≡ state_after_handed self.old result }
     {

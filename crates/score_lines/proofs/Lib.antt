@@ -3,6 +3,7 @@
 pub mod Results
 pub mod Prints
 pub mod RemarkSteps
+pub mod LeftOut
 pub mod SmallClaims
 pub mod EntryLines
 pub mod LineSteps

@@ -1,10 +1,14 @@
 -- The remarks on a line: on its pieces, and on best moves that it leaves out.
 use Rattle.std.specs.Prelude.{ℕ, ℤ, Bool, true, false, List, [], ◌∷◌, ◌++◌, Option, Some, None}
 use Rattle.std.specs.Prelude.{option_map, codes, if◌then◌else◌}
-use Rattle.std.specs.List.{filter_map}
+use Rattle.std.specs.List.{Contains, filter_map}
+use Rattle.othello_rules.specs.declared.scoring.Scoring.{Scoring}
+use Rattle.othello_rules.specs.Rules.{GridView}
+use Rattle.othello_rules.specs.Value.{best_moves}
 use Rattle.obf_text.specs.Fields.{Field, field_of, without_blanks}
 use Rattle.obf_text.specs.Written.{move_text, score_text}
 use Rattle.obf_text.specs.declared.entries.ListedMove.{ListedMove}
+use Rattle.obf_text.specs.declared.entries.ListedMove.TheVariants.{At}
 use Rattle.score_lines.specs.Checks.{asks_for_best, is_left_out, wrong_in}
 use Rattle.score_lines.specs.declared.checks.Wrong.{Wrong}
 use Rattle.score_lines.specs.declared.demands.Listing.{Listing}
@@ -59,6 +63,11 @@ left_out_remark scores listed f =
 abbrev pub left_out_remarks : Listing → List Field → List Field → List (List ℕ)
 left_out_remarks listing scores listed =
     if asks_for_best listing listed then filter_map (left_out_remark scores listed) scores else []
+
+-- a best move of the position, which the line does not list
+pub record IsLeftOut (g : Scoring) (P : GridView) (listed : List Field) (q : ℕ) : Type 0 where
+  pub best : Contains (best_moves g P) q
+  pub unlisted : (score : ℤ) → Contains listed (At q, score) → ⊥
 
 -- the remarks on a line: those on its pieces, and then those on the moves that it leaves out
 abbrev pub line_remarks : Listing → List Field → List Field → List (List ℕ) → List (List ℕ)

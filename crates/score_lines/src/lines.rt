@@ -3,6 +3,7 @@
 ghost use Rattle.std.specs.Prelude.{◌≡◌, ◌≢◌, ◌≤◌, ◌<◌, ◌++◌, ◌∷◌, [], All, IfOk, IsOk, OnOk};
 ghost use Rattle.std.specs.Prelude.{nat_abs, not, true, false};
 ghost use Rattle.std.specs.Io.KnownBytes.{Appends};
+ghost use Rattle.endgame_search.specs.Limits.{most_empties};
 ghost use Rattle.obf_text.specs.Faults.{line_fault_text, too_many_text};
 ghost use Rattle.obf_text.specs.Obf.{Holds, entry_of, item_of};
 ghost use Rattle.obf_text.specs.Pieces.{line_pieces};
@@ -110,7 +111,7 @@ fn write_scored<T: Bounds, W: Write>(
     line: &[u8],
     entry: &Line,
 ) -> io::Result<bool>
-    requires { demands.limit ≤ 60 }
+    requires { demands.limit ≤ most_empties }
     ensures written { OnOk result (Appends (W.contents writer.old) (W.contents writer.new)
         (out_text (T.scoring table.now) demands line.now (Holds (entry_of entry.now)))) }
     ensures right { IfOk result (λ right. right
@@ -164,7 +165,7 @@ fn write_item<T: Bounds, W: Write>(
     demands: Demands,
     line: &[u8],
 ) -> io::Result<bool>
-    requires { demands.limit ≤ 60 }
+    requires { demands.limit ≤ most_empties }
     ensures written { OnOk result (Appends (W.contents writer.old) (W.contents writer.new)
         (out_text (T.scoring table.now) demands line.now (item_of line.now))) }
     ensures right { IfOk result
@@ -185,7 +186,7 @@ fn write_items<T: Bounds, W: Write>(
     demands: Demands,
     text: &[u8],
 ) -> io::Result<bool>
-    requires { demands.limit ≤ 60 }
+    requires { demands.limit ≤ most_empties }
     ensures written { OnOk result (Appends (W.contents writer.old) (W.contents writer.new)
         (scores_text (T.scoring table.now) demands text.now)) }
     ensures right { IfOk result
@@ -216,7 +217,7 @@ pub fn lines_text<T: Bounds>(
     demands: Demands,
     text: &[u8],
 ) -> Result<LinesText, AllocError>
-    requires { demands.limit ≤ 60 }
+    requires { demands.limit ≤ most_empties }
     ensures bytes { IfOk result (λ found. found.bytes.items
         ≡ scores_text (T.scoring table.now) demands text.now) }
     ensures right { IfOk result (λ found. found.right

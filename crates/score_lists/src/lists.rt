@@ -3,6 +3,7 @@
 ghost use Rattle.std.specs.Prelude.{◌≡◌, ◌≤◌, ◌<◌, IfOk, OnErr, OnOk, [], drop, false, length, true};
 ghost use Rattle.std.specs.Arc.{arc_value};
 ghost use Rattle.std.specs.Io.KnownBytes.{Appends};
+ghost use Rattle.endgame_search.specs.Limits.{most_empties};
 ghost use Rattle.obf_text.specs.LineText.{texts_of};
 ghost use Rattle.score_lines.specs.Lines.{AppendsFront, Prints, lists_right, lists_text};
 ghost use Rattle.score_lists.specs.Started.{Settles, all_due, lists_due, window_due};
@@ -192,7 +193,7 @@ fn print_all<'a, R: Threads + Wait, W: Write>(
     window: &mut Window<'a>,
     texts: &'a [Vec<u8>],
 ) -> Result<(), ListFault>
-    requires limit { (arc_value scorer.now).demands.limit ≤ 60 }
+    requires limit { (arc_value scorer.now).demands.limit ≤ most_empties }
     requires empty { window.old.chunks.items ≡ [] }
     requires right { window.old.right ≡ true }
     ensures settled { OnOk result (Settles (W.contents writer.old) (W.contents writer.new)
@@ -238,7 +239,7 @@ pub fn write_lists<R: Threads + Wait, W: Write>(
     workers: u8,
     texts: &[Vec<u8>],
 ) -> Result<bool, ListFault>
-    requires { demands.limit ≤ 60 }
+    requires { demands.limit ≤ most_empties }
     ensures written { OnOk result (Appends (W.contents writer.old) (W.contents writer.new)
         (lists_text table.scoring demands (texts_of texts.now))) }
     ensures front { OnErr result (AppendsFront (W.contents writer.old) (W.contents writer.new)

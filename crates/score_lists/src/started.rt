@@ -2,6 +2,7 @@
 
 ghost use Rattle.std.specs.Prelude.{◌≡◌, ◌≤◌, IfOk};
 ghost use Rattle.std.specs.Arc.{arc_value};
+ghost use Rattle.endgame_search.specs.Limits.{most_empties};
 ghost use Rattle.score_lists.specs.Started.{Gives, IsProgressOf, promise_due, text_due};
 
 use crate::chunks::Chunk;
@@ -52,7 +53,7 @@ pub struct ChunkWork {
 impl ChunkWork {
     // Scores the chunk, and tells that it is scored.
     fn run(&self) -> Result<LinesText, AllocError>
-        requires { (arc_value self.now.scorer).demands.limit ≤ 60 }
+        requires { (arc_value self.now.scorer).demands.limit ≤ most_empties }
         ensures { Gives (text_due (arc_value self.now.scorer).table.scoring
             (arc_value self.now.scorer).demands self.now.text.items) result }
     {
@@ -136,7 +137,7 @@ fn spawn_chunk<'a, R: Threads>(
     alloc: Global,
     promise: ChunkPromise<'a>,
 ) -> Result<Progress<'a>, AllocError>
-    requires limit { (arc_value scorer.now).demands.limit ≤ 60 }
+    requires limit { (arc_value scorer.now).demands.limit ≤ most_empties }
     requires scoring { promise.scoring ≡ (arc_value scorer.now).table.scoring }
     requires demands { promise.demands ≡ (arc_value scorer.now).demands }
     ensures { IfOk result (λ progress. IsProgressOf (promise_due promise.entry) progress) }
@@ -148,7 +149,7 @@ fn spawn_chunk<'a, R: Threads>(
         rt,
         promise,
         move || -> Result<LinesText, AllocError>
-            requires { (arc_value (arc_value own).scorer).demands.limit ≤ 60 }
+            requires { (arc_value (arc_value own).scorer).demands.limit ≤ most_empties }
             ensures { Gives (text_due (arc_value (arc_value own).scorer).table.scoring
                 (arc_value (arc_value own).scorer).demands (arc_value own).text.items) result }
         { own.run() },
@@ -167,7 +168,7 @@ pub(crate) fn start<'a, R: Threads>(
     alloc: Global,
     chunk: Chunk<'a>,
 ) -> StartedChunk<'a>
-    requires { (arc_value scorer.now).demands.limit ≤ 60 }
+    requires { (arc_value scorer.now).demands.limit ≤ most_empties }
     ensures { result ≡ text_due (arc_value scorer.now).table.scoring
         (arc_value scorer.now).demands chunk.entry.front.now }
 {

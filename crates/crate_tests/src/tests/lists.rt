@@ -36,8 +36,8 @@ const TWO: &[u8] = b"% two lines\n\
 const TWO_PRINTED: &[u8] = b"% two lines\n\
 -OOOOOOXXXXXXXXXXXXXXXXXXXXXXXXXXXXXXXXXXXXXXXXXXXXXXXXXXXXXXXXX X; A1:+64; % A1:+60 is +64\n";
 
-// A writer that takes at most three bytes a call, is interrupted at every other call, fails when no
-// call is left, and notes how many bytes it held when it was last flushed.
+// A writer that takes a byte a call, is interrupted at every other call, fails when no call is left,
+// and notes how many bytes it held when it was last flushed.
 #[derive(Drop)]
 struct SlowWriter {
     held: Vec<u8>,
@@ -54,7 +54,7 @@ impl Write for SlowWriter {
         if self.calls_left % 2 == 0 {
             return Err(io::Error::from(io::ErrorKind::Interrupted));
         }
-        let taken = buf.len().min(3);
+        let taken = buf.len().min(1);
         match self.held.extend_from_slice(&buf[..taken]) {
             Ok(()) => Ok(taken),
             Err(_) => Err(io::Error::from(io::ErrorKind::OutOfMemory)),
@@ -67,34 +67,40 @@ impl Write for SlowWriter {
     }
 }
 
-// Whether a front is printed where so many calls are left, each line sent on as soon as it is
+// The first line of what is printed, which is sent on by itself.
+const FIRST: usize = 12;
+
+// Whether just the front is printed that so many calls take, each line sent on as soon as it is
 // whole, and the fault told.
 fn stops_so<R: Threads + Wait>(rt: &R, alloc: Global, calls_left: u32) -> Result<bool, AllocError> {
     let mut writer = SlowWriter {
-        held: Vec::new(alloc),
+        held: Vec::with_capacity(alloc, TWO_PRINTED.len())?,
         calls_left,
         flushed: 0,
     };
     let ended = print_text(rt, alloc, &mut writer, TWO)?;
-    let first = 12;
-    let sent = if writer.held.len() == TWO_PRINTED.len() {
-        TWO_PRINTED.len()
-    } else if writer.held.len() >= first {
-        first
+    let taken = TWO_PRINTED.len().min(calls_left as usize / 2);
+    let (sent, told) = if taken == TWO_PRINTED.len() {
+        (taken, Ok(false))
+    } else if taken >= FIRST {
+        (FIRST, Err(ListFault::CannotWrite))
     } else {
-        0
+        (0, Err(ListFault::CannotWrite))
     };
-    let told = if sent == TWO_PRINTED.len() {
-        Ok(false)
-    } else {
-        Err(ListFault::CannotWrite)
-    };
-    Ok(ended == told && TWO_PRINTED.starts_with(&writer.held) && writer.flushed == sent)
+    Ok(
+        ended == told
+            && writer.held.len() == taken
+            && TWO_PRINTED.starts_with(&writer.held)
+            && writer.flushed == sent,
+    )
 }
+
+// The first line takes 24 calls, and both take 208.
+const CALLS: [u32; 14] = [0, 1, 2, 3, 22, 23, 24, 25, 100, 206, 207, 208, 209, 1_000];
 
 #[test]
 fn prints_a_front_before_a_fault(rt: HostRuntime) -> Result<(), Fail> {
-    for calls_left in 0..80 {
+    for calls_left in CALLS {
         assert!(rt; stops_so(&rt, rt.alloc(), calls_left)?);
     }
     Ok(())

@@ -89,7 +89,7 @@ fn tables_of_each_size(rt: HostRuntime) -> Result<(), Fail> {
     assert!(rt; keeps_nothing(&empty, &exact));
     let table = BoundTable::new(rt.alloc(), 16, Scoring::Winner)?;
     assert!(rt; table.scoring() == Scoring::Winner && !keeps_nothing(&table, &exact));
-    let too_many = BoundTable::new(rt.alloc(), BoundTable::MOST_ENTRIES + 1, Scoring::Winner).err();
+    let too_many = BoundTable::new(rt.alloc(), 4_194_305, Scoring::Winner).err();
     assert!(rt; too_many == Some(TableFault::TooMany));
     Ok(())
 }

@@ -10,6 +10,7 @@ use job_board::{
 };
 use othello_rules::Scoring;
 use std::alloc::{AllocError, Global};
+use std::process::Abort;
 
 // A step, its reply, and whether the board is done after it.
 type Row = (Step, Reply, bool);
@@ -204,5 +205,57 @@ fn the_longest_job_is_taken_first(rt: HostRuntime) -> Result<(), AllocError> {
         (Step::Deliver(1), DRAINED, false),
     ];
     assert!(rt; are_right(rt.alloc(), 2, &rows)?);
+    Ok(())
+}
+
+// Whether a job is taken before another one.
+fn is_before(first: Job, second: Job) -> bool {
+    let (more, fewer) = (first.task.pos().empties(), second.task.pos().empties());
+    let (a, b) = (first.id, second.id);
+    let is_earlier = a.sender < b.sender || a.sender == b.sender && a.number < b.number;
+    more > fewer || more == fewer && is_earlier
+}
+
+// Submits twenty tasks of each of three senders, with 1 to 13 empty squares.
+fn are_submitted(rt: &impl Abort, board: &mut Board) -> Result<bool, AllocError> {
+    for number in 0..20u32 {
+        for sender in 0..3u32 {
+            let empties = u64::MAX >> (51 + (number * 7 + sender * 5) % 13);
+            let sent = board.submit(sender, task_by(rt, (empties, 0), Scoring::Winner));
+            if sent == Err(SubmitFault::Memory) {
+                return Err(AllocError);
+            }
+            if sent != Ok(number) {
+                return Ok(false);
+            }
+        }
+    }
+    Ok(true)
+}
+
+// Whether so many jobs are taken, each before those behind it.
+fn are_taken_in_order(board: &mut Board, count: u32) -> bool {
+    let Some(mut last) = board.take() else {
+        return false;
+    };
+    for _ in 1..count {
+        let Some(job) = board.take() else {
+            return false;
+        };
+        if !is_before(last, job) {
+            return false;
+        }
+        last = job;
+    }
+    true
+}
+
+#[test]
+fn many_jobs_are_taken_in_order(rt: HostRuntime) -> Result<(), AllocError> {
+    let Ok(mut board) = Board::new(rt.alloc(), 3) else {
+        return Err(AllocError);
+    };
+    assert!(rt; are_submitted(&rt, &mut board)?);
+    assert!(rt; are_taken_in_order(&mut board, 60) && board.take().is_none());
     Ok(())
 }

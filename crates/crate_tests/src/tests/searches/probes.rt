@@ -13,6 +13,10 @@ use othello_bits::Pos;
 use othello_rules::{Best, Scoring, Side, Square};
 use std::alloc::Global;
 use std::process::Abort;
+use std::test::Fail;
+
+// XOOO---- and seven empty rows. Black's one move, E1, ends the game.
+const SIXTY_EMPTY_SQUARES: Discs = (0x1, 0xe);
 
 // Stores the value of a position.
 fn store_value(table: &BoundTable, position: Pos) {
@@ -67,24 +71,16 @@ fn is_stored_as(
     table.probe(&position) == Range::new(least, most)
 }
 
+fn ask(scoring: Scoring, low: i8, high: i8) -> Asked
+    ensures { (result.low ≡ low) × (result.high ≡ high) }
+{
+    Asked { scoring, low, high }
+}
+
 fn by_winner(low: i8, high: i8) -> Asked
     ensures { (result.low ≡ low) × (result.high ≡ high) }
 {
-    Asked {
-        scoring: Scoring::Winner,
-        low,
-        high,
-    }
-}
-
-fn by_sign(low: i8, high: i8) -> Asked
-    ensures { (result.low ≡ low) × (result.high ≡ high) }
-{
-    Asked {
-        scoring: Scoring::Sign,
-        low,
-        high,
-    }
+    ask(Scoring::Winner, low, high)
 }
 
 #[test]
@@ -98,18 +94,24 @@ fn results_are_stored_as_the_window_says(rt: HostRuntime) {
     assert!(rt; is_stored_as(&rt, alloc, small, by_winner(61, 62), 62, 64));
     let over = pos_of(&rt, BLACK_BOARD, Side::White);
     assert!(rt; is_stored_as(&rt, alloc, over, by_winner(-65, 65), -64, -64));
+    let sixty = pos_of(&rt, SIXTY_EMPTY_SQUARES, Side::Black);
+    assert!(rt; is_stored_as(&rt, alloc, sixty, by_winner(-65, 65), 64, 64));
 }
 
 #[test]
-fn results_are_stored_under_sign(rt: HostRuntime) {
+fn results_are_stored_under_each_scoring(rt: HostRuntime) {
     let alloc = rt.alloc();
+    let small = pos_of(&rt, UNEQUAL_CORNERS, Side::Black);
+    assert!(rt; is_stored_as(&rt, alloc, small, ask(Scoring::Discs, -65, 65), 62, 62));
     // With White to move White wins by 6. With Black to move Black loses by 10.
-    let won = pos_of(&rt, TEN_EMPTY_SQUARES, Side::White);
-    assert!(rt; is_stored_as(&rt, alloc, won, by_sign(-65, 65), 1, 1));
-    assert!(rt; is_stored_as(&rt, alloc, won, by_sign(0, 1), 1, 64));
-    assert!(rt; is_stored_as(&rt, alloc, won, by_sign(1, 2), -64, 1));
-    let lost = pos_of(&rt, TEN_EMPTY_SQUARES, Side::Black);
-    assert!(rt; is_stored_as(&rt, alloc, lost, by_sign(-65, 65), -1, -1));
+    let (won, lost) = (
+        pos_of(&rt, TEN_EMPTY_SQUARES, Side::White),
+        pos_of(&rt, TEN_EMPTY_SQUARES, Side::Black),
+    );
+    assert!(rt; is_stored_as(&rt, alloc, won, ask(Scoring::Sign, -65, 65), 1, 1));
+    assert!(rt; is_stored_as(&rt, alloc, won, ask(Scoring::Sign, 0, 1), 1, 64));
+    assert!(rt; is_stored_as(&rt, alloc, won, ask(Scoring::Sign, 1, 2), -64, 1));
+    assert!(rt; is_stored_as(&rt, alloc, lost, ask(Scoring::Sign, -65, 65), -1, -1));
 }
 
 // Whether `solve`, `confirm` and `exact_value` store nothing for a small position.
@@ -202,6 +204,40 @@ fn cut_offs_are_stored(rt: HostRuntime) {
     let position = pos_of(&rt, TEN_EMPTY_SQUARES, Side::Black);
     let counter = count_probes(&rt, rt.alloc(), 1, [position, position]);
     assert!(rt; are_cut_offs_stored(&counter, position));
+    let position = pos_of(&rt, SIXTY_EMPTY_SQUARES, Side::Black);
+    let counter = count_probes(&rt, rt.alloc(), 1, [position, position]);
+    assert!(rt; is_stored(&counter, position, 63, 64));
+}
+
+#[test]
+fn fewer_empty_squares_are_shown_after_more(rt: HostRuntime) -> Result<(), Fail> {
+    let table = BoundTable::new(rt.alloc(), 64, Scoring::Winner)?;
+    let sixty = pos_of(&rt, SIXTY_EMPTY_SQUARES, Side::Black);
+    let small = pos_of(&rt, UNEQUAL_CORNERS, Side::Black);
+    assert!(rt; value_in(&table, sixty, -65, 65) == 64 && value_in(&table, small, -65, 65) == 62);
+    assert!(rt; table.probe(&small) == Range::new(62, 62));
+    assert!(rt; table.probe(&sixty) == Range::new(64, 64));
+    Ok(())
+}
+
+// Whether a right claim is tested: it takes fewer probes than to search without one.
+fn is_claim_tested(counter: &ProbeCounter, task: Task) -> bool
+    requires { task.scoring ≡ counter.now.table.scoring }
+{
+    let solved = solve(counter, task);
+    let probes = counter.probes.replace(0);
+    let claim = Claim {
+        score: solved.answer().score,
+        best: solved.answer().best,
+    };
+    confirm(counter, task, claim) == solved && counter.probes.get() < probes
+}
+
+#[test]
+fn a_right_claim_saves_probes(rt: HostRuntime) {
+    let position = pos_of(&rt, TEN_EMPTY_SQUARES, Side::Black);
+    let counter = count_probes(&rt, rt.alloc(), 0, [position, position]);
+    assert!(rt; is_claim_tested(&counter, task_of(&rt, position, Scoring::Winner)));
 }
 
 // Whether a search of a null window probes the position itself first: its stored value ends the
@@ -231,4 +267,22 @@ fn the_last_square_is_probed_before_and_after_a_pass(rt: HostRuntime) {
     let _ = value_in(&counter, position, 60, 61);
     assert!(rt; counter.seen[0].get());
     assert!(rt; counter.seen[1].get());
+}
+
+// OOOO---- XXXXOX-- X-XOOOO- OXXXOOOO -OXOOXOO -XOOOXOO XOXXO-OX OOOOOOOX: its one best move, F7, is
+// searched fifth of six, and is worth -6.
+const ELEVEN_EMPTY_SQUARES: Discs = (0x808d_2224_0e05_2f00, 0x7f52_dcda_f178_100f);
+
+// Whether the stored value of the position after a move of six ends a search before any of the six is
+// searched: the position itself is probed, and at most those after its moves.
+fn is_child_seen(counter: &ProbeCounter, position: Pos, child: Pos) -> bool {
+    store_value(&counter.table, child);
+    value_in(counter, position, -7, -6) == -6 && counter.probes.get() <= 7
+}
+
+#[test]
+fn children_are_probed_before_one_is_searched(rt: HostRuntime) {
+    let position = pos_of(&rt, ELEVEN_EMPTY_SQUARES, Side::Black);
+    let counter = count_probes(&rt, rt.alloc(), 1, [position, position]);
+    assert!(rt; is_child_seen(&counter, position, after(&rt, position, Square::at(53))));
 }
