@@ -1,6 +1,6 @@
 //! Alpha-beta search of a position's value by null windows alone. A null window runs from its lower
-//! end, the bound, to one above it. A driver asks them until the value is placed in a wider window
-//! (MTD(f): Plaat, Schaeffer, Pijls and de Bruin, 1996).
+//! end, the bound, to one above it. A driver searches one after another until they place the value in
+//! a wider window (MTD(f): Plaat, Schaeffer, Pijls and de Bruin, 1996).
 
 ghost use Rattle.std.specs.Prelude.{◌≡◌, ◌≢◌, ◌≤◌, ◌≤ℤ◌, ◌<ℤ◌, ◌+ℤ◌, pos, negsuc, count_ones};
 ghost use Rattle.othello_bits.specs.Pos.{moves_of, value_of, HasNoMove};
