@@ -47,6 +47,11 @@ def published():
     return [(line[:66], [claim.strip().split(":") for claim in line.split("%")[0].split(";")[1:-1]]) for line in lines]
 
 
+def agrees(score, moves, claims):
+    """Whether the claimed score is the score, and each claimed move is one of the moves."""
+    return score == claims[0][1] and {move for move, _ in claims} <= set(moves.split(","))
+
+
 def write(path, lines):
     Path(path).write_text("".join(f"{line}\n" for line in lines))
     return path
