@@ -1,120 +1,87 @@
 """bench/ffo: position 40 of the FFO endgame test is solved as published, results are kept whole, and docs/ffo.md is theirs."""
 import fcntl
-import re
+import os
 import subprocess
 import time
 from pathlib import Path
 
 from tests.support import ROOT, SECONDS, InFolder, built, processes_with, run, stored, wait_until
 
-FFO = ROOT / "bench/ffo"
 HEAD = "position\tempties\tscore\tmoves\tseconds\tprogram\tprocessor\n"
 KEPT = "41\t22\t+00\tH4\t2.00\tffosolve 1.0.0\tsome processor\n"
 LONGEST = 5 * SECONDS  # of a position of twenty empty squares, beside other work
-STAND_IN = "#!/bin/sh\n[ x$1 = x--version ] && echo ffosolve 1 || printf '%s\\n' {}\n"
-
-
-def published(number):
-    """The claims of a position in the list, as move and score."""
-    line = re.search(rb"^.*%% %d$" % number, stored("examples", "ffo-40-50.obf"), re.M)[0].decode()
-    return [claim.strip().split(":") for claim in line.split("%")[0].split(";")[1:-1]]
+STAND_IN = "#!/bin/sh\n[ x$1 = x--version ] && echo ffosolve 1 || printf '[1]\\n1 %s\\n' '{}'\n"
 
 
 class Results(InFolder):
-    def setUp(self):
-        super().setUp()
-        self.kept = Path("kept.tsv")
+    def ffo(self, *words, programs="bin", **how):
+        return run("env", "RESULTS=kept.tsv", f"PROGRAMS={programs}", ROOT / "bench/ffo", *words, text=True, **how)
+
+    def start(self, *words, programs="bin"):
+        how = {"stdout": subprocess.PIPE, "env": {**os.environ, "RESULTS": "kept.tsv", "PROGRAMS": str(programs)}}
+        return subprocess.Popen([ROOT / "bench/ffo", *words], **how)
+
+    def stand_in(self, line):
+        Path("bin").mkdir()
+        Path("bin/ffosolve").write_text(STAND_IN.format(line))
+        Path("bin/ffosolve").chmod(0o755)
 
     def rows(self):
-        return self.kept.read_text().splitlines(keepends=True)
-
-    def words(self, *words, programs):
-        return [FFO, *words, "--results", self.kept, "--bin", programs]
-
-    def stand_in(self, *lines):
-        """A folder with a program that prints these lines."""
-        Path("bin").mkdir(exist_ok=True)
-        Path("bin/ffosolve").write_text(STAND_IN.format(" ".join(f"'{line}'" for line in lines)))
-        Path("bin/ffosolve").chmod(0o755)
-        return "bin"
+        return Path("kept.tsv").read_text().splitlines(keepends=True)
 
     def test_forty(self):
         """It is solved in the place of a result that was cut, and not again."""
-        ((move, score),) = published(40)
-        self.kept.write_text(HEAD + KEPT + f"40\t20\t{score}\t{move}\t1.00\tffosolve")
-        words = self.words("solve", "40", programs=built().parent)
-        ran = run(*words, timeout=LONGEST)
-        self.assertEqual((ran.returncode, ran.stderr), (0, b""))
-        self.assertEqual(self.rows()[:2], [HEAD, KEPT])
+        Path("kept.tsv").write_text(HEAD + KEPT + "40\t20\t+38\tA2\t1.00\tffosolve")
+        ran = self.ffo("solve", 40, programs=built().parent, timeout=LONGEST)
+        self.assertEqual((ran.returncode, ran.stderr, self.rows()[:2]), (0, "", [HEAD, KEPT]))
         (row,) = self.rows()[2:]
-        self.assertRegex(row, rf"^40\t20\t{re.escape(score)}\t{move}\t\d+\.\d\d\tffosolve [\d.]+\t[^\t]+\n$")
-        ran = run(*words)
-        self.assertEqual((ran.returncode, ran.stdout, self.rows()[2:]), (0, b"", [row]))
+        self.assertRegex(row, r"^40\t20\t\+38\tA2\t\d+\.\d\d\tffosolve [\d.]+\t[^\t]+\n$")
+        ran = self.ffo("solve", 40, programs=built().parent)
+        self.assertEqual((ran.returncode, ran.stdout, self.rows()[2:]), (0, "", [row]))
+
+    def test_no_result(self):
+        """A solver that refuses, and a position that is not in the list."""
+        self.stand_in("refused: limit 19")
+        for number, status, why in ((40, 1, "limit 19"), (39, 2, "40 to 46")):
+            ran = self.ffo("solve", number)
+            self.assertEqual((ran.returncode, Path("kept.tsv").exists()), (status, False))
+            self.assertIn(why, ran.stderr)
 
     def test_killed(self):
         """The solver ends with it, and nothing is kept."""
-        words = self.words("solve", "50", programs=built().parent)
-        with subprocess.Popen(words, cwd=self.folder) as program:
-            solver = lambda: "--table 4000000" in " ".join(processes_with("cwd", self.folder).values())
-            wait_until(solver)
-            time.sleep(1)  # by then it has read the board, which takes hours
+        with self.start("solve", "51", programs=built().parent) as program:
+            wait_until(lambda: "--table 4000000" in " ".join(processes_with("cwd", self.folder).values()))
+            time.sleep(1)  # by then it has read the board, which takes minutes
             program.kill()
         wait_until(lambda: not processes_with("cwd", self.folder))
-        self.assertFalse(self.kept.exists())
+        self.assertFalse(Path("kept.tsv").exists())
 
     def test_side_by_side(self):
         """A call waits while another writes, and each result is one whole line below one head."""
-        programs = self.stand_in("[1]", "1 +38 A2 unlisted", "solved 1 refused 0")
-        numbers = [str(number) for number in range(40, 51)]
-        with self.kept.open("a") as file:
+        self.stand_in("+38 A2 unlisted")
+        numbers = [str(number) for number in range(40, 52)]
+        with open("kept.tsv", "a") as file:
             fcntl.flock(file, fcntl.LOCK_EX)
-            calls = [subprocess.Popen(self.words("solve", it, programs=programs), stdout=subprocess.PIPE) for it in numbers]
-            told = [call.stdout.readline() for call in calls]
-            self.assertTrue(all(told))
+            calls = [self.start("solve", number) for number in numbers]
+            self.assertTrue(all(call.stdout.readline() for call in calls))
             time.sleep(1)
             self.assertEqual([call.poll() for call in calls], [None] * len(calls))
         for call in calls:
-            call.stdout.close()
-            self.assertEqual(call.wait(SECONDS), 0)
+            call.communicate(timeout=SECONDS)
+            self.assertEqual(call.returncode, 0)
         head, *rows = self.rows()
         self.assertEqual((head, sorted(row.split("\t")[0] for row in rows)), (HEAD, numbers))
         self.assertEqual({(len(row.split("\t")), row[-1]) for row in rows}, {(7, "\n")})
 
-    def test_no_result(self):
-        """A solver that refuses, and a position that is not in the list."""
-        ran = run(*self.words("solve", "40", programs=self.stand_in("[1]", "1 refused: 20 empties, limit 19")))
-        self.assertEqual((ran.returncode, self.kept.exists()), (1, False))
-        self.assertIn(b"limit 19", ran.stderr)
-        ran = run(*self.words("solve", "39", programs="bin"))
-        self.assertEqual((ran.returncode, self.kept.exists()), (2, False))
-        self.assertIn(b"39", ran.stderr)
-
-
-class Page(InFolder):
-    def row(self, *results, number):
-        """The row of a position, where these results are kept."""
-        Path("kept.tsv").write_text(HEAD + "".join(results))
-        told = run(FFO, "page", "--results", "kept.tsv", check=True).stdout.decode()
-        return re.search(rf"^\| {number} \|.*$", told, re.M)[0].split(" | ")
-
     def test_document(self):
-        self.assertEqual(run(FFO, "page", check=True).stdout.decode(), stored("docs/ffo.md").decode())
+        self.assertIn(run(ROOT / "bench/ffo", "table", check=True).stdout, stored("docs/ffo.md"))
 
     def test_agreement(self):
-        """The score and each published move, as the word of a report; the last result counts."""
-        ((first, score), (second, _)) = published(43)
-        for found, moves, word in (
-            (score, f"{first},{second}", "agree"),
-            (score, f"A1,{first},{second}", "agree"),
-            (score, first, "differ"),
-            ("+12", f"{first},{second}", "differ"),
-        ):
-            with self.subTest(found=found, moves=moves):
-                result = f"43\t23\t{found}\t{moves}\t1234.50\tffosolve 9.9.9\tsome processor\n"
-                row = self.row(KEPT, result.replace(found, "+64"), result, number=43)
-                self.assertEqual((row[2], row[3], row[5:7]), (found, moves.replace(",", ", "), [word, "1,234.5"]))
-
-    def test_cut(self):
-        """A result without an end of its line is none."""
-        self.assertEqual(self.row(KEPT, number=41)[2], "+00")
-        self.assertEqual(self.row(KEPT[:-1], number=41)[2], "not solved")
+        """The score and each published move, as the word of a report; the last whole result counts."""
+        for score, moves, word in (("-12", "G3,C7", "agree"), ("-12", "A1,G3,C7", "agree"), ("-12", "G3", "differ"), ("+12", "G3,C7", "differ")):
+            row = f"43\t23\t{score}\t{moves}\t1234.50\tffosolve 9.9.9\tsome processor\n"
+            Path("kept.tsv").write_text(HEAD + row.replace(score, "+64") + row + KEPT[:-1])
+            told = self.ffo("table").stdout
+            wanted = f"| 43 | 23 | {score} | {moves.replace(',', ', ')} | -12 G3, C7 | {word} | 1,234.5 |\n"
+            self.assertIn(wanted, told)
+            self.assertIn("| 41 | 22 | not solved |", told)

@@ -120,7 +120,7 @@ class Lines(Scores):
 
     def test_position_of_twenty(self):
         """Position 40 of the FFO test: the published move and score, and no other move is as good."""
-        line = next(line for line in stored("examples", "ffo-40-50.obf").splitlines() if b"% 40" in line)
+        line = next(line for line in stored("examples", "ffo-40-51.obf").splitlines() if b"% 40" in line)
         ran = run(PROGRAM, input=line, timeout=LONGEST)
         names, scores = zip(*re.findall(rb" ([A-H][1-8]):([+-]\d\d);", ran.stdout))
         self.assertEqual((ran.returncode, ran.stderr), (0, b""))
