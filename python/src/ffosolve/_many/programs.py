@@ -40,12 +40,11 @@ class Program:
             raise Refusal(UNBUILT, f"{self.start} is another program than {self.start.name}")
 
 
-def print_version(programs):
+def version(programs):
     ran = Program(programs, "ffosolve").run("--version", stderr=subprocess.DEVNULL)
     if ran.returncode != DONE or not ran.stdout.split():
         raise Refusal(UNBUILT, "ffosolve tells no version")
-    print(f"{NAME} {ran.stdout.split()[-1].decode(errors='replace')}")
-    return DONE
+    return f"{NAME} {ran.stdout.split()[-1].decode(errors='replace')}\n"
 
 
 def run_options(command):
