@@ -1179,6 +1179,15 @@ class Hosts(Case):
         self.assertEqual(set(self.solvers()), {"near", "me@far"})
         self.assertEqual([path.name for host in ("near", "far") for path in Path("hosts", host).iterdir()], [])
 
+    def test_all_jobs_of_all_machines_work_at_a_time(self):
+        by = install("slow anywhere", ffosolve='#!/bin/sh\nsleep 0.3\nexec "@real@" "$@"\n')
+        self.same(*self.by("3/near", "2/far", lines=2), by=by, **self.how)
+        running = most = 0
+        for line in Path("work/log").read_text().splitlines():
+            running += {"begin": 1, "done": -1}.get(line.split("\t")[1], 0)
+            most = max(most, running)
+        self.assertEqual(most, 5)
+
     def test_machines_that_do_not_answer_are_left_out_by_name(self):
         ran = self.same(*self.by("dead", "2/near", "8/me@dead"), **self.how,
                         told="dead is left out: ssh: connect to host dead port 22: Connection refused")
@@ -1241,9 +1250,8 @@ class Hosts(Case):
 
     def test_hosts_work_while_others_are_asked(self):
         write(Path("reach"), REACH.replace("exec sleep 50", "sleep 12"), 0o755)
-        self.same(*self.by(":", "1/hanging", lines=1), told="on this machine", by=SLOWLY, **self.how)
-        ready = Path("work/log").read_text().partition("\tready\thanging")[0]
-        self.assertIn("\tdone\tthis machine", ready)
+        self.same(*self.by(":", "1/hanging", lines=1), told="on this machine", **self.how)
+        self.assertIn("\tdone\tthis machine", Path("work/log").read_text().partition("\tready\thanging")[0])
 
     def test_results_that_come_back_spoiled_are_not_taken(self):
         """Cut, and behind words of the machine's shell, which it did not print when it was asked."""

@@ -7,7 +7,7 @@ import shutil
 from pathlib import Path
 
 from .arguments import MOST_JOBS
-from .files import check_readable, read_or_nothing, write_whole
+from .files import check_readable, read_or_nothing
 from .folder import HOSTS
 from .messages import misused, say
 
@@ -33,10 +33,6 @@ class Machine:
         return "".join(f"{name}={shlex.quote(value)}\n" for name, value in values.items()) + (
             f'reach() {{ how=$1; shift; {command} $how {shlex.quote(self.name)} "$@"; }}\n')
 
-    def is_swept(self, run):
-        """Whether it said that nothing lies there any more."""
-        return (run.place / f"machines/{self.key}.swept").exists()
-
 
 def usual_command():
     """The words of PARALLEL_SSH, which may stand in place of ssh."""
@@ -54,12 +50,11 @@ def read_hosts(path):
     check_readable(Path(path))
     lines = [re.sub(r"(^|\s)#.*", "", line).strip() for line in Path(path).read_text(errors="replace").splitlines()]
     machines = {}
-    for number, line in enumerate(lines, 1):
-        if line:
-            machine = read_host(line, f"{path} line {number}")
-            if machine.key in machines:
-                say(f"{path} line {number}: {machine.name} stands there twice; this line counts")
-            machines[machine.key] = machine
+    for place, line in ((f"{path} line {number}", line) for number, line in enumerate(lines, 1) if line):
+        machine = read_host(line, place)
+        if machine.key in machines:
+            say(f"{place}: {machine.name} stands there twice; this line counts")
+        machines[machine.key] = machine
     if not machines:
         raise misused(f"{path} names no machine: a line is as ssh takes it, or `:` for this machine")
     return list(machines.values())
@@ -77,7 +72,7 @@ def read_host(line, place):
             (jobs and not 1 <= int(jobs) <= MOST_JOBS, f"a machine has from 1 to {MOST_JOBS} jobs"),
             (not address or name.startswith("-"), "it names no machine"),
             (name.startswith(("@", "ssh://@")), f"'{name}' names no user before its @"),
-            (re.fullmatch(r"[^:]+:\d+", bare), f"a port stands before the name: ssh -p {name.rpartition(':')[2]} {name.partition(':')[0]}"),
+            (re.fullmatch(r"[^:]+:\d+", bare), f"a port stands before the name: ssh -p {' '.join(name.split(':')[::-1])}"),
             ("/" in bare, f"'{name}' is no name of a machine"),
             (not (machine.is_here or shutil.which(command)), f"no command is '{command}': a line has one machine")):
         if is_wrong:
@@ -86,12 +81,6 @@ def read_host(line, place):
 
 
 def recorded(run):
-    """The machines on which something of a list may lie: jobs add theirs to the record before they lay anything."""
+    """The machines on which something of a list may lie: each is added before that, and goes when it says that all is gone."""
     lines = read_or_nothing(run.folder / HOSTS).decode(errors="replace").splitlines()
     return [read_host(line, HOSTS) for line in dict.fromkeys(lines)]
-
-
-def forget(run):
-    """Takes the machines that were swept out of the record."""
-    kept = [f"{machine.login}\n".encode() for machine in recorded(run) if not machine.is_swept(run)]
-    write_whole(run.folder / HOSTS, kept)

@@ -9,7 +9,7 @@ from pathlib import Path
 
 from .files import read_or_nothing, write_lines
 from .folder import HOST_SECONDS, lay_scripts
-from .hosts import forget, recorded
+from .hosts import recorded
 from .messages import DONE, UNBUILT, UNREADABLE, Refusal
 from .programs import check_tools
 from .watch import LOST_SECONDS
@@ -135,4 +135,3 @@ def sweep(run, command, watch, stack, lock):
         watch.read()
         for machine in waits():
             watch.tell(f"{machine.name}: {run.name}-{machine.key} may lie there, until the next run reaches it: interrupted")
-        forget(run)

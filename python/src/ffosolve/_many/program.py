@@ -5,6 +5,7 @@ import signal
 import sys
 from pathlib import Path
 
+from .. import __version__
 from .arguments import complete, parse, refuse_others
 from .books import check_place, merge_books
 from .files import check_readable, is_same, regular
@@ -13,7 +14,7 @@ from .hosts import Machine, read_hosts, recorded
 from .jobs import SIGNALS, solve_parts, sweep
 from .messages import DONE, NAME, UNREADABLE, Refusal, misused, outcome, say, standard_output
 from .parts import Run, scan_list
-from .programs import Program, check_tools, version, run_options
+from .programs import Program, check_tools, run_options
 from .report import finish
 from .watch import Watch
 
@@ -85,7 +86,7 @@ def run_command(programs, words):
     with standard_output() as output:
         command = parse(words)
         if command.help or command.version:
-            output.write((command.help or version(programs)).encode())
+            output.write((command.help or f"{NAME} {__version__}\n").encode())
             return DONE
     if command.merge_books:
         return merge_books(command, programs)

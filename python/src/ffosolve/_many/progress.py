@@ -34,14 +34,16 @@ class Progress:
         self.parts = {part.name: part for part in run.parts}
         self.weights = {part.name: weight_of(run.read(part), most) for part in parts}
         self.running = {}  # the machine that works at a part, and since when
-        self.begun, self.seconds, self.weight, self.lines = time.monotonic(), 0.0, 0.0, 0
+        self.begun = self.ended = time.monotonic()
+        self.seconds, self.weight, self.lines = 0.0, 0.0, 0
 
     def end(self, name, is_solved):
         """A part is no longer at work: it is solved, or waits again."""
-        _, since = self.running.pop(name, (None, time.monotonic()))
+        self.ended = time.monotonic()
+        _, since = self.running.pop(name, (None, self.ended))
         if is_solved and name in self.weights:
             self.weight += self.weights.pop(name)
-            self.seconds += time.monotonic() - since
+            self.seconds += self.ended - since
             self.lines += self.parts[name].lines
 
     def left(self):

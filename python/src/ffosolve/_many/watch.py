@@ -38,20 +38,19 @@ class Watch:
 
     def follow(self, is_over):
         """Sees the log until the work is over; a lost machine is tried again now and then."""
-        is_asked = False
         while not is_over():
             time.sleep(0.1)
             self.read()
-            if not is_asked and not any((self.run.place / "asking").iterdir()):
-                is_asked = True
+            if not any((self.run.place / "asking").iterdir()):
                 self.tell_ready()
-            is_terminal = sys.stderr.isatty()
-            if not self.quiet and time.monotonic() > self.shown + (1 if is_terminal else 60):
-                self.shown = time.monotonic()
+            is_terminal, now = sys.stderr.isatty(), time.monotonic()
+            is_between = not self.progress.running and now < self.progress.ended + 2  # one part and the next
+            if not self.quiet and not is_between and now > self.shown + (1 if is_terminal else 60):
+                self.shown = now
                 (show if is_terminal else say)(self.progress.text())
             for name, at in self.lost.items():
-                if time.monotonic() > at + LOST_SECONDS:
-                    self.lost[name] = time.monotonic()
+                if now > at + LOST_SECONDS:
+                    self.lost[name] = now
                     self.move(name, "out", "jobs")
         self.read()
         self.tell_ready()
