@@ -926,7 +926,8 @@ class Words(Case):
                            "--book-out FILE"):
                 self.assertIn(option, ran.stdout.decode())
         self.assertFalse(Path("list.obf.parts").exists())
-        by = install("versioned", ffosolve='#!/bin/sh\necho "ffosolve 1.2.3"\n')
+        by = install("versioned")
+        write(by.parent.parent / "VERSION", "1.2.3\n")
         for word in ("-V", "--version"):
             ran = self.many("list.obf", word, by=by)
             self.assertEqual((ran.returncode, ran.stdout, ran.stderr), (0, b"ffosolve-many 1.2.3\n", b""))
@@ -1057,6 +1058,14 @@ class Signals(Case):
             self.assertIn(ran.returncode, (-one, -other))
             self.assertEqual(told.count("\n"), 2, told)
             self.assertTrue(told.endswith("ffosolve-many: interrupted; the same command goes on with what is solved\n"), told)
+
+    def test_interrupt_at_the_start_prints_no_traceback(self):
+        by = install("starting", ffosolve=SLOW)
+        change_many(by, "program", "import contextlib\n", "import contextlib, time\nopen('begun', 'w').close()\ntime.sleep(40)\n")
+        ran = self.open(by)
+        wait_until(Path("begun").exists)
+        ran.send_signal(signal.SIGINT)
+        self.assertEqual((ran.communicate(timeout=SECONDS), ran.returncode), ((b"", b""), -signal.SIGINT))
 
     def test_killed_run_leaves_nothing_at_work(self):
         ran = self.start()

@@ -81,6 +81,6 @@ def read_host(line, place):
 
 
 def recorded(run):
-    """The machines on which something of a list may lie: each is added before that, and goes when it says that all is gone."""
+    """The machines on which something of a list may lie: added before that, and gone when they have said that all is."""
     lines = read_or_nothing(run.folder / HOSTS).decode(errors="replace").splitlines()
     return [read_host(line, HOSTS) for line in dict.fromkeys(lines)]
