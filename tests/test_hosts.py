@@ -54,7 +54,7 @@ def setUpModule():
         shutil.copy(built(), program)
         if name != "plain":
             program.write_text(PROGRAM.replace("@real@", str(BASE / "plain/bin/ffosolve")))
-    change_many(BASE / "hasty/bin/ffosolve-many", "progress", "LOST_SECONDS = 60", "LOST_SECONDS = 3")
+    change_many(BASE / "hasty/bin/ffosolve-many", "watch", "LOST_SECONDS = 60", "LOST_SECONDS = 3")
     ROOM = Room(BASE / "room")
     unittest.addModuleCleanup(ROOM.close)
 
@@ -300,6 +300,7 @@ class Tried(Case):
     def test_program_that_does_not_run_there_or_is_wrong(self):
         self.write("wrong", "", self.h1.home)
         self.write("dies", "", self.h2.home)
+        self.write("slow", "1", self.h3.home)  # so that all machines are asked before all is solved
         self.whole(self.start(by="slow"))
         self.assertEqual(sorted(self.told()), ["h1 is left out: it solves a known line wrong",
                                                "h2 is left out: it can't solve: Killed", "on h1, h2, h3"])
@@ -332,7 +333,7 @@ class Tried(Case):
         self.assertEqual(self.wait(self.start(hosts="2/h1\n")), 3)
         self.assertLess(time.monotonic() - begun, 30 * busy())
         self.assertRegex(self.told()[0], "^h1 is left out: no room: [0-9]+ KB are free, and [0-9]+ are needed$")
-        self.assertEqual(self.told()[1:], ["no machine can be reached"])
+        self.assertEqual(self.told()[1:], ["no machine can work"])
 
     def test_machines_that_cannot_be_reached_are_named(self):
         self.h2.end()
@@ -342,6 +343,53 @@ class Tried(Case):
         for line in ("h1 is left out: .*port 23: Connection refused", "none.invalid is left out: .*resolve",
                      "h2 is left out: .*(No route to host|timed out)", "h1 is left out: .*Permission denied", "on h3"):
             self.assertRegex(told, line)
+
+    def test_machines_that_lack_what_they_need_say_so(self):
+        tools = self.h1.home / "tools"
+        tools.mkdir()
+        for tool in ("sh", "readlink", "rm", "rmdir", "nproc", "mkdir", "bash", "sha256sum", "sync"):
+            os.symlink(shutil.which(tool), tools / tool)
+        self.h1.more = "SetEnv PATH=/home/me/tools\n"
+        for host, shell in ((self.h1, "/bin/bash"), (self.h2, "/usr/sbin/nologin")):
+            host.end()
+            host.boot(shell=shell)
+        self.h3.do("mount", "-o", "remount,bind,ro", "/home/me")
+        self.assertEqual(self.wait(self.start()), 3)
+        told = self.told()
+        self.assertRegex("\n".join(sorted(told[:3])), "^h1 is left out: tar is not there\nh2 is left out: This account is currently "
+                         "not available.\nh3 is left out: mkdir: .*Read-only file system$")
+        self.assertEqual(told[3], "no machine can work")
+        self.assertFalse([line for line in told if line.startswith("h2") and "may lie" in line], told)
+
+    def configured(self, line):
+        """The caller's configuration of ssh has one more line for all machines."""
+        text = (ROOM.home / ".ssh/config").read_text()
+        self.addCleanup((ROOM.home / ".ssh/config").write_text, text)
+        (ROOM.home / ".ssh/config").write_text(f"{text}Host *\n {line}\n")
+
+    def test_reason_that_ssh_does_not_tell(self):
+        self.configured("LogLevel QUIET")
+        self.h2.end()
+        self.whole(self.start(hosts="1/h1\nh2\n"))
+        self.assertEqual(self.told(), ["h2 is left out: ssh tells no reason", "on h1"])
+
+    def test_terminal_that_ssh_forces(self):
+        self.configured("RequestTTY force")
+        self.whole(self.start(hosts="1/ssh://me@h1:22\n1/ssh -t h2\n"))
+        self.assertEqual(self.told(), ["on ssh://me@h1:22, h2"])
+        self.write("mine", '#!/bin/sh\nexec ssh "$@"\n')
+        (ROOM.home / "mine").chmod(0o755)
+        shutil.rmtree(ROOM.home / "work")
+        self.assertEqual(self.wait(self.start(hosts="h3\n", PARALLEL_SSH="/home/me/mine")), 3)
+        self.assertEqual(self.told(), ["h3 is left out: ssh forces a terminal on what runs there", "no machine can work"])
+
+    def test_full_temporary_folder(self):
+        (ROOM.home / "tmp").mkdir()
+        ROOM.do("mount", "-t", "tmpfs", "-o", "size=16k,mode=1777", "none", "/home/me/tmp")
+        self.addCleanup(ROOM.do, "umount", "/home/me/tmp")
+        ROOM.do("sh", "-c", "yes >/home/me/tmp/all 2>/dev/null; :")
+        self.whole(self.start(hosts="2/h1\n", TMPDIR="/home/me/tmp"))
+        self.assertEqual(self.told(), ["on h1"])
 
     def test_no_machine_can_be_reached(self):
         self.h2.end()
@@ -362,8 +410,9 @@ class Tried(Case):
             if shutil.which(shell):
                 host.end()
                 host.boot(shell=shutil.which(shell))
-        self.whole(self.start())
-        self.assertEqual(self.told(), ["on " + ", ".join(self.told()[0].removeprefix("on ").split(", "))])
+            self.write("slow", "1", host.home)
+        self.whole(self.start(by="slow"))
+        self.assertEqual(self.told(), ["on h1, h2, h3"])
         self.assertTrue(all(self.begun(name, "done") for name in ROOM.hosts))
         self.nothing_left()
 
@@ -395,10 +444,68 @@ class Swept(Case):
         self.h2.lose_power()
         self.whole(ran)
         self.assertEqual(len(self.left(self.h2)), 1)
-        self.assertIn(f"h2 can't be reached: {self.left(self.h2)[0]} may lie there, until the next run reaches it", self.told())
+        self.assertRegex(self.told()[-1], f"^h2: {self.left(self.h2)[0]} may lie there, until the next run reaches it: .")
         self.h2.boot()
         self.whole(self.start(by="slow"))
         self.nothing_left()
+
+    def sweep(self, by="slow"):
+        """What --sweep gives."""
+        return run(*ROOM.words(BASE / by / "bin/ffosolve-many", "--sweep", "work"))
+
+    def test_machine_is_remembered_until_its_files_are_gone(self):
+        self.write("slow", "1", self.h1.home)
+        self.write("slow", "1", self.h2.home)
+        ran = self.start(by="slow", hosts="1/h1\n1/h2\n")
+        wait_until(lambda: self.begun("h1", "done") and self.begun("h2", "done"))
+        os.kill(child_of(ran.pid), signal.SIGINT)
+        self.wait(ran, 20 * busy())
+        self.assertEqual(len(self.left(self.h2)), 1)
+        self.h2.end()
+        for hosts in ("1/h1\n1/h2\n", "1/h1\n"):  # it isn't reached, and isn't named; the second time all is solved
+            self.whole(self.start(by="slow", hosts=hosts))
+            self.assertEqual(len([line for line in self.told() if line.startswith("h2: run-")]), 1, self.told())
+        self.nothing_left(self.h1)
+        self.assertEqual(len(self.left(self.h2)), 1)
+        self.h2.boot()
+        self.write("kept", (ROOM.home / "work/hosts").read_text())
+        ran = self.sweep()
+        self.assertEqual((ran.returncode, ran.stdout, ran.stderr), (0, b"", b""))
+        self.nothing_left(self.h1, self.h2)
+        self.assertEqual((ROOM.home / "work/hosts").read_text(), "")
+
+    def lose_one(self, begun=True):
+        """A run that is done but for sweeping: h2 is gone, without a word, after its last part."""
+        for host in (self.h1, self.h2):
+            self.write("slow", "3", host.home)
+        ran = self.start(by="slow", hosts="1/h1\n1/h2\n")
+        wait_until(lambda: len(self.begun("h1", "done") + self.begun("h2", "done")) >= 8 and self.begun("h2", "done"))
+        (self.h2.home / "slow").unlink()
+        wait_until(lambda: len(self.begun("h1") + self.begun("h2")) >= 10 and not self.at_work(self.h2))
+        self.h2.lose_link()
+        return ran
+
+    def test_report_waits_for_no_sweep(self):
+        ran = self.lose_one()
+        wait_until(lambda: (BASE / "out").read_text() == self.one and (ROOM.home / "joined.book").exists())
+        self.assertIsNone(ran.poll())
+        wait_until(lambda: "waits for h2 to remove what lies there, 30 seconds at most" in self.told())
+        self.assertIsNone(ran.poll())
+        os.kill(child_of(ran.pid), signal.SIGINT)
+        self.whole(ran, seconds=10 * busy())
+        self.assertEqual(self.told()[-1], f"h2: {self.left(self.h2)[0]} may lie there, until the next run reaches it: interrupted")
+        begun = time.monotonic()
+        ran = self.start(by="slow", hosts="1/h1\n")
+        wait_until(lambda: (BASE / "out").read_text() == self.one)
+        self.assertLess(time.monotonic() - begun, 5 * busy())  # all was solved before
+        self.whole(ran)
+
+    def test_shell_that_hangs_is_not_waited_for(self):
+        self.write(".bashrc", "sleep 100\n", self.h2.home)
+        begun = time.monotonic()
+        self.whole(self.start(hosts="1/h1\n1/h2\n"))
+        self.assertLess(time.monotonic() - begun, 20 * busy())
+        self.assertEqual(self.told(), ["on h1"])
 
     def test_sweep_alone(self):
         self.interrupt(self.h1, self.h2, self.h3)
@@ -408,7 +515,7 @@ class Swept(Case):
         words = ROOM.words(BASE / "slow/bin/ffosolve-many", "--sweep", "work")
         ran = run(*words)
         self.assertEqual((ran.returncode, ran.stdout), (3, b""))
-        self.assertRegex(ran.stderr.decode(), "^ffosolve-many: h3 can't be reached: run-.* may lie there")
+        self.assertRegex(ran.stderr.decode(), "ffosolve-many: h3: run-.* may lie there, until the next run reaches it: ssh: ")
         self.nothing_left(self.h2)
         self.assertEqual(sorted(path.name for path in self.h1.home.rglob("*") if path.is_file() and path.read_text() == "mine"),
                          ["mine", "notes", "run-0123456789ab"])

@@ -176,7 +176,8 @@ class Functions(InFolder):
     def test_signals_after_the_first_are_ignored(self):
         with mock.patch.object(signal, "signal") as handled, self.assertRaises(KeyboardInterrupt):
             many.program.catch(signal.SIGTERM, None)
-        self.assertEqual(handled.call_args_list, [mock.call(number, signal.SIG_IGN) for number in many.jobs.SIGNALS])
+        self.assertEqual([words[0][0] for words in handled.call_args_list], [*many.jobs.SIGNALS])
+        self.assertEqual([words[0][1](0, None) for words in handled.call_args_list], [None] * len(many.jobs.SIGNALS))
 
     def test_processes_that_end_while_they_are_looked_at_are_passed_over(self):
         gone = subprocess.Popen(["true"])
@@ -234,20 +235,32 @@ class Functions(InFolder):
         self.assertEqual([entry[1:] for entry in many.books.entries_of(Path("book"), "it")], [(head + b" A1:+01;\n", ("it", 4))])
 
     def test_hosts_are_read(self):
-        write(Path("hosts"), "# all\n\n:\n 8/me@a \nssh -p 22 b # the third\n2 / c\n5/c\n::1\n")
-        machines = many.hosts.read_hosts("hosts")
+        write(Path("hosts"), "# all\n\n:\n 8/me@a \nssh -p 22 b # the third\n2 / c\n5/c\n::1\n4/ssh://me@d:22\n")
+        with contextlib.redirect_stderr(io.StringIO()) as told:
+            machines = many.hosts.read_hosts("hosts")
+        self.assertEqual(told.getvalue(), "ffosolve-many: hosts line 7: c stands there twice; this line counts\n")
         self.assertEqual([(machine.jobs, machine.login, machine.name) for machine in machines],
                          [("", ":", "this machine"), ("8", "me@a", "me@a"), ("", "ssh -p 22 b", "b"),
-                          ("5", "c", "c"), ("", "::1", "::1")])
+                          ("5", "c", "c"), ("", "::1", "::1"), ("4", "ssh://me@d:22", "ssh://me@d:22")])
         self.assertEqual([machine.command for machine in machines[1:4]], [["ssh"], ["ssh", "-p", "22"], ["ssh"]])
         for text, told in (("", "names no machine"), ("# none\n", "names no machine"), ("a\n8/\n", "line 2: it names no"),
                            ("0/h2", "line 1: a machine has from 1 to 999 jobs"), ("1000/h2", "from 1 to 999 jobs"),
                            ('ssh -o "User me" h2', "line 1: quotes are not read"), ("h1 h2", "no command is 'h1'"),
                            ("me@h2:2200", "a port stands before the name: ssh -p 2200 me@h2"), ("x/h2", "'x/h2' is no name"),
-                           ("-oProxyCommand=x", "it names no machine")):
+                           ("-oProxyCommand=x", "it names no machine"), ("@h2", "'@h2' names no user before its @"),
+                           ("me@", "it names no machine"), ("ssh://@h2", "names no user before its @")):
             write(Path("hosts"), text)
             with self.assertRaisesRegex(many.messages.Refusal, told):
                 many.hosts.read_hosts("hosts")
+
+    def test_command_in_place_of_ssh_is_told_by_its_name(self):
+        write(Path("hosts"), "h1\n")
+        for words, told in (("/none/ssh", "PARALLEL_SSH: no command is '/none/ssh'"), ("ssh 'x", "PARALLEL_SSH: No closing")):
+            with mock.patch.dict(os.environ, {"PARALLEL_SSH": words}), self.assertRaisesRegex(many.messages.Refusal, told):
+                many.hosts.read_hosts("hosts")
+        for words in ("", " "):
+            with mock.patch.dict(os.environ, {"PARALLEL_SSH": words}):
+                self.assertEqual(many.hosts.read_hosts("hosts")[0].command, ["ssh"])
 
     def test_words_are_quoted_for_the_shell(self):
         command = self.command("--table", "1;touch x", "--scoring=$(x)")
@@ -261,7 +274,7 @@ class Functions(InFolder):
         run_of = many.parts.Run(self.folder, "run-1", [])
         for words, line, jobs in (((), ":", len(os.sched_getaffinity(0))), (("--jobs=3",), ":", 3), ((), "4/:", 4),
                                   (("--jobs=3",), "4/:", 3)):
-            many.jobs.lay_round(run_of, self.command(*words), [many.hosts.read_host(line, "")], [], [])
+            many.jobs.lay_round(run_of, self.command(*words), [many.hosts.read_host(line, "")], [])
             self.assertEqual(len(os.listdir("run-1/jobs/here")), jobs, (words, line))
 
     def test_file_is_on_the_disk_before_it_has_its_name(self):
@@ -385,9 +398,15 @@ class Results(Case):
         self.assertEqual(reader.communicate(timeout=SECONDS)[0], Path("one.book").read_bytes())
 
     def test_book_that_cannot_be_written_is_told(self):
-        ran = self.many("work", "list.obf", "--book-out", "/dev/full")
+        try:
+            os.mknod("full", stat.S_IFCHR | 0o666, os.makedev(1, 7))  # of the test's own, since a wrong program replaces it
+            open("full", "rb").close()
+        except PermissionError:
+            self.skipTest("devices are made by root alone, on a file system that takes them")
+        ran = self.many("work", "list.obf", "--book-out", "full")
         self.assertEqual((ran.returncode, ran.stdout), (3, self.one))
-        self.assertIn(b"ffosolve-many: cannot write /dev/full: No space left on device\n", ran.stderr)
+        self.assertIn(b"ffosolve-many: cannot write full: No space left on device\n", ran.stderr)
+        self.assertTrue(stat.S_ISCHR(os.stat("full").st_mode))
 
     def test_books_of_many_parts_are_merged_with_few_open_files(self):
         lines = Path("one.book").read_bytes().splitlines(keepends=True)
@@ -412,6 +431,23 @@ class Results(Case):
         told = b"ffosolve-many: cannot write standard output: it is closed\n"
         self.assertEqual((ran.returncode, ran.stderr), (3, told))
         self.same("list.obf", told="solved before 1")
+
+    def test_output_that_nobody_reads_any_more_ends_the_program_as_others(self):
+        for words in (("list.obf",), ("--help",), ("--merge-books", "one.book")):
+            reading, writing = os.pipe()
+            os.close(reading)
+            ran = subprocess.run([MANY, "--quiet", *words], stdin=subprocess.DEVNULL, stdout=writing, stderr=subprocess.PIPE,
+                                 timeout=SECONDS, check=False)
+            os.close(writing)
+            self.assertEqual((ran.returncode, ran.stderr), (-signal.SIGPIPE, b""), words)
+        self.same("list.obf", told="solved before 1")
+
+    def test_help_that_cannot_be_written_is_told(self):
+        for word in ("--help", "--version"):
+            with open("/dev/full", "wb") as full:
+                ran = run(MANY, word, capture_output=False, stdout=full, stderr=subprocess.PIPE)
+            told = b"ffosolve-many: cannot write standard output: No space left on device\n"
+            self.assertEqual((ran.returncode, ran.stderr), (3, told), word)
 
     def test_closed_streams_are_not_taken_for_files(self):
         ran = run("sh", "-c", f'exec "{MANY}" list.obf <&- 2>&-')
@@ -564,6 +600,14 @@ class Resuming(Case):
         self.same(*self.WORDS, told="is gone: all parts are solved again")
         self.same_book()
 
+    def test_folder_keeps_the_program_that_it_was_begun_with(self):
+        self.begin()
+        kept = next(Path("work").glob("run-*")) / "program"
+        before = kept.read_bytes()
+        self.part("0000001.done").unlink()
+        self.same(*self.WORDS, by=install("another program", ffosolve='#!/bin/sh\nexec "@real@" "$@"\n'), told="solved before 2")
+        self.assertEqual(kept.read_bytes(), before)
+
     def test_spoiled_parts_and_tools_are_laid_again(self):
         self.begin()
         for name in ("parts/0000001", "program", "solve"):
@@ -658,7 +702,7 @@ class Pipes(Case):
         self.same("--lines=20", "work", "/dev/stdin", told="lines 60, parts 3", by=self.piped("list.obf"))
         self.same("--lines=20", "work", "/dev/stdin", told="solved before 3", by=self.piped("list.obf"))
         names = [path.name for path in Path("work").iterdir() if not path.is_dir()]
-        self.assertEqual(sorted(names), ["asked.json", "hosts", "lock", "log"])
+        self.assertEqual(sorted(names), ["asked.json", "lock", "log"])
         write(Path("list.obf"), SMALL[68:])
         ran = self.many("--lines=20", "work", "/dev/stdin", by=self.piped("list.obf"))
         self.assertEqual(ran.returncode, 2)
@@ -689,6 +733,26 @@ class Pipes(Case):
             ran = subprocess.run([MANY, "work", "/dev/stdin"], stdin=file, capture_output=True, timeout=SECONDS,
                                  check=False)
         self.assertEqual((ran.returncode, ran.stdout), (0, self.one))
+
+    def test_dash_is_standard_input(self):
+        self.same("--lines=20", "work", "-", told="/dev/stdin: lines 60, parts 3", by=self.piped("list.obf"))
+        ran = run("sh", "-c", f'cat one.book | "{MANY}" --merge-books -')
+        self.assertEqual((ran.returncode, ran.stdout), (0, Path("one.book").read_bytes()))
+
+    def test_texts_that_are_no_lists_are_refused(self):
+        for text, told in ((b"\xef\xbb\xbf" + SMALL, "it begins with a byte-order mark"),
+                           (SMALL.decode().encode("utf-16"), "it begins with a byte-order mark"),
+                           (SMALL.replace(b"\r", b"").replace(b"\n", b"\r"), "its lines end with CR alone"),
+                           (b"\r" + SMALL.partition(b"\n")[0].rstrip(), "its lines end with CR alone")):
+            write(Path("other.obf"), text)
+            self.refused(3, f"cannot read other.obf: {told}", "other.obf")
+            self.refused(3, f"cannot read /dev/stdin: {told}", "work", "-", input=text)
+        write(Path("list.obf"), SMALL.partition(b"\n")[0].rstrip() + b"\r")  # a line that lacks the end of its end
+        self.same("list.obf", text=self.solve("list.obf"))
+
+    def test_pipe_that_finds_no_room_is_told(self):
+        limits = {"preexec_fn": lambda: resource.setrlimit(resource.RLIMIT_FSIZE, (1000, 1000)), "input": SMALL}
+        self.refused(3, f"cannot copy /dev/stdin to {BASE}/tmp: File too large", "work", "-", **limits)
 
     def test_pipe_without_a_folder_is_refused(self):
         self.refused(2, "'/dev/stdin' has no folder of its own: name a FOLDER before it", "/dev/stdin", input=SMALL)
@@ -775,7 +839,7 @@ class Words(Case):
                 (2, "'two.obf' is one word too many", ("work", "list.obf", "two.obf")),
                 (2, "'list.obf' is no folder: one FOLDER and one LIST are taken", ("list.obf", "two.obf")),
                 (2, "no option is '-x'; a file of that name is ./-x", ("-x",)),
-                (2, "no option is '-'; standard input is /dev/stdin", ("work", "-")),
+                (2, "'/dev/stdin' has no folder of its own", ("-",)),
                 (2, "no option is '--joobs=2'", ("list.obf", "--joobs=2")),
                 (2, "no option is '--line'", ("--line", "5", "list.obf")),
                 (2, "no option is '-rf *'", ("-rf *", "list.obf")),
@@ -820,6 +884,17 @@ class Words(Case):
             self.assertEqual(self.many("--merge-books", "one.book", "--book-out", "taken").returncode, 0)
             self.same_book("taken")
 
+    def test_book_that_may_not_be_written_stays(self):
+        if os.geteuid() != 0:
+            self.skipTest("root alone becomes another user")
+        before = b"% ffobook 2 winner\n"
+        write(Path("kept"), before, 0o444)
+        for path in (self.folder, BASE, BASE / "tmp"):
+            path.chmod(0o777)
+        for words in (("list.obf",), ("--merge-books", "one.book")):
+            self.refused(3, "cannot write kept", *words, "--book-out", "kept", user=65534, group=65534)
+        self.assertEqual(Path("kept").read_bytes(), before)
+
     def test_book_that_is_read_is_not_overwritten(self):
         before = Path("one.book").read_bytes()
         os.symlink("one.book", "link")
@@ -851,7 +926,8 @@ class Words(Case):
                            "--book-out FILE"):
                 self.assertIn(option, ran.stdout.decode())
         self.assertFalse(Path("list.obf.parts").exists())
-        by = install("versioned", ffosolve='#!/bin/sh\necho "ffosolve 1.2.3"\n')
+        by = install("versioned")
+        write(by.parent.parent / "VERSION", "1.2.3\n")
         for word in ("-V", "--version"):
             ran = self.many("list.obf", word, by=by)
             self.assertEqual((ran.returncode, ran.stdout, ran.stderr), (0, b"ffosolve-many 1.2.3\n", b""))
@@ -970,6 +1046,26 @@ class Signals(Case):
             told = again.stderr.decode()
             self.assertGreaterEqual(int(told.partition("solved before ")[2].partition(";")[0]), before)
             shutil.rmtree("work")
+
+    def test_two_signals_together_end_it_without_a_traceback(self):
+        for one, other in ((signal.SIGINT, signal.SIGTERM), (signal.SIGTERM, signal.SIGINT), (signal.SIGHUP, signal.SIGINT)) * 2:
+            ran = self.start(0)
+            ran.send_signal(signal.SIGSTOP)  # so that both come at once
+            ran.send_signal(one)
+            ran.send_signal(other)
+            ran.send_signal(signal.SIGCONT)
+            _, told = self.ended(ran)
+            self.assertIn(ran.returncode, (-one, -other))
+            self.assertEqual(told.count("\n"), 2, told)
+            self.assertTrue(told.endswith("ffosolve-many: interrupted; the same command goes on with what is solved\n"), told)
+
+    def test_interrupt_at_the_start_prints_no_traceback(self):
+        by = install("starting", ffosolve=SLOW)
+        change_many(by, "program", "import contextlib\n", "import contextlib, time\nopen('begun', 'w').close()\ntime.sleep(40)\n")
+        ran = self.open(by)
+        wait_until(Path("begun").exists)
+        ran.send_signal(signal.SIGINT)
+        self.assertEqual((ran.communicate(timeout=SECONDS), ran.returncode), ((b"", b""), -signal.SIGINT))
 
     def test_killed_run_leaves_nothing_at_work(self):
         ran = self.start()
@@ -1092,6 +1188,15 @@ class Hosts(Case):
         self.assertEqual(set(self.solvers()), {"near", "me@far"})
         self.assertEqual([path.name for host in ("near", "far") for path in Path("hosts", host).iterdir()], [])
 
+    def test_all_jobs_of_all_machines_work_at_a_time(self):
+        by = install("slow anywhere", ffosolve='#!/bin/sh\nsleep 0.3\nexec "@real@" "$@"\n')
+        self.same(*self.by("3/near", "2/far", lines=2), by=by, **self.how)
+        running = most = 0
+        for line in Path("work/log").read_text().splitlines():
+            running += {"begin": 1, "done": -1}.get(line.split("\t")[1], 0)
+            most = max(most, running)
+        self.assertEqual(most, 5)
+
     def test_machines_that_do_not_answer_are_left_out_by_name(self):
         ran = self.same(*self.by("dead", "2/near", "8/me@dead"), **self.how,
                         told="dead is left out: ssh: connect to host dead port 22: Connection refused")
@@ -1103,6 +1208,7 @@ class Hosts(Case):
         ran = self.many(*self.by("dead", "9/dead"), **self.how)
         self.assertEqual((ran.returncode, ran.stdout), (3, b""))
         self.assertIn("no machine can be reached", ran.stderr.decode())
+        self.assertFalse(Path("work/hosts").exists())
         self.same(*self.by(":"), **self.how)
 
     def test_this_machine_alone_needs_no_ssh(self):
@@ -1125,19 +1231,36 @@ class Hosts(Case):
         self.assertEqual(self.solvers(), ["near"] * 10)
         (root / "out/x86-64-v2/ffosolve").unlink()
         shutil.rmtree("work")
-        self.same(*self.by("near", ":"), by=by, told="near is left out: it can't solve: status 127", **self.how)
+        ran = self.many(*self.by("near"), by=by, **self.how)
+        self.assertEqual(ran.returncode, 1)
+        self.assertIn("near is left out: it can't solve: status 127", ran.stderr.decode())
 
     def test_what_a_shell_prints_comes_into_no_report(self):
         write(Path("reach"), REACH.replace("cd ", "echo Welcome\ncd ", 1), 0o755)
-        self.same(*self.by("near", ":"), told="near is left out: its shell prints 'Welcome', where results are read", **self.how)
-        self.same_book()
+        ran = self.many(*self.by("near"), **self.how)
+        self.assertEqual((ran.returncode, ran.stdout), (3, b""))
+        told = ran.stderr.decode()
+        self.assertIn("near is left out: its shell prints 'Welcome', where results are read", told)
+        self.assertIn("no machine can work", told)
 
     def test_machine_that_hangs_is_left_out(self):
         by = install("hasty")
-        change_many(by, "folder", "HOST_SECONDS = 30", "HOST_SECONDS = 15")
-        self.same(*self.by("hanging", "near"), told="hanging is left out: no answer in 15 seconds", by=by,
-                  timeout=2 * SECONDS, **self.how)
+        change_many(by, "folder", "HOST_SECONDS = 30", "HOST_SECONDS = 5")
+        ran = self.many(*self.by("hanging"), by=by, **self.how)
+        self.assertEqual(ran.returncode, 3)
+        self.assertIn("hanging is left out: no answer in 5 seconds", ran.stderr.decode())
+        self.assertFalse(Path("work/hosts").exists())  # since nothing can lie there
+
+    def test_machine_that_hangs_is_not_waited_for(self):
+        begun = time.monotonic()
+        self.same(*self.by("hanging", "near"), told="on near\n", **self.how)
+        self.assertLess(time.monotonic() - begun, 25)
         self.assertEqual(self.solvers(), ["near"] * 3)
+
+    def test_hosts_work_while_others_are_asked(self):
+        write(Path("reach"), REACH.replace("exec sleep 50", "sleep 12"), 0o755)
+        self.same(*self.by(":", "1/hanging", lines=1), told="on this machine", **self.how)
+        self.assertIn("\tdone\tthis machine", Path("work/log").read_text().partition("\tready\thanging")[0])
 
     def test_results_that_come_back_spoiled_are_not_taken(self):
         """Cut, and behind words of the machine's shell, which it did not print when it was asked."""
@@ -1158,7 +1281,7 @@ class Progress(Case):
     """How far the work is, and how long it will take."""
 
     TOOLS = ("parallel",)
-    LINE = re.compile(r"parts (\d+) of \d+, lines (\d+) of \d+, \S+ lines a second(?:, (?:(\d+) h )?(?:(\d+) min|(\d+) s) left)?")
+    LINE = re.compile(r"\d+%, (?:(?:\d+ h )?(?:\d+ min|\d+ s) left, )?(?:no|\d+) machines? at work, parts (\d+) of \d+, lines (\d+) of \d+")
 
     # Seconds that bench/peer.rs took for the parts of six lines of 264 positions of 8 to 18 empty squares.
     TOOK = (0.016, 0.298, 0.023, 0.634, 0.064, 0.637, 0.269, 0.258, 0.363, 1.815, 0.594, 0.020, 0.406, 0.030, 0.799,
@@ -1167,7 +1290,7 @@ class Progress(Case):
 
     def test_count_rises_on_a_terminal(self):
         by = install("terminal", ffosolve=SLOW)
-        change_many(by, "progress", "(1 if is_terminal", "(0.1 if is_terminal")
+        change_many(by, "watch", "(1 if is_terminal", "(0.1 if is_terminal")
         reading, writing = pty.openpty()
         text = b""
         with subprocess.Popen([by, "--jobs=2", "--lines=6", "work", "list.obf"], stdin=subprocess.DEVNULL, stdout=subprocess.PIPE,
@@ -1188,8 +1311,7 @@ class Progress(Case):
         took, ends = {part.name: seconds for part, seconds in zip(parts, self.TOOK)}, []
         with mock.patch.object(time, "monotonic", lambda: now):
             now = 0.0
-            progress = many.progress.Watch(many.parts.Run(self.folder, "run-1", parts), many.arguments.parse([]), [])
-            self.addCleanup(progress.log.close)
+            progress = many.progress.Progress(many.parts.Run(self.folder, "run-1", parts), [], 20)
             progress.weights = {part.name: many.progress.weight_of(b"".join(lines[part.first - 1:part.first + 5]), 20) for part in parts}
             whole, waiting = sum(progress.weights.values()), list(took)
             while progress.weights:
@@ -1201,14 +1323,14 @@ class Progress(Case):
                     self.assertNotIn("left", progress.text())
                 elif progress.weights:
                     ends.append(now + progress.left())
-                    self.assertRegex(progress.text(), r" s left$")
+                    self.assertRegex(progress.text(), r"^[0-9]+%, [0-9]+ s left, ")
         self.assertGreater(len(ends), 30)
         for end in ends:
             self.assertTrue(0.5 < end / now < 2, (end, now))
 
     def test_log_has_a_line_now_and_then_and_none_if_it_shall_be_quiet(self):
         by = install("often", ffosolve=SLOW)
-        change_many(by, "progress", "else 60", "else 0.3")
+        change_many(by, "watch", "else 60", "else 0.3")
         told = self.same("--jobs=1", "--lines=6", "work", "list.obf", by=by).stderr.decode()
         lines = [int(line[2]) for line in self.LINE.finditer(told)]
         self.assertGreater(len(set(lines)), 2, told)
@@ -1227,29 +1349,89 @@ class Progress(Case):
 
     def test_part_whose_results_are_not_whole_is_not_solved(self):
         part = many.parts.Part("0000000", 1, 3, "")
-        progress = many.progress.Watch(many.parts.Run(self.folder, "run-1", [part]), many.arguments.parse([]), [])
-        self.addCleanup(progress.log.close)
-        progress.weights = {part.name: 1.0}
-        progress.begin([])
+        watch = self.watch(part)
         with contextlib.redirect_stderr(io.StringIO()) as told:
-            progress.see(0.0, "done", "h1", part.name, "")
-        self.assertEqual((progress.weights, progress.fails), ({part.name: 1.0}, {"h1": 1}))
+            watch.see(0.0, "done", "h1", part.name, "")
+        self.assertEqual((watch.progress.weights, watch.fails), ({part.name: 1.0}, {"h1": 1}))
         self.assertIn("h1 failed part 0000000 (lines 1 to 3): its results are not whole", told.getvalue())
+
+    def watch(self, *parts):
+        """A watch of unsolved parts, of one line's weight each, on machines h1 and h2."""
+        run_of = many.parts.Run(self.folder, "run-1", [*parts])
+        for name in ("jobs/1", "jobs/2", "out", "asking"):
+            (run_of.place / name).mkdir(parents=True)
+        watch = many.watch.Watch(run_of, many.arguments.parse([]), [])
+        self.addCleanup(watch.log.close)
+        watch.progress.weights = {part.name: 1.0 for part in parts}
+        watch.begin([])
+        watch.keys = {"h1": "1", "h2": "2"}
+        return watch
+
+    def test_machine_is_left_out_after_three_failures_in_a_row(self):
+        """And not after three in all."""
+        part = many.parts.Part("0000000", 1, 3, "")
+        watch = self.watch(part)
+        with contextlib.redirect_stderr(io.StringIO()) as told, mock.patch.object(many.parts.Run, "status", lambda *_: 0):
+            for event in ("failed", "failed", "done", "failed", "failed"):
+                watch.see(0.0, event, "h1", part.name, "out of memory")
+                self.assertTrue((watch.run.place / "jobs/1").is_dir(), event)
+            watch.see(0.0, "failed", "h1", part.name, "out of memory")
+        self.assertTrue((watch.run.place / "out/1").is_dir())
+        self.assertIn("h1 is left out: 3 parts failed in a row: out of memory", told.getvalue())
+
+    def test_part_of_a_lost_machine_waits_again(self):
+        parts = [many.parts.Part(f"{number:07d}", number + 1, 1, "") for number in range(4)]
+        with mock.patch.object(time, "monotonic", lambda: now), contextlib.redirect_stderr(io.StringIO()):
+            now = 0.0
+            watch = self.watch(*parts)
+            watch.progress.running = {"0000000": ("h1", 0.0)}
+            now = 100.0
+            watch.progress.end("0000000", True)
+            for name, machine in (("0000001", "h1"), ("0000002", "h2")):
+                watch.see(now, "begin", machine, name, "")
+            self.assertEqual(watch.progress.left(), 150)
+            now = 190.0
+            watch.see(now, "lost", "h2", "0000002", "")  # with a part that had 10 seconds left, and has 100 again
+            self.assertEqual(watch.progress.left(), 210)
+            self.assertIn("210 s left, 1 machine at work, ", watch.progress.text().replace("4 min", "210 s"))
+            watch.see(now, "lost", "h1", "0000001", "")
+            self.assertTrue(watch.progress.text().startswith("25%, no machine at work, parts 1 of 4"), watch.progress.text())
+
+    def test_line_of_progress_fits(self):
+        parts = [many.parts.Part(f"{number:07d}", number * 200 + 1, 200, "") for number in range(1200)]
+        with mock.patch.object(time, "monotonic", lambda: now):
+            now = 0.0
+            progress = many.progress.Progress(many.parts.Run(self.folder, "run-1", parts), [], 20)
+            progress.weights = {part.name: 1.0 for part in parts}
+            progress.running = {part.name: ("h1", 0.0) for part in parts[:659]} | {parts[659].name: ("h2", 0.0)}
+            now = 55.4
+            for part in parts[:659]:
+                progress.end(part.name, True)
+            whole = progress.text()
+        self.assertEqual(whole, "54%, 8 h 19 min left, 1 machine at work, parts 659 of 1200, lines 131800 of 240000, 2379 lines a second")
+        for columns, shown in ((80, "54%, 8 h 19 min left, 1 machine at work, parts 659 of 1200"), (50, "54%, 8 h 19 min left"),
+                               (200, whole)):
+            size = mock.patch.object(os, "get_terminal_size", lambda _, columns=columns: os.terminal_size((columns, 24)))
+            stream = mock.Mock(**{"fileno.return_value": 2})
+            with size, mock.patch.object(sys, "stderr", stream), mock.patch("builtins.print") as printed:
+                many.messages.show(whole)
+            self.assertEqual(printed.call_args[0][0], f"\r\033[Kffosolve-many: {shown}")
+        for lines, seconds, words in ((0, 1, "0 lines an hour"), (1, 100, "36 lines an hour"), (10, 40, "15 lines a minute"),
+                                      (10, 1, "10 lines a second"), (123456, 1, "123456 lines a second")):
+            self.assertEqual(many.progress.rate_of(lines, seconds), words)
 
     def test_part_that_runs_long_is_named(self):
         parts = [many.parts.Part(f"{number:07d}", number * 3 + 1, 3, "") for number in range(4)]
         run_of = many.parts.Run(self.folder, "run-1", parts)
-        command = many.arguments.parse(["--max-empties=20"])
         with mock.patch.object(time, "monotonic", lambda: 0):
-            progress = many.progress.Watch(run_of, command, parts)
-        self.addCleanup(progress.log.close)
+            progress = many.progress.Progress(run_of, parts, 20)
         progress.weights = {part.name: 2.0 for part in parts}
         progress.running = {"0000000": ("h1", 0), "0000001": ("h2", 0)}
         with mock.patch.object(time, "monotonic", lambda: 100):
             progress.end("0000000", True)
             progress.running["0000002"] = ("h1", 100)
             # One that has run for its time, one that begins, and one that waits, by two at a time: 100 seconds each.
-            self.assertEqual(progress.text(), "parts 1 of 4, lines 3 of 12, 0.03 lines a second, 100 s left")
+            self.assertEqual(progress.text(), "25%, 100 s left, 2 machines at work, parts 1 of 4, lines 3 of 12, 108 lines an hour")
         with mock.patch.object(time, "monotonic", lambda: 720):
             self.assertRegex(progress.text(), r"; part 0000001 \(lines 4 to 6\) runs for 12 min on h2$")
 

@@ -20,7 +20,7 @@ on many, and prints one report."""
 MORE = f"""\
 FOLDER keeps the parts of LIST and their results; LIST.parts, if not given. The
 same command again goes on where it was interrupted. Options may stand in any
-place; `--` ends them.
+place; `--` ends them. `-` is standard input.
 
 examples:
   {NAME} list.obf --max-empties 24 --lines 10 >list.report
@@ -80,22 +80,23 @@ def option_parser():
             if value:
                 group.add_argument(names, metavar=value, action=Once, const=MOST.get(names), help=text)
             else:
-                group.add_argument(*names.split(), action="help" if "--help" in names else "store_true", help=text)
+                group.add_argument(*names.split(), action="store_true", help=text)
     return parser
 
 
 def parse(words):
     """The options of a command line, with `words`: those that are no options."""
-    end = words.index("--") if "--" in words else len(words)
+    end, parser = words.index("--") if "--" in words else len(words), option_parser()
     try:
-        command, others = option_parser().parse_known_args(words[:end])
+        command, others = parser.parse_known_args(words[:end])
     except argparse.ArgumentError as why:
         raise misused(str(why).removeprefix("argument ")) from None
+    if command.help:
+        command.help = parser.format_help()
     for word in others:
-        if word.startswith("-"):
-            way = "standard input is /dev/stdin" if word == "-" else f"a file of that name is ./{word}"
-            raise misused(f"no option is '{word}'; {way}")
-    command.words = others + words[end + 1:]
+        if word.startswith("-") and word != "-" and not command.help:
+            raise misused(f"no option is '{word}'; a file of that name is ./{word}")
+    command.words = ["/dev/stdin" if word == "-" else word for word in others + words[end + 1:]]
     if "" in command.words:
         raise misused("'' names no file")
     return command
@@ -111,7 +112,7 @@ def refuse_others(command, mode, *taken):
 def complete(command):
     """Finds FOLDER and LIST among the words, and sets what is not given."""
     if not command.words:
-        raise misused("no list is named; standard input is /dev/stdin, with a FOLDER before it")
+        raise misused("no list is named; standard input is `-`, with a FOLDER before it")
     if len(command.words) > 2:
         raise misused(f"'{command.words[2]}' is one word too many: one FOLDER and one LIST are taken")
     *named, command.list = map(Path, command.words)

@@ -30,10 +30,12 @@ def regular(path, stack):
     """The path of a regular file; of a copy for as long as the stack lasts, where it is none, as a pipe."""
     if path.is_file():
         return path
-    copy = stack.enter_context(tempfile.NamedTemporaryFile(prefix=f"{NAME}-"))
-    with path.open("rb") as source:
-        shutil.copyfileobj(source, copy)
-    copy.flush()
+    try:
+        copy = stack.enter_context(tempfile.NamedTemporaryFile(prefix=f"{NAME}-"))
+        with path.open("rb") as source, open(copy.name, "wb") as target:
+            shutil.copyfileobj(source, target)
+    except OSError as why:
+        raise Refusal(UNREADABLE, f"cannot copy {path} to {tempfile.gettempdir()}: {why.strerror}") from why
     return Path(copy.name)
 
 

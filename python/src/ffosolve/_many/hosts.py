@@ -1,4 +1,4 @@
-"""The machines of a list, and how each is reached."""
+"""The machines of a list, how each is reached, and the record of those on which something of a list may lie."""
 import hashlib
 import os
 import re
@@ -9,7 +9,7 @@ from pathlib import Path
 from .arguments import MOST_JOBS
 from .files import check_readable, read_or_nothing
 from .folder import HOSTS
-from .messages import misused
+from .messages import misused, say
 
 
 class Machine:
@@ -20,53 +20,67 @@ class Machine:
         self.jobs, self.login, self.is_here = jobs, login, login == ":"
         self.name = "this machine" if self.is_here else name
         self.key = "here" if self.is_here else hashlib.sha256(login.encode()).hexdigest()[:8]  # in the names of files
-        self.command = words or shlex.split(os.environ.get("PARALLEL_SSH", "ssh"))
+        self.command = words or usual_command()
 
     def script(self, run):
         """What a job has to know of it: `reach OPTIONS COMMAND` runs a command there."""
         is_ssh = Path(self.command[0]).name == "ssh"
-        values = {"name": self.name, "jobs": self.jobs, "folder": f"{run.name}-{self.key}",
+        values = {"name": self.name, "login": self.login, "jobs": self.jobs, "folder": f"{run.name}-{self.key}",
                   "is_ssh": "yes" if is_ssh else ""}
         command = shlex.join(self.command)
         if is_ssh:
-            command += ' -F ssh_config -S "$socket" -o ControlMaster=no -o ControlPersist=no'
+            command += ' -T -F ssh_config -S "$socket" -o ControlMaster=no -o ControlPersist=no'
         return "".join(f"{name}={shlex.quote(value)}\n" for name, value in values.items()) + (
             f'reach() {{ how=$1; shift; {command} $how {shlex.quote(self.name)} "$@"; }}\n')
+
+
+def usual_command():
+    """The words of PARALLEL_SSH, which may stand in place of ssh."""
+    try:
+        words = shlex.split(os.environ.get("PARALLEL_SSH", "")) or ["ssh"]
+    except ValueError as why:
+        raise misused(f"PARALLEL_SSH: {why}") from None
+    if words != ["ssh"] and not shutil.which(words[0]):
+        raise misused(f"PARALLEL_SSH: no command is '{words[0]}'")
+    return words
 
 
 def read_hosts(path):
     """The machines of a file, each once."""
     check_readable(Path(path))
     lines = [re.sub(r"(^|\s)#.*", "", line).strip() for line in Path(path).read_text(errors="replace").splitlines()]
-    machines = [read_host(line, f"{path} line {number}") for number, line in enumerate(lines, 1) if line]
+    machines = {}
+    for place, line in ((f"{path} line {number}", line) for number, line in enumerate(lines, 1) if line):
+        machine = read_host(line, place)
+        if machine.key in machines:
+            say(f"{place}: {machine.name} stands there twice; this line counts")
+        machines[machine.key] = machine
     if not machines:
         raise misused(f"{path} names no machine: a line is as ssh takes it, or `:` for this machine")
-    return list({machine.key: machine for machine in machines}.values())
+    return list(machines.values())
 
 
 def read_host(line, place):
     """The machine of a line; refuses what is none."""
     jobs, login = re.fullmatch(r"(?:(\d+)\s*/\s*)?(.*)", line).groups()
     machine = Machine(jobs or "", login)
-    name = machine.name
-    if any(quote in line for quote in "'\"\\"):
-        why = "quotes are not read: what needs them stands in ~/.ssh/config"
-    elif jobs and not 1 <= int(jobs) <= MOST_JOBS:
-        why = f"a machine has from 1 to {MOST_JOBS} jobs"
-    elif not name or name.startswith("-"):
-        why = "it names no machine"
-    elif port := re.fullmatch(r"(?:.*@)?[^:@]+:(\d+)", name):
-        why = f"a port stands before the name: ssh -p {port[1]} {name.partition(':')[0]}"
-    elif "/" in name and "://" not in name:
-        why = f"'{name}' is no name of a machine"
-    elif not machine.is_here and not shutil.which(machine.command[0]):
-        why = f"no command is '{machine.command[0]}': a line has one machine"
-    else:
-        return machine
-    raise misused(f"{place}: {why}")
+    name, command = machine.name, machine.command[0]
+    address = name.rpartition("@")[2]
+    bare = "" if "://" in name else address
+    for is_wrong, why in (
+            (set(line) & set("'\"\\"), "quotes are not read: what needs them stands in ~/.ssh/config"),
+            (jobs and not 1 <= int(jobs) <= MOST_JOBS, f"a machine has from 1 to {MOST_JOBS} jobs"),
+            (not address or name.startswith("-"), "it names no machine"),
+            (name.startswith(("@", "ssh://@")), f"'{name}' names no user before its @"),
+            (re.fullmatch(r"[^:]+:\d+", bare), f"a port stands before the name: ssh -p {' '.join(name.split(':')[::-1])}"),
+            ("/" in bare, f"'{name}' is no name of a machine"),
+            (not (machine.is_here or shutil.which(command)), f"no command is '{command}': a line has one machine")):
+        if is_wrong:
+            raise misused(f"{place}: {why}")
+    return machine
 
 
-def machines_left(run, known=()):
-    """The machines, besides those of known logins, on which an earlier run may have left something."""
+def recorded(run):
+    """The machines on which something of a list may lie: added before that, and gone when they have said that all is."""
     lines = read_or_nothing(run.folder / HOSTS).decode(errors="replace").splitlines()
-    return [read_host(line, HOSTS) for line in lines if line not in known]
+    return [read_host(line, HOSTS) for line in dict.fromkeys(lines)]

@@ -8,35 +8,40 @@ import time
 from pathlib import Path
 
 from .files import read_or_nothing, write_lines
-from .folder import HOSTS, lay_scripts
-from .hosts import machines_left
-from .messages import UNREADABLE, Refusal, say
+from .folder import HOST_SECONDS, lay_scripts
+from .hosts import recorded
+from .messages import DONE, UNBUILT, UNREADABLE, Refusal
 from .programs import check_tools
-from .progress import LOST_SECONDS, Watch
+from .watch import LOST_SECONDS
 
 ROUNDS = 3  # of the parts that failed, on other machines
 SIGNALS = (signal.SIGINT, signal.SIGTERM, signal.SIGHUP)
 
 
-def lay_round(run, command, machines, left, parts):
-    """Lays what a round needs: how each machine is reached, the jobs of this one, and the names of parts."""
+def lay_round(run, command, machines, parts):
+    """Lays what a round needs: how all machines are reached, and the parts, which free jobs solve, at first of this machine,
+    while the others are asked."""
     place = run.place
     (place / "parts").mkdir(parents=True, exist_ok=True)
-    for name in ("jobs", "out", "machines", "sockets"):
+    for name in ("jobs", "out", "asking", "machines", "sockets"):
         shutil.rmtree(place / name, ignore_errors=True)
         (place / name).mkdir()
-    for machine in machines + left:
+    for machine in recorded(run) + machines:
         machine.jobs = str(command.jobs or machine.jobs)
         (place / f"machines/{machine.key}.noise").touch()
         (place / "machines" / machine.key).write_text(machine.script(run))
-        if machine.is_here:
-            (place / "jobs/here").mkdir()
-            for job in range(int(machine.jobs or len(os.sched_getaffinity(0)))):
-                (place / f"jobs/here/{job + 1}").touch()
-    write_lines(place / "asked", [machine.key for machine in machines if not machine.is_here])
-    write_lines(place / "left", [machine.key for machine in left])
-    write_lines(place / "names", [part.name for part in parts])
-    lay_scripts(run, command, "work", "ask", "job", "ssh_config", "parts/known")
+    far = [place / "asking" / machine.key for machine in machines if not machine.is_here]
+    jobs = [place / f"jobs/here/{number + 1}" for machine in machines if machine.is_here
+            for number in range(int(machine.jobs or len(os.sched_getaffinity(0))))]
+    for path in far + jobs:
+        path.parent.mkdir(exist_ok=True)
+        path.touch()
+    write_lines(place / "slots", [len(far + jobs)])
+    os.utime(place / "slots", (0, 0))
+    write_lines(place / "todo", [f"sh job ask {path.name}" for path in far] + [f"sh job part {part.name}" for part in parts])
+    lay_scripts(run, command, "ask", "job", "ssh_config", "parts/known")
+    if far and subprocess.call(["sh", "solve", "known"], cwd=place, stdin=subprocess.DEVNULL) != DONE:
+        raise Refusal(UNBUILT, f"{place}/program solves no line on this machine")
 
 
 def end_session(session):
@@ -54,10 +59,15 @@ def end_session(session):
 
 
 @contextlib.contextmanager
-def guarded(process):
-    """Ends the session of a process with this block; by a guard, which keeps the lock, where this program is killed."""
+def parallel(run, lock, jobs):
+    """GNU parallel, which runs what is to be done, in a session of its own. All that it starts ends with this block; by a
+    guard, which keeps the lock, where this program is killed."""
     reading, writing = os.pipe()
+    words = ["parallel", "--plain", "--ungroup", "--tmpdir", ".", "--arg-file", "todo", "--jobs", str(jobs)]
     signal.pthread_sigmask(signal.SIG_BLOCK, SIGNALS)
+    process = subprocess.Popen(words, cwd=run.place, stdin=subprocess.DEVNULL, stdout=2, start_new_session=True,
+                               pass_fds=(lock,), env={**os.environ, "PARALLEL_SHELL": "/bin/sh"},
+                               preexec_fn=lambda: signal.pthread_sigmask(signal.SIG_UNBLOCK, SIGNALS))
     guard = os.fork()
     if guard == 0:
         os.setsid()
@@ -68,7 +78,7 @@ def guarded(process):
     os.close(reading)
     try:
         signal.pthread_sigmask(signal.SIG_UNBLOCK, SIGNALS)
-        yield
+        yield process
     finally:
         end_session(process.pid)
         process.wait()
@@ -76,46 +86,52 @@ def guarded(process):
         os.waitpid(guard, 0)
 
 
-def work(run, command, watch, machines, left, parts, lock):
-    """A round: has machines asked, parts solved, and all machines swept."""
-    lay_round(run, command, machines, left, parts)
-    far = [machine for machine in machines if not machine.is_here]
-    if far or left:
-        write_lines(run.folder / HOSTS, [machine.login for machine in far + left])
-    watch.begin(machines)
-    environment = {**os.environ, "PARALLEL_SHELL": "/bin/sh"}
-    process = subprocess.Popen(["sh", f"{run.name}/work"], cwd=run.folder, stdin=subprocess.DEVNULL, stdout=2,
-                               start_new_session=True, pass_fds=(lock,), env=environment)
-    with guarded(process):
-        watch.follow(process)
-    files = {path.name for path in (run.place / "machines").iterdir()}
-    away = [machine for machine in far + left if f"{machine.key}.swept" not in files
-            and (machine in left or f"{machine.key}.reached" in files)]
-    write_lines(run.folder / HOSTS, [machine.login for machine in away])
-    for machine in away:
-        watch.tell(f"{machine.name} can't be reached: {run.name}-{machine.key} may lie there, "
-                   "until the next run reaches it")
-
-
-def solve_parts(run, command, machines, lock):
-    """Solves what isn't solved; what fails is tried again in a second and third round. Gives the parts that failed."""
-    parts = run.unsolved()
-    left = machines_left(run, [machine.login for machine in machines] if parts else ())
-    if not command.quiet:
-        say(f"{command.list}: lines {sum(part.lines for part in run.parts)}, parts {len(run.parts)}, "
-            f"of them solved before {len(run.parts) - len(parts)}; folder {run.folder}")
-    if not parts and not left:
-        return []
+def solve_parts(run, command, machines, parts, watch, stack, lock):
+    """Solves parts; what fails is tried again in a second and third round. Gives the parts that failed. The connections
+    of the last round are open as long as the stack is."""
     has_far = any(not machine.is_here for machine in machines)
-    check_tools(has_far or left != [])
-    watch = Watch(run, command, parts)
-    for number in range(ROUNDS if parts else 1):
-        work(run, command, watch, machines if parts else [], left if number == 0 else [], parts, lock)
+    for number in range(ROUNDS if parts else 0):
+        check_tools(has_far)
+        stack.close()
+        lay_round(run, command, machines, parts)
+        watch.begin(machines)
+        process = stack.enter_context(parallel(run, lock, "slots"))
+        watch.follow(lambda: process.poll() is not None or not watch.progress.weights)
         before, parts = parts, run.unsolved()
         if not watch.ready and len(parts) == len(run.parts):
-            raise Refusal(UNREADABLE, "no machine can be reached")
+            raise Refusal(UNREADABLE, f"no machine can {'work' if watch.is_reached else 'be reached'}")
         if not parts or not has_far or not watch.ready or (len(parts) == len(before) and not watch.lost):
             break
         if watch.lost and number + 1 < ROUNDS:
-            time.sleep(LOST_SECONDS)
+            end = time.monotonic() + LOST_SECONDS
+            watch.follow(lambda: time.monotonic() > end)
     return parts
+
+
+def sweep(run, command, watch, stack, lock):
+    """Has machines remove what lies there of the list, over the stack's connections; that ends the stack."""
+    machines = recorded(run)
+    if not machines:
+        return
+    check_tools(has_far=True)
+    if not watch.keys:
+        lay_round(run, command, [], [])
+    for machine in machines:
+        (run.place / "asking" / machine.key).touch()
+    write_lines(run.place / "todo", [f"sh job sweep {machine.key}" for machine in machines])
+
+    def waits():
+        return [machine for machine in machines if (run.place / "asking" / machine.key).exists()]
+
+    try:
+        process = stack.enter_context(parallel(run, lock, len(machines)))
+        with contextlib.suppress(subprocess.TimeoutExpired):
+            process.wait(timeout=2)
+        if names := ", ".join(machine.name for machine in waits()):
+            watch.tell(f"waits for {names} to remove what lies there, {HOST_SECONDS} seconds at most", is_fault=False)
+        process.wait()
+    finally:
+        stack.close()
+        watch.read()
+        for machine in waits():
+            watch.tell(f"{machine.name}: {run.name}-{machine.key} may lie there, until the next run reaches it: interrupted")

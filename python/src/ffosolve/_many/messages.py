@@ -1,6 +1,7 @@
 """How the command ends, and what it tells on standard error."""
 import contextlib
 import os
+import signal
 import sys
 
 NAME = "ffosolve-many"
@@ -15,6 +16,20 @@ def misused(text):
     return Refusal(REFUSED, f"{text}. Try '{NAME} --help'")
 
 
+def outcome(action, *words):
+    """The status of an action, whose refusal is told; a negative one is the signal that the program is to end by."""
+    try:
+        return action(*words)
+    except Refusal as why:
+        say(why.args[1])
+        return why.args[0]
+    except BrokenPipeError:  # of standard output, which nobody reads any more
+        return -signal.SIGPIPE
+    except OSError as why:
+        say(f"{why.filename or 'a file'}: {why.strerror}")
+        return UNREADABLE
+
+
 def say(text):
     """Prints a line on standard error, on a terminal over the one that is shown there."""
     show("")
@@ -23,18 +38,27 @@ def say(text):
 
 
 def show(text):
-    """Shows a line on a terminal until the next one."""
+    """Shows a line on a terminal until the next one, without the last of what it says where it is too long."""
     with contextlib.suppress(OSError):
         columns = os.get_terminal_size(sys.stderr.fileno()).columns or 80
-        print(f"\r\033[K{NAME}: {text}"[:columns + 3] if text else "\r\033[K", end="", file=sys.stderr, flush=True)
+        line = f"{NAME}: {text}" if text else ""
+        while len(line) >= columns:
+            line = line.rpartition(", ")[0]
+        print(f"\r\033[K{line}", end="", file=sys.stderr, flush=True)
 
 
 @contextlib.contextmanager
 def standard_output():
     """Standard output, whose fault is told."""
+    if sys.stdout is None:
+        raise Refusal(UNREADABLE, "cannot write standard output: it is closed")
     try:
-        yield sys.stdout.buffer
-        sys.stdout.buffer.flush()
+        try:
+            yield sys.stdout.buffer
+        finally:
+            sys.stdout.flush()
     except OSError as why:
         os.dup2(os.open(os.devnull, os.O_WRONLY), 1)  # for the flush at the end
+        if isinstance(why, BrokenPipeError):
+            raise
         raise Refusal(UNREADABLE, f"cannot write standard output: {why.strerror}") from why

@@ -6,8 +6,9 @@ from pathlib import Path
 from typing import NamedTuple
 
 from .files import MOST_BYTES, digest_of, read_or_nothing
-from .messages import REFUSED, Refusal
+from .messages import REFUSED, UNREADABLE, Refusal
 
+MARKS = (b"\xef\xbb\xbf", b"\xff\xfe", b"\xfe\xff")  # of UTF-8 and UTF-16
 SKIPPED = re.compile(rb"[ \t]*(?:%.*|\r?)", re.DOTALL)
 ROW = re.compile(rb"[+-]\d\d (?:[A-H][1-8](?:,[A-H][1-8])*|PS|--) [a-z]+|refused: [^\0]+")
 
@@ -30,6 +31,10 @@ def read_parts(file, lines, name):
         part, size = [], 0
         while len(part) < lines and (line := file.readline(MOST_BYTES + 1)):
             size += len(line)
+            if first == 1 and not part and line.startswith(MARKS):
+                raise Refusal(UNREADABLE, f"cannot read {name}: it begins with a byte-order mark")
+            if first == 1 and not part and not line.endswith(b"\n") and b"\r" in line.rstrip():
+                raise Refusal(UNREADABLE, f"cannot read {name}: its lines end with CR alone")
             if size > MOST_BYTES and not part:
                 raise Refusal(REFUSED, f"line {first} of {name} has more than {MOST_BYTES} bytes: no part can hold it")
             if size > MOST_BYTES:

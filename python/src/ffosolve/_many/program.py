@@ -5,21 +5,22 @@ import signal
 import sys
 from pathlib import Path
 
+from .. import __version__
 from .arguments import complete, parse, refuse_others
 from .books import check_place, merge_books
 from .files import check_readable, is_same, regular
 from .folder import lock_folder, prepare, read_asked
-from .hosts import Machine, machines_left, read_hosts
-from .jobs import SIGNALS, solve_parts, work
-from .messages import DONE, NAME, UNREADABLE, Refusal, misused, say, standard_output
+from .hosts import Machine, read_hosts, recorded
+from .jobs import SIGNALS, solve_parts, sweep
+from .messages import DONE, NAME, UNREADABLE, Refusal, misused, outcome, say, standard_output
 from .parts import Run, scan_list
-from .programs import Program, check_tools, print_version, run_options
-from .progress import Watch
+from .programs import Program, check_tools, run_options
 from .report import finish
+from .watch import Watch
 
 
 def solve_list(command, programs):
-    """Solves a list and prints its report; gives the status."""
+    """Lays the parts of a list, and has them solved; gives the status."""
     complete(command)
     machines = read_hosts(command.hosts) if command.hosts is not None else [Machine("", ":")]
     if command.book_in is not None:
@@ -47,32 +48,60 @@ def solve_list(command, programs):
             output.write(os.fsencode(f"{len(parts)} parts, of them solved {len(parts) - len(run.unsolved())}; "
                                      f"sh {run.folder}/run-*/solve NAME solves one, from 0000000 to {last}\n"))
         return DONE
-    return finish(run, command, solve_parts(run, command, machines, lock))
+    return solve_and_sweep(run, command, machines, lock)
 
 
-def sweep(command):
+def solve_and_sweep(run, command, machines, lock):
+    """Has parts solved and prints the report; then machines are swept, which changes neither report nor status."""
+    parts, status = run.unsolved(), None
+    if not command.quiet:
+        say(f"{command.list}: lines {sum(part.lines for part in run.parts)}, parts {len(run.parts)}, "
+            f"of them solved before {len(run.parts) - len(parts)}; folder {run.folder}")
+    watch = Watch(run, command, parts)
+    try:
+        with contextlib.ExitStack() as stack:
+            status = outcome(lambda: finish(run, command, solve_parts(run, command, machines, parts, watch, stack, lock)))
+            outcome(sweep, run, command, watch, stack, lock)
+    except KeyboardInterrupt:
+        if status is None:
+            raise
+    return status
+
+
+def sweep_alone(command):
     """Removes what runs of a folder left on other machines; gives the status."""
     refuse_others(command, "sweep")
     folder = Path((command.words or ["."])[0])
     asked = read_asked(folder)
     if len(command.words) != 1 or asked is None:
         raise misused(f"--sweep takes a FOLDER that {NAME} began")
-    check_tools(has_far=True)
     run, lock = Run(folder, asked["run"], []), lock_folder(folder)
-    work(run, command, Watch(run, command, []), [], machines_left(run), [], lock)
-    return UNREADABLE if machines_left(run) else DONE
+    with contextlib.ExitStack() as stack:
+        sweep(run, command, Watch(run, command, []), stack, lock)
+    return UNREADABLE if recorded(run) else DONE
+
+
+def run_command(programs, words):
+    """Does what the words of a command line ask for; gives the status."""
+    with standard_output() as output:
+        command = parse(words)
+        if command.help or command.version:
+            output.write((command.help or f"{NAME} {__version__}\n").encode())
+            return DONE
+    if command.merge_books:
+        return merge_books(command, programs)
+    return sweep_alone(command) if command.sweep else solve_list(command, programs)
 
 
 def catch(number, _):
-    """Has the first signal raise, and later ones do nothing."""
+    """Has the first signal raise, and later ones do nothing. Python would tell of one that came with it and is ignored."""
     for other in SIGNALS:
-        signal.signal(other, signal.SIG_IGN)
+        signal.signal(other, lambda *_: None)
     raise KeyboardInterrupt(number)
 
 
 def main(programs, words):
     """Runs the program with the words of a command line, and gives its status. `programs` is the folder of ffosolve."""
-    has_output = sys.stdout is not None
     sys.stderr = sys.stderr or open(os.devnull, "w")
     while os.open(os.devnull, os.O_RDWR) < 3:
         pass  # so that no file of the work takes the place of a closed stream
@@ -80,22 +109,13 @@ def main(programs, words):
         if signal.getsignal(number) != signal.SIG_IGN:
             signal.signal(number, catch)
     try:
-        if not has_output:
-            raise Refusal(UNREADABLE, "cannot write standard output: it is closed")
-        command = parse(words)
-        if command.version:
-            return print_version(programs)
-        if command.merge_books:
-            return merge_books(command, programs)
-        return sweep(command) if command.sweep else solve_list(command, programs)
-    except Refusal as why:
-        say(why.args[1])
-        return why.args[0]
-    except OSError as why:
-        say(f"{why.filename or 'a file'}: {why.strerror}")
-        return UNREADABLE
+        status = outcome(run_command, programs, words)
     except KeyboardInterrupt as why:
         say("interrupted; the same command goes on with what is solved")
-        signal.signal(why.args[0], signal.SIG_DFL)
-        os.kill(os.getpid(), why.args[0])
-        return UNREADABLE
+        status = -why.args[0]
+    if status < 0:
+        signal.pthread_sigmask(signal.SIG_BLOCK, SIGNALS)
+        signal.signal(-status, signal.SIG_DFL)
+        os.kill(os.getpid(), -status)
+        signal.pthread_sigmask(signal.SIG_UNBLOCK, [-status])
+    return status

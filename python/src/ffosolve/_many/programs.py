@@ -40,14 +40,6 @@ class Program:
             raise Refusal(UNBUILT, f"{self.start} is another program than {self.start.name}")
 
 
-def print_version(programs):
-    ran = Program(programs, "ffosolve").run("--version", stderr=subprocess.DEVNULL)
-    if ran.returncode != DONE or not ran.stdout.split():
-        raise Refusal(UNBUILT, "ffosolve tells no version")
-    print(f"{NAME} {ran.stdout.split()[-1].decode(errors='replace')}")
-    return DONE
-
-
 def run_options(command):
     """The options of ffosolve or ffoscores but for books."""
     # The parts keep all processors busy: by itself each needs no more than one thread.

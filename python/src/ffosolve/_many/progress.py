@@ -1,16 +1,8 @@
-"""What is told of the work while it goes on, by its log."""
-import contextlib
-import os
-import subprocess
-import sys
+"""How far the work is, and how long the rest of it will take."""
 import time
 
-from .folder import HOST_SECONDS, LOG
-from .messages import say, show
 from .parts import asked_lines
 
-MOST_FAILS = 3  # of a machine, one after the other
-LOST_SECONDS = 60  # until a machine that was lost is tried again
 LONG_SECONDS = 600  # after which a part is named
 GROWTH = 2.5  # of the work, with each empty square
 
@@ -27,104 +19,31 @@ def span_of(seconds):
     return f"{seconds:.0f} s" if seconds < 120 else f"{hours} h {minutes} min" if hours else f"{minutes} min"
 
 
-class Watch:
-    """Tells of the work as its log grows. A line of that is a time, an event, a machine, a part and a text."""
+def rate_of(lines, seconds):
+    """Lines in the shortest time in which they are ten."""
+    for unit, length in (("a second", 1), ("a minute", 60), ("an hour", 3600)):
+        if lines * length >= 10 * seconds:
+            break
+    return f"{lines * length / seconds:.0f} lines {unit}"
 
-    def __init__(self, run, command, parts):
-        self.run, self.quiet, self.has_hosts = run, command.quiet, command.hosts is not None
-        self.told, self.gone, self.begun = set(), set(), time.monotonic()
-        self.log, self.shown = (run.folder / LOG).open("a+b"), self.begun
-        # Which parts are there, what the unsolved weigh, which are at work, and what the solved took.
+
+class Progress:
+    """Which parts are there, what the unsolved ones weigh, which are at work, and what the solved ones took."""
+
+    def __init__(self, run, parts, most):
         self.parts = {part.name: part for part in run.parts}
-        self.weights = {part.name: weight_of(run.read(part), int(command.max_empties)) for part in parts}
-        self.running, self.seconds, self.weight, self.lines = {}, 0.0, 0.0, 0
-
-    def begin(self, machines):
-        self.log.seek(0, os.SEEK_END)
-        self.keys = {machine.name: machine.key for machine in machines}
-        self.fails, self.lost, self.out, self.ready = {}, {}, set(), []
-
-    def tell(self, text, is_fault=True):
-        """Tells a thing once."""
-        if text not in self.told and (is_fault or not self.quiet):
-            say(text)
-        self.told.add(text)
-
-    def follow(self, process):
-        """Sees the log until the work is done; a lost machine is tried again now and then."""
-        while process.poll() is None:
-            with contextlib.suppress(subprocess.TimeoutExpired):
-                process.wait(timeout=0.2)
-            self.read()
-            is_terminal = sys.stderr.isatty()
-            if not self.quiet and self.running and time.monotonic() > self.shown + (1 if is_terminal else 60):
-                self.shown = time.monotonic()
-                (show if is_terminal else say)(self.text())
-            for name, at in self.lost.items():
-                if time.monotonic() > at + LOST_SECONDS:
-                    self.lost[name] = time.monotonic()
-                    self.move(name, "out", "jobs")
-        self.read()
-        show("")
-
-    def read(self):
-        while (line := self.log.readline()).endswith(b"\n"):
-            at, event, name, part, text = line[:-1].decode(errors="replace").split("\t", 4)
-            self.see(time.monotonic() - time.time() + float(at), event, name, part, text)
-        self.log.seek(-len(line), os.SEEK_CUR)
-
-    def see(self, at, event, name, part, text):
-        match event:
-            case "work":  # all machines were asked
-                self.ready = [name for name, key in self.keys.items() if (self.run.place / "jobs" / key).is_dir()]
-                for out in self.keys.keys() - self.out - {*self.ready}:
-                    self.tell(f"{out} is left out: no answer in {HOST_SECONDS} seconds")
-                if self.ready and self.has_hosts:
-                    self.tell("on " + ", ".join(self.ready), is_fault=False)
-            case "noise":
-                self.tell(f"{name}: its shell says: {text}", is_fault=False)
-            case "out":
-                self.out.add(name)
-                self.tell(f"{name} is left out: {text}")
-            case "lost":
-                self.lost[name] = time.monotonic()
-                if name not in self.gone:
-                    self.gone.add(name)
-                    has_others = any((self.run.place / "jobs").iterdir())
-                    say(f"{name} is lost: {text}; {'its parts go to others' if has_others else 'it is tried again'}")
-            case "begin":
-                self.running[part] = name, at
-            case "done" | "failed":
-                self.see_end(event, name, part, text)
-
-    def see_end(self, event, name, part, text):
-        """A part is solved or failed. A machine that fails three in a row is left out, but never this one."""
-        is_solved = event == "done" and self.run.status(self.parts[part]) is not None
-        self.end(part, is_solved)
-        if is_solved:
-            self.fails[name] = 0
-            self.lost.pop(name, None)
-            if name in self.gone:
-                self.gone.remove(name)
-                say(f"{name} is back")
-            return
-        text = text or "its results are not whole"
-        self.fails[name] = self.fails.get(name, 0) + 1
-        self.tell(f"{name} failed {self.parts[part].span()}: {text}")
-        if self.fails[name] >= MOST_FAILS and name != "this machine":
-            self.move(name, "jobs", "out")
-            self.tell(f"{name} is left out: {MOST_FAILS} parts failed in a row: {text}")
-
-    def move(self, name, place, other):
-        """Leaves a machine out, or takes it back: its jobs lie in `jobs` or in `out`."""
-        with contextlib.suppress(OSError):
-            (self.run.place / place / self.keys[name]).rename(self.run.place / other / self.keys[name])
+        self.weights = {part.name: weight_of(run.read(part), most) for part in parts}
+        self.running = {}  # the machine that works at a part, and since when
+        self.begun = self.ended = time.monotonic()
+        self.seconds, self.weight, self.lines = 0.0, 0.0, 0
 
     def end(self, name, is_solved):
-        _, since = self.running.pop(name, (None, time.monotonic()))
+        """A part is no longer at work: it is solved, or waits again."""
+        self.ended = time.monotonic()
+        _, since = self.running.pop(name, (None, self.ended))
         if is_solved and name in self.weights:
             self.weight += self.weights.pop(name)
-            self.seconds += time.monotonic() - since
+            self.seconds += self.ended - since
             self.lines += self.parts[name].lines
 
     def left(self):
@@ -137,14 +56,16 @@ class Watch:
         return max(rests + [(waiting + sum(rests)) / max(1, len(rests))])
 
     def text(self):
-        """What is told of it; the part that has run longest, once it has run ten minutes."""
+        """What is told of it, the most important first; the part that has run longest, once it has run ten minutes."""
         now = time.monotonic()
         whole = sum(part.lines for part in self.parts.values())
         solved = whole - sum(self.parts[name].lines for name in self.weights)
-        text = (f"parts {len(self.parts) - len(self.weights)} of {len(self.parts)}, lines {solved} of {whole}, "
-                f"{self.lines / max(0.1, now - self.begun):.3g} lines a second")
-        if (left := self.left()) is not None:
-            text += f", {span_of(left)} left"
+        at_work = len({machine for machine, _ in self.running.values()})
+        left = self.left() if at_work else None
+        text = (f"{100 * solved // max(1, whole)}%, " + (f"{span_of(left)} left, " if left is not None else "")
+                + f"{at_work or 'no'} machine{'s' if at_work > 1 else ''} at work, "
+                f"parts {len(self.parts) - len(self.weights)} of {len(self.parts)}, lines {solved} of {whole}, "
+                + rate_of(self.lines, max(0.1, now - self.begun)))
         running = [(since, name, machine) for name, (machine, since) in self.running.items()]
         since, name, machine = min(running, default=(now, "", ""))
         if now - since >= LONG_SECONDS:
