@@ -564,7 +564,9 @@ class Compare(Case):
         self.compare(listed, report, status=1, out="a, b.wtb, game 8: published 34, exact 1, difference +33\n"
                      "compared 3 differ 1 refused 0 unscored 2\n", told="")
         self.unfit(listed, self.REPORT,
-                   "line 4 of the list is refused: bad square at column 64; and the report says: that it is solved")
+                   "line 4 of the list is refused (bad square at column 64), and the report says: -64 PS")
+        self.unfit(listed, report.replace("column 64", "column 63"), "line 4 of the list is refused (bad square at column 64), "
+                   "and the report says: bad square at column 63")
 
     def test_what_is_no_report(self):
         rows = self.REPORT.splitlines(True)
