@@ -300,6 +300,12 @@ class Faults(Case):
             line = line_of(at[22], f"it.wtb, game 1, theoretical score {theoretical}")
             told = "".join(f"ffosolve-games: it.wtb, game 1: {it}\n" for it in why)
             self.games("it.wtb", status=1 if why else 0, out=line, told=told)
+        rng = random.Random(3)
+        passed = next(it for it in iter(lambda: random_game(rng), None) if None in it[38:])
+        before = squares_of(passed[:passed.index(None, 38)])
+        self.write("it.wtb", wthor([record(before, 33, 20)]))
+        self.games("it.wtb", status=1, told="ffosolve-games: it.wtb, game 1: its moves stop before the end of the game, "
+                   "so its real score 20 is not checked\n")
         self.write("it.wtb", wthor([record(game, 255, real + 1)]))
         told = f"ffosolve-games: it.wtb, game 1: its real score is {real + 1}, and by its moves it is {real}\n"
         self.games("it.wtb", "--empties=20", status=1, out=line_of(at[20], "it.wtb, game 1"), told=told)
