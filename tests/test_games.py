@@ -300,6 +300,12 @@ class Faults(Case):
             line = line_of(at[22], f"it.wtb, game 1, theoretical score {theoretical}")
             told = "".join(f"ffosolve-games: it.wtb, game 1: {it}\n" for it in why)
             self.games("it.wtb", status=1 if why else 0, out=line, told=told)
+        rng = random.Random(3)
+        passed = next(it for it in iter(lambda: random_game(rng), None) if None in it[38:])
+        before = squares_of(passed[:passed.index(None, 38)])
+        self.write("it.wtb", wthor([record(before, 33, 20)]))
+        self.games("it.wtb", status=1, told="ffosolve-games: it.wtb, game 1: its moves stop before the end of the game, "
+                   "so its real score 20 is not checked\n")
         self.write("it.wtb", wthor([record(game, 255, real + 1)]))
         told = f"ffosolve-games: it.wtb, game 1: its real score is {real + 1}, and by its moves it is {real}\n"
         self.games("it.wtb", "--empties=20", status=1, out=line_of(at[20], "it.wtb, game 1"), told=told)
@@ -564,7 +570,9 @@ class Compare(Case):
         self.compare(listed, report, status=1, out="a, b.wtb, game 8: published 34, exact 1, difference +33\n"
                      "compared 3 differ 1 refused 0 unscored 2\n", told="")
         self.unfit(listed, self.REPORT,
-                   "line 4 of the list is refused: bad square at column 64; and the report says: that it is solved")
+                   "line 4 of the list is refused (bad square at column 64), and the report says: -64 PS")
+        self.unfit(listed, report.replace("column 64", "column 63"), "line 4 of the list is refused (bad square at column 64), "
+                   "and the report says: bad square at column 63")
 
     def test_what_is_no_report(self):
         rows = self.REPORT.splitlines(True)

@@ -2,6 +2,7 @@
 import contextlib
 import email
 import gzip
+import inspect
 import io
 import itertools
 import os
@@ -9,6 +10,7 @@ import pickle
 import random
 import sys
 import tarfile
+import textwrap
 import threading
 import time
 import unittest
@@ -268,7 +270,7 @@ class Games(InFolder):
         exact = [discs_of_black(*positions_of(squares_of(game))[8]) for game in games]
         published = [it ^ (at in (3, 11)) for at, it in enumerate(exact)]
         (self.folder / "WTH_2001.wtb").write_bytes(wthor(map(record, games, published), empties=8, count=20))
-        code = ffosolve.read_games.__doc__.split(":\n\n")[1].replace("\n        ", "\n").strip()
+        code = textwrap.dedent(inspect.getdoc(ffosolve.read_games).split(":\n\n")[1])
         told = io.StringIO()
         with contextlib.redirect_stdout(told):
             exec(code, {"solver": self.solver, "read_games": ffosolve.read_games})
@@ -454,10 +456,10 @@ class Package(InFolder):
         metadata = self.wheel[f"{self.head}.dist-info/METADATA"].decode()
         self.assertEqual(self.archive[f"{self.head}/PKG-INFO"].decode(), metadata)
         told = email.message_from_string(metadata)
-        for field in ("Summary", "Author", "Author-email", "License", "Project-URL", "Requires-Python"):
+        for field in ("Summary", "Home-page", "Author", "Author-email", "License", "Project-URL", "Requires-Python"):
             self.assertTrue(told[field], field)
         self.assertEqual((told["Version"], told["Description-Content-Type"]), (ffosolve.__version__, "text/markdown"))
-        self.assertEqual(told.get_payload(), ffosolve.__doc__ + "\n" * (not ffosolve.__doc__.endswith("\n")))
+        self.assertEqual(told.get_payload(), inspect.getdoc(ffosolve) + "\n")
 
 
 class Installed(InFolder):

@@ -49,7 +49,7 @@ def metadata():
     (author, address), (home,) = settings("authors"), settings("urls")
     fields = [
         ("Metadata-Version", "2.1"), ("Name", "ffosolve"), ("Version", version()), ("Summary", summary),
-        ("Author", author), ("Author-email", f"{author} <{address}>"), ("License", terms),
+        ("Home-page", home), ("Author", author), ("Author-email", f"{author} <{address}>"), ("License", terms),
         ("Project-URL", f"Homepage, {home}"), *(("Classifier", it) for it in settings("classifiers")),
         ("Requires-Python", python), ("Description-Content-Type", "text/markdown"),
     ]

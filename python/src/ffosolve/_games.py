@@ -8,11 +8,11 @@ from ._library import CPosition
 from ._positions import Position
 from ._squares import NAMES, square_name
 from ._text import text_lines
-from ._transcripts import words_of
+from ._transcripts import PASSES, words_of
 
 START = Position(0x0000000810000000, 0x0000001008000000)  # Black, on E4 and D5, is the mover
 PASS, NO_SQUARE = 64, 255  # in the place of a square's number
-WORDS = {**{name.lower(): number for number, name in enumerate(NAMES)}, "--": PASS}
+WORDS = {**{name.lower(): number for number, name in enumerate(NAMES)}, **dict.fromkeys(PASSES, PASS)}
 HEADER = struct.Struct("<4x I H 2x B B B x")  # games, another number, size of the board, kind, empty squares
 RECORD, REAL, SCORE, FIRST_MOVE = 68, 6, 7, 8  # bytes of a game, and places in it
 MOST_DISCS = 64
@@ -147,25 +147,24 @@ class Player:
     def play(self, game: Game, empties: int) -> Played:
         """What a game's first position with so many empty squares is, and how the game ends. It is played to its end,
         since a move that is not legal tells that an earlier one may be wrong. Raises Fault."""
-        states = list(self._states(game))
-        (own, opp, side), left = states[-1], START.empties + 1 - len(states)
-        if left > empties:
-            told = f"it ends here, with {left} empty square{'s' * (left > 1)}, and {empties} are asked for"
-            raise Fault(told, START.empties - left) if game.moves else Fault("it has no moves")
-        is_over = not self._has_move(CPosition(own, opp)) and not self._has_move(CPosition(opp, own))
-        discs = discs_of_black(final_score(own, opp), side) if is_over else None
-        return Played(Position(*states[START.empties - empties]), discs)
+        found, last = self._played(game, range(empties, empties + 1))
+        if not found:
+            told = f"it ends here, with {last.empties} empty square{'s' * (last.empties > 1)}, and {empties} are asked for"
+            raise Fault(told, START.empties - last.empties) if game.moves else Fault("it has no moves")
+        is_over = not any(self._has_move(CPosition(*it)) for it in (last, last.passed()))
+        discs = discs_of_black(final_score(*last), last.side) if is_over else None
+        return Played(found[0], discs)
 
     def positions(self, game: Game) -> List[Position]:
         """The positions of a game: its start, and that after each move. Raises Fault."""
-        return [Position(*state) for state in self._states(game)]
+        return self._played(game, range(START.empties + 1))[0]
 
-    def _states(self, game: Game) -> Iterator[Tuple[int, int, str]]:
-        """The masks and the mover's colour of each position."""
+    def _played(self, game: Game, wanted: range) -> Tuple[List[Position], Position]:
+        """The positions of a game with the wanted numbers of empty squares, each the first one, and its last one."""
         if game.fault is not None:
             raise Fault(game.fault)
-        play, at, after, side = self._play, CPosition(*START), CPosition(), START.side
-        yield (*START, side)
+        play, at, after, side, left = self._play, CPosition(*START), CPosition(), START.side, START.empties
+        found = [START] if left in wanted else []
         for index, square in enumerate(game.moves):
             if play(at, square, after):
                 at, side = self._passed(at, game, index), OTHER[side]
@@ -173,8 +172,10 @@ class Player:
                     continue
                 if play(at, square, after):
                     raise self._fault(at, game, index)
-            at, after, side = after, at, OTHER[side]
-            yield at.own, at.opp, side
+            at, after, side, left = after, at, OTHER[side], left - 1
+            if left in wanted:
+                found.append(Position(at.own, at.opp, side))
+        return found, Position(at.own, at.opp, side)
 
     def _passed(self, at: CPosition, game: Game, index: int) -> CPosition:
         """The position after the pass that a game has before a move, or as that."""

@@ -12,8 +12,7 @@ BLANKS = b" \t"
 LINE = re.compile(rb"[ \t]*([Xx*BbOoWw.-]{64})[ \t]*([Xx*BbOoWw])([^%]*)")
 SQUARES = re.compile(rb"[Xx*BbOoWw.-]{0,64}")
 MOVES = {name.encode(): name for name in (*NAMES, "PS", "--")}
-LISTED = re.compile(rb"(?:\A|;)[ \t]*([A-Ha-h][1-8]|[Pp][Ss]|--):([+-]?[0-9]{1,2})[ \t]*(?=;|\Z)")
-MOST_SCORE = 64
+LISTED = re.compile(rb"(?:\A|;)[ \t]*([A-Ha-h][1-8]|[Pp][Ss]|--):([+-]?(?:[0-5]?[0-9]|6[0-4]))[ \t]*(?=;|\Z)")
 
 
 def bits_of(letters: bytes) -> bytes:
@@ -42,7 +41,7 @@ class Position(Masks):
     side: str = "X"
 
     def __new__(cls, own: int, opp: int, side: str = "X") -> "Position":
-        position = super().__new__(cls, own, opp)
+        position = tuple.__new__(cls, (own, opp))
         if side != "X":
             position.side = checked_side(side)
         return position
@@ -116,17 +115,17 @@ class Line(Position):
 def read_line(text: Union[str, bytes], number: Optional[int]) -> Line:
     """The position of a line of a number, of which the refusals tell."""
     try:
-        found = LINE.match(without_end(text))
+        content = without_end(text)
+        found = LINE.match(content)
         if found is None:
-            raise fault_of(without_end(text), number)
+            raise fault_of(content, number)
         letters, side, rest = found.groups()
         squares = letters[::-1]
         black, white = int(squares.translate(BLACK), 2), int(squares.translate(WHITE), 2)
         line = Line(black, white) if side in b"Xx*Bb" else Line(white, black, "O")
         line.number = number
         if rest:
-            listed = [(MOVES[move.upper()], int(score)) for move, score in LISTED.findall(rest)]
-            line.listed = tuple([it for it in listed if -MOST_SCORE <= it[1] <= MOST_SCORE])
+            line.listed = tuple([(MOVES[move.upper()], int(score)) for move, score in LISTED.findall(rest)])
         return line
     except MemoryError:
         raise NoMemory() from None

@@ -130,9 +130,9 @@ def fitting(
 
 def other_refusal(line: Listed, row: Row) -> str:
     """What shows that a row is not of a line, one of which is refused; nothing where they fit."""
-    said = row.refusal or "that it is solved"
+    said = row.refusal or f"{row.score:+03} {','.join(row.best)}"
     if line.position is None:
-        return "" if row.refusal == line.refusal else f"is refused: {line.refusal}; and the report says: {said}"
+        return "" if row.refusal == line.refusal else f"is refused ({line.refusal}), and the report says: {said}"
     match = EMPTIES.fullmatch(said)
     if match is not None and int(match[1]) == line.position.empties:
         return ""
