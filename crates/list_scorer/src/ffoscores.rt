@@ -24,7 +24,7 @@ use suite_runs::{RunFault, check_files};
 use suite_solver::OptionFault;
 use suite_solver::streams::end_without_options;
 
-// The error of the program for a fault of printing: want of memory, or that standard output can't
+// The error of the program for a fault of printing: out of memory, or standard output can't
 // be written.
 fn list_error(fault: ListFault) -> ProgramError<'static>
     ensures reason { IsListError fault result }
@@ -36,8 +36,8 @@ fn list_error(fault: ListFault) -> ProgramError<'static>
     }
 }
 
-// Prints lists again with every move's score, over one table of bounds, with as many positions
-// scored at once as the settings' workers and one more. The result says whether
+// Prints lists again with every move's score, over one table of bounds. As many positions are
+// scored at once as the settings have workers, plus one. The result says whether
 // nothing in them is wrong.
 fn print_lists<T: Threads + Wait, W: Write>(
     rt: &T,
@@ -149,7 +149,7 @@ pub fn list_program<T: Files + Threads + Wait, R: Read, W: Write, E: Write>(
 }
 
 /// The whole program, as `list_program`, over the words as `env::args` gives them. The status is 2
-/// where a word is no text, and 3 where there was no memory for the words.
+/// where a word is not text, and 3 where memory for the words was refused.
 pub fn list_program_of<T: Files + Threads + Wait, R: Read, W: Write, E: Write>(
     rt: &T,
     alloc: Global,
