@@ -30,7 +30,7 @@ impl Termination for Ended {
     }
 }
 
-/// A stream to which errors may be printed. Standard error is one. Standard output is none, so a
+/// A stream to which errors may be printed. Standard error is one. Standard output is not, so a
 /// `main` can't hand it over as one.
 pub trait ErrorStream: Write + Send {}
 

@@ -42,8 +42,8 @@ fn explain<W: Write, E: Write>(
 
 /// Prints what clap hands over in place of options: help and the version on standard output, the
 /// reason of a refusal on standard error. The result is the exit status of the program: 0 for help
-/// and the version, 2 for a refusal, and 3 where standard output can't be written, which is told on
-/// standard error.
+/// and the version, 2 for a refusal, and 3 where standard output can't be written, which is
+/// reported on standard error.
 pub fn end_without_options<W: Write, E: Write>(
     program: &str,
     error: &clap::Error,
