@@ -114,7 +114,7 @@ fn print_error<E: Write>(error: &ProgramError<'_>, errors: &mut E) -> u8
     list_status(error)
 }
 
-/// The whole program `ffoscores` over the words of its command line, the program's name first. It
+/// The whole program `ffoscores`, for the words of its command line, the program's name first. It
 /// reads the lists that the words name, or standard input. It prints them again on standard output
 /// with every move's score, each line as soon as it is solved.
 ///
@@ -148,7 +148,7 @@ pub fn list_program<T: Files + Threads + Wait, R: Read, W: Write, E: Write>(
     }
 }
 
-/// The whole program, as `list_program`, over the words as `env::args` gives them. The status is 2
+/// The whole program, like `list_program`, for the words that `env::args` gives. The status is 2
 /// where a word is not text, and 3 where memory for the words was refused.
 pub fn list_program_of<T: Files + Threads + Wait, R: Read, W: Write, E: Write>(
     rt: &T,

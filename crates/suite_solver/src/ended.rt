@@ -31,7 +31,7 @@ impl Termination for Ended {
 }
 
 /// A stream to which errors may be printed. Standard error is one. Standard output is not, so a
-/// `main` can't hand it over as one.
+/// `main` can't pass it as one.
 pub trait ErrorStream: Write + Send {}
 
 impl ErrorStream for Stderr {}

@@ -129,7 +129,7 @@ fn print_error<E: Write>(error: &ProgramError<'_>, errors: &mut E) -> u8
     error.status()
 }
 
-/// The whole program `ffosolve` over the words of its command line, the program's name first. It
+/// The whole program `ffosolve`, for the words of its command line, the program's name first. It
 /// reads the book and the files that the words name, or standard input. It prints the files'
 /// reports, in the order of the files, on standard output. Then it writes the book that the words
 /// name.
@@ -161,7 +161,7 @@ pub fn program<T: Files + Clock + Threads + Wait + Sync, R: Read, W: Write, E: W
     }
 }
 
-/// The whole program, as `program`, over the words as `env::args` gives them. The status is 2 where
+/// The whole program, like `program`, for the words that `env::args` gives. The status is 2 where
 /// a word is not text, and 1 where memory for the words was refused.
 pub fn program_of<T: Files + Clock + Threads + Wait + Sync, R: Read, W: Write, E: Write + Send>(
     rt: &T,
