@@ -67,7 +67,7 @@ impl BoundTable {
     /// The greatest number of entries of a table.
     pub const MOST_ENTRIES: usize = 4_194_304;
 
-    /// A table under the scoring with `entries` entries, none of them stored to. With 0 entries it
+    /// A table under the scoring with `entries` entries, all empty. With 0 entries it
     /// keeps nothing. `TooMany` above `MOST_ENTRIES`, before any memory is asked for. `Memory`
     /// where memory was refused.
     pub fn new(alloc: Global, entries: usize, scoring: Scoring) -> Result<BoundTable, TableFault>

@@ -1,8 +1,8 @@
 //! An entry of a shared table, in a slot that many threads may read or one may write.
 //!
-//! Each call loads the slot's word and tries one turn. A turn to read ends by a leave, and a turn
-//! to write ends by a put. Where another thread was first, the turn is lost: its claim is done,
-//! nothing is tried again, and nobody waits.
+//! Each call loads the slot's word and tries once to get a turn. A turn to read ends with a leave,
+//! and a turn to write with a put. Where another thread was first, the turn is lost: its claim is
+//! done, nothing is tried again, and nobody waits.
 
 ghost use Rattle.std.specs.Prelude.{◌≡◌, ◌<◌, ◌+◌, ◌^◌, IfSome, IsTrue};
 ghost use Rattle.std.specs.Option.{SomeIff};
@@ -56,7 +56,7 @@ impl Entry {
     }
 }
 
-/// A place for one entry, which clauses see as the scoring of its range. Its word is `FREE` until
+/// A place for one entry, which contracts see as the scoring of its range. Its word is `FREE` until
 /// the first store, then `PRESENT` with the number of its readers, or `TAKEN` while a thread writes
 /// it.
 pub(crate) type Slot = Counted<Entry>;
@@ -80,7 +80,7 @@ fn admits_reader(word: u64) -> bool
     word % ONE_READER == PRESENT && word / ONE_READER < MOST_READERS
 }
 
-/// The entry of the slot; None where it was never stored to, where a thread writes it, and where
+/// The entry of the slot; None where it was never stored to, a thread writes it, or
 /// the turn is lost.
 #[inline]
 pub(crate) fn read(slot: &Slot) -> Option<Entry>
@@ -100,7 +100,7 @@ pub(crate) fn read(slot: &Slot) -> Option<Entry>
     Some(entry)
 }
 
-/// Puts an entry into the slot; does nothing where a thread reads or writes it, and where the turn
+/// Puts an entry into the slot; does nothing where a thread reads or writes it, or the turn
 /// is lost.
 #[inline]
 pub(crate) fn write(slot: &Slot, entry: Entry)

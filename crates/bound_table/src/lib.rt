@@ -1,8 +1,8 @@
-//! What is known of positions' values: ranges that are true of them, and tables that keep such
+//! What is known about the values of positions: ranges that are true of them, and tables of such
 //! ranges.
 //!
-//! A table never promises to show a range. Each range that it shows is true of the position that
-//! was asked.
+//! A table never promises to show a range. Each range that it shows is true of the position asked
+//! for.
 //!
 //! ```rust
 //! use bound_table::{BoundTable, Bounds, Range};

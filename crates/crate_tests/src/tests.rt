@@ -1,8 +1,8 @@
-//! A module for what has more to say than its clauses: `rules` for `othello_rules`, `written_lines` for
-//! `obf_text`, `tables` for `bound_table`, `searches` for `endgame_search`, `lists` for `score_lists`,
+//! A module for each crate that does more than its clauses say: `rules` for `othello_rules`, `written_lines`
+//! for `obf_text`, `tables` for `bound_table`, `searches` for `endgame_search`, `lists` for `score_lists`,
 //! `books` for `solved_book`, `boards` for `job_board`, `programs` for the crates above it. `worked` has the
-//! positions whose values are worked by hand. What lines and books say, and what is printed of them,
-//! tests/test_rows.py tests by the programs.
+//! positions whose values are worked out by hand. What lines and books say, and what is printed for them, is
+//! tested through the programs by tests/test_rows.py.
 
 mod boards;
 mod books;

@@ -1,4 +1,4 @@
--- A pass turns the value over, also where the game is over.
+-- A pass negates the value, even where the game is over.
 use Rattle.std.proofs.Common.{◌≡◌, sym, ap, ◌∙◌, inl, inr, arith, ℤ, neg_ℤ}
 use Rattle.std.proofs.lemmas.Bool.{cases_eq}
 use Rattle.std.proofs.lemmas.Int.{ints}

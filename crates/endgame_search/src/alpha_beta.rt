@@ -17,11 +17,11 @@ use arrayvec::ArrayVec;
 use bound_table::Bounds;
 use othello_bits::Pos;
 
-/// Searches the value of a position in the window from `low` to `high`, under the table's scoring
-/// and as the mover sees it: in discs, or 1, 0 or -1 under `Sign`. The ends are from -65 to 65, the
-/// result is from -64 to 64. A result strictly between the ends is the value. A result at `low` or
-/// below it is an upper bound of the value. A result at `high` or above it is a lower bound. The
-/// table is offered the range that the result proves, however few squares are empty.
+/// Searches for the value of a position in the window from `low` to `high`, under the table's
+/// scoring and as the mover sees it: in discs, or 1, 0 or -1 under `Sign`. The ends are from -65 to
+/// 65, and the result from -64 to 64. A result strictly between the ends is the value. A result at
+/// `low` or below it is an upper bound of the value. A result at `high` or above it is a lower
+/// bound. The table is offered the range that the result proves, however few squares are empty.
 pub fn value_in<T: Bounds>(table: &T, position: Pos, low: i8, high: i8) -> i8
     requires least { negsuc 64 ≤ℤ low }
     requires ordered { low <ℤ high }

@@ -1,6 +1,6 @@
 //! Null windows of positions with at most 7 empty squares. A null window runs from its lower end,
 //! the bound, to one above it. Nothing is stored, and no child is probed before it is searched. The
-//! limit is 7 because to make a list of 8 children would take a function call. With at most 4 empty
+//! limit is 7 because making a list of 8 children would take a function call. With at most 4 empty
 //! squares a list takes more time than its order saves.
 
 ghost use Rattle.std.specs.Prelude.{◌≡◌, ◌≢◌, ◌≤◌, ◌≤ℤ◌, ◌+ℤ◌, pos, negsuc, length};

@@ -18,8 +18,8 @@ use othello_rules::{Answer, Best, GREATEST_SCORE, Scoring, Square, squares_in};
 use std::marker::Model;
 
 /// A position with its answer under a scoring. Only `solve` and `confirm` make one. Its answer is
-/// the one of the definitions, by the invariant of this type. Contracts see the position and the
-/// scoring.
+/// the one that the definitions give, by the invariant of this type. Contracts see the position and
+/// the scoring.
 #[derive(Clone, Copy, PartialEq, Eq, Debug)]
 pub struct Solved {
     position: Pos,
@@ -107,7 +107,7 @@ pub fn solve<T: Bounds>(table: &T, task: Task) -> Solved
     solved_at(table, task, score)
 }
 
-/// Solves a task by tests of a claim. The result is that of `solve` whatever the claim is, and
+/// Solves a task by testing a claim. The result is that of `solve` whatever the claim is, and
 /// comes sooner where the claim is right. Two null windows test the score, and one tests each move.
 /// Where a test fails, `solve` finds the answer. The table has the scoring of the task.
 pub fn confirm<T: Bounds>(table: &T, task: Task, claim: Claim) -> Solved

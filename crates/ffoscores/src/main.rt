@@ -1,4 +1,4 @@
-//! The program `ffoscores`: hands arguments, streams and allocator to `list_scorer`.
+//! The program `ffoscores`: passes arguments, streams and allocator to `list_scorer`.
 #![tactic(auto)]
 
 use list_scorer::{Ended, list_program_at};

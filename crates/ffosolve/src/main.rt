@@ -1,4 +1,4 @@
-//! The program `ffosolve`: hands arguments, streams and allocator to `suite_solver`.
+//! The program `ffosolve`: passes arguments, streams and allocator to `suite_solver`.
 #![tactic(auto)]
 
 use std::env::Env;

@@ -1,4 +1,4 @@
--- What a call of the reader tells is what the line says.
+-- What a call of the reader returns is what the line says.
 use Rattle.std.proofs.Common.{◌≡◌, ℕ, Err, inl, inr, refl, sym, ap}
 use Rattle.obf_text.specs.Obf.{Entry, Faulty, Gives, Holds, Meaning, Skipped, place_of}
 use Rattle.obf_text.specs.declared.line_fault.LineFault.{LineFault}

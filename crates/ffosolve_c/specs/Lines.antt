@@ -44,7 +44,7 @@ c_line entry = record {
   side = side_number entry.position.mover;
 }
 
--- a list of places once values were written to it from its front, as many as it has places for
+-- a list of places after values were written to it from the start, as many as fit
 abbrev pub written_over : List FfosolveListed → List FfosolveListed → List FfosolveListed
 written_over places values = take (length places) values ++ drop (length values) places
 

@@ -1,4 +1,4 @@
--- Why a call is refused, and its status. Refusals are told in the order in which a call is tested for them.
+-- Why a call is refused, and its status. Refusals are returned in the order in which a call is tested for them.
 use Rattle.std.specs.Prelude.{◌≡◌, ◌⊎◌, ℕ, ℤ, pos, All, List, length, Option, Some, None, is_some}
 use Rattle.std.specs.Prelude.{option_and_then, position, slice_get, bit_and, nat_eq, nat_lt, if◌then◌else◌}
 use Rattle.othello_bits.specs.Pos.{empties_of}

@@ -19,7 +19,7 @@ pub enum CallRefusal {
     TooManyEmpties,
     /// The mover can't move to the square, or the square's number is above 63.
     NoMove,
-    /// There was no memory for the table.
+    /// Memory for the table was refused.
     NoMemory,
 }
 

@@ -30,9 +30,9 @@ use std::alloc::Global;
 const VERSION: u32 = 10_100;
 
 /// Writes the answer of a position, by a search over a new table of `entries` entries. `scoring` is
-/// 0 for `Winner`, 1 for `Discs` and 2 for `Sign`. The status is 0 where `answer` was written. Else
-/// `answer` is as it was, and the status is that of a `CallRefusal`: 1, 2, 4, 5 or 7. It is never 7,
-/// want of memory, with 0 entries.
+/// 0 for `Winner`, 1 for `Discs` and 2 for `Sign`. The status is 0 where `answer` was written.
+/// Otherwise `answer` is as it was, and the status is that of a `CallRefusal`: 1, 2, 4, 5 or 7. It
+/// is never 7, out of memory, with 0 entries.
 #[unsafe(no_mangle)]
 pub extern "C" fn ffosolve_solve(
     alloc: Global,
@@ -56,8 +56,8 @@ pub extern "C" fn ffosolve_solve(
 }
 
 /// Writes the answer of a position as `ffosolve_solve` does, with its statuses, by a search that
-/// tests `claim` first unless its kind or score is none. Any claim may be made: it changes how long
-/// the search takes, and never the answer.
+/// tests `claim` first unless its kind or score can't be one. Any claim may be made: it changes how
+/// long the search takes, but never the answer.
 #[unsafe(no_mangle)]
 pub extern "C" fn ffosolve_confirm(
     alloc: Global,
@@ -83,10 +83,10 @@ pub extern "C" fn ffosolve_confirm(
 
 /// Writes the answer of each position at its index in `answers`, by searches over one new table of
 /// `entries` entries. `scoring` is 0 for `Winner`, 1 for `Discs` and 2 for `Sign`. The status is 0
-/// where all of `answers` was written. Else `answers` is as it was, and the status is that of a
+/// where all of `answers` was written. Otherwise `answers` is as it was, and the status is that of a
 /// `CallRefusal`: 1, 2, 3, 4, 5 or 7; 3 where there are not as many answers as positions. It is never
-/// 7, want of memory, with 0 entries. With 4 and 5 `at` is the index, from 0, of the first position
-/// that is refused; else `at` is as it was.
+/// 7, out of memory, with 0 entries. With 4 and 5 `at` is the index, from 0, of the first position
+/// that is refused; otherwise `at` is as it was.
 #[unsafe(no_mangle)]
 pub extern "C" fn ffosolve_solve_all(
     alloc: Global,
@@ -114,8 +114,8 @@ pub extern "C" fn ffosolve_solve_all(
 /// square's number, with 127 at the other squares. A score is as the mover sees it: in discs from
 /// -64 to 64, or 1, 0 or -1 under `Sign`. All searches use one new table of `entries` entries.
 /// `scoring` is 0 for `Winner`, 1 for `Discs` and 2 for `Sign`. The status is 0 where `scores` and
-/// `moves` were written. Else they are as they were, and the status is that of a `CallRefusal`: 1, 2,
-/// 4, 5 or 7. It is never 7, want of memory, with 0 entries.
+/// `moves` were written. Otherwise they are as they were, and the status is that of a `CallRefusal`:
+/// 1, 2, 4, 5 or 7. It is never 7, out of memory, with 0 entries.
 #[unsafe(no_mangle)]
 pub extern "C" fn ffosolve_move_scores(
     alloc: Global,
@@ -142,8 +142,8 @@ pub extern "C" fn ffosolve_move_scores(
 }
 
 /// Writes the scores of all moves of each position, as `ffosolve_move_scores` does, and the mask of
-/// its moves at its index in `found`, by searches over one new table of `entries` entries. Status,
-/// `at` and what stays as it was are those of `ffosolve_solve_all`.
+/// its moves at its index in `found`, by searches over one new table of `entries` entries. The
+/// status, `at` and what stays as it was are as in `ffosolve_solve_all`.
 #[unsafe(no_mangle)]
 pub extern "C" fn ffosolve_move_scores_all(
     alloc: Global,
@@ -213,12 +213,12 @@ pub extern "C" fn ffosolve_play(
 }
 
 /// Reads one line of OBF text, without its end, as `obf_text::read_line` does. The status is 0 where
-/// the line holds a position, which is written to `line`, and its listed moves to `listed` from its
-/// front, as many as there is room for: `line` says how many they are. Else both are as they were,
-/// and the status is 8 where the line is blank or a comment; 9 where it ends before its 64th square;
-/// 10 where a byte is no square; 11 where the side to move is missing; or 7, want of memory, never
-/// where no move is listed. With 9 `at` is how many squares there are, and with 10 and 11 the column,
-/// counted from 1 in bytes; else it is as it was.
+/// the line holds a position. It is written to `line`, and its listed moves to `listed` from the
+/// start, as many as there is room for: `line` says how many there are. Otherwise both are as they
+/// were, and the status is 8 where the line is blank or a comment; 9 where it ends before its 64th
+/// square; 10 where a byte is not a square; 11 where the side to move is missing; or 7, out of
+/// memory, but never where no move is listed. With 9 `at` is the number of squares, and with 10 and
+/// 11 the column, counted from 1 in bytes; otherwise it is as it was.
 #[unsafe(no_mangle)]
 pub extern "C" fn ffosolve_read_line(
     alloc: Global,
@@ -251,8 +251,8 @@ pub extern "C" fn ffosolve_read_line(
     }
 }
 
-/// A limit by its number: 0 the most entries of a table, 1 the most empty squares of a position that
-/// is solved, 2 how many scorings there are. It is 0 for any other number.
+/// A limit by its number: 0 is the most entries of a table, 1 the most empty squares of a position
+/// that is solved, 2 the number of scorings. Any other number gives 0.
 #[unsafe(no_mangle)]
 pub extern "C" fn ffosolve_limit(limit: u32) -> usize
     ensures { result ≡ limit_of limit }

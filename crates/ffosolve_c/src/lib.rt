@@ -1,4 +1,4 @@
-//! The solver for C: exact answers of positions that are given as masks.
+//! The solver for C: exact answers for positions given as masks.
 //!
 //! ```c
 //! #include "ffosolve.h"

@@ -1,4 +1,4 @@
-//! The status of a line that holds no position, and the place that is told with it.
+//! The status of a line that holds no position, and the place that is reported with it.
 
 ghost use Rattle.std.specs.Prelude.{◌≡◌, ◌≢◌, pos};
 ghost use Rattle.obf_text.specs.Obf.{place_of};
@@ -23,8 +23,8 @@ pub fn fault_status(fault: LineFault) -> i32
     }
 }
 
-/// The number in a fault: how many squares the line has, or a column from 1. For want of memory,
-/// which has none, it is `otherwise`.
+/// The number in a fault: how many squares the line has, or a column from 1. Out of memory has
+/// none: it is `otherwise` then.
 pub fn place_or(fault: LineFault, otherwise: usize) -> usize
     ensures place { IsOfLine (fault_status fault) → result ≡ place_of fault }
     ensures none { (IsOfLine (fault_status fault) → ⊥) → result ≡ otherwise }

@@ -39,7 +39,7 @@ fn c_listed(listed: ListedMove, score: i8) -> FfosolveListed
     }
 }
 
-/// Writes the listed moves to `places` from its front, as many as it has places for.
+/// Writes the listed moves to `places` from the start, as many as fit.
 pub fn fill_listed(listed: &[(ListedMove, i8)], places: &mut [FfosolveListed])
     ensures { places.new ≡ written_over places.old (map c_listed listed.now) }
 {

@@ -69,9 +69,9 @@ fn fill_scores(table: &BoundTable, positions: &[FfosolvePosition], found: &mut [
     }
 }
 
-// The scoring of a request that has room for so many results. `Err` is the first refusal; with
+// The scoring of a request with room for `room` results. `Err` is the first refusal; with
 // `SharedSquare` and `TooManyEmpties` the index of the first refused position, from 0, is written to
-// `at`; else `at` is as it was.
+// `at`; otherwise `at` is as it was.
 fn accepted_scoring(
     positions: &[FfosolvePosition],
     scoring: u32,
@@ -105,7 +105,7 @@ fn accepted_scoring(
 
 /// Writes the answer of each position at its index in `answers`. `Err` leaves `answers` as it was.
 /// With `SharedSquare` and `TooManyEmpties` the index of the first refused position, from 0, is
-/// written to `at`; else `at` is as it was.
+/// written to `at`; otherwise `at` is as it was.
 pub fn answer_all(
     alloc: Global,
     positions: &[FfosolvePosition],
@@ -133,7 +133,7 @@ pub fn answer_all(
 }
 
 /// Writes the scores of all moves of each position at its index in `found`. `Err` leaves `found` as
-/// it was, and writes to `at` what that of `answer_all` does.
+/// it was, and writes to `at` as `answer_all` does.
 pub fn score_each(
     alloc: Global,
     positions: &[FfosolvePosition],

@@ -38,7 +38,7 @@ pub fn table_scoring(number: u32, entries: usize) -> Result<Scoring, CallRefusal
     Ok(scoring)
 }
 
-/// A new table of `entries` entries. `NoMemory` where memory was refused, and never with 0 entries.
+/// A new table of `entries` entries. `NoMemory` where memory was refused, but never with 0 entries.
 pub fn table_of(alloc: Global, entries: usize, scoring: Scoring) -> Result<BoundTable, CallRefusal>
     requires { entries ≤ most_entries }
     ensures made { IfOk result

@@ -25,7 +25,7 @@ IsBoardView c = (s : ℕ) (state : SenderView) → slice_get c s ≡ Some state 
 abbrev pub bit : Bool → ℕ
 bit b = if b then 1 else 0
 
--- the queue names just the waiting jobs, each once
+-- the queue names exactly the waiting jobs, each once
 abbrev pub ListsWaiting : List JobId → BoardView → Type 0
 ListsWaiting ids c = (s k : ℕ) → id_count s k ids ≡ bit (is_waiting (stage_at c s k))
 

@@ -51,7 +51,7 @@ stage_by s k stage (step.GiveBack id) (reply.GaveBack (Ok u)) =
 stage_by s k stage _ _ = stage
 
 -- the stage of job k of s after all steps: that of the last accepted take, finish or give back of
--- the job, else `stage`
+-- the job, or `stage` if there was none
 abbrev pub stage_after : ℕ → ℕ → Stage → List Step → List Reply → Stage
 stage_after s k stage (st ∷ ss) (r ∷ rs) = stage_after s k (stage_by s k stage st r) ss rs
 stage_after s k stage _ _ = stage

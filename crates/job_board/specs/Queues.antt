@@ -2,7 +2,7 @@
 use Rattle.std.specs.Prelude.{ℕ, ◌==◌, ◌&&◌, Bool, List, count_by}
 use Rattle.job_board.specs.declared.jobs.JobId.{JobId}
 
--- the jobs in no certain order, and for how many there is room
+-- the jobs in no particular order, and for how many there is room
 pub record Queue : Type 0 where
   pub jobs : List JobId
   pub room : ℕ

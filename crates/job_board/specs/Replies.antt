@@ -18,7 +18,7 @@ use Rattle.job_board.specs.declared.faults.NoSender.{NoSender}
 use Rattle.job_board.specs.Senders.{SenderView, BoardView, content_with, stage_at, task_at, with_stage}
 use Rattle.job_board.specs.Senders.{with_task, with_one_handed, closed_state, is_waiting}
 
--- why a submit is refused, but for want of memory
+-- why a submit is refused, apart from lack of memory
 abbrev pub submit_refusal : Option SenderView → Option SubmitFault
 submit_refusal None = Some fault.NoSender
 submit_refusal (Some state) =
@@ -33,8 +33,8 @@ abbrev pub SubmitAs : Option SubmitFault → ℕ → Result ℕ SubmitFault → 
 SubmitAs (Some e) n r = r ≡ Err e
 SubmitAs None n r = (r ≡ Ok n) ⊎ (r ≡ Err fault.Memory)
 
--- the lawful replies of a submit of s: its refusal if it has one; else the number of tasks of s
--- that were accepted before, or `Memory`
+-- the lawful replies of a submit of s: its refusal if it has one; otherwise the number of tasks of
+-- s that were accepted before, or `Memory`
 abbrev pub Submits : BoardView → ℕ → Result ℕ SubmitFault → Type 0
 Submits c s r = SubmitAs (submit_refusal (slice_get c s)) (task_count (slice_get c s)) r
 
@@ -93,8 +93,8 @@ deliver_reply_at state _ =
     if state.closed && (state.handed == length state.tasks) then handed.Drained else handed.Waiting
 
 -- the reply of a deliver to one sender: where k answers were delivered and job k is finished, the
--- answer of job k; else `Drained` where the sender is closed and all its answers were delivered,
--- and `Waiting` where not
+-- answer of job k; otherwise `Drained` where the sender is closed and all its answers were
+-- delivered, and `Waiting` where not
 abbrev pub deliver_reply_of : SenderView → Handed
 deliver_reply_of state = deliver_reply_at state (slice_get state.stages state.handed)
 

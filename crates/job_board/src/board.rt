@@ -13,8 +13,8 @@ use std::alloc::Global;
 use std::marker::Model;
 
 /// The jobs of up to 64 senders. Each job waits, is taken or is finished. A board doesn't record
-/// who took a job: any caller may finish a taken job, or give it back. Contracts see of each sender
-/// the tasks, their stages, how many answers were delivered, and whether it is closed.
+/// who took a job: any caller may finish a taken job, or give it back. For each sender, contracts
+/// see the tasks, their stages, how many answers were delivered, and whether it is closed.
 #[derive(Drop)]
 pub struct Board {
     pub(crate) senders: Vec<Sender>,
@@ -75,9 +75,9 @@ impl Board {
     }
 
     /// Accepts a task for a sender, and returns the number of its job: how many tasks of the sender
-    /// were accepted before. All memory that the job will ever need is taken here, also the room to
-    /// wait again. Where several faults of `SubmitFault` hold, the first is returned. `Err` leaves
-    /// what the board holds as it was.
+    /// were accepted before. All memory that the job will ever need is taken here, including the
+    /// room to wait again. Where several faults of `SubmitFault` apply, the first is returned.
+    /// `Err` leaves what the board holds as it was.
     pub fn submit(&mut self, sender: u32, task: Task) -> Result<u32, SubmitFault>
         ensures lawful { Submits self.old sender result }
         ensures content { self.new ≡ after_submit self.old sender task result }
@@ -99,8 +99,8 @@ impl Board {
         Ok(number)
     }
 
-    /// Takes the waiting job with most empty squares. Of equal ones it takes a job of the first
-    /// sender, and of its jobs the one with the least number. None where no job waits.
+    /// Takes the waiting job with the most empty squares. Among equal ones it takes a job of the
+    /// first sender, and among those the one with the least number. None where no job waits.
     pub fn take(&mut self) -> Option<Job>
         ensures lawful { Takes self.old result }
         ensures content { self.new ≡ after_take self.old result }
@@ -116,7 +116,7 @@ impl Board {
     }
 
     /// Finishes a taken job by the answer of its own position under its own scoring. `NotTaken`
-    /// where the job is unknown, waits or is finished; `OtherPosition` where the answer is that of
+    /// where the job is unknown, waiting or finished; `OtherPosition` where the answer is that of
     /// another position or scoring. `Err` changes nothing.
     pub fn finish(&mut self, id: JobId, solved: Solved) -> Result<(), JobFault>
         ensures lawful { Finishes self.old id solved result }
@@ -130,7 +130,7 @@ impl Board {
         Ok(())
     }
 
-    /// Lets a taken job wait again. `NotTaken` where the job is unknown, waits or is finished;
+    /// Lets a taken job wait again. `NotTaken` where the job is unknown, waiting or finished;
     /// nothing is changed then.
     pub fn give_back(&mut self, id: JobId) -> Result<(), JobFault>
         ensures lawful { result ≡ give_back_reply self.old id }

@@ -50,7 +50,7 @@ impl Client {
     ghost use Rattle.job_board.specs.Replies.{Submits, after_submit, deliver_reply};
     ghost use Rattle.job_board.specs.Turns.{IsNext, IsServed, TurnGives, LooksAt};
 
-    /// A client of sender `sender`, which counts from 0. It has sent nothing, and takes no memory
+    /// A client of sender `sender`, counted from 0. It has sent nothing, and takes no memory
     /// yet.
     pub fn new(alloc: Global, sender: u32) -> Client
         ensures { result ≡ new_client sender }
@@ -82,7 +82,7 @@ impl Client {
         self.sender
     }
 
-    /// Makes room for one more task, so that `send` need not ask memory for the client's list.
+    /// Makes room for one more task, so that `send` needs no memory for the client's list.
     pub(crate) fn make_room(&mut self) -> Result<(), SubmitFault>
         ensures client { self.new ≡ self.old }
         ensures fault { IfErr result (λ e. e ≡ fault.Memory) }
@@ -94,7 +94,7 @@ impl Client {
     }
 
     /// Submits a task to the board, and adds an accepted task to the client's list. `Memory` where
-    /// there is no memory for that list, before the board is asked.
+    /// memory for that list is refused, before the board is asked.
     pub(crate) fn send(&mut self, board: &mut Board, task: Task) -> Result<u32, SubmitFault>
         ensures ok { OnOk result (self.new ≡ with_sent task self.old) }
         ensures err { OnErr result (self.new ≡ self.old) }
@@ -138,7 +138,7 @@ impl Client {
         self.sent.get(self.received as usize).copied()
     }
 
-    // Counts a delivery that is the client's next answer. `Mixed` at any other.
+    // Counts a delivery that is the client's next answer. `Mixed` for any other.
     fn accept(&mut self, delivery: Delivery) -> Result<Turn, Mixed>
         requires { delivery.number < most_jobs }
         ensures ok { IfOk result (λ turn.
@@ -155,7 +155,7 @@ impl Client {
         Ok(Turn::Next(delivery))
     }
 
-    // `Drained` where all answers came back, else `Mixed`.
+    // `Drained` where all answers came back, otherwise `Mixed`.
     fn check_drained(&self) -> Result<Turn, Mixed>
         ensures ok { IfOk result (λ turn. (turn ≡ Drained) × IsServed self.now) }
         ensures err { OnErr result (IsServed self.now → ⊥) }

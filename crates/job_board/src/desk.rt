@@ -1,8 +1,8 @@
 //! A board that threads share under a lock. A desk takes the lock, calls `Board` or `Client`, and
 //! wakes threads that wait.
 //!
-//! A worker waits until there is a job, or the board is done. A client waits until there is its
-//! next answer or a job, or it is drained. Any thread that waits can take one more waiting job, so
+//! A worker waits until there is a job, or the board is done. A client waits until its next answer
+//! or a job is there, or it is drained. Any thread that waits can take one more waiting job, so
 //! a submit and a give back wake one thread. A finish or a close may be what any of them waits for,
 //! so they wake all. A client that was woken for a job may find its answer, and leave the job. The
 //! finish of that answer wakes all the others, and they look for the job.
@@ -44,7 +44,7 @@ impl Desk {
 
     /// Submits a task for the client's sender, and returns the number of its job, as
     /// `Board::submit` does. `Err` changes neither the client nor what the board holds. `Memory`
-    /// where the client has no memory for the task, before the board is asked.
+    /// where memory for the client's list is refused, before the board is asked.
     pub fn submit<R: Wait>(
         &self,
         rt: &R,
@@ -95,11 +95,11 @@ impl Desk {
         Ok(())
     }
 
-    /// Returns the client's next answer where it is there, and counts it; `Drained` where the
-    /// sender is closed and all answers came back; else a job, which the client has now taken.
+    /// Returns the client's next answer if it is there, and counts it; `Drained` where the
+    /// sender is closed and all answers came back; otherwise a job, which the client has now taken.
     /// While there is none of these, the calling thread waits. `Mixed` where the board delivers an
     /// answer that is not the client's next, where the board replies `Drained` before the client
-    /// has all answers, and where the board has no such sender. `Err` leaves the client as it was;
+    /// has all answers, or where the board has no such sender. `Err` leaves the client as it was;
     /// an answer that is not the client's next counts as delivered at the board.
     pub fn turn<R: Wait>(&self, rt: &R, client: &mut Client) -> Result<Turn, Mixed>
         ensures ok { IfOk result (TurnGives client.old client.new) }

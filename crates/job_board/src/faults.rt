@@ -2,19 +2,19 @@
 
 use thiserror::Error;
 
-/// Why a board is not made.
+/// Why a board can't be made.
 #[derive(Clone, Copy, PartialEq, Eq, Debug, Error)]
 pub enum BoardFault {
     /// More than 64 senders were asked for.
     #[error("more than 64 senders")]
     TooManySenders,
-    /// There was no memory for the senders.
+    /// Memory for the senders was refused.
     #[error("out of memory")]
     Memory,
 }
 
-/// Why a task is not accepted. Where several hold, `Board::submit` returns the first of these.
-/// `Desk::submit` returns `Memory` before the others where the client has no memory for the task.
+/// Why a task is not accepted. Where several apply, `Board::submit` returns the first of these.
+/// `Desk::submit` returns `Memory` before the others where memory for the client's list is refused.
 #[derive(Clone, Copy, PartialEq, Eq, Debug, Error)]
 pub enum SubmitFault {
     /// The board has no sender of that number.
@@ -26,7 +26,7 @@ pub enum SubmitFault {
     /// The sender has 65,535 jobs, the most that it may have.
     #[error("more than 65535 jobs")]
     Full,
-    /// There was no memory for one more job.
+    /// Memory for one more job was refused.
     #[error("out of memory")]
     Memory,
 }
@@ -34,7 +34,7 @@ pub enum SubmitFault {
 /// Why a job is not finished or given back.
 #[derive(Clone, Copy, PartialEq, Eq, Debug, Error)]
 pub enum JobFault {
-    /// The job is unknown, waits or is finished.
+    /// The job is unknown, waiting or finished.
     #[error("the job is not taken")]
     NotTaken,
     /// The job is taken, and the answer is that of another position or of another scoring.
@@ -49,7 +49,7 @@ pub struct NoSender;
 
 /// The board's reply does not fit the client. It is an answer that is not the client's next; or
 /// `Drained` before the client has all answers; or the board has no such sender. This can happen
-/// where two clients have one sender.
+/// where two clients share one sender.
 #[derive(Clone, Copy, PartialEq, Eq, Debug, Error)]
 #[error("answers mixed")]
 pub struct Mixed;

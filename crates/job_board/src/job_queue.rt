@@ -1,4 +1,4 @@
-//! The jobs that wait, those with most empty squares first.
+//! The jobs that wait, those with the most empty squares first.
 
 ghost use Rattle.std.specs.Prelude.{◌≡◌, ◌<◌, ◌≤◌, ◌+◌, ◌^◌, ◌↔◌, [], ◌∷◌, length};
 ghost use Rattle.std.specs.Prelude.{IfSome, IfNone, IsTrue, OnOk};
@@ -11,17 +11,17 @@ use std::cmp::Reverse;
 use std::collections::BinaryHeap;
 use std::marker::Model;
 
-// A waiting job in the heap. The greatest has most empty squares; of equal ones it is of the first
-// sender, and of its jobs it has the least number.
+// A waiting job in the heap. The greatest has the most empty squares; among equal ones it is of the
+// first sender, and among those it has the least number.
 #[derive(Clone, Copy, PartialEq, Eq, PartialOrd, Ord)]
 struct Entry {
     empties: u8,
     id: Reverse<JobId>,
 }
 
-/// A priority queue of jobs. The job with most empty squares comes first; of equal ones a job of
-/// the first sender, and of its jobs the one with the least number. Contracts see the jobs in no
-/// certain order, and for how many jobs there is room.
+/// A priority queue of jobs. The job with the most empty squares comes first; among equal ones a
+/// job of the first sender, and among those the one with the least number. Contracts see the jobs
+/// in no particular order, and for how many jobs there is room.
 #[derive(Drop)]
 pub(crate) struct JobQueue {
     heap: BinaryHeap<Entry>,

@@ -4,7 +4,7 @@ ghost use Rattle.std.specs.Prelude.{◌≡◌, ◌↔◌, IsTrue};
 
 use endgame_search::{Solved, Task};
 
-/// A job's name: its sender, and its place among the sender's jobs. Both count from 0.
+/// A job's name: its sender, and its place among the sender's jobs. Both are counted from 0.
 #[derive(Clone, Copy, PartialEq, Eq, PartialOrd, Ord, Debug)]
 pub struct JobId {
     pub sender: u32,

@@ -33,8 +33,8 @@ use crate::board::Board;
 
 /// In a legal history the answers that are delivered to a sender are, in order and each once, those
 /// of a prefix of its accepted tasks. Where the sender is drained they are those of all its
-/// accepted tasks, and from then on no task of it is accepted and no answer delivered. After its
-/// close no task of it is accepted.
+/// accepted tasks, and from then on none of its tasks is accepted and no answer is delivered. After
+/// it is closed, none of its tasks is accepted.
 pub fn deliveries_are_in_order()
     ensures in_order { (n s : ℕ) (ss : List Step) (rs : List Reply)
         → s < n → IsLegal n ss rs
@@ -95,9 +95,9 @@ pub fn histories_continue()
 /// Take any legal history, and a board whose view is the one that the history leaves. With the step
 /// and the reply of any call of the board the history is legal again, and leaves the view that the
 /// board has then; `is_done` says whether the history closes each sender and finishes all jobs. A
-/// new board has the view that the empty history leaves. Each clause is of the call of its name,
-/// and has what the contract of this call ensures as its premises; `old` is the board's view before
-/// the call, and `new` the one after it.
+/// new board has the view that the empty history leaves. Each clause is about the call that it is
+/// named after, and its premises are what the contract of this call ensures; `old` is the board's
+/// view before the call, and `new` the one after it.
 pub fn calls_continue_histories()
     ensures empty { (n : ℕ) → IsLegal n [] [] × (content n [] [] ≡ empty_content n) }
     ensures submit { (old new : BoardView) (s : ℕ) (t : TaskView) (r : Result ℕ SubmitFault)
@@ -133,8 +133,8 @@ pub fn boards_have_contents(board: &Board)
 }
 
 /// Each `BoardView` that meets `IsBoardView` is left by a legal history, its trace. By
-/// `boards_have_contents` the view of every board meets it, so also the view of the board that a
-/// thread finds when it takes a desk's lock.
+/// `boards_have_contents` the view of every board meets it, and so does the view of the board that
+/// a thread finds when it takes a desk's lock.
 pub fn contents_have_histories()
     ensures legal { (c : BoardView)
         → IsBoardView c → IsLegal (length c) (trace_steps 0 c) (trace_replies 0 c) }

@@ -11,9 +11,9 @@
 //! assert!(rt; matches!(board.deliver(0), Handed::Next(_)));
 //! ```
 //!
-//! A `Board` is a machine of six steps, which runs on one thread. A `Desk` is a board that threads
-//! share under a lock. A `Client` stores which tasks one sender sent to a desk, and how many of
-//! their answers came back.
+//! A `Board` is a state machine of six steps, which runs on one thread. A `Desk` is a board that
+//! threads share under a lock. A `Client` stores which tasks one sender sent to a desk, and how
+//! many of their answers came back.
 #![tactic(auto)]
 
 mod board;

@@ -79,8 +79,8 @@ impl Sender {
         self.closed
     }
 
-    /// Why the sender accepts no task: `Closed`, else `Full`. None where it accepts one, if there
-    /// is memory.
+    /// Why the sender accepts no task: `Closed`, otherwise `Full`. None where it accepts one, if
+    /// there is memory.
     pub(crate) fn refusal(&self) -> Option<SubmitFault>
         ensures { result ≡ submit_refusal (Some self.now) }
     {
@@ -114,7 +114,7 @@ impl Sender {
     }
 
     /// Finishes a taken job by the answer of its own task. `NotTaken` where job `number` is
-    /// unknown, waits or is finished; `OtherPosition` where the answer is not that of its task.
+    /// unknown, waiting or finished; `OtherPosition` where the answer is not that of its task.
     pub(crate) fn finish(&mut self, number: u32, solved: Solved) -> Result<(), JobFault>
         ensures reply { FinishAs
             (slice_get self.old.stages number) (slice_get self.old.tasks number) solved result }
@@ -133,7 +133,7 @@ impl Sender {
         }
     }
 
-    /// Lets a taken job wait again. `NotTaken` where job `number` is unknown, waits or is finished.
+    /// Lets a taken job wait again. `NotTaken` where job `number` is unknown, waiting or finished.
     pub(crate) fn give_back(&mut self, number: u32) -> Result<(), JobFault>
         ensures reply { result ≡ give_back_reply_at (slice_get self.old.stages number) }
         ensures ok { OnOk result (self.new ≡ with_stage number Waiting self.old) }

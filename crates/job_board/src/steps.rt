@@ -10,7 +10,8 @@ use endgame_search::{Solved, Task};
 use std::alloc::{AllocError, Global};
 
 /// A step of a board: the call of `Board` of that name, with its arguments. A `u32` is the number
-/// of a sender, from 0. The arguments may be any, also a sender or a job that the board hasn't.
+/// of a sender, from 0. Any arguments are allowed, even a sender or a job that the board doesn't
+/// have.
 #[derive(Clone, Copy, PartialEq, Eq, Debug)]
 pub enum Step {
     Submit(u32, Task),
@@ -34,8 +35,8 @@ pub enum Reply {
 }
 
 /// Runs all steps in order, and returns one reply for each, in that order. Memory for the replies
-/// is taken first: at `Err` no step was run. A submit that is refused memory has that refusal as
-/// its reply, and the steps behind it are run.
+/// is taken first: after `Err` no step was run. A submit that is refused memory has that refusal as
+/// its reply, and the steps after it are run.
 pub fn run_steps(alloc: Global, board: &mut Board, steps: &[Step]) -> Result<Vec<Reply>, AllocError>
     ensures one_each { IfOk result (λ replies. length replies.items ≡ length steps.now) }
     ensures lawful { IfOk result (λ replies. AreLawful board.old steps.now replies.items) }

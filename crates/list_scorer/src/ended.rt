@@ -18,7 +18,7 @@ use suite_solver::ErrorStream;
 
 /// The end of the program, with its exit status. Only `list_program_at` makes one, and it may not
 /// be dropped. So a `main` that calls it returns it, and ends with the status of the program. It is
-/// no type of `suite_solver`, since what this crate could make of any status, a `main` could, too.
+/// not a type of `suite_solver`: if this crate could make one with any status, a `main` could, too.
 pub struct Ended {
     status: u8,
 }

@@ -24,7 +24,7 @@ use suite_runs::{RunFault, check_files};
 use suite_solver::OptionFault;
 use suite_solver::streams::end_without_options;
 
-// The error of the program for a fault of printing: want of memory, or that standard output can't
+// The error of the program for a fault of printing: out of memory, or standard output can't
 // be written.
 fn list_error(fault: ListFault) -> ProgramError<'static>
     ensures reason { IsListError fault result }
@@ -36,8 +36,8 @@ fn list_error(fault: ListFault) -> ProgramError<'static>
     }
 }
 
-// Prints lists again with every move's score, over one table of bounds, with as many positions
-// scored at once as the settings' workers and one more. The result says whether
+// Prints lists again with every move's score, over one table of bounds. As many positions are
+// scored at once as the settings have workers, plus one. The result says whether
 // nothing in them is wrong.
 fn print_lists<T: Threads + Wait, W: Write>(
     rt: &T,
@@ -114,7 +114,7 @@ fn print_error<E: Write>(error: &ProgramError<'_>, errors: &mut E) -> u8
     list_status(error)
 }
 
-/// The whole program `ffoscores` over the words of its command line, the program's name first. It
+/// The whole program `ffoscores`, for the words of its command line, the program's name first. It
 /// reads the lists that the words name, or standard input. It prints them again on standard output
 /// with every move's score, each line as soon as it is solved.
 ///
@@ -148,8 +148,8 @@ pub fn list_program<T: Files + Threads + Wait, R: Read, W: Write, E: Write>(
     }
 }
 
-/// The whole program, as `list_program`, over the words as `env::args` gives them. The status is 2
-/// where a word is no text, and 3 where there was no memory for the words.
+/// The whole program, like `list_program`, for the words that `env::args` gives. The status is 2
+/// where a word is not text, and 3 where memory for the words was refused.
 pub fn list_program_of<T: Files + Threads + Wait, R: Read, W: Write, E: Write>(
     rt: &T,
     alloc: Global,

@@ -1,4 +1,4 @@
-//! The program `ffoscores` over its words, files and streams, above the lists of `score_lists`.
+//! The program `ffoscores`: its command line, files and streams, on top of `score_lists`.
 //!
 //! ```rust
 //! use list_scorer::list_program;

@@ -32,7 +32,7 @@ pub fn best_are_first()
         → IsMove p q × (neg_ℤ (value_of g (play_of p q)) ≡ value_of g p) }
 {}
 
-/// The scores are ranked: each move has a greater score than those behind it, or an equal score and
+/// The scores are ranked: each move has a greater score than those after it, or an equal score and
 /// an earlier square.
 pub fn scores_are_ranked()
     ensures { (g : Scoring) (P : GridView) → AreRanked (move_scores g P) }

@@ -1,4 +1,4 @@
--- A line that is written with any fields and with a comment behind them is read back.
+-- A line that is written with any fields and with a comment after them is read back.
 use Rattle.std.proofs.Common.{◌≡◌, ℕ, ◌==◌, zero, suc, ◌+◌, true, false, Some, List, [], ◌∷◌, ◌++◌, length, map, take, refl, sym, inl, inr, ◌∙◌, ap, ap₂, subst, arith}
 use Rattle.std.specs.List.{AllPass, All, before_first, position_or_len, slice_split}
 use Rattle.std.proofs.lemmas.List.{append_assoc, append-nil}

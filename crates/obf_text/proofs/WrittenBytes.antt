@@ -1,4 +1,4 @@
--- Bytes that never stand in a written line.
+-- Bytes that never occur in a written line.
 use Rattle.std.proofs.Common.{◌≡◌, ◌≢◌, ℕ, ◌==◌, zero, suc, false, List, [], ◌∷◌, inl, inr, arith}
 use Rattle.std.specs.Prelude.{◌⊎◌}
 use Rattle.std.specs.List.{All}

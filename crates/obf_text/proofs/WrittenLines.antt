@@ -1,4 +1,4 @@
--- A line that is written is read back, also among others.
+-- A line that is written is read back, even among others.
 use Rattle.std.proofs.Common.{◌≡◌, ℕ, ◌-◌, ◌==◌, zero, suc, true, List, [], ◌∷◌, ◌++◌, length, map, refl, sym, inl, ◌∙◌, ap, ap₂, arith, get_or, Some}
 use Rattle.std.specs.List.{AllPass, slice_split}
 use Rattle.std.specs.Str.Lines.{strip_carriage_return}

@@ -25,7 +25,7 @@ is_empty_cell b = (b == 45) || (b == 46)
 abbrev pub is_cell : ℕ → Bool
 is_cell b = is_black b || (is_white b || is_empty_cell b)
 
--- the cell of a byte; a byte that is no disc's letter is an empty square
+-- the cell of a byte; a byte that is not a disc's letter is an empty square
 abbrev pub cell_of : ℕ → Cell
 cell_of b = if is_black b then cell.Black else (if is_white b then cell.White else cell.Empty)
 

@@ -1,4 +1,4 @@
--- The fields of a line. The bytes behind the side to move, up to the first `%`, are cut at each
+-- The fields of a line. The bytes after the side to move, up to the first `%`, are cut at each
 -- `;`. A piece that is a move, a colon and a score lists that move. Any other piece lists nothing.
 use Rattle.std.specs.Prelude.{◌≡◌, ◌⊎◌, ℕ, ℤ, pos, neg_ℤ, ◌+◌, ◌-◌, ◌*◌, ◌<◌, ◌≤◌, ◌==◌, ◌&&◌, ◌||◌, Bool, nat_le, List}
 use Rattle.std.specs.Prelude.{[], ◌∷◌, ◌++◌, length, map, take, drop, Option, Some, None, if◌then◌else◌}
@@ -18,7 +18,7 @@ Field = ListedMove × ℤ
 abbrev pub greatest_listed : List Field → ℤ
 greatest_listed fields = greatest (map (λ f. f.1) fields)
 
--- the pieces of the bytes behind the side to move
+-- the pieces of the bytes after the side to move
 abbrev pub pieces_of : List ℕ → List (List ℕ)
 pieces_of rest = slice_split (λ b. b == 59) (before_first (λ b. b == 37) rest)
 
@@ -54,7 +54,7 @@ IsNumber (only ∷ []) n = IsDigit only n
 IsNumber (first ∷ second ∷ []) n = IsTwoDigits first second n
 IsNumber _ n = ⊥
 
--- the score of a size behind a sign: minus with `-`, plus with `+` or no sign
+-- the score of a size after a sign: minus with `-`, plus with `+` or no sign
 abbrev pub IsSigned : List ℕ → ℕ → ℤ → Type 0
 IsSigned sign size score =
     ((sign ≡ 45 ∷ []) × (score ≡ neg_ℤ (pos size)))

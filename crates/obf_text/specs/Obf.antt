@@ -49,7 +49,7 @@ pub record EndsShort (line : List ℕ) (found : ℕ) : Type 0 where
   pub few : length cells < 64
   pub count : found ≡ length cells
 
--- blanks, fewer than 64 cells, and then a byte that is no cell
+-- blanks, fewer than 64 cells, and then a byte that is not a cell
 pub record HasBadCell (line : List ℕ) (column : ℕ) : Type 0 where
   pub blanks : List ℕ
   pub cells : List ℕ
@@ -60,7 +60,7 @@ pub record HasBadCell (line : List ℕ) (column : ℕ) : Type 0 where
   pub spelled : AllPass is_cell cells
   pub few : length cells < 64
   pub bad : is_cell byte ≡ false
-  -- the first byte behind the blanks is no blank, and a `%` there would begin a comment
+  -- the first byte after the blanks is not a blank, and a `%` there would begin a comment
   pub starts : length cells ≡ 0 → (is_blank byte ≡ false) × (byte ≢ 37)
   pub place : column ≡ length blanks + (length cells + 1)
 
@@ -68,7 +68,7 @@ abbrev pub IsNoSide : List ℕ → Type 0
 IsNoSide [] = Unit {0}
 IsNoSide (b ∷ more) = (is_blank b ≡ false) × (side_of b ≡ None)
 
--- blanks, 64 cells, blanks, and then the end or a byte that is no disc's letter
+-- blanks, 64 cells, blanks, and then the end or a byte that is not a disc's letter
 pub record HasBadSide (line : List ℕ) (column : ℕ) : Type 0 where
   pub blanks : List ℕ
   pub cells : List ℕ
@@ -114,12 +114,12 @@ side_item_at place cells None more = Faulty (BadSide (place + 1))
 side_item_at place cells (Some mover) more =
     Holds (record { position = record { cells = cells; mover = mover }; listed = fields_of more })
 
--- the meaning by the bytes from the side's place on, which stands behind `place` bytes
+-- the meaning by the bytes from the side's place on, which comes after `place` bytes
 abbrev pub side_item : ℕ → List Cell → List ℕ → Meaning
 side_item place cells [] = Faulty (BadSide (place + 1))
 side_item place cells (b ∷ more) = side_item_at place cells (side_of b) more
 
--- the meaning by the bytes behind the cells, which end after `place` bytes
+-- the meaning by the bytes after the cells, which end after `place` bytes
 abbrev pub gap_item : ℕ → List Cell → List ℕ → Meaning
 gap_item place cells rest =
     side_item (place + position_or_len is_content rest) cells
@@ -132,7 +132,7 @@ board_item start n rest =
     then (if n == length rest then Faulty (Short n) else Faulty (BadCell (start + (n + 1))))
     else gap_item (start + 64) (map cell_of (take 64 rest)) (drop 64 rest)
 
--- the meaning by the bytes behind the blanks, of which there are `start`
+-- the meaning by the bytes after the blanks, of which there are `start`
 abbrev pub content_item : ℕ → List ℕ → Meaning
 content_item start [] = Skipped
 content_item start (b ∷ rest) =

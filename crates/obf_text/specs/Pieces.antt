@@ -4,11 +4,11 @@ use Rattle.std.specs.List.{position_or_len}
 use Rattle.obf_text.specs.Bytes.{is_content}
 use Rattle.obf_text.specs.Fields.{pieces_of}
 
--- the bytes behind blanks and the side to move
+-- the bytes after blanks and the side to move
 abbrev pub behind_side : List ℕ → List ℕ
 behind_side rest = drop (position_or_len is_content rest + 1) rest
 
--- the bytes of a line behind blanks, 64 squares, blanks and the side to move
+-- the bytes of a line after blanks, 64 squares, blanks and the side to move
 abbrev pub rest_of : List ℕ → List ℕ
 rest_of line = behind_side (drop (position_or_len is_content line + 64) line)
 

@@ -35,7 +35,7 @@ fn is_cell(byte: u8) -> bool
     is_black(byte) || is_white(byte) || byte == b'-' || byte == b'.'
 }
 
-// The cell of a byte. A byte that is no disc's letter is an empty square.
+// The cell of a byte. A byte that is not a disc's letter is an empty square.
 pub(crate) fn cell_of(byte: u8) -> Cell
     ensures { result ≡ cell_of byte }
 {
@@ -61,7 +61,7 @@ pub(crate) fn side_of(byte: u8) -> Option<Side>
     }
 }
 
-// The index of the first byte that is no blank. It is a function of its own so that a contract
+// The index of the first byte that is not a blank. It is a function of its own so that a contract
 // states what is found.
 fn first_content(bytes: &[u8]) -> Option<usize>
     ensures { result ≡ position is_content bytes.now }
@@ -69,7 +69,7 @@ fn first_content(bytes: &[u8]) -> Option<usize>
     bytes.iter().position(|b| !is_blank(*b))
 }
 
-// The number of blanks before the first byte that is no blank.
+// The number of blanks before the first byte that is not a blank.
 #[tactic(auto, using(crate::proofs::LineLemmas::place_steps))]
 pub(crate) fn blank_count(bytes: &[u8]) -> usize
     ensures count { result ≡ position_or_len is_content bytes.now }
@@ -78,7 +78,7 @@ pub(crate) fn blank_count(bytes: &[u8]) -> usize
     first_content(bytes).unwrap_or(bytes.len())
 }
 
-// The index of the first byte that is no cell. It is a function of its own so that a contract
+// The index of the first byte that is not a cell. It is a function of its own so that a contract
 // states what is found.
 fn first_no_cell(bytes: &[u8]) -> Option<usize>
     ensures { result ≡ position is_no_cell bytes.now }
@@ -86,7 +86,7 @@ fn first_no_cell(bytes: &[u8]) -> Option<usize>
     bytes.iter().position(|b| !is_cell(*b))
 }
 
-// The number of cells before the first byte that is no cell.
+// The number of cells before the first byte that is not a cell.
 #[tactic(auto, using(crate::proofs::LineLemmas::place_steps))]
 pub(crate) fn cell_count(bytes: &[u8]) -> usize
     ensures count { result ≡ position_or_len is_no_cell bytes.now }

@@ -12,10 +12,10 @@ use crate::pieces::pieces_of;
 use othello_rules::{GREATEST_SCORE, Square};
 use std::alloc::{AllocError, Global};
 
-// The greatest size of a score: of its digits, without a sign.
+// The greatest size of a score: the number without its sign.
 const GREATEST_SIZE: u8 = GREATEST_SCORE as u8;
 
-// The number of a digit. None where the byte is no digit.
+// The number of a digit. None where the byte is not a digit.
 fn digit_of(byte: u8) -> Option<u8>
     ensures value { result ≡ digit_of byte }
     ensures small { IfSome result (λ d. d ≤ 9) }
@@ -67,7 +67,7 @@ fn size_of(digits: &[u8]) -> Option<u8>
     }
 }
 
-// The score of a text: a number behind `+`, `-` or no sign. None where the text is no score.
+// The score of a text: a number after `+`, `-` or no sign. None where the text is not a score.
 fn score_of_text(text: &[u8]) -> Option<i8>
     ensures { result ≡ score_of_text text.now }
 {
@@ -88,7 +88,7 @@ fn score_of_text(text: &[u8]) -> Option<i8>
 }
 
 // The field of a text without blanks at its ends: a move, a colon and a score. None where the text
-// is no field.
+// is not a field.
 fn field_of_text(text: &[u8]) -> Option<(ListedMove, i8)>
     ensures { result ≡ field_of_text text.now }
 {
@@ -102,7 +102,7 @@ fn field_of_text(text: &[u8]) -> Option<(ListedMove, i8)>
     }
 }
 
-// A piece without the blanks at its front.
+// A piece without its leading blanks.
 fn without_first_blanks(piece: &[u8]) -> &[u8]
     ensures { result.now ≡ without_first_blanks piece.now }
 {
@@ -110,7 +110,7 @@ fn without_first_blanks(piece: &[u8]) -> &[u8]
     &piece[start..]
 }
 
-// A piece without the blanks at its end.
+// A piece without its trailing blanks.
 fn without_last_blanks(piece: &[u8]) -> &[u8]
     ensures { result.now ≡ without_last_blanks piece.now }
 {
@@ -121,22 +121,22 @@ fn without_last_blanks(piece: &[u8]) -> &[u8]
     &piece[..end]
 }
 
-/// A piece without the blanks, spaces and tabs, at its two ends.
+/// A piece without the blanks, spaces and tabs, at both ends.
 pub fn without_blanks(piece: &[u8]) -> &[u8]
     ensures { result.now ≡ without_blanks piece.now }
 {
     without_last_blanks(without_first_blanks(piece))
 }
 
-/// The move that a piece of a line lists, with its score from -64 to 64. None where the piece is no
-/// field.
+/// The move that a piece of a line lists, with its score from -64 to 64. None where the piece is
+/// not a field.
 pub fn field_of(piece: &[u8]) -> Option<(ListedMove, i8)>
     ensures { result ≡ field_of piece.now }
 {
     field_of_text(without_blanks(piece))
 }
 
-// The fields among the pieces of the bytes behind the side to move, in their order. Memory is taken
+// The fields among the pieces of the bytes after the side to move, in their order. Memory is taken
 // only for fields. `Err` where it is refused.
 pub(crate) fn read_fields(alloc: Global, rest: &[u8]) -> Result<Vec<(ListedMove, i8)>, AllocError>
     ensures ok { IfOk result (λ listed. listed.items ≡ fields_of rest.now) }

@@ -47,7 +47,7 @@ pub fn written_is_read()
 {}
 
 /// The line that is written for a position with any fields is read back as the position with these
-/// fields, whether or not a comment stands behind them.
+/// fields, whether or not a comment follows them.
 pub fn entry_is_read()
     ensures bare { (P : GridView) (fields : List Field) → length P.cells ≡ 64 → AreWritable fields
         → item_of (entry_text P fields) ≡ Holds (record { position = P; listed = fields }) }

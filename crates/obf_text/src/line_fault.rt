@@ -14,9 +14,9 @@ use std::{fmt, io};
 /// prints the text of a fault as its reason.
 #[derive(Clone, Copy, PartialEq, Eq, Debug, Drop)]
 pub enum LineFault {
-    /// The line ends behind this number of squares, from 1 to 63.
+    /// The line ends after this number of squares, from 1 to 63.
     Short(usize),
-    /// The byte at this column stands in a square's place and is no square.
+    /// The byte at this column is in the place of a square but is not one.
     BadCell(usize),
     /// The side to move is missing at this column: another byte stands there, or the line ends
     /// before it.

@@ -25,7 +25,7 @@ impl<'a> Model for Lines<'a> {
 }
 
 /// Cuts a text into its lines. A line ends at an LF, or at the end of the text. An LF at the end of
-/// the text begins no further line. A line is shown without its LF, and without one CR at its end.
+/// the text begins no further line. A line is given without its LF, and without one CR at its end.
 pub fn split_lines(text: &[u8]) -> Lines<'_>
     ensures lines { result ≡ lines_of text.now }
     // The lines, each with one byte for its end, are at most one byte longer than the text.
@@ -59,7 +59,7 @@ fn first_line_feed(text: &[u8]) -> Option<usize>
     text.iter().position(|b| *b == b'\n')
 }
 
-// The first line of a text that is not empty, without its end, and the text behind that end.
+// The first line of a text that is not empty, without its end, and the text after that end.
 #[tactic(auto, using(crate::proofs::LineLemmas::line_steps))]
 fn first_line(text: &[u8]) -> (&[u8], &[u8])
     requires { 0 < length text.now }

@@ -1,4 +1,4 @@
-//! The pieces of a line, and its comment. The pieces are the bytes behind the side to move, up to
+//! The pieces of a line, and its comment. The pieces are the bytes after the side to move, up to
 //! the first `%`, cut at each `;`.
 
 ghost use Rattle.std.specs.Prelude.{◌≡◌, ◌==◌, ◌∷◌, Some, drop, option_map};
@@ -59,7 +59,7 @@ fn first_semicolon(text: &[u8]) -> Option<usize>
     text.iter().position(|b| *b == b';')
 }
 
-// The first piece, and the text behind the semicolon that ends it. None where the text ends it.
+// The first piece, and the text after the semicolon that ends it. None where the text ends it.
 fn first_piece(text: &[u8]) -> (&[u8], Option<&[u8]>)
     ensures { pieces_left (Some text.now)
         ≡ result.0.now ∷ pieces_left (option_map (λ t. t.now) result.1) }
@@ -85,7 +85,7 @@ impl<'a> Iterator for Pieces<'a> {
     }
 }
 
-// The pieces of the bytes behind the side to move.
+// The pieces of the bytes after the side to move.
 pub(crate) fn pieces_of(rest: &[u8]) -> Pieces<'_>
     ensures { result ≡ pieces_of rest.now }
 {
@@ -94,22 +94,22 @@ pub(crate) fn pieces_of(rest: &[u8]) -> Pieces<'_>
     }
 }
 
-// The bytes behind the first `count` bytes: none where there are no more than these.
+// The bytes after the first `count` bytes: none where there are no more.
 fn behind(bytes: &[u8], count: usize) -> &[u8]
     ensures { result.now ≡ drop count bytes.now }
 {
     &bytes[count.min(bytes.len())..]
 }
 
-// The bytes behind blanks and the side to move.
+// The bytes after blanks and the side to move.
 fn behind_side(rest: &[u8]) -> &[u8]
     ensures { result.now ≡ behind_side rest.now }
 {
     behind(rest, blank_count(rest) + 1)
 }
 
-/// The pieces of a line that holds a position, in their order: the bytes behind the side to move,
-/// up to the first `%`, cut at each `;`. A piece is shown whether or not it lists a move, and with
+/// The pieces of a line that holds a position, in their order: the bytes after the side to move,
+/// up to the first `%`, cut at each `;`. A piece is given whether or not it lists a move, with
 /// the blanks at its ends.
 #[tactic(auto, unfolding(crate::specs::Pieces::line_pieces))]
 pub fn line_pieces(line: &[u8]) -> Pieces<'_>

@@ -24,7 +24,7 @@ fn board_of(bytes: &[u8]) -> [Cell; 64]
     cells
 }
 
-// Reads the side to move and the fields. `rest` is the bytes behind the cells, which end after
+// Reads the side to move and the fields. `rest` is the bytes after the cells, which end after
 // `place` bytes of the line.
 fn read_side(alloc: Global, place: usize, cells: [Cell; 64], rest: &[u8]) -> Result<Item, LineFault>
     requires { place + length rest.now < 2 ^ 63 }
@@ -45,8 +45,8 @@ fn read_side(alloc: Global, place: usize, cells: [Cell; 64], rest: &[u8]) -> Res
     }
 }
 
-// Reads the cells, the side to move and the fields. `rest` begins with the first cell, which stands
-// behind `start` blanks.
+// Reads the cells, the side to move and the fields. `rest` begins with the first cell, which comes
+// after `start` blanks.
 fn read_board(alloc: Global, start: usize, rest: &[u8]) -> Result<Item, LineFault>
     requires { start + length rest.now < 2 ^ 63 }
     ensures { Gives result (board_item start (position_or_len is_no_cell rest.now) rest.now) }
@@ -80,7 +80,7 @@ fn read_item(alloc: Global, line: &[u8]) -> Result<Item, LineFault>
 /// is blanks, 64 squares in the order A1, B1, .. H8, blanks, the side to move, and pieces. Blanks
 /// are spaces and tabs. A square is a letter of a black disc (`X x * B b`) or of a white disc
 /// (`O o W w`), or an empty square (`-` or `.`). The side to move is a letter of its discs. The
-/// pieces are the bytes behind it up to the first `%`, cut at each `;`. A piece such as `H1:+62`,
+/// pieces are the bytes after it up to the first `%`, cut at each `;`. A piece such as `H1:+62`,
 /// `ps:-4` or `--:0` lists a move with its score. Any other piece is skipped.
 ///
 /// `Err` is the first fault from the left, with its column where it has one, or `Memory` where

@@ -45,8 +45,8 @@ fn board_bytes(grid: &Grid) -> [u8; 64]
     bytes
 }
 
-/// A listed move as two bytes: a square's name as `A1`, `PS` for a pass, `--` for the end of the
-/// game.
+/// A listed move as two bytes: a square's name such as `A1`, `PS` for a pass, `--` for the end of
+/// the game.
 #[tactic(auto, unfolding(crate::specs::Written::move_text))]
 pub fn move_bytes(listed: ListedMove) -> [u8; 2]
     ensures { result ≡ move_text listed }
@@ -138,7 +138,7 @@ fn write_best<W: Write>(writer: &mut W, score: i8, best: Best) -> io::Result<()>
 /// space, the move's name, `:`, the score as a sign and two digits, and `;`. A pass has one field
 /// with the name `PS`. The end of the game has one field with the name `--`.
 ///
-/// Takes no memory. `Err` is the writer's error: a part of the line may be written then.
+/// Takes no memory. `Err` is the writer's error: a part of the line may have been written.
 #[tactic(auto, unfolding(crate::specs::Written::line_text))]
 pub fn write_line<W: Write>(writer: &mut W, grid: &Grid, answer: &Answer) -> io::Result<()>
     ensures { OnOk result
@@ -164,7 +164,7 @@ fn write_fields<W: Write>(writer: &mut W, fields: &[(ListedMove, i8)]) -> io::Re
 
 /// Writes the line of a position with any fields, each a listed move with its score, in their
 /// order. The line's end is not written, so that a comment may follow. Takes no memory. `Err` is
-/// the writer's error: a part of the line may be written then.
+/// the writer's error: a part of the line may have been written.
 #[tactic(auto, unfolding(crate::specs::Written::entry_text))]
 pub fn write_entry<W: Write>(
     writer: &mut W,

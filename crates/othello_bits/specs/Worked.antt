@@ -13,7 +13,7 @@ images_of_h1 : map (λ s. target s 7) symmetries ≡ 7 ∷ 0 ∷ 63 ∷ 56 ∷ 5
 unfolding others
 images_of_h1 = refl
 
--- row 1 is -OOOOOOX, and all else X with X to move
+-- row 1 is -OOOOOOX, all other squares are X, and X is to move
 last_corner : PosView
 last_corner = discs 0xffffffffffffff80 0x7e
 

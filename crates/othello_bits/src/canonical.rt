@@ -27,7 +27,7 @@ impl Image {
         }
     }
 
-    // The other image where its pair (own, opp) is less, own compared first; else this image.
+    // The other image where its pair (own, opp) is less, own compared first; otherwise this image.
     #[inline(always)]
     fn least(self, other: Image) -> Image
         ensures { result ≡ (if is_less other self then other else self) }

@@ -22,7 +22,7 @@ ghost use Rattle.othello_bits.specs.Symmetries.{canonical, canonical_of};
 ghost use Rattle.othello_bits.specs.declared.sym.Sym.{Sym};
 ghost use Rattle.othello_bits.specs.declared.sym.Sym.TheVariants as sym;
 
-/// The value of a position of two masks is the one of textbook minimax, from -64 to 64. A move
+/// The value of a position of two masks is that of textbook minimax, from -64 to 64. A move
 /// fills one empty square, and a pass fills none.
 pub fn value_is_minimax()
     ensures over { (g : Scoring) (p : PosView) → IsOver p → value_of g p ≡ final_of g p }
@@ -40,7 +40,7 @@ pub fn value_is_minimax()
     ensures kept { (p : PosView) → empties_of (pass_of p) ≡ empties_of p }
 {}
 
-/// The value and the answer of two masks are equal with Black to move and with White to move.
+/// The value and the answer of two masks are the same with Black to move as with White to move.
 pub fn colours_are_alike()
     ensures value { (g : Scoring) (s : Side) (p : PosView)
         → value g (position_of s p) ≡ value_of g p }
@@ -55,7 +55,7 @@ pub fn answer_is_gathered()
         → answer_of g p ≡ record { score = value_of g p; best = best_answer g p } }
 {}
 
-/// The symmetries stand in the order of their places. Identity keeps each square. FlipColumns
+/// The symmetries are listed in the order of their places. Identity keeps each square. FlipColumns
 /// reverses the columns, FlipRows reverses the rows, and Transpose exchanges columns with rows. The
 /// others are made of these.
 pub fn symmetries_are_in_order()

@@ -19,8 +19,8 @@ pub enum Heading {
 }
 
 impl Heading {
-    // The mask moved by one step. A square that leaves its row at the edge comes out in the row
-    // beside it.
+    // The mask moved by one step. A square that leaves its row at the edge comes out in the next
+    // row.
     #[inline(always)]
     fn shifted(self, mask: u64) -> u64
         ensures { (i : ℕ) → in_mask result i ≡ (can self i && in_mask mask (back self i)) }
@@ -49,7 +49,7 @@ impl Heading {
         }
     }
 
-    // The runs of at most six squares of `within` that begin beside `from`, in three doubling
+    // The runs of at most six squares of `within` that begin next to `from`, in three doubling
     // steps.
     #[inline(always)]
     fn fill(self, from: u64, within: u64) -> u64

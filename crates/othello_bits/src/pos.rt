@@ -25,7 +25,7 @@ use std::marker::Model;
 
 /// A position as two masks: the discs of the side to move, the mover, and those of the opponent.
 /// Bit n of a mask is square n: A1 is bit 0, H8 is bit 63. The masks share no bit. The colours are
-/// not kept: two masks are one position with Black to move and one with White to move.
+/// not kept: the same masks serve with Black to move and with White to move.
 #[derive(Clone, Copy, PartialEq, Eq, Debug)]
 pub struct Pos {
     own: u64,

@@ -24,7 +24,7 @@ squares = range_with_len 0 64
 abbrev pub towards : Step → Step → Direction
 towards c r = record { column = c; row = r }
 
--- north, north-east, east, and so on round the board
+-- north, north-east, east, and so on clockwise
 unfoldable pub directions : List Direction
 directions =
     towards Stay Back

@@ -1,11 +1,11 @@
--- The square beside a square in a direction, if the board has one. The law of rays is stated by it.
+-- The square next to a square in a direction, if the board has one. It states the law of rays.
 use Rattle.std.specs.Prelude.{ℕ, ◌+◌, ◌-◌, nat_lt, if◌then◌else◌, Option, Some, None}
 use Rattle.othello_rules.specs.declared.direction.Step.{Step}
 use Rattle.othello_rules.specs.declared.direction.Step.TheVariants.{Back, Stay, Ahead}
 use Rattle.othello_rules.specs.declared.direction.Direction.{Direction}
 use Rattle.othello_rules.specs.Board.{square_at, column, row}
 
--- the next column, or row, of the board: there is none behind the first nor ahead of the last
+-- the next column, or row, of the board: there is none before the first or after the last
 abbrev pub next_place : Step → ℕ → Option ℕ
 next_place Back at = if nat_lt 0 at then Some (at - 1) else None
 next_place Stay at = Some at

@@ -54,7 +54,7 @@ unfoldable pub run : (ℕ → Bool) → List ℕ → List ℕ
 run opp [] = []
 run opp (s ∷ ss) = if opp s then s ∷ run opp ss else []
 
--- the square behind the longest run of opposing discs at the front exists and holds an own disc
+-- the square beyond the longest run of opposing discs at the front exists and holds an own disc
 unfoldable pub closes : (ℕ → Bool) → (ℕ → Bool) → List ℕ → Bool
 closes own opp [] = false
 closes own opp (s ∷ ss) = if opp s then closes own opp ss else own s

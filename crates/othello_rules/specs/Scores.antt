@@ -31,6 +31,6 @@ scoring_name Sign = codes "sign"
 abbrev pub all_scorings : List Scoring
 all_scorings = Winner ∷ Discs ∷ Sign ∷ []
 
--- the scoring of a name, if it is one's name
+-- the scoring that has a name, if there is one
 abbrev pub scoring_named : List ℕ → Option Scoring
 scoring_named name = find (λ g. bytes_eq (scoring_name g) name) all_scorings

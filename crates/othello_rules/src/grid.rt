@@ -85,7 +85,7 @@ impl Grid {
         ensures value { result ≡ self.now.mover }
         ensures whole { length self.now.cells ≡ 64 }
     {
-        // A use of the cells shows the check that there are 64.
+        // Using the cells shows the check that there are 64.
         let _cells = &self.cells;
         self.side
     }
@@ -249,13 +249,13 @@ impl Grid {
     }
 
     /// The value of the position by full minimax, as the mover sees it: in discs from -64 to 64, or
-    /// 1, 0 or -1 under `Sign`. It follows every line of play to its end: it is slow with many
+    /// 1, 0 or -1 under `Sign`. It follows every line of play to its end, so it is slow with many
     /// empty squares.
     pub fn plain_value(&self, scoring: Scoring) -> i8
         ensures value { result ≡ value scoring self.now }
         ensures in_range { IsScore result }
     {
-        // A use of the cells shows the check that there are 64.
+        // Using the cells shows the check that there are 64.
         let _cells = &self.cells;
         let mut best: Option<i8> = None;
         for square in Square::all().iter() {
@@ -298,8 +298,8 @@ impl Grid {
     }
 
     /// The answer of the position by full minimax: its value, and all moves that attain it, a pass,
-    /// or the end of the game. It follows every line of play to its end: it is slow with many empty
-    /// squares.
+    /// or the end of the game. It follows every line of play to its end, so it is slow with many
+    /// empty squares.
     pub fn plain_answer(&self, scoring: Scoring) -> Answer
         ensures { result ≡ answer scoring self.now }
     {

@@ -15,8 +15,8 @@ ghost use Rattle.othello_rules.specs.Value.{greatest, value, best_moves, answer}
 ghost use Rattle.othello_rules.specs.Colours.{colour_swap};
 ghost use Rattle.othello_rules.specs.Answer.{IsScore};
 
-/// The ray from a square is empty where the square has no neighbour in the direction. Else it is
-/// the neighbour, followed by the neighbour's ray.
+/// The ray from a square is empty where the square has no neighbour in the direction. Otherwise it
+/// is the neighbour, followed by the neighbour's ray.
 pub fn rays_go_step_by_step()
     ensures edge { (d : Direction) (q : ℕ) → Contains directions d → q < 64
         → neighbour d q ≡ None
@@ -26,9 +26,9 @@ pub fn rays_go_step_by_step()
         → ray d q ≡ next ∷ ray d next }
 {}
 
-/// The value is the one of textbook minimax. Where the game is over, it is the final score. Where
-/// only the mover has no move, it is minus the value after a pass. Else it is the greatest of minus
-/// the value after each move. The value of at most 64 cells is from -64 to 64.
+/// The value is that of textbook minimax. Where the game is over, it is the final score. Where
+/// only the mover has no move, it is minus the value after a pass. Otherwise it is the greatest of
+/// minus the value after each move. The value of at most 64 cells is from -64 to 64.
 pub fn value_is_minimax()
     ensures over { (g : Scoring) (P : GridView) → IsOver P → value g P ≡ final g P }
     ensures passed { (g : Scoring) (P : GridView) → moves P ≡ [] → moves (pass P) ≢ []

@@ -9,9 +9,9 @@ abbrev pub names_of : List (String Global) → List (List ℕ)
 names_of names = map string_bytes names
 
 -- These are the fronts of the texts of a run, as they are read. Without file names there is one:
--- the first bytes of standard input, one more than a file may have, where these are known. Else
--- there is one for each of the first names, one more than a run may have; the content of a file is
--- not known.
+-- the first bytes of standard input, one more than a file may have, where these are known.
+-- Otherwise there is one for each of the first names, one more than a run may have; the content of
+-- a file is not known.
 abbrev pub AreFrontsOf : List (List ℕ) → Option (List ℕ) → List (List ℕ) → Type 0
 AreFrontsOf [] given fronts = IfSome given (λ text. fronts ≡ take (most_bytes + 1) text ∷ [])
 AreFrontsOf (name ∷ names) given fronts =

@@ -44,7 +44,7 @@ status_of (NoBook name) = 3
 status_of (ReadBook name) = 3
 status_of (CannotWrite name) = 3
 
--- the error comes before anything is printed; each does but `CannotWrite`
+-- the error comes before anything is printed; each does except `CannotWrite`
 abbrev pub IsSilent : ProgramError → Type 0
 IsSilent (CannotWrite name) = ⊥
 IsSilent _ = Unit {0}

@@ -1,4 +1,4 @@
--- The line that tells how far a run is.
+-- The line that reports the progress of a run.
 use Rattle.std.specs.Prelude.{ℕ, List, [], ◌∷◌, ◌++◌, Option, Some, None, codes}
 use Rattle.std.specs.Fmt.{decimal}
 

@@ -17,8 +17,8 @@ use std::os::unix::fs::{FileTypeExt, MetadataExt};
 use std::rt::Files;
 use std::{fs, io};
 
-// A name for a file beside the file `name`: the first of `name.0.part` to `name.99.part` that
-// doesn't exist, and else `name.part`.
+// A name for a file next to the file `name`: the first of `name.0.part` to `name.99.part` that
+// doesn't exist, or otherwise `name.part`.
 pub(crate) fn name_beside<T: Files>(
     rt: &T,
     alloc: Global,
@@ -33,7 +33,7 @@ pub(crate) fn name_beside<T: Files>(
     format!(in alloc; "{name}.part")
 }
 
-// Tests that a file can be made beside the file `name`, and removes it.
+// Tests that a file can be made next to the file `name`, and removes it.
 fn try_beside<T: Files>(rt: &T, alloc: Global, name: &str) -> io::Result<()> {
     let beside = name_beside(rt, alloc, name)?;
     fs::File::create_new(rt, beside.as_str())?;
@@ -116,7 +116,7 @@ fn is_header(line: &[u8]) -> bool
     }
 }
 
-// Whether a file that begins so may be overwritten by a book.
+// Whether a file that begins like this may be overwritten by a book.
 fn may_go(front: &[u8]) -> bool
     ensures { IsTrue result ↔ GivesWay (lines_of front.now) }
 {
@@ -126,9 +126,9 @@ fn may_go(front: &[u8]) -> bool
     }
 }
 
-/// Whether a book may be written over what has this name: over anything but a regular file that is
-/// neither empty nor begins with the header of a book. The error is that of a file that can't be
-/// read.
+/// Whether a book may be written over what has this name: over anything but a regular file that
+/// isn't empty and doesn't begin with the header of a book. The error is that of a file that can't
+/// be read.
 pub(crate) fn gives_way<T: Files>(rt: &T, name: &str) -> io::Result<bool> {
     match fs::metadata(rt, name) {
         Ok(found) => {
@@ -170,11 +170,11 @@ fn check_old<'a, T: Files>(
 }
 
 /// Tests that the book to be written, if there is one, can be written under its name, and destroys
-/// nothing there. A file of that name, unless it is a pipe, has to open for writing. A file has to
-/// be made beside it, where it is a regular file or doesn't exist. The errors are `NoPlace` with
-/// the name, also where it is empty or the file is read as a list; `ReadBook` where the file is the
-/// book that is read, by whatever name; `NoBook` where it is neither empty nor begins as a book;
-/// `CannotRead` where that can't be seen; and want of memory.
+/// nothing there. A file of that name, unless it is a pipe, has to open for writing. It must be
+/// possible to make a file next to it, where it is a regular file or doesn't exist. The errors are
+/// `NoPlace` with the name, even where it is empty or the file is read as a list; `ReadBook` where
+/// the file is the book that is read, by whatever name; `NoBook` where it isn't empty and doesn't
+/// begin as a book; `CannotRead` where that can't be seen; and out of memory.
 pub fn check_place<'a, T: Files>(
     rt: &T,
     alloc: Global,

@@ -53,7 +53,7 @@ fn read_book<'a, T: Files>(rt: &T, alloc: Global, name: &'a str) -> Result<Claim
 }
 
 /// Reads the claims of the book in the file of this name; None where there is no name. The errors
-/// are a file that can't be read, a text that is no book, and want of memory.
+/// are a file that can't be read, a text that is not a book, and out of memory.
 pub fn read_claims<'a, T: Files>(
     rt: &T,
     alloc: Global,
@@ -83,7 +83,7 @@ fn text_of(alloc: Global, book: &Book) -> Result<Vec<u8>, AllocError>
 }
 
 /// Makes the file of the book that is to be written under this name, with the book's text; None
-/// where there is no name. Nothing is opened. The error is want of memory.
+/// where there is no name. Nothing is opened. The only error is out of memory.
 pub fn ready_book<'a, T: Files>(
     rt: &T,
     alloc: Global,

@@ -14,8 +14,8 @@ use std::{fs, io};
 use suite_runs::{MOST_BYTES, MOST_FILES};
 
 // Reads the first bytes of a reader: one more than a file may have, or all bytes where there are
-// fewer. A file that is too large is known by that one byte. The error is that of
-// the reader, or want of memory.
+// fewer. That one byte shows that a file is too large. The error is that of the reader, or out of
+// memory.
 fn read_front<R: Read>(alloc: Global, reader: &mut R) -> io::Result<Vec<u8>>
     ensures most { IfOk result (λ bytes. vec_len bytes ≤ most_bytes + 1) }
     ensures front { IfOk result (λ bytes. IfSome (R.remaining reader.old)
@@ -23,8 +23,8 @@ fn read_front<R: Read>(alloc: Global, reader: &mut R) -> io::Result<Vec<u8>>
 {
     let mut bytes = Vec::new(alloc);
     reader.take(MOST_BYTES as u64 + 1).read_to_end(&mut bytes)?;
-    // The bytes are cut once more, since no contract says how many a reader gives that doesn't tell
-    // its bytes.
+    // The bytes are cut once more, since no contract limits how many a reader gives whose bytes
+    // aren't known.
     bytes.truncate(MOST_BYTES + 1);
     Ok(bytes)
 }
@@ -75,7 +75,7 @@ fn open_only<'a, T: Files>(rt: &T, name: &'a str) -> Result<(), ProgramError<'a>
 }
 
 // Reads the files of these names, in their order: at most one more than a run may have, so that the
-// run refuses them. A file behind those is opened, but not read.
+// run refuses them. Any file after those is opened, but not read.
 fn read_named<'a, T: Files>(
     rt: &T,
     alloc: Global,

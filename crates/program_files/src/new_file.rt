@@ -10,17 +10,17 @@ use std::io::Write;
 use std::rt::Files;
 use std::{fs, io};
 
-/// A text that is to be written as the file of a name. The write takes no more memory.
+/// A text to be written as the file `name`. Writing it takes no more memory.
 #[derive(Drop)]
 pub struct NewFile<'a> {
     pub name: &'a str,
-    // The name of a file beside, which didn't exist when it was chosen.
+    // The name of a file next to it, which didn't exist when the name was chosen.
     beside: String,
     pub text: Vec<u8>,
 }
 
 impl<'a> NewFile<'a> {
-    /// Chooses the name of the file beside. Nothing is opened. The error is want of memory.
+    /// Chooses the name of the file next to it. Nothing is opened. The only error is out of memory.
     pub(crate) fn new<T: Files>(
         rt: &T,
         alloc: Global,
@@ -33,9 +33,9 @@ impl<'a> NewFile<'a> {
         Ok(NewFile { name, beside, text })
     }
 
-    /// Writes the text under the file's name. A regular file, and a file that doesn't exist yet, is
-    /// written beside and renamed. Any other, as a device, a pipe or a link, is opened and written.
-    /// A file that is neither empty nor a book by now stays, and the write fails.
+    /// Writes the text under the file's name. A regular file, or one that doesn't exist yet, is
+    /// written next to it and renamed. Anything else, such as a device, a pipe or a link, is opened
+    /// and written. A file that is neither empty nor a book by now stays, and the write fails.
     pub(crate) fn write<T: Files>(&self, rt: &T) -> io::Result<()> {
         if !gives_way(rt, self.name)? {
             return Err(io::Error::from(io::ErrorKind::AlreadyExists));
@@ -55,9 +55,9 @@ impl<'a> NewFile<'a> {
         }
     }
 
-    // Writes a file beside, gives it the permissions of the old file, and renames it. An old file
-    // that may not be written is not replaced. A file beside that another program made in the
-    // meantime is left alone.
+    // Writes a file next to the old one, gives it the permissions of the old file, and renames it.
+    // An old file that may not be written is not replaced. A file next to it that another program
+    // made in the meantime is left alone.
     fn replace<T: Files>(&self, rt: &T, permissions: Option<fs::Permissions>) -> io::Result<()> {
         if permissions.is_some() {
             OpenOptions::new().write(true).open(rt, self.name)?;

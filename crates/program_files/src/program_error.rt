@@ -19,9 +19,9 @@ use suite_runs::RunFault;
 pub enum ProgramError<'a> {
     /// Files are too many or too large, memory was refused, or the job board refused a step.
     Run(RunFault),
-    /// A word of the command line is no text.
+    /// A word of the command line is not text.
     BadWords,
-    /// The file of the book to be read is no book. Want of memory is `Run(Memory)`.
+    /// The file of the book to be read is not a book. Out of memory is `Run(Memory)`.
     BadBook(BookFault),
     /// The file or the stream of this name can't be read.
     CannotRead(&'a str),
@@ -92,8 +92,8 @@ impl fmt::Display for ProgramError<'_> {
     }
 }
 
-// The error for a read of the file or stream of this name that failed: `Run(Memory)` where memory
-// was refused, and else `CannotRead` with the name.
+// The error for a failed read of the file or stream of this name: `Run(Memory)` where memory was
+// refused, otherwise `CannotRead` with the name.
 pub(crate) fn read_error<'a>(fault: &io::Error, name: &'a str) -> ProgramError<'a>
     ensures memory { error_kind fault.now ≡ ErrorKind.OutOfMemory → result ≡ Run Memory }
     ensures name { (error_kind fault.now ≡ ErrorKind.OutOfMemory → ⊥)
@@ -107,8 +107,8 @@ pub(crate) fn read_error<'a>(fault: &io::Error, name: &'a str) -> ProgramError<'
     }
 }
 
-// The error for the test of a book's place that failed: `Run(Memory)` where memory was refused, and
-// else `NoPlace` with the name.
+// The error for a failed test of a book's place: `Run(Memory)` where memory was refused, otherwise
+// `NoPlace` with the name.
 pub(crate) fn place_error<'a>(fault: &io::Error, name: &'a str) -> ProgramError<'a>
     ensures memory { error_kind fault.now ≡ ErrorKind.OutOfMemory → result ≡ Run Memory }
     ensures name { (error_kind fault.now ≡ ErrorKind.OutOfMemory → ⊥)
@@ -122,8 +122,8 @@ pub(crate) fn place_error<'a>(fault: &io::Error, name: &'a str) -> ProgramError<
     }
 }
 
-/// The error for a command line that can't be read: `Run(Memory)` where memory was refused, and
-/// else `BadWords`.
+/// The error for a command line that can't be read: `Run(Memory)` where memory was refused,
+/// otherwise `BadWords`.
 pub fn words_error(fault: &io::Error) -> ProgramError<'static>
     ensures { (status_of result ≡ 1) ⊎ (status_of result ≡ 2) }
 {

@@ -1,4 +1,4 @@
-//! Runs that tell on standard error how far they are.
+//! Runs that report their progress on standard error.
 
 ghost use Rattle.std.specs.Prelude.{◌≡◌, ◌+◌, ◌/◌, ◌<◌, ◌≤◌, ◌⊎◌, ◌↔◌, ℕ, length, None, Some, IfOk, IsErrOf, IsTrue, OnOk};
 ghost use Rattle.std.specs.Duration.{as_nanos};
@@ -23,7 +23,7 @@ use std::thread::Threads;
 use std::time::{Duration, Instant};
 use suite_runs::{Gate, NoGate, Outcome, RunFault, Settings, run};
 
-// The least time from one line to the next, in nanoseconds, but for the last line.
+// The least time from one line to the next, in nanoseconds, except for the last line.
 const PAUSE: u128 = 5_000_000_000;
 
 // How far a run is: how many positions are solved, how many there are in all, where that is known,
@@ -59,8 +59,8 @@ fn is_due(last: Duration, elapsed: Duration) -> bool
     elapsed.saturating_sub(last).as_nanos() >= PAUSE
 }
 
-// Writes a line where one is due, the last one having come at `last`. Where all positions are
-// solved, it leaves that to the line at the end. It gives the time of what is now the last line. A
+// Writes a line where one is due, after the last one at `last`. Where all positions are
+// solved, it leaves that to the line at the end. Returns the time of what is now the last line. A
 // failure of the stream changes nothing.
 fn tell_if_due<E: Write>(errors: &mut E, last: Duration, progress: Progress) -> Duration
     ensures paced { (as_nanos progress.elapsed < as_nanos last + 5_000_000_000)
@@ -103,7 +103,7 @@ pub struct ProgressGate<'a, C: Clock, E: Write> {
 }
 
 impl<'a, C: Clock, E: Write> ProgressGate<'a, C, E> {
-    /// A gate for a run over so many files, which begins now.
+    /// A gate for a run over this many files, which begins now.
     pub fn new(clock: &'a C, files: usize, errors: &'a mut E) -> ProgressGate<'a, C, E> {
         ProgressGate {
             clock,
@@ -164,8 +164,8 @@ impl<C: Clock + Sync, E: Write + Send> Gate for ProgressGate<'_, C, E> {
     }
 }
 
-/// Does the work of `run`. Where it tells how far it is, lines on `errors` have the number of solved
-/// positions: one every five seconds at most, and one at the end.
+/// Does the work of `run`. With `tells`, lines on `errors` give the number of solved positions: at
+/// most one every five seconds, and one at the end.
 pub fn run_told<T: Clock + Threads + Wait + Sync, E: Write + Send>(
     rt: &T,
     alloc: Global,

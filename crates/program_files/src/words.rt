@@ -5,7 +5,7 @@ ghost use Rattle.program_files.specs.Inputs.{names_of};
 
 use std::alloc::{AllocError, Global};
 
-/// The words as slices, in their order. The error is want of memory.
+/// The words as slices, in their order. The only error is out of memory.
 pub fn borrow_words(alloc: Global, words: &[String]) -> Result<Vec<&str>, AllocError>
     ensures { IfOk result (λ all. map (λ word. word.now) all.items ≡ names_of words.now) }
 {

@@ -1,4 +1,4 @@
--- Exactly the best moves that a line does not list are remarked.
+-- Exactly the best moves that a line does not list get a remark.
 use Rattle.std.proofs.Common.{◌≡◌, ◌≢◌, ℕ, ℤ, ◌≤ℤ◌, Bool, true, false, List, [], ◌∷◌, Option, Some, None}
 use Rattle.std.proofs.Common.{map, refl, sym, ap, subst, ◌∙◌, inl, inr, ◌⊎◌, arith}
 use Rattle.std.specs.Prelude.{◌&&◌, if◌then◌else◌, int_lt, is_none, not}

@@ -35,7 +35,7 @@ wrong_in scores f = wrong_if f (score_in scores f.0)
 abbrev pub is_best : List Field → ℤ → Bool
 is_best scores score = list_all (λ f. not (int_lt score f.1)) scores
 
--- A best move that is not listed. A pass and the end of the game are no moves to choose.
+-- A best move that is not listed. A pass and the end of the game are not moves to choose from.
 abbrev pub is_left_out : List Field → List Field → Field → Bool
 is_left_out scores listed (At q, score) =
     is_best scores score && is_none (score_in listed (At q))

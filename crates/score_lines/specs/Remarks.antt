@@ -28,7 +28,7 @@ wrong_text w =
 unfoldable pub unread_text : List ℕ → List ℕ
 unread_text bytes = codes "not read: " ++ bytes
 
--- the remark on bytes that are no field; none where there are no bytes
+-- the remark on bytes that are not a field; none where there are no bytes
 abbrev pub unread_remark : List ℕ → Option (List ℕ)
 unread_remark [] = None
 unread_remark (b ∷ bs) = Some (unread_text (b ∷ bs))
@@ -41,8 +41,8 @@ abbrev pub remark_by : List Field → List ℕ → Option Field → Option (List
 remark_by scores piece (Some f) = field_remark scores f
 remark_by scores piece None = unread_remark (without_blanks piece)
 
--- the remark on a piece: it lists a move with a wrong score, or a move that the position has not,
--- or it is neither blank nor a field
+-- the remark on a piece: it lists a move with a wrong score, or a move that the position doesn't
+-- have, or it is neither blank nor a field
 abbrev pub remark_of : List Field → List ℕ → Option (List ℕ)
 remark_of scores piece = remark_by scores piece (field_of piece)
 
@@ -54,7 +54,7 @@ remarks scores pieces = filter_map (remark_of scores) pieces
 unfoldable pub left_out_text : ListedMove → List ℕ
 left_out_text move = codes "best move " ++ (move_text move ++ codes " is not listed")
 
--- the remark on a move of the position; none where it is listed, or is no best move
+-- the remark on a move of the position; none where it is listed, or is not a best move
 abbrev pub left_out_remark : List Field → List Field → Field → Option (List ℕ)
 left_out_remark scores listed f =
     if is_left_out scores listed f then Some (left_out_text f.0) else None
@@ -78,17 +78,17 @@ abbrev pub has_remarks : List (List ℕ) → Bool
 has_remarks [] = false
 has_remarks (r ∷ more) = true
 
--- the bytes in front of a remark, by whether another remark stands before it
+-- the bytes in front of a remark, by whether another remark comes before it
 unfoldable pub gap_text : Bool → List ℕ
 gap_text false = codes " % "
 gap_text true = codes ", "
 
--- the text of remarks, by whether another remark stands before them
+-- the text of remarks, by whether another remark comes before them
 abbrev pub remarks_text : Bool → List (List ℕ) → List ℕ
 remarks_text found [] = []
 remarks_text found (r ∷ more) = gap_text found ++ (r ++ remarks_text true more)
 
--- the text of one remark or none, by whether another remark stands before it
+-- the text of one remark or none, by whether another remark comes before it
 abbrev pub one_text : Bool → Option (List ℕ) → List ℕ
 one_text found None = []
 one_text found (Some r) = gap_text found ++ r

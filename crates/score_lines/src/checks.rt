@@ -86,7 +86,7 @@ fn is_best(scores: &[(ListedMove, i8)], score: i8) -> bool
 }
 
 /// Whether a move of the position, which is a field of its scores, is a best one and not listed. A
-/// pass and the end of the game are no moves to choose.
+/// pass and the end of the game are not moves to choose from.
 pub(crate) fn is_left_out(
     scores: &[(ListedMove, i8)],
     listed: &[(ListedMove, i8)],

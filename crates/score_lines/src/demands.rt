@@ -10,7 +10,7 @@ use obf_text::ListedMove;
 pub enum Listing {
     /// It may leave out any move.
     Any,
-    /// It has to list every best move. One that it leaves out is remarked.
+    /// It has to list every best move. One that it leaves out gets a remark.
     Complete,
 }
 

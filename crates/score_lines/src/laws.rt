@@ -12,8 +12,8 @@ ghost use Rattle.score_lines.specs.Remarks.{IsLeftOut, left_out_remarks, left_ou
 ghost use Rattle.score_lines.specs.declared.demands.Listing.TheVariants.{Any, Complete};
 
 /// The line that is printed for a position says the position with every move's score, or with the
-/// score of its pass or end, and nothing else. This holds whether or not remarks or a comment stand
-/// behind the scores.
+/// score of its pass or end, and nothing else. This holds whether or not remarks or a comment
+/// follow the scores.
 pub fn scores_are_read_again()
     ensures bare { (g : Scoring) (P : GridView) → length P.cells ≡ 64
         → item_of (entry_text P (score_fields g P))
@@ -24,7 +24,7 @@ pub fn scores_are_read_again()
 {}
 
 /// Where every best move is asked for and a line lists a move, exactly the best moves of its position
-/// that it does not list are remarked as left out. Of any other line none is.
+/// that it does not list get a remark that they are left out. On any other line none does.
 pub fn left_out_moves_are_remarked()
     ensures all { (g : Scoring) (P : GridView) (listed : List Field) (q : ℕ) → listed ≢ []
         → IsLeftOut g P listed q

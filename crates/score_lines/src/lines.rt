@@ -129,7 +129,7 @@ fn write_scored<T: Bounds, W: Write>(
     }
 }
 
-// Writes a line that is skipped as it is. Returns true: such a line is right.
+// Writes a skipped line as it is. Returns true: such a line is right.
 fn write_skipped<W: Write>(writer: &mut W, line: &[u8]) -> io::Result<bool>
     ensures written { OnOk result
         (Appends (W.contents writer.old) (W.contents writer.new) (kept_text line.now)) }
@@ -140,7 +140,7 @@ fn write_skipped<W: Write>(writer: &mut W, line: &[u8]) -> io::Result<bool>
 }
 
 // Writes the comment for a line that is refused for a fault. Returns false: such a line is not
-// right. `Err` where the fault is `Memory`, which is no fault of the line.
+// right. `Err` where the fault is `Memory`, which is not a fault of the line.
 fn write_refused<W: Write>(writer: &mut W, fault: LineFault, line: &[u8]) -> io::Result<bool>
     ensures written { OnOk result (Appends (W.contents writer.old)
         (W.contents writer.new) (refused_text (line_fault_text fault) line.now)) }

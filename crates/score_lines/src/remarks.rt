@@ -55,8 +55,8 @@ fn write_unread<W: Write>(writer: &mut W, bytes: &[u8]) -> io::Result<()>
     writer.write_all(bytes)
 }
 
-// Writes the bytes in front of a remark: a comma where `found`, which says that another remark
-// stands before it, else the `%` that begins a comment.
+// Writes the bytes in front of a remark: a comma where `found` says that another remark comes
+// before it, otherwise the `%` that begins a comment.
 #[tactic(auto, unfolding(crate::specs::Remarks::gap_text))]
 fn write_gap<W: Write>(writer: &mut W, found: bool) -> io::Result<()>
     ensures { OnOk result
@@ -69,8 +69,8 @@ fn write_gap<W: Write>(writer: &mut W, found: bool) -> io::Result<()>
     }
 }
 
-// Writes the remark on a listed move, if its score is wrong. `found` says whether a remark stands
-// before it. Returns whether a remark stands behind it.
+// Writes the remark on a listed move, if its score is wrong. `found` says whether there was a
+// remark before it. Returns whether there is one by now.
 fn write_field_remark<W: Write>(
     writer: &mut W,
     scores: &[(ListedMove, i8)],
@@ -92,8 +92,8 @@ fn write_field_remark<W: Write>(
     Ok(true)
 }
 
-// Writes the remark on bytes that are no field, if there are any. `found` says whether a remark
-// stands before it. Returns whether a remark stands behind it.
+// Writes the remark on bytes that are not a field, if there are any. `found` says whether there was
+// a remark before it. Returns whether there is one by now.
 fn write_unread_remark<W: Write>(writer: &mut W, bytes: &[u8], found: bool) -> io::Result<bool>
     ensures written { OnOk result (Appends (W.contents writer.old) (W.contents writer.new)
         (one_text found (unread_remark bytes.now))) }
@@ -107,8 +107,8 @@ fn write_unread_remark<W: Write>(writer: &mut W, bytes: &[u8], found: bool) -> i
     Ok(true)
 }
 
-// Writes the remark on a piece, if there is one. `found` says whether a remark stands before it.
-// Returns whether a remark stands behind it.
+// Writes the remark on a piece, if there is one. `found` says whether there was a remark before it.
+// Returns whether there is one by now.
 fn write_remark<W: Write>(
     writer: &mut W,
     scores: &[(ListedMove, i8)],
@@ -158,7 +158,7 @@ fn write_left_out<W: Write>(writer: &mut W, listed: ListedMove) -> io::Result<()
 }
 
 // Writes the remark on a move of the position, if it is a best one and not listed. `found` says
-// whether a remark stands before it. Returns whether a remark stands behind it.
+// whether there was a remark before it. Returns whether there is one by now.
 fn write_left_out_remark<W: Write>(
     writer: &mut W,
     scores: &[(ListedMove, i8)],
@@ -180,8 +180,7 @@ fn write_left_out_remark<W: Write>(
 }
 
 // Writes the remarks on best moves that are not listed, where they are asked for and the line lists
-// moves. `found` says whether a remark stands before them. Returns whether a remark stands behind
-// them.
+// moves. `found` says whether there was a remark before them. Returns whether there is one by now.
 fn write_left_out_remarks<W: Write>(
     writer: &mut W,
     listing: Listing,

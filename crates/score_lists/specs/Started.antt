@@ -10,12 +10,12 @@ use Rattle.score_lists.specs.declared.started.ChunkPromise.{ChunkPromise}
 use Rattle.score_lists.specs.declared.started.Progress.{Progress}
 use Rattle.score_lists.specs.declared.started.Progress.TheVariants.{Spawned, Done}
 
--- a text that is due to be printed, and whether the lines that it tells of are right
+-- a text that is due to be printed, and whether the lines that it is about are right
 pub record Due : Type 0 where
   pub text : List ℕ
   pub right : Bool
 
--- one text, and another behind it
+-- one text, and another after it
 abbrev pub both : Due → Due → Due
 both a b = record { text = a.text ++ b.text; right = a.right && b.right }
 
@@ -24,7 +24,7 @@ unfoldable pub all_due : List Due → Due
 all_due [] = record { text = []; right = true }
 all_due (chunk ∷ chunks) = both chunk (all_due chunks)
 
--- what is due for started chunks, where `right` tells of the lines that are printed
+-- what is due for started chunks, where `right` says whether the printed lines are right
 abbrev pub window_due : Bool → List Due → Due
 window_due right chunks = both (record { text = []; right = right }) (all_due chunks)
 

@@ -4,22 +4,22 @@ ghost use Rattle.std.specs.Prelude.{◌≡◌, ◌<◌, ◌++◌, IfSome, IfNone
 ghost use Rattle.obf_text.specs.LineText.{lines_of};
 ghost use Rattle.score_lists.specs.Chunks.{EndsLine, left_lines, left_size};
 
-// A line of at most so many empty squares is scored in less time than a thread is started.
+// Scoring a line with at most this many empty squares takes less time than starting a thread.
 const FEW_EMPTIES: usize = 7;
 
-// A line of so many empty squares is a chunk of its own.
+// A line with this many empty squares or more is a chunk of its own.
 const MANY_EMPTIES: usize = 12;
 
-// The greatest number of lines of a chunk. A thread scores eight lines of 10 empty squares in some 8
-// milliseconds.
+// The greatest number of lines of a chunk. A thread scores eight lines of 10 empty squares in about
+// 8 milliseconds.
 const MOST_LINES: u32 = 8;
 
-/// The first lines of a text, and the text behind them.
+/// The first lines of a text, and the text after them.
 #[derive(Clone, Copy)]
 pub(crate) struct Chunk<'a> {
     pub front: &'a [u8],
     pub rest: &'a [u8],
-    /// Whether the lines are scored in less time than a thread is started.
+    /// Whether scoring the lines takes less time than starting a thread.
     pub is_short: bool,
 }
 
@@ -37,8 +37,8 @@ fn line_len(text: &[u8]) -> usize
     text.len()
 }
 
-// The bytes for empty squares among the first 64 of a text's first line; none where they are more
-// than the limit, since such a line is refused.
+// The number of empty squares among the first 64 bytes of a text's first line; 0 where they are
+// more than the limit, since such a line is refused.
 fn empties_in(text: &[u8], limit: u8) -> usize {
     let mut empties = 0usize;
     for byte in &text[..text.len().min(64)] {
@@ -56,7 +56,7 @@ fn empties_in(text: &[u8], limit: u8) -> usize {
 }
 
 // The number of bytes of a text's first chunk: of one line where it is short or has many empty
-// squares, and else of several, up to a line of many.
+// squares, otherwise of several, up to a line with many.
 fn chunk_len(text: &[u8], limit: u8, is_short: bool) -> usize
     requires { 0 < length text.now }
     ensures ended { EndsLine text.now result }
@@ -97,7 +97,7 @@ pub(crate) fn first_chunk(text: &[u8], limit: u8, is_alone: bool) -> Chunk<'_>
 pub(crate) struct Lists<'a> {
     /// What is left of the text that was begun.
     pub rest: &'a [u8],
-    /// The texts behind it.
+    /// The texts after it.
     pub texts: &'a [Vec<u8>],
 }
 

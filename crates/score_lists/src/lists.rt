@@ -77,7 +77,7 @@ fn send_some<'a, W: Write>(writer: &mut W, bytes: &'a [u8]) -> io::Result<&'a [u
     }
 }
 
-// Writes all bytes and flushes the writer. Where it fails, a front of the bytes is written, which
+// Writes all bytes and flushes the writer. Where it fails, a prefix of the bytes is written, which
 // `write_all` does not promise.
 fn send<W: Write>(writer: &mut W, bytes: &[u8]) -> io::Result<()>
     ensures written { OnOk result
@@ -116,7 +116,7 @@ impl Window<'_> {
         }
     }
 
-    // Waits until the front chunk is scored, or at most `most` chunks are left and a further one may
+    // Waits until the front chunk is scored, or at most `most` chunks are left and another may
     // be started. Returns whether the front chunk is scored.
     fn wait<R: Wait>(&self, rt: &R, scorer: &Scorer, most: usize) -> bool
         ensures some { result ≡ true → 0 < length self.now.chunks.items }
@@ -159,10 +159,10 @@ fn write_front<R: Threads, W: Write>(
     Ok(())
 }
 
-// The greatest number of chunks that wait to be printed while a further one is started.
+// The greatest number of chunks that wait to be printed while another is started.
 const MOST_STARTED: usize = 4095;
 
-// Prints the front chunks that are scored, and waits until at most `most` are left and a further one
+// Prints the front chunks that are scored, and waits until at most `most` are left and another
 // may be started.
 fn write_due<R: Threads + Wait, W: Write>(
     rt: &R,
@@ -184,7 +184,7 @@ fn write_due<R: Threads + Wait, W: Write>(
     Ok(())
 }
 
-// Starts the chunks of texts behind those of an empty window, and prints all.
+// Starts the chunks of the texts in an empty window, and prints all of them.
 fn print_all<'a, R: Threads + Wait, W: Write>(
     rt: &R,
     writer: &mut W,
@@ -214,21 +214,21 @@ fn print_all<'a, R: Threads + Wait, W: Write>(
 }
 
 /// Prints texts again, one after the other. Each line is written and flushed as soon as it and all
-/// lines before it are scored; lines that take milliseconds may be written some together.
+/// lines before it are scored; lines that take milliseconds may be written several at a time.
 ///
 /// A line that is skipped is printed as it is. A position is printed with every move's exact score
 /// under the table's scoring, then the remarks on the moves that its line lists, then the line's
 /// comment. Scores are in discs, or 1, 0 or -1 under `Scoring::Sign`, as the side to move sees
 /// them. A line with a fault, and one whose position has more than `demands.limit` empty squares,
 /// is refused: it is printed as a comment with the reason and the line. Under `Listing::Complete`
-/// each best move that a line with moves does not list is remarked behind the other remarks.
+/// each best move that a line with moves does not list gets a remark after the other remarks.
 ///
-/// With `workers` above 0, up to `workers` + 1 threads score lines at once, beside the calling
-/// thread, which scores lines that take less time than a thread is started. With 0 it scores all.
+/// With `workers` above 0, up to `workers` + 1 threads score lines at once, besides the calling
+/// thread, which scores lines that take less time than starting a thread. With 0 it scores all.
 /// What is printed is the same. Where `Err` is returned, threads that score lines run on, and are not
 /// waited for. The call may wait for its threads.
 ///
-/// Returns whether no line is refused and no remark is made. Where `Err` is returned, a front of
+/// Returns whether no line is refused and no remark is made. Where `Err` is returned, a prefix of
 /// the whole output is printed.
 pub fn write_lists<R: Threads + Wait, W: Write>(
     rt: &R,

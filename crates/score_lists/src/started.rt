@@ -16,7 +16,7 @@ use std::sync::atomic::{AtomicU64, Ordering};
 use std::thread;
 use std::thread::{Promise, PromisedHandle, Threads};
 
-/// What all threads share that score lines.
+/// What all threads that score lines share.
 #[derive(Drop)]
 pub(crate) struct Scorer {
     pub table: BoundTable,
@@ -51,7 +51,7 @@ pub struct ChunkWork {
 }
 
 impl ChunkWork {
-    // Scores the chunk, and tells that it is scored.
+    // Scores the chunk, and marks it as scored.
     fn run(&self) -> Result<LinesText, AllocError>
         requires { (arc_value self.now.scorer).demands.limit ≤ most_empties }
         ensures { Gives (text_due (arc_value self.now.scorer).table.scoring
@@ -93,7 +93,7 @@ impl<'a> Model for StartedChunk<'a> {
 }
 
 impl<'a> StartedChunk<'a> {
-    // Whether the chunk is scored, as far as its thread has told.
+    // Whether the chunk is marked as scored.
     pub(crate) fn is_done(&self) -> bool {
         match &self.progress {
             Progress::Spawned(_, work) => work.done.load(Ordering::SeqCst) != 0,
@@ -130,7 +130,7 @@ fn work_of(scorer: &Arc<Scorer>, alloc: Global, text: &[u8]) -> Result<ChunkWork
 }
 
 // Starts a chunk on a thread of its own. Where no thread can be started, the calling thread scores
-// the chunk, and tells it. `Err` where memory is refused.
+// the chunk. `Err` where memory is refused.
 fn spawn_chunk<'a, R: Threads>(
     rt: &R,
     scorer: &Arc<Scorer>,

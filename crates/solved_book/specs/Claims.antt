@@ -35,7 +35,7 @@ pub record ClaimsView : Type 0 where
 -- ---- the first line
 
 -- the scoring of a first line: that of a header; None where the line begins as a header and is
--- none; else `Winner`
+-- not one; otherwise `Winner`
 abbrev pub scoring_in : List ℕ → Option Scoring
 scoring_in line =
     if starts_with nat_eq line (codes "% ffobook 2 ") then scoring_named (drop 12 line)
@@ -103,12 +103,12 @@ entry_claim (Holds entry) = Some (discs_of entry.position, claim_of entry.listed
 abbrev pub LinesOutcome : Type 0
 LinesOutcome = Result (List PositionClaim) BookFault
 
--- the claims in front, and then those of the lines behind them
+-- the claims in front, and then those of the lines after them
 abbrev pub claims_after : List PositionClaim → LinesOutcome → LinesOutcome
 claims_after front (Ok claims) = Ok (front ++ claims)
 claims_after front (Err f) = Err f
 
--- the claim of a line, and then those of the lines behind it, by the position of the last claim
+-- the claim of a line, and then those of the lines after it, by the position of the last claim
 abbrev pub claims_with : Option bits.PosView → LineOutcome → (Option bits.PosView → LinesOutcome)
     → LinesOutcome
 claims_with before (Err f) behind = Err f

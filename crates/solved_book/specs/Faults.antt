@@ -1,4 +1,4 @@
--- What is printed of a text that is no book.
+-- What is printed for a text that is not a book.
 use Rattle.std.specs.Prelude.{ℕ, List, ◌++◌, codes}
 use Rattle.std.specs.Fmt.{decimal}
 use Rattle.obf_text.specs.Faults.{line_fault_text}

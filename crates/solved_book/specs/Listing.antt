@@ -25,7 +25,7 @@ unfoldable pub listed_squares : ℤ → List Field → ℕ
 listed_squares score fields = mask_where (λ q. list_any (lists_square score q) fields)
 
 -- the squares that are listed with this score; where there is none, a pass if one is listed with
--- this score, else the end of the game
+-- this score, otherwise the end of the game
 abbrev pub best_by : ℕ → Bool → Best
 best_by squares pass =
     if squares == 0 then (if pass then best.Pass else best.Over) else best.Moves squares

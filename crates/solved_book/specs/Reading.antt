@@ -1,4 +1,4 @@
--- What the calls return that read the lines of a book.
+-- What the calls that read the lines of a book return.
 use Rattle.std.specs.Prelude.{◌≡◌, List, map, Option, option_map, Result, Ok, Err}
 use Rattle.std.specs.BTreeMap.{BTreeMap}
 use Rattle.othello_bits.specs.Pos.{PosView}

@@ -1,4 +1,4 @@
-//! Why a text is no book.
+//! Why a text is not a book.
 
 ghost use Rattle.std.specs.Prelude.{◌≡◌, Some};
 ghost use Rattle.solved_book.specs.Faults.{book_fault_text};
@@ -9,11 +9,11 @@ use std::alloc::{AllocError, AllocFailed};
 use std::error::Error;
 use std::fmt;
 
-/// Why a text is no book. The numbers are those of lines, from 1, and skipped lines are counted.
+/// Why a text is not a book. The numbers are those of lines, from 1, with skipped lines counted.
 /// The fault is that of the first faulty line.
 #[derive(Clone, Copy, PartialEq, Eq, Debug, Drop)]
 pub enum BookFault {
-    /// The line is no line of OBF text, and why. This is never `LineFault::Memory`.
+    /// The line is not a line of OBF text, and why. This is never `LineFault::Memory`.
     Line(usize, LineFault),
     /// The line lists no move.
     NoMoves(usize),

@@ -78,13 +78,13 @@ impl Claims {
     /// Reads the text of a book.
     ///
     /// A header in the first line names the scoring. Without a header the scoring is `Winner`. A
-    /// first line that begins with `% ffobook ` and is no header has the fault `Header`.
+    /// first line that begins with `% ffobook ` and is not a header has the fault `Header`.
     ///
     /// Each line that is not skipped has to be a line of OBF text with at least one listed move.
     /// Its position has to be canonical, with Black to move, and greater than the position before
     /// it. The claimed score is the greatest listed score. The claimed best moves are the squares
     /// that are listed with this score; where there is none, the claim is a pass if one is listed
-    /// with this score, else the end of the game.
+    /// with this score, otherwise the end of the game.
     ///
     /// `Err` is the fault of the first faulty line; where this line has several, the first of them
     /// in the order of `BookFault`. It is `Memory` where memory is refused before a fault is found.

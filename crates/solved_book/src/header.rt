@@ -21,8 +21,8 @@ pub(crate) fn write_header<W: Write>(writer: &mut W, scoring: Scoring) -> io::Re
     write!(writer, "% ffobook 2 {name}")
 }
 
-// The scoring that a first line names: `Winner` where it is no header, None where it is an unknown
-// one.
+// The scoring that a first line names: `Winner` where it is not a header, None where it is an
+// unknown one.
 fn read_header(line: &[u8]) -> Option<Scoring>
     ensures { result ≡ scoring_in line.now }
 {

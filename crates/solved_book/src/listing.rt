@@ -57,7 +57,7 @@ fn is_pass_listed(listed: &[(ListedMove, i8)], score: i8) -> bool
 }
 
 // The squares that are listed with a score; where there is none, a pass if one is listed with it,
-// else the end of the game.
+// otherwise the end of the game.
 fn listed_best(listed: &[(ListedMove, i8)], score: i8) -> Best
     ensures { result ≡ listed_best score listed.now }
 {

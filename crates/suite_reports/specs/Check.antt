@@ -33,7 +33,7 @@ unfoldable pub agrees : List Field → AnswerView → Bool
 agrees fields answer =
     int_eq (greatest_listed fields) answer.score && are_best_in answer.best answer.score fields
 
--- `Unlisted` where no score is listed, and else whether the fields agree with the answer
+-- `Unlisted` where no score is listed, otherwise whether the fields agree with the answer
 unfoldable pub check : List Field → AnswerView → Check
 check [] answer = Unlisted
 check (f ∷ fs) answer = if agrees (f ∷ fs) answer then Agree else Differ

@@ -23,7 +23,7 @@ entry_result g limit entry =
     then Refused (refusal.Empties (empties entry.position) limit)
     else Solved (answer g entry.position) (check entry.listed (answer g entry.position))
 
--- the result of a line with a fault; want of memory is the result of no line
+-- the result of a line with a fault; lack of memory is not the result of any line
 abbrev pub fault_result : LineFault → Option RowResult
 fault_result (fault.Short found) = Some (Refused (refusal.Short found))
 fault_result (fault.BadCell column) = Some (Refused (refusal.BadCell column))

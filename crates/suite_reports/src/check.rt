@@ -12,7 +12,7 @@ pub enum Check {
     /// The greatest listed score is the answer's score, and each move listed with it is a best
     /// move.
     Agree,
-    /// The greatest listed score is another one, or a move listed with it is no best move.
+    /// The greatest listed score is another one, or a move listed with it is not a best move.
     Differ,
     /// The line lists no score.
     Unlisted,

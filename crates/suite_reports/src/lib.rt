@@ -1,6 +1,6 @@
-//! What a run over the files of a suite reads of a text, and what it reports: the tasks of the
+//! What a run over the files of a suite reads from a text, and what it reports: the tasks of the
 //! lines, the rows that their answers give, and the report of a file. The limits and the settings
-//! of a run stand here as well.
+//! of a run are here as well.
 //!
 //! ```rust
 //! use suite_reports::{Settings, parse_lines, rows_of, write_report};
@@ -11,7 +11,8 @@
 //! write_report(&mut report, 0, &rows)?;
 //! ```
 //!
-//! The crate `suite_runs` solves the tasks, and hands the public names on but for those of lines.
+//! The crate `suite_runs` solves the tasks, and re-exports the public names, except those for
+//! lines.
 #![tactic(auto)]
 
 mod check;

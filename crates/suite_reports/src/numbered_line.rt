@@ -1,4 +1,4 @@
-//! The lines of a text: each is read once, and is made a row when its position is solved.
+//! The lines of a text: each is read once, and becomes a row when its position is solved.
 
 ghost use Rattle.std.specs.Prelude.{◌≡◌, ◌≤◌, length, map, IfOk};
 ghost use Rattle.endgame_search.specs.Limits.{most_empties};

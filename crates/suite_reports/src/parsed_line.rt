@@ -75,7 +75,7 @@ impl ParsedLine {
     }
 }
 
-// Reads a line; None where it is skipped. The error is want of memory.
+// Reads a line; None where it is skipped. The only error is out of memory.
 pub(crate) fn parse_line(
     alloc: Global,
     limit: u8,

@@ -152,8 +152,8 @@ fn write_last<W: Write>(writer: &mut W, rows: &[ReportRow]) -> io::Result<()>
 
 /// Writes the report of a file: the line `[N]`, where N is `sender` plus 1, a line for each row,
 /// and a line with the number of solved rows and the number of refused rows. Each line ends with
-/// LF. `sender` counts from 0. The error is that of the writer, and nothing is said of the bytes
-/// that were written before it. The call takes no memory of its own.
+/// LF. `sender` is counted from 0. The error is that of the writer, and nothing is said about the
+/// bytes that were written before it. The call takes no memory of its own.
 pub fn write_report<W: Write>(writer: &mut W, sender: u32, rows: &[ReportRow]) -> io::Result<()>
     ensures { OnOk result
         (Appends (W.contents writer.old) (W.contents writer.new) (report_text sender rows.now)) }

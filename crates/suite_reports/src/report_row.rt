@@ -8,9 +8,9 @@ use othello_rules::Answer;
 pub enum Refusal {
     /// The line ends after this number of squares, fewer than 64.
     Short(u32),
-    /// A byte that is no square stands at this column, counted from 1 in bytes.
+    /// The byte at this column, counted from 1 in bytes, is not a square.
     BadCell(u32),
-    /// No side to move stands at this column, counted from 1 in bytes.
+    /// The side to move is missing at this column, counted from 1 in bytes.
     BadSide(u32),
     /// The number of empty squares, and the limit, which is below it.
     Empties(u8, u8),

@@ -74,7 +74,7 @@ impl Model for Settings {
 
 impl Settings {
     /// Settings by which positions of at most `max_empties` empty squares are solved, on `workers`
-    /// threads beside one for each file, over a table of `table` entries. None where a number is
+    /// threads besides one for each file, over a table of `table` entries. None where a number is
     /// above its limit: `MOST_EMPTIES`, `MOST_WORKERS` and `MOST_ENTRIES`.
     pub fn new(max_empties: u8, workers: u8, table: u32, scoring: Scoring) -> Option<Settings>
         ensures within { IsSome result ↔ IsWithinLimits (record
@@ -101,7 +101,7 @@ impl Settings {
         self.max_empties
     }
 
-    /// The number of worker threads, beside one thread for each file.
+    /// The number of worker threads, besides one thread for each file.
     pub fn workers(&self) -> u8
         ensures { result ≡ self.now.workers }
     {

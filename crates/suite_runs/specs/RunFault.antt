@@ -22,7 +22,7 @@ fault_of_submit submit.Memory = Memory
 fault_of_submit _ = Mixed
 
 -- the fault that is kept of an earlier and a later one: `Memory` if the earlier one is `Memory`,
--- and else the later one
+-- otherwise the later one
 abbrev pub worse_fault : Option RunFault → RunFault → RunFault
 worse_fault (Some Memory) fault = Memory
 worse_fault _ fault = fault

@@ -23,7 +23,7 @@ is_large text = nat_lt most_bytes (length text)
 abbrev pub first_large : List (List ℕ) → Option ℕ
 first_large texts = position is_large texts
 
--- the refusal of a run, before anything is solved: more than most_files files, and else the
+-- the refusal of a run, before anything is solved: more than most_files files, otherwise the
 -- first file of more than most_bytes bytes
 unfoldable pub refusal_of : List (List ℕ) → Option RunFault
 refusal_of texts =
@@ -48,8 +48,8 @@ pub record Solves (c : SettingsView) (texts : List (List ℕ)) (outcome : Outcom
   pub reports : texts_of outcome.reports.items ≡ reports c.scoring c.max_empties texts
   pub book : IsBookOf c.scoring (all_tasks c.scoring c.max_empties texts) outcome.book
 
--- The result of a run: where nothing is refused, the reports and the book of the texts, or want of
--- memory, or mixed answers; else the refusal.
+-- The result of a run: where nothing is refused, the reports and the book of the texts, or out of
+-- memory, or mixed answers; otherwise the refusal.
 abbrev pub Answers : Result Outcome RunFault → SettingsView → List (List ℕ) → Type 0
 Answers (Ok outcome) c texts =
     (refusal_of texts ≡ None) × Solves c texts outcome

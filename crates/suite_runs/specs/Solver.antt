@@ -5,7 +5,7 @@ use Rattle.endgame_search.specs.declared.solved.Claim.{Claim}
 use Rattle.solved_book.specs.Claims.{ClaimsView, claim_for}
 
 -- `found` is what the claims say of the task's position, where there are claims and these are under
--- the task's scoring; else it is None
+-- the task's scoring; otherwise it is None
 abbrev pub Advises : Option ClaimsView → TaskView → Option Claim → Type 0
 Advises None t found = found ≡ None
 Advises (Some a) t found =

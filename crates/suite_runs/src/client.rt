@@ -74,7 +74,7 @@ fn receive_all<R: Wait, T: Bounds, G: Gate>(
 }
 
 /// Submits the tasks of the lines, and then closes the client's sender in any case, since
-/// workers wait until each sender is closed. It gives the lines back. `Memory` where `read` is
+/// workers wait until each sender is closed. Returns the lines. `Memory` where `read` is
 /// an error, or where a submit was refused for memory; `Mixed` for any other refusal of the desk.
 pub fn send_and_close<R: Wait>(
     rt: &R,
@@ -102,9 +102,9 @@ pub fn send_and_close<R: Wait>(
 }
 
 /// Does the whole part of one client. It submits the tasks of the text's lines for `sender`, which
-/// counts from 0, and closes that sender. Then it solves the jobs that it takes until all of its
-/// own answers came back. A position with more than `limit` empty squares is refused; the tasks are
-/// under the scoring of the table.
+/// is counted from 0, and closes that sender. Then it solves the jobs that it takes until all of
+/// its own answers came back. A position with more than `limit` empty squares is refused; the tasks
+/// are under the scoring of the table.
 ///
 /// Where the result is Ok, its rows are those of the text, and its solved positions are those of
 /// the text's lines, in their order: at any desk, for any claims, and whatever other threads do

@@ -1,5 +1,5 @@
 //! Runs over the files of a suite. The lines of each file are read and solved, on the calling
-//! thread or on several. A run makes a report of each file, and one book of all solved positions.
+//! thread or on several. A run makes a report for each file, and one book of all solved positions.
 //!
 //! ```rust
 //! use suite_runs::{NoGate, Settings, run};
@@ -10,8 +10,8 @@
 //! ```
 //!
 //! `run` solves on threads, `run_serial` on the calling thread. Reports, checks and settings are
-//! those of `suite_reports`. The crate `suite_solver` hands the public names on. The modules
-//! `client` and `threads` are public for the tests, which stand in `crate_tests`.
+//! those of `suite_reports`. The crate `suite_solver` re-exports the public names. The modules
+//! `client` and `threads` are public for the tests, which are in `crate_tests`.
 #![tactic(auto)]
 
 pub mod client;

@@ -16,7 +16,7 @@ use suite_reports::{MOST_BYTES, MOST_FILES};
 pub enum RunFault {
     /// Memory was refused.
     Memory,
-    /// The desk refused a step for another reason than memory, or a job under another scoring was
+    /// The desk refused a step for a reason other than memory, or a job under another scoring was
     /// taken.
     Mixed,
     /// There are more than `MOST_FILES` files.
@@ -72,7 +72,7 @@ impl From<SubmitFault> for RunFault {
 }
 
 /// The fault that is kept of an earlier and a later one: `Memory` if the earlier one is `Memory`,
-/// and else the later one.
+/// otherwise the later one.
 pub(crate) fn worse_fault(before: Option<RunFault>, fault: RunFault) -> RunFault
     ensures { result ≡ worse_fault before fault }
 {

@@ -36,8 +36,8 @@ fn first_large(files: &[Vec<u8>]) -> Option<usize>
     large_file(files)
 }
 
-/// Refuses more than `MOST_FILES` files, by `TooManyFiles`, and else the first file of more than
-/// `MOST_BYTES` bytes, by `FileTooLarge` with its sender. A run refuses them so.
+/// Refuses more than `MOST_FILES` files, by `TooManyFiles`, and otherwise the first file of more
+/// than `MOST_BYTES` bytes, by `FileTooLarge` with its sender. A run refuses the same files.
 #[tactic(auto, unfolding(crate::specs::Runs::refusal_of), using(crate::proofs::RunLemmas::many_refused))]
 pub fn check_files(files: &[Vec<u8>]) -> Result<(), RunFault>
     ensures refuses { Refuses result (texts_of files.now) }
@@ -79,7 +79,7 @@ fn run_files(
 /// of each solved position, and nothing else. Reports and book depend neither on the size of the
 /// table nor on the claims.
 ///
-/// Errors: `TooManyFiles` for more than `MOST_FILES` files, and else `FileTooLarge` for the first
+/// Errors: `TooManyFiles` for more than `MOST_FILES` files, otherwise `FileTooLarge` for the first
 /// file of more than `MOST_BYTES` bytes, both before anything is solved; `Memory` where memory was refused.
 /// `Mixed` never comes.
 pub fn run_serial(
@@ -127,7 +127,7 @@ fn run_threads<R: Threads + Wait + Sync, G: Gate>(
 ///
 /// Reports and book are those of `run_serial`, for every number of workers and every gate. So are
 /// `TooManyFiles` and `FileTooLarge`, which come before a thread is started or the gate is called.
-/// Where a part met want of memory, the error is `Memory`; where none did, but the desk refused a
+/// Where a part ran out of memory, the error is `Memory`; where none did, but the desk refused a
 /// step, it is `Mixed`.
 pub fn run<R: Threads + Wait + Sync, G: Gate>(
     rt: &R,

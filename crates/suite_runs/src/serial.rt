@@ -55,7 +55,7 @@ fn solve_text<T: Bounds>(
 }
 
 /// The parts of the files, solved on the calling thread, one file after the other, over one table
-/// of bounds. No file has more than `MOST_BYTES` bytes. The error is want of memory.
+/// of bounds. No file has more than `MOST_BYTES` bytes. The only error is out of memory.
 pub(crate) fn solve_texts(
     alloc: Global,
     files: &[Vec<u8>],

@@ -44,7 +44,7 @@ impl<'a, T: Bounds> Solver<'a, T> {
     }
 
     /// The task's position with its exact answer. `confirm` gives it where the position has a
-    /// claim, and else `solve`.
+    /// claim, otherwise `solve`.
     pub fn answer(&self, task: Task) -> Solved
         requires { task.scoring ≡ T.scoring self.now.table.now }
         ensures { result ≡ task }
@@ -56,8 +56,8 @@ impl<'a, T: Bounds> Solver<'a, T> {
     }
 }
 
-/// A new table of bounds, with the number of entries and the scoring of the settings. The error is
-/// want of memory.
+/// A new table of bounds, with the number of entries and the scoring of the settings. The only
+/// error is out of memory.
 pub(crate) fn new_table(alloc: Global, settings: &Settings) -> Result<BoundTable, AllocError>
     ensures { IfOk result (λ table. table.scoring ≡ settings.now.scoring) }
 {

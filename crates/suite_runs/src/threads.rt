@@ -54,9 +54,9 @@ impl Shared {
     }
 }
 
-// All that the threads of a run share. A closure captures its fields one by one and joins them anew:
-// the checker stops at a captured `&Crew`, and a closure that captures an `Option<&Claims>` promises
-// its caller nothing.
+// Everything that the threads of a run share. A closure captures its fields one by one and joins
+// them anew: the checker stops at a captured `&Crew`, and a closure that captures an
+// `Option<&Claims>` promises its caller nothing.
 #[derive(Drop)]
 struct Crew<'a, R, G> {
     rt: &'a R,
@@ -244,7 +244,7 @@ fn start_workers<'a, E, R: Threads + Wait + Sync, G: Gate>(
     }
 }
 
-/// The parts of the clients that were joined, and the fault that is kept of theirs.
+/// The parts of the clients that were joined, and which of their faults is kept.
 #[derive(Drop)]
 pub struct Joined {
     pub parts: Vec<Part>,

@@ -10,8 +10,8 @@ use bound_table::Bounds;
 use job_board::{Desk, Job};
 use std::sync::Wait;
 
-/// What a thread needs to solve the jobs of a desk: the desk, a solver, and the gate that is told
-/// of each job.
+/// What a thread needs to solve the jobs of a desk: the desk, a solver, and the gate that is called
+/// for each job.
 #[derive(Drop)]
 pub struct Worker<'a, T: Bounds, G: Gate> {
     pub desk: &'a Desk,
@@ -20,7 +20,7 @@ pub struct Worker<'a, T: Bounds, G: Gate> {
 }
 
 impl<'a, T: Bounds, G: Gate> Worker<'a, T, G> {
-    /// Solves a taken job and finishes it at the desk. A job under another scoring than the table's
+    /// Solves a taken job and finishes it at the desk. A job under a scoring other than the table's
     /// is given back instead. The fault is `Mixed` where the job is given back, or where the desk
     /// refuses the answer.
     pub(crate) fn solve_job<R: Wait>(&self, rt: &R, job: Job) -> Result<(), RunFault>
@@ -40,7 +40,7 @@ impl<'a, T: Bounds, G: Gate> Worker<'a, T, G> {
     }
 
     /// Takes jobs at the desk and solves them until the desk is done. It ends early after a job
-    /// under another scoring than the table's, and after an answer that the desk refuses. It may
+    /// under a scoring other than the table's, and after an answer that the desk refuses. It may
     /// wait for other threads.
     pub fn work<R: Wait>(&self, rt: &R) {
         for _ in rt.forever() {

@@ -1,5 +1,5 @@
--- The command line of `ffosolve`, and what both programs' have in common, as clap's contracts see
--- them.
+-- The command line of `ffosolve`, and what those of both programs have in common, as clap's
+-- contracts see them.
 use Rattle.std.specs.Prelude.{◌≡◌, ◌≢◌, ◌⊎◌, ℕ, Bool, pos, true, false, List, [], ◌∷◌, map}
 use Rattle.std.specs.Prelude.{Option, Some, codes, option_map, string_bytes, unwrap_or}
 use Rattle.std.specs.Borrow.{Bor}
@@ -76,7 +76,7 @@ files_rule = record (new_rule (codes "FILES")) {
 abbrev pub versioned : Text → App
 versioned name = on_top (λ (s : Shape). record s { has_version = true }) (new_app name)
 
--- the command with the options of the settings besides
+-- the command with the options of the settings added
 abbrev pub with_settings : App → NameList → App
 with_settings app names = with_rule (with_rule (with_rule (with_rule app
     (number_rule (codes "max-empties") most_empties DEFAULT_EMPTIES_TEXT.now))
@@ -115,7 +115,7 @@ pub record HasFlag (name : Text) (rows : List Row) (b : Bool) : Type 0 where
   pub unset : one_of name rows ≡ Some (codes "false") → b ≡ false
 
 -- a request to `ffosolve`: settings, the names of a book to read and of a book to write, where
--- there are any, whether to tell of progress, and the names of files
+-- there are any, whether to report progress, and the names of files
 pub record Request : Type 0 where
   pub settings : SettingsView
   pub book_in : Option Text
@@ -168,7 +168,7 @@ abbrev pub AsksForText : Program → List Text → Type 0
 AsksForText program words =
     HasFaultBy program words DisplayHelp ⊎ HasFaultBy program words DisplayVersion
 
--- the kinds of the errors that are no refusals: help and the version
+-- the kinds of the errors that are not refusals: help and the version
 abbrev pub IsTextKind : ErrorKind → Type 0
 IsTextKind kind = (kind ≡ DisplayHelp) ⊎ (kind ≡ DisplayVersion)
 
@@ -189,7 +189,7 @@ HasFault words kind = HasFaultBy ffosolve words kind
 abbrev pub IsFaultOf : List Text → OptionFault → Type 0
 IsFaultOf words fault = IsFaultFor ffosolve words fault
 
--- the fault for an error of clap: `Memory` where clap met want of memory, and else `Refused` with
+-- the fault for an error of clap: `Memory` where clap ran out of memory, otherwise `Refused` with
 -- the error
 abbrev pub IsFaultBy : Error → OptionFault → Type 0
 IsFaultBy error fault =

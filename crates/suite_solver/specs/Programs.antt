@@ -10,7 +10,8 @@ use Rattle.suite_runs.specs.Runs.{first_large}
 use Rattle.suite_reports.specs.Limits.{most_files}
 
 -- These are the texts of a run. Without file names there is one, which is the text on standard
--- input, where that is known. Else there is one for each name; the content of a file is not known.
+-- input, where that is known. Otherwise there is one for each name; the content of a file is not
+-- known.
 abbrev pub AreTextsOf : List (List ℕ) → Option (List ℕ) → List (List ℕ) → Type 0
 AreTextsOf [] given texts = IfSome given (λ text. texts ≡ text ∷ [])
 AreTextsOf (name ∷ names) given texts = length texts ≡ length (name ∷ names)
@@ -46,15 +47,15 @@ pub record EndsProgram (program : Program) (words : List (List ℕ)) (old new : 
   pub taken : IsTakenBy program words → status ≢ 2
   pub refused : status ≡ 2 → new ≡ old
 
--- A call of `ffosolve` ended, with 0 after the reports that the words ask for were printed, and with
--- 1 or 2 before anything was.
+-- A call of `ffosolve` ended: with 0 after printing the reports that the words ask for, and with
+-- 1 or 2 before printing anything.
 pub record EndsFfosolve (words : List (List ℕ)) (given old new : Option (List ℕ)) (status : ℕ)
     : Type 0 where
   pub ends : EndsProgram ffosolve words old new status (IsAnswered words given old new)
   pub unwritten : status ≡ 1 → new ≡ old
 
--- A call of a program ended without its words, since a word is no text, with 2, or for want of
--- memory, with `memory`. Nothing was printed.
+-- A call of a program ended without its words: with 2, since a word is not text, or with `memory`,
+-- for lack of memory. Nothing was printed.
 pub record EndsUnread (memory : ℕ) (old new : Option (List ℕ)) (status : ℕ) : Type 0 where
   pub told : (status ≡ memory) ⊎ (status ≡ 2)
   pub unwritten : new ≡ old

@@ -30,8 +30,8 @@ impl Termination for Ended {
     }
 }
 
-/// A stream to which errors may be printed. Standard error is one. Standard output is none, so a
-/// `main` can't hand it over as one.
+/// A stream to which errors may be printed. Standard error is one. Standard output is not, so a
+/// `main` can't pass it as one.
 pub trait ErrorStream: Write + Send {}
 
 impl ErrorStream for Stderr {}

@@ -41,7 +41,7 @@ fn write_reports<W: Write>(output: &mut W, reports: &[Vec<u8>]) -> io::Result<()
 }
 
 // Solves the positions of the files, whose texts these are, and prints the reports. The text of the
-// book to be written is made before the reports are printed, so that no want of memory comes once
+// book to be written is made before the reports are printed, so that memory can't run out once
 // anything was printed.
 fn solve_files<'a, T: Files + Clock + Threads + Wait + Sync, W: Write, E: Write + Send>(
     rt: &T,
@@ -129,17 +129,17 @@ fn print_error<E: Write>(error: &ProgramError<'_>, errors: &mut E) -> u8
     error.status()
 }
 
-/// The whole program `ffosolve` over the words of its command line, the program's name first. It
+/// The whole program `ffosolve`, for the words of its command line, the program's name first. It
 /// reads the book and the files that the words name, or standard input. It prints the files'
 /// reports, in the order of the files, on standard output. Then it writes the book that the words
 /// name.
 ///
-/// The status is 0 where all is done, or where help or the version was asked for and printed; 1
-/// where the run is refused, for memory or for the number or size of its files; 2 where the command
-/// line is refused; 3 where a file can't be read or is no book, or where standard output or the
-/// book can't be written or would destroy another file or the book that is read. An error that ends
-/// the program early is printed on standard error, as one line or as clap's text; a failure of
-/// standard error changes nothing. The call may wait for its threads.
+/// The status is 0 where everything is done, or where help or the version was asked for and
+/// printed; 1 where the run is refused, for memory or for the number or size of its files; 2 where
+/// the command line is refused; 3 where a file can't be read or is not a book, or where standard
+/// output or the book can't be written or would destroy another file or the book that is read. An
+/// error that ends the program early is printed on standard error, as one line or as clap's text; a
+/// failure of standard error changes nothing. The call may wait for its threads.
 pub fn program<T: Files + Clock + Threads + Wait + Sync, R: Read, W: Write, E: Write + Send>(
     rt: &T,
     alloc: Global,
@@ -161,8 +161,8 @@ pub fn program<T: Files + Clock + Threads + Wait + Sync, R: Read, W: Write, E: W
     }
 }
 
-/// The whole program, as `program`, over the words as `env::args` gives them. The status is 2 where
-/// a word is no text, and 1 where there was no memory for the words.
+/// The whole program, like `program`, for the words that `env::args` gives. The status is 2 where
+/// a word is not text, and 1 where memory for the words was refused.
 pub fn program_of<T: Files + Clock + Threads + Wait + Sync, R: Read, W: Write, E: Write + Send>(
     rt: &T,
     alloc: Global,

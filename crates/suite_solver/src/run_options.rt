@@ -10,7 +10,7 @@ pub struct Options {
     pub book_in: Option<String>,
     /// The name of the file of a book to write, as the words have it; None where there is none.
     pub book_out: Option<String>,
-    /// Whether lines on standard error tell how far the run is.
+    /// Whether progress is reported on standard error.
     pub progress: bool,
     /// The names of the files as given, in their order. Without any, standard input is the one
     /// file.

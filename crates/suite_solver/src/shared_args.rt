@@ -134,7 +134,7 @@ fn table_arg<'a>(alloc: Global) -> Arg<'a>
     )
 }
 
-/// The command with the options of the settings besides. `workers` is the help of `--workers`.
+/// The command with the options of the settings added. `workers` is the help of `--workers`.
 pub fn with_settings<'a>(
     alloc: Global,
     bare: Command<'a>,

@@ -1,4 +1,4 @@
-//! What clap hands over in place of options, printed.
+//! What clap returns in place of options, printed.
 
 ghost use Rattle.std.specs.Prelude.{◌≡◌, ◌≢◌, ◌⊎◌, true, false, IfOk, IsErr};
 ghost use Rattle.clap.specs.Words.{kind_of};
@@ -9,13 +9,13 @@ use program_files::ProgramError;
 use std::io;
 use std::io::Write;
 
-// Writes the help or the version, which clap hands over as an error.
+// Writes the help or the version, which clap returns as an error.
 fn write_help<W: Write>(output: &mut W, help: &clap::Error) -> io::Result<()> {
     write!(output, "{help}")?;
     output.flush()
 }
 
-// Prints what clap hands over in place of options. Help and the version go to standard output, and
+// Prints what clap returns in place of options. Help and the version go to standard output, and
 // the result is true. The reason of a refusal goes to standard error, and the result is false; a
 // failure of standard error changes nothing. The error is that of standard output.
 fn explain<W: Write, E: Write>(
@@ -40,10 +40,10 @@ fn explain<W: Write, E: Write>(
     }
 }
 
-/// Prints what clap hands over in place of options: help and the version on standard output, the
+/// Prints what clap returns in place of options: help and the version on standard output, the
 /// reason of a refusal on standard error. The result is the exit status of the program: 0 for help
-/// and the version, 2 for a refusal, and 3 where standard output can't be written, which is told on
-/// standard error.
+/// and the version, 2 for a refusal, and 3 where standard output can't be written, which is
+/// reported on standard error.
 pub fn end_without_options<W: Write, E: Write>(
     program: &str,
     error: &clap::Error,

@@ -1,4 +1,4 @@
-//! Books of worked positions: what they hold, what is written of them, and what is found in them again.
+//! Books of worked positions: what they hold, what is written for them, and what is found in them.
 
 mod find;
 mod write;

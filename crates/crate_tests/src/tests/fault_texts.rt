@@ -1,4 +1,4 @@
-//! What faults print whose text `thiserror` makes: it has no contract.
+//! What faults print where `thiserror` makes the text, which has no contract.
 
 use bound_table::TableFault;
 use endgame_search::TooMany;

@@ -70,8 +70,8 @@ impl Write for SlowWriter {
 // The first line of what is printed, which is sent on by itself.
 const FIRST: usize = 12;
 
-// Whether just the front is printed that so many calls take, each line sent on as soon as it is
-// whole, and the fault told.
+// Whether exactly what this many calls take is printed, each line sent on as soon as it is whole,
+// and the fault returned.
 fn stops_so<R: Threads + Wait>(rt: &R, alloc: Global, calls_left: u32) -> Result<bool, AllocError> {
     let mut writer = SlowWriter {
         held: Vec::with_capacity(alloc, TWO_PRINTED.len())?,

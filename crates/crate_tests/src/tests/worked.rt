@@ -1,4 +1,4 @@
-//! Positions that are worked by hand, and their answers under each scoring.
+//! Positions that are worked out by hand, and their answers under each scoring.
 
 ghost use Rattle.std.specs.Prelude.{◌≡◌};
 

@@ -14,7 +14,7 @@ use std::sync::Wait;
 use std::thread;
 use std::thread::Threads;
 
-// A thread gives a job back whose number is a multiple of this, unless it gave this job back last.
+// A thread gives back a job whose number is a multiple of this, unless it gave this job back last.
 const GIVEN_BACK: u32 = 7;
 
 // The tasks that each client sends in turn, and how many jobs each client sends.

@@ -1,5 +1,5 @@
 //! Three senders with two jobs each: once all are submitted, no step takes memory. A submit that is
-//! refused memory ends the test; a step that asked for memory could not tell of it. So
+//! refused memory ends the test; a step that asked for memory could not report it. So
 //! `tests/test_refused.py` refuses each request in turn, and sees each refusal end the test.
 
 use super::{CORNER_LEFT_OVER, LAST_CORNER, UNEQUAL_CORNERS, solved, task_of};

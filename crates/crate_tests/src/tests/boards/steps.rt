@@ -34,7 +34,7 @@ fn count_right(alloc: Global, senders: u32, rows: &[Row]) -> Result<usize, Alloc
     Ok(right)
 }
 
-// Whether the board replies as the rows say, and alike to all steps at once.
+// Whether the board replies as the rows say, and in the same way to all steps at once.
 fn are_right(alloc: Global, senders: u32, rows: &[Row]) -> Result<bool, AllocError> {
     let Ok(mut board) = Board::new(alloc, senders) else {
         return Err(AllocError);
@@ -170,7 +170,7 @@ fn a_job_after_the_close(rt: HostRuntime) -> Result<(), AllocError> {
     Ok(())
 }
 
-// Most empty squares first, then the first sender, then the least number.
+// The most empty squares first, then the first sender, then the least number.
 #[test]
 fn the_longest_job_is_taken_first(rt: HostRuntime) -> Result<(), AllocError> {
     let short = task_of(&rt, LAST_CORNER);
@@ -233,7 +233,7 @@ fn are_submitted(rt: &impl Abort, board: &mut Board) -> Result<bool, AllocError>
     Ok(true)
 }
 
-// Whether so many jobs are taken, each before those behind it.
+// Whether this many jobs are taken, each before those after it.
 fn are_taken_in_order(board: &mut Board, count: u32) -> bool {
     let Some(mut last) = board.take() else {
         return false;

@@ -93,7 +93,7 @@ fn is_given<R: Wait>(rt: &R, scene: &Scene) -> bool {
     }
 }
 
-// Lets the worker go on that stands by, by a job of the other sender.
+// Lets the waiting worker go on, by submitting a job of the other sender.
 fn end<R: Wait>(rt: &R, alloc: Global, scene: &Scene) -> bool {
     match scene.event {
         Event::Submit | Event::GiveBack | Event::LastGiveBack => true,
@@ -134,7 +134,7 @@ fn play<R: Wait + Clock>(rt: &R, alloc: Global, scene: &Scene, thread: usize) ->
     }
 }
 
-// Whether the event lets the thread go on that waits for it.
+// Whether the event lets the thread that waits for it go on.
 fn goes_on<R: Threads + Wait + Clock + Sync>(
     rt: &R,
     alloc: Global,

@@ -16,7 +16,7 @@ use suite_runs::client::send_and_close;
 use suite_solver::laws::client_part;
 use suite_solver::{Gate, MOST_BYTES, NoGate, RunFault};
 
-// Whether a client's part ends for another cause than memory.
+// Whether a client's part ends for a reason other than memory.
 fn is_mixed_part<R: Wait, G: Gate>(
     rt: &R,
     alloc: Global,
@@ -70,7 +70,7 @@ fn clients_are_refused(rt: HostRuntime) -> Result<(), Fail> {
 // A sender and a job's number, and whether the job was found finished.
 type Told = (u32, u32, bool);
 
-// Keeps what it is told. Whether a job that is left was finished, the desk tells: one that is still
+// Keeps what it is told. The desk shows whether a job that is left was finished: one that is still
 // taken is given back.
 #[derive(Drop)]
 struct NotingGate<'a> {
@@ -112,7 +112,7 @@ fn gates_are_told_of_each_job(rt: HostRuntime) -> Result<(), Fail> {
     Ok(())
 }
 
-// Gives the first job back that it is told of, so that its finish is refused.
+// Gives back the first job that it is told of, so that its finish is refused.
 #[derive(Drop)]
 struct MeddlingGate<'a> {
     desk: &'a Desk,
@@ -146,7 +146,7 @@ fn a_refused_finish_ends_the_part(rt: HostRuntime) -> Result<(), Fail> {
     Ok(())
 }
 
-// A client of sender 0 that has submitted so many tasks.
+// A client of sender 0 that has submitted `count` tasks.
 fn sent_client<R: Wait>(
     rt: &R,
     alloc: Global,
@@ -161,7 +161,7 @@ fn sent_client<R: Wait>(
     Ok(client)
 }
 
-// A sender that has all jobs that it may have but one: the part's second task is refused, and the
+// A sender with one job fewer than it may have: the part's second task is refused, and the
 // sender is closed.
 #[test]
 fn a_refused_submit_closes_the_sender(rt: HostRuntime) -> Result<(), Fail> {
@@ -175,7 +175,7 @@ fn a_refused_submit_closes_the_sender(rt: HostRuntime) -> Result<(), Fail> {
     Ok(())
 }
 
-// A client whose text found no memory closes its sender, since others wait for that.
+// A client that ran out of memory for its text closes its sender, since others wait for that.
 #[test]
 fn an_unread_text_closes_the_sender(rt: HostRuntime) -> Result<(), Fail> {
     let desk = Desk::new(rt.alloc(), 1)?;

@@ -24,7 +24,7 @@ fn ended_with(fault: RunFault) -> StartedClient<'static>
     }
 }
 
-// What is told of two clients.
+// The fault that is reported for two clients.
 fn told_of<R: Threads>(
     rt: &R,
     alloc: Global,
@@ -45,7 +45,7 @@ fn told_of<R: Threads>(
     Ok(joined.fault)
 }
 
-// Want of memory is told before mixed answers, whichever client has it.
+// Running out of memory is reported before mixed answers, whichever client has it.
 #[test]
 fn memory_comes_first(rt: HostRuntime) -> Result<(), Fail> {
     let (memory, mixed) = (RunFault::Memory, RunFault::Mixed);

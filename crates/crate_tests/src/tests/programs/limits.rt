@@ -40,7 +40,7 @@ impl Gate for AnyCall {
 // A full board.
 const ONE_POSITION: &[u8] = b"XXXXXXXXXXXXXXXXXXXXXXXXXXXXXXXXXXXXXXXXXXXXXXXXXXXXXXXXXXXXXXXX X\n";
 
-// So many files of one position, and then one of so many spaces, if it has any.
+// `count` files of one position, and then one of `spaces` spaces, unless that is 0.
 fn files_with_spaces(alloc: Global, count: u32, spaces: usize) -> Result<Vec<Vec<u8>>, AllocError>
     requires { spaces < 2 ^ 32 }
 {

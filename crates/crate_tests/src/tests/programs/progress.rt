@@ -1,4 +1,4 @@
-//! Lines that tell how far a run is.
+//! Lines that report the progress of a run.
 
 use program_files::ProgressGate;
 use std::alloc::Global;
@@ -12,7 +12,7 @@ use std::time::Duration;
 use std::{io, thread};
 use suite_runs::Gate;
 
-// A clock that a test moves, and that can be read so many times.
+// A clock that a test moves, and that can be read a given number of times.
 #[derive(Drop)]
 struct MovedClock {
     millis: AtomicU64,
@@ -58,8 +58,8 @@ ffosolve: solved 9 of 11 in 40 s
 ffosolve: solved 11 of 11 in 50 s
 ";
 
-// A line comes no sooner than five seconds after the last, but for the line at the end, which alone
-// tells that all are solved. The number of all jobs is known once both files are submitted.
+// A line comes no sooner than five seconds after the last, except for the line at the end, which
+// alone says that all are solved. The number of all jobs is known once both files are submitted.
 #[test]
 fn tells_each_five_seconds(rt: HostRuntime) {
     let clock = MovedClock::new(3_100, 100);
@@ -81,7 +81,7 @@ fn tells_each_five_seconds(rt: HostRuntime) {
     assert!(rt; errors.as_slice() == TOLD);
 }
 
-// What is told of two jobs by a clock that can be read so many times.
+// What is reported for two jobs, by a clock that can be read this many times.
 fn told_by(rt: &impl Wait, alloc: Global, reads_left: u64) -> Vec<u8> {
     let clock = MovedClock::new(0, reads_left);
     let mut errors = Vec::new(alloc);
@@ -101,8 +101,8 @@ ffosolve: solved 1 of 2 in 5 s
 ffosolve: solved 2 of 2 in 10 s
 ";
 
-// The clock is read as the run begins, after each job and at the end. Where it can't be read, no more
-// is told.
+// The clock is read as the run begins, after each job and at the end. Where it can't be read, nothing
+// more is reported.
 #[test]
 fn tells_by_its_clock(rt: HostRuntime) {
     let (none, whole) = (told_by(&rt, rt.alloc(), 0), told_by(&rt, rt.alloc(), 4));
@@ -120,7 +120,7 @@ struct Signals {
     may_end: AtomicBool,
 }
 
-// Waits for a signal, for so many turns at most. The result says whether it came.
+// Waits for a signal, for a limited number of turns. The result says whether it came.
 fn wait_for(signal: &AtomicBool) -> bool {
     for _ in 0..u32::MAX {
         if signal.load(Ordering::SeqCst) {

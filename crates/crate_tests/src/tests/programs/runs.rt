@@ -18,7 +18,7 @@ struct Told {
     seen: bool,
 }
 
-// Holds the first job until the second was left, for so many turns at most.
+// Holds the first job until the second was left, for a limited number of turns.
 #[derive(Drop)]
 struct HoldingGate {
     told: Mutex<Told>,

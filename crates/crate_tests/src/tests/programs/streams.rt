@@ -1,4 +1,4 @@
-//! Streams that no file is: a reader that fails in the middle, and a writer that takes all and can't
+//! Streams unlike any file: a reader that fails in the middle, and a writer that takes all and can't
 //! pass it on.
 
 use super::{TWO, words_of};
@@ -12,7 +12,7 @@ use std::thread::Threads;
 use std::{fs, io};
 use suite_solver::program;
 
-// Whether the program that the line begins with ends with 3 and tells this on standard error.
+// Whether the program that the line begins with ends with 3 and prints this on standard error.
 fn tells<T: Files + Clock + Threads + Wait + Sync, R: Read, W: Write>(
     rt: &T,
     alloc: Global,

@@ -21,7 +21,7 @@ fn the_value_in_windows(rt: HostRuntime) {
     assert!(rt; value_in(&table, position, 0, 1) >= 1);
 }
 
-// What is claimed of each position: scores that are too high and too low by so much, and moves.
+// What is claimed of each position: scores that are too high or too low by this much, and moves.
 const CHANGES: [i8; 7] = [0, 1, -1, 2, -2, 127, -127];
 
 const BESTS: [Best; 7] = [

@@ -15,7 +15,7 @@ use std::cell::Cell;
 use std::process::Abort;
 
 // Keeps nothing. Counts the positions of a list as they are probed, and notes whether one was probed
-// before one in front of it.
+// before one that comes earlier in the list.
 #[derive(Drop)]
 struct OrderNoter {
     children: ArrayVec<Option<Pos>, 8>,
@@ -72,8 +72,8 @@ type Order = (Discs, &'static [&'static [u8]]);
 
 const ORDERS: [Order; 6] = [
     // --OOOOXX --OOOXXX XXOOOXXX -OXXXXXX OOOXXXXO XOXOXXO- -XOXXXXX XXXXXXX-
-    // B2 leaves B1, A4, H6 and A7: 8. Each other move leaves B2, H8 and two more: 9. H6 is of the
-    // squares as C1, A4 of those as D1, B1 and A7 lie beside corners.
+    // B2 leaves B1, A4, H6 and A7: 8. Each other move leaves B2, H8 and two more: 9. H6 is ordered
+    // like C1, and A4 like D1; B1 and A7 are next to corners.
     (
         (0x7ffa_3578_fce3_e0c0, 0x4_4a87_021c_1c3c),
         &[b"B2", b"H6", b"A4", b"B1", b"A7"],
