@@ -43,6 +43,9 @@ REFUSED = [
     ("--max-empties=61", "invalid value '61' for '--max-empties <N>': 61 is not in 0..=60"),
     ("--workers 65", "invalid value '65' for '--workers <N>': 65 is not in 0..=64"),
     ("--table 5 --table 6", "the argument '--table <N>' cannot be used multiple times" + USAGE),
+    ("--complete=1", "unexpected value '1' for '--complete' found; no more were expected\n\n"
+                     "Usage: {name} --complete [FILES]..."),
+    ("--complete --complete", "the argument '--complete' cannot be used multiple times" + USAGE),
     ("--scoring discs --scoring best", "the argument '--scoring <NAME>' cannot be used multiple times" + USAGE),
 ]
 REFUSED_BY_SOLVER = [
@@ -50,16 +53,10 @@ REFUSED_BY_SOLVER = [
     ("--book-out --help", "a value is required for '--book-out <FILE>' but none was supplied"),
     ("--progress=1", "unexpected value '1' for '--progress' found; no more were expected\n\n"
                      "Usage: {name} --progress [FILES]..."),
-    ("--complete 2", "unexpected argument '--complete' found\n\n  tip: to pass '--complete' as a value, use "
-                     "'-- --complete'" + USAGE),
 ]
 REFUSED_BY_SCORES = [
     (f"{word} 2", f"unexpected argument '{word}' found\n\n  tip: to pass '{word}' as a value, use '-- {word}'" + USAGE)
     for word in ("--book-in", "--book-out", "--progress")
-] + [
-    ("--complete=1", "unexpected value '1' for '--complete' found; no more were expected\n\n"
-                     "Usage: {name} --complete [FILES]..."),
-    ("--complete --complete", "the argument '--complete' cannot be used multiple times" + USAGE),
 ]
 
 

@@ -333,6 +333,12 @@ class Results(Case):
         os.rename("list.obf", "-x")
         self.same("--scoring=sign", "--max-empties=3", "--", "work2", "-x")
 
+    def test_lines_that_leave_out_a_best_move(self):
+        write(Path("list.obf"), (ROOT / "tests/rows/best.obf").read_bytes())
+        self.one = (ROOT / "tests/rows/best.winner.complete").read_bytes()
+        self.same("--complete", "--lines=4", "work", "list.obf")
+        self.refused(2, "work was begun with --complete: take another folder", "--lines=4", "work", "list.obf")
+
     def test_read_book_changes_no_report_and_is_used_whole(self):
         self.same("--lines=20", "work", "list.obf", "--book-in=one.book", "--book-out", "joined.book",
                   "--scoring", "winner")
@@ -864,7 +870,6 @@ class Words(Case):
                 (2, "empty.hosts names no machine", ("list.obf", "--hosts", "empty.hosts")),
                 (2, "part 0000000 (from line 1 of big.obf on) has more than 1048576 bytes: take fewer lines, "
                     "as --lines 2", ("big.obf",)),
-                (2, "--complete is no option of ffosolve: --scores goes with it", ("list.obf", "--complete")),
                 (2, "--merge-books names no book", ("--merge-books",)),
                 (2, "--lines is no option of --merge-books", ("--merge-books", "--lines=5", "one.book"))):
             if "big.obf" in words:

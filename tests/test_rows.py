@@ -1,7 +1,8 @@
 """Worked rows, and the streams of a run.
 
-Beside each list NAME.obf of tests/rows stands what the programs print of it: NAME.SCORING.report by ffosolve, and
-NAME.SCORING.scores by ffoscores. It follows from the rules, and was printed by no program.
+Beside each list NAME.obf of tests/rows stands what the programs print of it: NAME.SCORING.report by ffosolve,
+NAME.SCORING.complete with --complete, and NAME.SCORING.scores by ffoscores. It follows from the rules, and was printed
+by no program.
 """
 import os
 import resource
@@ -57,13 +58,14 @@ def shorter_than(size):
 
 class Rows(InFolder):
     def test_rows(self):
-        for name, kind, status in zip(PROGRAMS, ("report", "scores"), (0, 1)):  # lines are remarked
+        for name, kind, status, words in (("ffosolve", "report", 0, ()), ("ffosolve", "complete", 0, ("--complete",)),
+                                          ("ffoscores", "scores", 1, ())):  # lines are remarked
             wanted = sorted(ROWS.glob(f"*.{kind}"))
             self.assertTrue(wanted)
             for path in wanted:
                 with self.subTest(path=path.name):
                     rows, scoring = path.stem.split(".")
-                    ran = run(PROGRAM[name], "--scoring", scoring, ROWS / f"{rows}.obf")
+                    ran = run(PROGRAM[name], *words, "--scoring", scoring, ROWS / f"{rows}.obf")
                     self.assertEqual((ran.returncode, ran.stdout, ran.stderr), (status, path.read_bytes(), b""))
 
     def test_books(self):
@@ -73,6 +75,32 @@ class Rows(InFolder):
                 ran = run(PROGRAM["ffosolve"], "--book-in", "it.book")
                 wanted = (3, b"", f"ffosolve: {told}\n".encode()) if told else (0, NOTHING, b"")
                 self.assertEqual((ran.returncode, ran.stdout, ran.stderr), wanted)
+
+    def test_books_of_two_reads(self):
+        """The first 65,536 bytes of a book may end in any place of a line: what is told is what the whole line says."""
+        for line, told in ((LEFT, ""), (LEFT[:63], "board has 63 of 64 squares"), (LEFT[:64], "bad side at column 65"),
+                           (LEFT[:66] + b"\n", "no moves"), (LEFT[:66] + b"; G8:+6x", "no moves"), (b"%" + LEFT, "")):
+            for size in range(1, len(line) + 1):
+                with self.subTest(line=line, size=size):
+                    Path("it.book").write_bytes(b"%" * (65_536 - size - 1) + b"\n" + line)
+                    ran = run(PROGRAM["ffosolve"], "--book-in", "it.book")
+                    wanted = (3, b"", f"ffosolve: book line 2: {told}\n".encode()) if told else (0, NOTHING, b"")
+                    self.assertEqual((ran.returncode, ran.stdout, ran.stderr), wanted)
+
+    def test_books_without_end(self):
+        """A terminal is refused by its name, and a pipe by the fault of its first bytes."""
+        for number in os.openpty():
+            self.addCleanup(os.close, number)
+        name = os.ttyname(number)
+        ran = run(PROGRAM["ffosolve"], "--book-in", name, timeout=20)
+        self.assertEqual((ran.returncode, ran.stdout, ran.stderr), (3, b"", f"ffosolve: cannot read {name}\n".encode()))
+        for lines, told in (("yes ?", "1: bad square at column 1"), ("yes ? | tr -d '\\n'", "1: bad square at column 1"),
+                            ("(echo '% ffobook 3 winner'; yes %)", "1: unknown header"),
+                            (f"(echo; yes '{'X' * 64}')", "2: bad side at column 65")):
+            with self.subTest(lines=lines):
+                words = f"{lines} 2>/dev/null | (ulimit -v 1000000; exec '{PROGRAM['ffosolve']}' --book-in /dev/stdin)"
+                ran = run("sh", "-c", words, timeout=20)
+                self.assertEqual((ran.returncode, ran.stdout, ran.stderr), (3, b"", f"ffosolve: book line {told}\n".encode()))
 
     def test_what_is_printed_is_read_again(self):
         """As it is, but for a CR at the end of a line, with nothing more to remark."""

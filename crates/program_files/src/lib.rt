@@ -11,14 +11,16 @@
 
 mod book_place;
 mod books;
+mod found;
 mod inputs;
 mod new_file;
 mod program_error;
 mod progress;
 mod words;
 
-pub use book_place::check_place;
+pub use book_place::{BookPlace, check_place};
 pub use books::{read_claims, ready_book, write_book};
+pub use found::Found;
 pub use inputs::read_files;
 pub use new_file::NewFile;
 pub use program_error::{ProgramError, words_error};

@@ -3,7 +3,8 @@
 
 ghost use Rattle.std.specs.Prelude.{◌≡◌, IfOk};
 
-use crate::book_place::{gives_way, name_beside};
+use crate::book_place::name_beside;
+use crate::found::Found;
 use std::alloc::{AllocError, Global};
 use std::fs::{OpenFile, OpenOptions};
 use std::io::Write;
@@ -37,7 +38,7 @@ impl<'a> NewFile<'a> {
     /// written next to it and renamed. Anything else, such as a device, a pipe or a link, is opened
     /// and written. A file that is neither empty nor a book by now stays, and the write fails.
     pub(crate) fn write<T: Files>(&self, rt: &T) -> io::Result<()> {
-        if !gives_way(rt, self.name)? {
+        if Found::under(rt, self.name)? == Found::Other {
             return Err(io::Error::from(io::ErrorKind::AlreadyExists));
         }
         match fs::symlink_metadata(rt, self.name) {

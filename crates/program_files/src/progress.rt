@@ -1,9 +1,10 @@
 //! Runs that report their progress on standard error.
 
-ghost use Rattle.std.specs.Prelude.{◌≡◌, ◌+◌, ◌/◌, ◌<◌, ◌≤◌, ◌⊎◌, ◌↔◌, ℕ, length, None, Some, IfOk, IsErrOf, IsTrue, OnOk};
+ghost use Rattle.std.specs.Prelude.{◌≡◌, ◌+◌, ◌/◌, ◌<◌, ◌≤◌, ◌⊎◌, ◌↔◌, ℕ, false, length, None, Some, IfOk, IsErrOf, IsTrue, OnOk};
 ghost use Rattle.std.specs.Duration.{as_nanos};
 ghost use Rattle.std.specs.Io.KnownBytes.{Appends};
 ghost use Rattle.suite_reports.specs.Limits.{most_files};
+ghost use Rattle.suite_reports.specs.Settings.{criteria_of};
 ghost use Rattle.program_files.specs.ProgressText.{progress_text};
 ghost use Rattle.obf_text.specs.LineText.{texts_of};
 ghost use Rattle.suite_runs.specs.Outcome.{IsBookOf};
@@ -88,7 +89,7 @@ impl<E: Write> Lines<'_, E> {
     }
 }
 
-/// A gate that counts the jobs of a run and those that were solved. After a job it writes a line
+/// A gate that counts the jobs of a run and those that are finished. After such a job it writes a line
 /// where one is due. No thread waits for another that writes. Where the clock can't be read, no
 /// line is written.
 #[derive(Drop)]
@@ -153,7 +154,9 @@ impl<C: Clock + Sync, E: Write + Send> Gate for ProgressGate<'_, C, E> {
 
     fn enter<R: Wait>(&self, _rt: &R, _sender: u32, _number: u32) {}
 
-    fn leave<R: Wait>(&self, _rt: &R, _sender: u32, _number: u32) {
+    fn leave<R: Wait>(&self, _rt: &R, _sender: u32, _number: u32) {}
+
+    fn finished<R: Wait>(&self, _rt: &R, _sender: u32, _number: u32) {
         self.solved.fetch_add(1, Ordering::SeqCst);
         let Some(progress) = self.progress() else {
             return;
@@ -164,8 +167,8 @@ impl<C: Clock + Sync, E: Write + Send> Gate for ProgressGate<'_, C, E> {
     }
 }
 
-/// Does the work of `run`. With `tells`, lines on `errors` give the number of solved positions: at
-/// most one every five seconds, and one at the end.
+/// Does the work of `run`. Where it `tells` how far it is, lines on `errors` have the number of solved
+/// positions: one every five seconds at most, and one at the end.
 pub fn run_told<T: Clock + Threads + Wait + Sync, E: Write + Send>(
     rt: &T,
     alloc: Global,
@@ -175,11 +178,12 @@ pub fn run_told<T: Clock + Threads + Wait + Sync, E: Write + Send>(
     tells: bool,
     errors: &mut E,
 ) -> Result<Outcome, RunFault>
+    ensures untold { tells ≡ false → E.contents errors.new ≡ E.contents errors.old }
     ensures too_many { IsErrOf result TooManyFiles ↔ most_files < length texts.now }
     ensures too_large { (sender : ℕ) → IsErrOf result (FileTooLarge sender) ↔
         ((length texts.now ≤ most_files) × (first_large (texts_of texts.now) ≡ Some sender)) }
     ensures reports { IfOk result (λ outcome. texts_of outcome.reports.items ≡ reports
-        settings.now.scoring settings.now.max_empties (texts_of texts.now)) }
+        settings.now.scoring (criteria_of settings.now) (texts_of texts.now)) }
     ensures book { IfOk result (λ outcome. IsBookOf settings.now.scoring (all_tasks
         settings.now.scoring settings.now.max_empties (texts_of texts.now))
         outcome.book) }

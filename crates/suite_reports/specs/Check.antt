@@ -1,8 +1,8 @@
 -- How the scores that a line lists compare with the answer.
-use Rattle.std.specs.Prelude.{ℤ, ◌&&◌, Bool, true, false, List, [], ◌∷◌, filter, if◌then◌else◌}
-use Rattle.std.specs.List.{list_all}
+use Rattle.std.specs.Prelude.{ℕ, ℤ, ◌==◌, ◌&&◌, Bool, true, false, List, [], ◌∷◌, filter, if◌then◌else◌}
+use Rattle.std.specs.List.{list_all, list_any}
 use Rattle.std.specs.Ordering.{int_eq}
-use Rattle.othello_rules.specs.Masks.{in_mask}
+use Rattle.othello_rules.specs.Masks.{in_mask, squares_of}
 use Rattle.othello_rules.specs.Answer.{AnswerView}
 use Rattle.othello_rules.specs.declared.answer.Best.{Best}
 use Rattle.othello_rules.specs.declared.answer.Best.TheVariants as best
@@ -37,3 +37,31 @@ agrees fields answer =
 unfoldable pub check : List Field → AnswerView → Check
 check [] answer = Unlisted
 check (f ∷ fs) answer = if agrees (f ∷ fs) answer then Agree else Differ
+
+-- a disc on the square is listed
+abbrev pub is_square : ℕ → ListedMove → Bool
+is_square q (listed.At p) = p == q
+is_square q _ = false
+
+-- a disc on the square is listed with this score
+abbrev pub lists_square : List Field → ℤ → ℕ → Bool
+lists_square fields score q = list_any (λ f. int_eq f.1 score && is_square q f.0) fields
+
+-- Each best move is listed with the score. A pass and the end of the game are the only move that
+-- may be listed.
+abbrev pub lists_best : List Field → ℤ → Best → Bool
+lists_best fields score (best.Moves mask) = list_all (lists_square fields score) (squares_of mask)
+lists_best fields score _ = true
+
+-- `Unlisted` where no score is listed, and else whether the fields agree with the answer and list
+-- every best move
+unfoldable pub complete_check : List Field → AnswerView → Check
+complete_check [] answer = Unlisted
+complete_check (f ∷ fs) answer =
+    if agrees (f ∷ fs) answer && lists_best (f ∷ fs) answer.score answer.best
+    then Agree else Differ
+
+-- the check of a line that has to list every best move, or need not
+abbrev pub check_by : Bool → List Field → AnswerView → Check
+check_by true fields answer = complete_check fields answer
+check_by false fields answer = check fields answer

@@ -3,7 +3,7 @@ use Rattle.std.specs.Prelude.{List, Option, Some, None}
 use Rattle.std.specs.List.{filter_map}
 use Rattle.endgame_search.specs.Task.{TaskView}
 use Rattle.othello_bits.specs.Pos.{answer_of}
-use Rattle.suite_reports.specs.Check.{check}
+use Rattle.suite_reports.specs.Check.{check_by}
 use Rattle.suite_reports.specs.declared.parsed_line.ParsedLine.{ParsedLine}
 use Rattle.suite_reports.specs.declared.parsed_line.ParsedLine.TheVariants as parsed
 use Rattle.suite_reports.specs.declared.report_row.ReportRow.{ReportRow}
@@ -13,14 +13,14 @@ use Rattle.suite_reports.specs.declared.numbered_line.NumberedLine.{NumberedLine
 
 -- the task of a line; none where the line is refused
 abbrev pub task_in : ParsedLine → Option TaskView
-task_in (parsed.Position task listed) = Some task
+task_in (parsed.Position task listed complete) = Some task
 task_in (parsed.Refused refusal) = None
 
 -- the result of a line: the answer of its task with the check, or its refusal
 abbrev pub parsed_result : ParsedLine → RowResult
-parsed_result (parsed.Position task listed) =
+parsed_result (parsed.Position task listed complete) =
     Solved (answer_of task.scoring task.position)
-    (check listed.items (answer_of task.scoring task.position))
+    (check_by complete listed.items (answer_of task.scoring task.position))
 parsed_result (parsed.Refused refusal) = Refused refusal
 
 -- the row of a line that was read

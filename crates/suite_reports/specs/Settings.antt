@@ -1,17 +1,20 @@
 -- What a contract sees of the settings of a run.
-use Rattle.std.specs.Prelude.{ℕ, ◌≤◌}
+use Rattle.std.specs.Prelude.{ℕ, ◌≤◌, Bool, false}
 use Rattle.othello_rules.specs.declared.scoring.Scoring.{Scoring}
 use Rattle.othello_rules.specs.declared.scoring.Scoring.TheVariants.{Winner}
 use Rattle.bound_table.specs.Limits.{most_entries}
 use Rattle.endgame_search.specs.Limits.{most_empties}
+use Rattle.suite_reports.specs.declared.criteria.Criteria.{Criteria}
 use Rattle.suite_reports.specs.Limits.{default_empties, default_entries, default_workers, most_workers}
 
--- the most empty squares that are solved, the number of workers, of table entries, and the scoring
+-- the most empty squares that are solved, the number of workers, of table entries, the scoring, and
+-- whether a line that lists moves has to list every best one
 pub record SettingsView : Type 0 where
   pub max_empties : ℕ
   pub workers : ℕ
   pub table : ℕ
   pub scoring : Scoring
+  pub complete : Bool
 
 -- no number is above its limit
 pub record IsWithinLimits (c : SettingsView) : Type 0 where
@@ -26,4 +29,9 @@ defaults = record {
   workers = default_workers;
   table = default_entries;
   scoring = Winner;
+  complete = false;
 }
+
+-- by what the lines of a run with these settings are refused and checked
+abbrev pub criteria_of : SettingsView → Criteria
+criteria_of c = record { limit = c.max_empties; complete = c.complete }

@@ -1,10 +1,12 @@
 //! How the scores that a line lists compare with the answer.
 
 ghost use Rattle.std.specs.Prelude.{◌≡◌};
-ghost use Rattle.suite_reports.specs.Check.{check, is_best_in, are_best_in};
+ghost use Rattle.std.specs.List.{list_all};
+ghost use Rattle.suite_reports.specs.Check.{are_best_in, check, check_by, complete_check, is_best_in};
+ghost use Rattle.suite_reports.specs.Check.{is_square, lists_best, lists_square};
 
 use obf_text::{ListedMove, greatest_score};
-use othello_rules::{Answer, Best, has_square};
+use othello_rules::{Answer, Best, Square, has_square, squares_in};
 
 /// How the scores that a line lists compare with the exact answer of its position.
 #[derive(Clone, Copy, PartialEq, Eq, Debug)]
@@ -55,5 +57,74 @@ pub fn check_of(listed: &[(ListedMove, i8)], answer: &Answer) -> Check
                 Check::Differ
             }
         }
+    }
+}
+
+// Whether a listed move is a disc on the square.
+fn is_square(square: Square, listed: ListedMove) -> bool
+    ensures { result ≡ is_square square listed }
+{
+    match listed {
+        ListedMove::At(other) => other == square,
+        _ => false,
+    }
+}
+
+// Whether a disc on the square is listed with this score.
+fn lists_square(listed: &[(ListedMove, i8)], score: i8, square: Square) -> bool
+    ensures { result ≡ lists_square listed.now score square }
+{
+    listed.iter().any(|(listed_move, listed_score)| {
+        *listed_score == score && is_square(square, *listed_move)
+    })
+}
+
+// Whether a disc on each of the squares is listed with this score.
+fn lists_squares(listed: &[(ListedMove, i8)], score: i8, squares: &[Square]) -> bool
+    ensures { result ≡ list_all (lists_square listed.now score) squares.now }
+{
+    squares
+        .iter()
+        .all(|square| lists_square(listed, score, *square))
+}
+
+// Whether each best move is listed with the score. A pass and the end of the game are the only move
+// that may be listed.
+fn lists_best(listed: &[(ListedMove, i8)], score: i8, best: Best) -> bool
+    ensures { result ≡ lists_best listed.now score best }
+{
+    match best {
+        Best::Moves(mask) => lists_squares(listed, score, squares_in(mask).as_slice()),
+        Best::Pass | Best::Over => true,
+    }
+}
+
+/// Compares the moves and scores that a line lists with the exact answer of its position, as
+/// `check_of` does, but a line that leaves out a best move differs. So the moves that agree are
+/// exactly the best ones.
+#[tactic(auto, unfolding(crate::specs::Check::check, crate::specs::Check::complete_check))]
+pub fn complete_check_of(listed: &[(ListedMove, i8)], answer: &Answer) -> Check
+    ensures { result ≡ complete_check listed.now answer.now }
+{
+    match check_of(listed, answer) {
+        Check::Agree => {
+            if lists_best(listed, answer.score, answer.best) {
+                Check::Agree
+            } else {
+                Check::Differ
+            }
+        }
+        check => check,
+    }
+}
+
+/// `complete_check_of` for a line that has to list every best move, and else `check_of`.
+pub(crate) fn check_by(complete: bool, listed: &[(ListedMove, i8)], answer: &Answer) -> Check
+    ensures { result ≡ check_by complete listed.now answer.now }
+{
+    if complete {
+        complete_check_of(listed, answer)
+    } else {
+        check_of(listed, answer)
     }
 }

@@ -16,13 +16,16 @@
 #![tactic(auto)]
 
 mod check;
+mod criteria;
+pub mod laws;
 mod numbered_line;
 mod parsed_line;
 mod report;
 mod report_row;
 mod settings;
 
-pub use check::{Check, check_of};
+pub use check::{Check, check_of, complete_check_of};
+pub use criteria::Criteria;
 pub use numbered_line::{NumberedLine, parse_lines, rows_of};
 pub use report::write_report;
 pub use report_row::{Refusal, ReportRow, RowResult};

@@ -6,9 +6,9 @@ ghost use Rattle.suite_reports.specs.Limits.{most_bytes};
 ghost use Rattle.suite_reports.specs.ParsedLine.{row_in, task_in, tasks_in};
 ghost use Rattle.suite_reports.specs.Rows.{rows, tasks};
 
+use crate::criteria::Criteria;
 use crate::parsed_line::{ParsedLine, parse_line};
 use crate::report_row::ReportRow;
-use crate::settings::MOST_EMPTIES;
 use endgame_search::{Solved, Task};
 use obf_text::split_lines;
 use othello_rules::Scoring;
@@ -31,23 +31,23 @@ impl NumberedLine {
     }
 }
 
-/// Reads the lines of a text, in their order. Skipped lines are left out. A position with more than
-/// `limit` empty squares is refused.
+/// Reads the lines of a text, in their order. Skipped lines are left out. A position with more
+/// empty squares than the limit is refused.
 pub fn parse_lines(
     alloc: Global,
-    limit: u8,
+    criteria: Criteria,
     scoring: Scoring,
     text: &[u8],
 ) -> Result<Vec<NumberedLine>, AllocError>
-    requires few_empties { limit ≤ most_empties }
+    requires few_empties { criteria.limit ≤ most_empties }
     requires short { length text.now ≤ most_bytes }
-    ensures rows { IfOk result (λ found. map row_in found.items ≡ rows scoring limit text.now) }
-    ensures tasks { IfOk result (λ found. tasks_in found.items ≡ tasks scoring limit text.now) }
+    ensures rows { IfOk result (λ found. map row_in found.items ≡ rows scoring criteria text.now) }
+    ensures tasks { IfOk result (λ found. tasks_in found.items ≡ tasks scoring criteria.limit text.now) }
 {
     let mut lines = Vec::new(alloc);
     let mut line: u32 = 1;
     for bytes in split_lines(text) {
-        if let Some(parsed) = parse_line(alloc, limit, scoring, bytes)? {
+        if let Some(parsed) = parse_line(alloc, criteria, scoring, bytes)? {
             lines.push(NumberedLine { line, parsed })?;
         }
         line += 1;

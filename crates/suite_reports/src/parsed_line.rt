@@ -11,9 +11,9 @@ ghost use Rattle.obf_text.specs.Obf.{Holds, entry_of, item_of};
 ghost use Rattle.suite_reports.specs.ParsedLine.{parsed_result, task_in};
 ghost use Rattle.suite_reports.specs.Rows.{entry_result, line_result, task_of};
 
-use crate::check::check_of;
+use crate::check::check_by;
+use crate::criteria::Criteria;
 use crate::report_row::{Refusal, RowResult};
-use crate::settings::MOST_EMPTIES;
 use endgame_search::{Solved, Task, TooMany};
 use obf_text::{Item, Line, LineFault, ListedMove, read_line};
 use othello_bits::Pos;
@@ -24,21 +24,23 @@ use std::slice::Iter;
 /// A line that is not skipped, after it was read.
 #[derive(Drop)]
 pub(crate) enum ParsedLine {
-    /// A position to solve, and the moves and scores that the line lists.
-    Position(Task, Vec<(ListedMove, i8)>),
+    /// A position to solve, the moves and scores that the line lists, and whether it has to list
+    /// every best move where it lists any.
+    Position(Task, Vec<(ListedMove, i8)>, bool),
     /// Why the line is refused.
     Refused(Refusal),
 }
 
 impl ParsedLine {
-    // The line of a position: a task, or a refusal where it has more than `limit` empty squares.
-    fn of_entry(limit: u8, scoring: Scoring, entry: Line) -> ParsedLine
-        requires { limit ≤ most_empties }
-        ensures result { parsed_result result ≡ entry_result scoring limit (entry_of entry) }
-        ensures task { task_in result ≡ task_of scoring limit (Holds (entry_of entry)) }
+    // The line of a position: a task, or a refusal where it has more empty squares than the limit.
+    fn of_entry(criteria: Criteria, scoring: Scoring, entry: Line) -> ParsedLine
+        requires { criteria.limit ≤ most_empties }
+        ensures result { parsed_result result ≡ entry_result scoring criteria (entry_of entry) }
+        ensures task { task_in result ≡ task_of scoring criteria.limit (Holds (entry_of entry)) }
     {
+        let limit = criteria.limit;
         match Task::new(Pos::of_grid(&entry.grid), limit, scoring) {
-            Ok(task) => ParsedLine::Position(task, entry.listed),
+            Ok(task) => ParsedLine::Position(task, entry.listed, criteria.complete),
             Err(TooMany(found)) => ParsedLine::Refused(Refusal::Empties(found, limit)),
         }
     }
@@ -48,7 +50,7 @@ impl ParsedLine {
         ensures { result ≡ task_in self.now }
     {
         match self {
-            ParsedLine::Position(task, _) => Some(*task),
+            ParsedLine::Position(task, _, _) => Some(*task),
             ParsedLine::Refused(_) => None,
         }
     }
@@ -63,12 +65,12 @@ impl ParsedLine {
             ≡ cons_option (task_in self.now) (iter_rest answers.new) }
     {
         match self {
-            ParsedLine::Position(_, listed) => {
+            ParsedLine::Position(_, listed, complete) => {
                 let Some(solved) = answers.next() else {
                     unreachable!()
                 };
                 let answer = solved.answer();
-                RowResult::Solved(answer, check_of(listed, &answer))
+                RowResult::Solved(answer, check_by(*complete, listed, &answer))
             }
             ParsedLine::Refused(refusal) => RowResult::Refused(*refusal),
         }
@@ -78,20 +80,20 @@ impl ParsedLine {
 // Reads a line; None where it is skipped. The only error is out of memory.
 pub(crate) fn parse_line(
     alloc: Global,
-    limit: u8,
+    criteria: Criteria,
     scoring: Scoring,
     line: &[u8],
 ) -> Result<Option<ParsedLine>, AllocError>
-    requires few_empties { limit ≤ most_empties }
+    requires few_empties { criteria.limit ≤ most_empties }
     requires short { length line.now ≤ most_bytes }
     ensures result { IfOk result
-        (λ found. option_map parsed_result found ≡ line_result scoring limit (item_of line.now)) }
+        (λ found. option_map parsed_result found ≡ line_result scoring criteria (item_of line.now)) }
     ensures task { IfOk result
-        (λ found. option_and_then task_in found ≡ task_of scoring limit (item_of line.now)) }
+        (λ found. option_and_then task_in found ≡ task_of scoring criteria.limit (item_of line.now)) }
 {
     let refusal = match read_line(alloc, line) {
         Ok(Item::Skip) => return Ok(None),
-        Ok(Item::Entry(entry)) => return Ok(Some(ParsedLine::of_entry(limit, scoring, entry))),
+        Ok(Item::Entry(entry)) => return Ok(Some(ParsedLine::of_entry(criteria, scoring, entry))),
         Err(LineFault::Short(found)) => Refusal::Short(found as u32),
         Err(LineFault::BadCell(column)) => Refusal::BadCell(column as u32),
         Err(LineFault::BadSide(column)) => Refusal::BadSide(column as u32),

@@ -1,10 +1,11 @@
 //! The limits of a run, its settings, and the version.
 
-ghost use Rattle.std.specs.Prelude.{◌≡◌, ◌≤◌, ◌↔◌, IsSome, IfSome};
+ghost use Rattle.std.specs.Prelude.{◌≡◌, ◌≤◌, ◌↔◌, IsSome, IfSome, false};
 ghost use Rattle.bound_table.specs.Limits.{most_entries};
 ghost use Rattle.endgame_search.specs.Limits.{most_empties};
-ghost use Rattle.suite_reports.specs.Settings.{SettingsView, IsWithinLimits, defaults};
+ghost use Rattle.suite_reports.specs.Settings.{SettingsView, IsWithinLimits, criteria_of, defaults};
 
+use crate::criteria::Criteria;
 use bound_table::BoundTable;
 use endgame_search::Task;
 use job_board::Board;
@@ -36,13 +37,15 @@ pub const DEFAULT_WORKERS_TEXT: &str = "2";
 /// `DEFAULT_ENTRIES` as the words of a command line have it.
 pub const DEFAULT_ENTRIES_TEXT: &str = "65536";
 
-/// The settings of a run: three numbers, none above its limit, and the scoring.
+/// The settings of a run: three numbers, none above its limit, the scoring, and whether a line that
+/// lists moves has to list every best one.
 #[derive(Clone, Copy, PartialEq, Eq, Debug)]
 pub struct Settings {
     max_empties: u8,
     workers: u8,
     table: u32,
     scoring: Scoring,
+    complete: bool,
 }
 
 impl Model for Settings {
@@ -55,6 +58,7 @@ impl Model for Settings {
       workers = s.workers;
       table = s.table;
       scoring = s.scoring;
+      complete = s.complete;
     } };
 
     ghost invariant = { λ s. IsWithinLimits (record {
@@ -62,6 +66,7 @@ impl Model for Settings {
       workers = s.workers;
       table = s.table;
       scoring = s.scoring;
+      complete = s.complete;
     }) };
 
     ghost inverse = { λ c. record {
@@ -69,18 +74,20 @@ impl Model for Settings {
       workers = c.workers;
       table = c.table;
       scoring = c.scoring;
+      complete = c.complete;
     } };
 }
 
 impl Settings {
     /// Settings by which positions of at most `max_empties` empty squares are solved, on `workers`
-    /// threads besides one for each file, over a table of `table` entries. None where a number is
-    /// above its limit: `MOST_EMPTIES`, `MOST_WORKERS` and `MOST_ENTRIES`.
+    /// threads beside one for each file, over a table of `table` entries. A line may leave out best
+    /// moves. None where a number is above its limit: `MOST_EMPTIES`, `MOST_WORKERS` and
+    /// `MOST_ENTRIES`.
     pub fn new(max_empties: u8, workers: u8, table: u32, scoring: Scoring) -> Option<Settings>
         ensures within { IsSome result ↔ IsWithinLimits (record
-            { max_empties = max_empties; workers = workers; table = table; scoring = scoring }) }
+            { max_empties = max_empties; workers = workers; table = table; scoring = scoring; complete = false }) }
         ensures value { IfSome result (λ s. s ≡ record
-            { max_empties = max_empties; workers = workers; table = table; scoring = scoring }) }
+            { max_empties = max_empties; workers = workers; table = table; scoring = scoring; complete = false }) }
     {
         if max_empties > MOST_EMPTIES || workers > MOST_WORKERS || table > MOST_ENTRIES {
             return None;
@@ -90,7 +97,15 @@ impl Settings {
             workers,
             table,
             scoring,
+            complete: false,
         })
+    }
+
+    /// These settings, by which a line that lists moves has to list every best one, or need not.
+    pub fn with_complete(self, complete: bool) -> Settings
+        ensures { result ≡ record self { complete = complete } }
+    {
+        Settings { complete, ..self }
     }
 
     /// The most empty squares of a position that is solved. A position with more is refused.
@@ -122,10 +137,22 @@ impl Settings {
     {
         self.scoring
     }
+
+    /// By what the lines of the run are refused and checked.
+    pub fn criteria(&self) -> Criteria
+        ensures value { result ≡ criteria_of self.now }
+        ensures within { result.limit ≤ most_empties }
+    {
+        Criteria {
+            limit: self.max_empties,
+            complete: self.complete,
+        }
+    }
 }
 
 impl Default for Settings {
-    /// `DEFAULT_EMPTIES`, `DEFAULT_WORKERS`, `DEFAULT_ENTRIES`, and the scoring `Winner`.
+    /// `DEFAULT_EMPTIES`, `DEFAULT_WORKERS`, `DEFAULT_ENTRIES`, and the scoring `Winner`. A line may
+    /// leave out best moves.
     fn default() -> Settings
         ensures { result ≡ defaults }
     {
@@ -134,6 +161,7 @@ impl Default for Settings {
             workers: DEFAULT_WORKERS,
             table: DEFAULT_ENTRIES,
             scoring: Scoring::Winner,
+            complete: false,
         }
     }
 }

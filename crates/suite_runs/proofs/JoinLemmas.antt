@@ -4,6 +4,7 @@ use Rattle.std.specs.Prelude.{Option, Some, None, Result, Ok, Err, IfOk, IfErr, 
 use Rattle.std.specs.declared.alloc.Global.{Global}
 use Rattle.std.proofs.lemmas.List.{append-nil, map-append}
 use Rattle.othello_rules.specs.declared.scoring.Scoring.{Scoring}
+use Rattle.suite_reports.specs.declared.criteria.Criteria.{Criteria}
 use Rattle.suite_runs.specs.Part.{GivesPart, GivesParts, IsPartFault, part_view, part_view_of}
 use Rattle.suite_runs.specs.RunFault.{worse_fault}
 use Rattle.suite_runs.specs.Threads.{AreJoined, StartedClientView, started_view, part_view_at}
@@ -11,9 +12,9 @@ use Rattle.suite_runs.specs.declared.run_fault.RunFault.{RunFault}
 use Rattle.suite_runs.specs.declared.run_fault.RunFault.TheVariants.{Memory, Mixed, TooManyFiles, FileTooLarge}
 use Rattle.suite_runs.specs.declared.part.Part.{Part}
 
-pub started_views : (g : Scoring) (limit : ℕ) (texts : List (List ℕ)) → map part_view_at (map (started_view g limit) texts) ≡ map (part_view g limit) texts
-started_views g limit [] = refl
-started_views g limit (text ∷ texts) = ap (λ l. part_view g limit text ∷ l) (started_views g limit texts)
+pub started_views : (g : Scoring) (by : Criteria) (texts : List (List ℕ)) → map part_view_at (map (started_view g by) texts) ≡ map (part_view g by) texts
+started_views g by [] = refl
+started_views g by (text ∷ texts) = ap (λ l. part_view g by text ∷ l) (started_views g by texts)
 
 worse_kept : (before : Option RunFault) (fault : RunFault) → IsPartFault fault → IsPartFault (worse_fault before fault)
 worse_kept None fault h = h
@@ -31,7 +32,7 @@ part_joined done a parts part (Some fault) e h = h
 -- a client is joined
 pub join_step : (done : List StartedClientView) (a : StartedClientView) (old new : List Part) (before after : Option RunFault) (given : Result Part RunFault)
     → IfOk given (λ part. (new ≡ old ++ part ∷ []) × (after ≡ before)) → IfErr given (λ fault. after ≡ Some (worse_fault before fault))
-    → GivesPart a.scoring a.limit a.text given → AreJoined done old before → AreJoined (done ++ a ∷ []) new after
+    → GivesPart a.scoring a.criteria a.text given → AreJoined done old before → AreJoined (done ++ a ∷ []) new after
 join_step done a old new before after (Ok part) ok err gives h = rw (ok.0, ok.1) (part_joined done a old part before gives h)
 join_step done a old new before after (Err fault) ok err gives h = rw err (worse_kept before fault gives)
 
@@ -41,18 +42,18 @@ all_joined done clients left parts fault none whole h =
     rw (← (sym (append-nil done) ∙ k)) h
 
 -- the parts that were joined are those of the texts
-pub joined_parts : (g : Scoring) (limit : ℕ) (texts : List (List ℕ)) (parts : List Part) (fault : Option RunFault) → AreJoined (map (started_view g limit) texts) parts fault
-    → fault ≡ None → map part_view_of parts ≡ map (part_view g limit) texts
-joined_parts g limit texts parts None h e = h ∙ started_views g limit texts
-joined_parts g limit texts parts (Some fault) h e = cc
+pub joined_parts : (g : Scoring) (by : Criteria) (texts : List (List ℕ)) (parts : List Part) (fault : Option RunFault) → AreJoined (map (started_view g by) texts) parts fault
+    → fault ≡ None → map part_view_of parts ≡ map (part_view g by) texts
+joined_parts g by texts parts None h e = h ∙ started_views g by texts
+joined_parts g by texts parts (Some fault) h e = cc
 
 pub joined_fault : (clients : List StartedClientView) (parts : List Part) (fault : Option RunFault) (f : RunFault) → AreJoined clients parts fault → fault ≡ Some f → IsPartFault f
 joined_fault clients parts None f h e = cc
 joined_fault clients parts (Some fault) f h e = let same : fault ≡ f = cc in rw (← same) h
 
-pub parts_given : (g : Scoring) (limit : ℕ) (texts : List (List ℕ)) (clients : List StartedClientView) (parts : Vec Part Global) (fault : Option RunFault) (r : Result (Vec Part Global) RunFault)
-    → clients ≡ map (started_view g limit) texts → AreJoined clients parts.items fault → IfOk r (λ v. (v ≡ parts) × (fault ≡ None)) → IfErr r (λ f. fault ≡ Some f) → GivesParts g limit texts r
-parts_given g limit texts clients parts fault (Ok v) e h ok err =
+pub parts_given : (g : Scoring) (by : Criteria) (texts : List (List ℕ)) (clients : List StartedClientView) (parts : Vec Part Global) (fault : Option RunFault) (r : Result (Vec Part Global) RunFault)
+    → clients ≡ map (started_view g by) texts → AreJoined clients parts.items fault → IfOk r (λ v. (v ≡ parts) × (fault ≡ None)) → IfErr r (λ f. fault ≡ Some f) → GivesParts g by texts r
+parts_given g by texts clients parts fault (Ok v) e h ok err =
     let k = rw e at h in
-    ap (λ (w : Vec Part Global). map part_view_of w.items) ok.0 ∙ joined_parts g limit texts parts.items fault k ok.1
-parts_given g limit texts clients parts fault (Err f) e h ok err = joined_fault clients parts.items fault f h err
+    ap (λ (w : Vec Part Global). map part_view_of w.items) ok.0 ∙ joined_parts g by texts parts.items fault k ok.1
+parts_given g by texts clients parts fault (Err f) e h ok err = joined_fault clients parts.items fault f h err

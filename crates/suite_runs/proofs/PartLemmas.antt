@@ -12,6 +12,7 @@ use Rattle.endgame_search.specs.Task.{TaskView}
 use Rattle.solved_book.specs.Books.{BookView}
 use Rattle.solved_book.specs.Order.{AreBookPositions}
 use Rattle.solved_book.proofs.OneOrder.{same_order}
+use Rattle.suite_reports.specs.declared.criteria.Criteria.{Criteria}
 use Rattle.suite_runs.specs.Outcome.{IsBookOf, canonicals, report_of_view, reports_of_views, tasks_of_views}
 use Rattle.suite_runs.specs.Part.{PartView, part_view, part_view_of}
 use Rattle.suite_reports.specs.Reports.{report, reports_from}
@@ -35,23 +36,23 @@ unfolding reports_of_views
 views_none n = refl
 
 -- the reports of the parts of texts
-pub views_reported : (g : Scoring) (limit n : ℕ) (texts : List (List ℕ)) → reports_of_views n (map (part_view g limit) texts) ≡ reports_from g limit n texts
+pub views_reported : (g : Scoring) (by : Criteria) (n : ℕ) (texts : List (List ℕ)) → reports_of_views n (map (part_view g by) texts) ≡ reports_from g by n texts
 unfolding reports_of_views reports_from
-views_reported g limit n [] = refl
-views_reported g limit n (text ∷ texts) = ap (λ l. report g limit (n, text) ∷ l) (views_reported g limit (n + 1) texts)
+views_reported g by n [] = refl
+views_reported g by n (text ∷ texts) = ap (λ l. report g by (n, text) ∷ l) (views_reported g by (n + 1) texts)
 
 -- ---- tasks
 
-pub views_tasks : (g : Scoring) (limit : ℕ) (texts : List (List ℕ)) → tasks_of_views (map (part_view g limit) texts) ≡ all_tasks g limit texts
-views_tasks g limit [] = refl
-views_tasks g limit (text ∷ texts) = ap (λ l. tasks g limit text ++ l) (views_tasks g limit texts)
+pub views_tasks : (g : Scoring) (by : Criteria) (texts : List (List ℕ)) → tasks_of_views (map (part_view g by) texts) ≡ all_tasks g by.limit texts
+views_tasks g by [] = refl
+views_tasks g by (text ∷ texts) = ap (λ l. tasks g by.limit text ++ l) (views_tasks g by texts)
 
 abbrev pub AreScored : Scoring → PartView → Type 0
 AreScored g y = All (HasScoring g) y.1
 
-pub views_scored : (g : Scoring) (limit : ℕ) (texts : List (List ℕ)) → All (AreScored g) (map (part_view g limit) texts)
-views_scored g limit [] = All-nil (AreScored g)
-views_scored g limit (text ∷ texts) = All-cons (AreScored g) (part_view g limit text) (map (part_view g limit) texts) (tasks_scored g limit text) (views_scored g limit texts)
+pub views_scored : (g : Scoring) (by : Criteria) (texts : List (List ℕ)) → All (AreScored g) (map (part_view g by) texts)
+views_scored g by [] = All-nil (AreScored g)
+views_scored g by (text ∷ texts) = All-cons (AreScored g) (part_view g by text) (map (part_view g by) texts) (tasks_scored g by.limit text) (views_scored g by texts)
 
 -- each part of scored ones is scored
 pub scored_at : (g : Scoring) (parts : List Part) (i : ℕ) (d : Part) → i < length parts → All (AreScored g) (map part_view_of parts) → All (HasScoring g) (get_or parts i d).solved.items
@@ -134,18 +135,18 @@ book_more old new parts i d solved lt e before added p =
 
 -- ---- the outcome
 
-pub parts_few : (parts : List Part) (g : Scoring) (limit : ℕ) (files : List File) → map part_view_of parts ≡ map (part_view g limit) (texts_of files) → length parts ≡ length files
-parts_few parts g limit files e =
-    sym (length-map parts part_view_of) ∙ ap length e ∙ length-map (texts_of files) (part_view g limit) ∙ length-map files (λ (f : File). f.items)
+pub parts_few : (parts : List Part) (g : Scoring) (by : Criteria) (files : List File) → map part_view_of parts ≡ map (part_view g by) (texts_of files) → length parts ≡ length files
+parts_few parts g by files e =
+    sym (length-map parts part_view_of) ∙ ap length e ∙ length-map (texts_of files) (part_view g by) ∙ length-map files (λ (f : File). f.items)
 
-pub parts_scored : (ys : List PartView) (g : Scoring) (limit : ℕ) (texts : List (List ℕ)) → ys ≡ map (part_view g limit) texts → All (AreScored g) ys
-parts_scored ys g limit texts e = All-same (AreScored g) ys (map (part_view g limit) texts) e (views_scored g limit texts)
+pub parts_scored : (ys : List PartView) (g : Scoring) (by : Criteria) (texts : List (List ℕ)) → ys ≡ map (part_view g by) texts → All (AreScored g) ys
+parts_scored ys g by texts e = All-same (AreScored g) ys (map (part_view g by) texts) e (views_scored g by texts)
 
-pub outcome_reports : (ys : List PartView) (g : Scoring) (limit : ℕ) (texts : List (List ℕ)) → ys ≡ map (part_view g limit) texts → reports_of_views 0 ys ≡ reports_from g limit 0 texts
-outcome_reports ys g limit texts e = ap (reports_of_views 0) e ∙ views_reported g limit 0 texts
+pub outcome_reports : (ys : List PartView) (g : Scoring) (by : Criteria) (texts : List (List ℕ)) → ys ≡ map (part_view g by) texts → reports_of_views 0 ys ≡ reports_from g by 0 texts
+outcome_reports ys g by texts e = ap (reports_of_views 0) e ∙ views_reported g by 0 texts
 
-pub outcome_tasks : (ys : List PartView) (g : Scoring) (limit : ℕ) (texts : List (List ℕ)) → ys ≡ map (part_view g limit) texts → tasks_of_views ys ≡ all_tasks g limit texts
-outcome_tasks ys g limit texts e = ap tasks_of_views e ∙ views_tasks g limit texts
+pub outcome_tasks : (ys : List PartView) (g : Scoring) (by : Criteria) (texts : List (List ℕ)) → ys ≡ map (part_view g by) texts → tasks_of_views ys ≡ all_tasks g by.limit texts
+outcome_tasks ys g by texts e = ap tasks_of_views e ∙ views_tasks g by texts
 
 -- ---- two runs
 

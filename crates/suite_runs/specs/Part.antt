@@ -3,6 +3,7 @@ use Rattle.std.specs.Prelude.{◌≡◌, ◌⊎◌, ℕ, List, map, Result, Ok, 
 use Rattle.std.specs.declared.alloc.Global.{Global}
 use Rattle.othello_rules.specs.declared.scoring.Scoring.{Scoring}
 use Rattle.endgame_search.specs.Task.{TaskView}
+use Rattle.suite_reports.specs.declared.criteria.Criteria.{Criteria}
 use Rattle.suite_reports.specs.Rows.{rows, tasks}
 use Rattle.suite_runs.specs.declared.part.Part.{Part}
 use Rattle.suite_reports.specs.declared.report_row.ReportRow.{ReportRow}
@@ -17,19 +18,19 @@ abbrev pub part_view_of : Part → PartView
 part_view_of part = (part.rows.items, part.solved.items)
 
 -- the part that a text defines
-abbrev pub part_view : Scoring → ℕ → List ℕ → PartView
-part_view g limit text = (rows g limit text, tasks g limit text)
+abbrev pub part_view : Scoring → Criteria → List ℕ → PartView
+part_view g by text = (rows g by text, tasks g by.limit text)
 
 -- the faults that a part may have
 abbrev pub IsPartFault : RunFault → Type 0
 IsPartFault fault = (fault ≡ Memory) ⊎ (fault ≡ Mixed)
 
 -- the result is the part of the text, or the fault of memory or of a desk
-abbrev pub GivesPart : Scoring → ℕ → List ℕ → Result Part RunFault → Type 0
-GivesPart g limit text (Ok part) = part_view_of part ≡ part_view g limit text
-GivesPart g limit text (Err fault) = IsPartFault fault
+abbrev pub GivesPart : Scoring → Criteria → List ℕ → Result Part RunFault → Type 0
+GivesPart g by text (Ok part) = part_view_of part ≡ part_view g by text
+GivesPart g by text (Err fault) = IsPartFault fault
 
 -- the results are the parts of the texts, in their order, or the fault of memory or of a desk
-abbrev pub GivesParts : Scoring → ℕ → List (List ℕ) → Result (Vec Part Global) RunFault → Type 0
-GivesParts g limit texts (Ok parts) = map part_view_of parts.items ≡ map (part_view g limit) texts
-GivesParts g limit texts (Err fault) = IsPartFault fault
+abbrev pub GivesParts : Scoring → Criteria → List (List ℕ) → Result (Vec Part Global) RunFault → Type 0
+GivesParts g by texts (Ok parts) = map part_view_of parts.items ≡ map (part_view g by) texts
+GivesParts g by texts (Err fault) = IsPartFault fault

@@ -4,7 +4,7 @@ use Rattle.std.specs.List.{flat_map, position}
 use Rattle.othello_rules.specs.declared.scoring.Scoring.{Scoring}
 use Rattle.obf_text.specs.LineText.{texts_of}
 use Rattle.endgame_search.specs.Task.{TaskView}
-use Rattle.suite_reports.specs.Settings.{SettingsView}
+use Rattle.suite_reports.specs.Settings.{SettingsView, criteria_of}
 use Rattle.suite_runs.specs.Outcome.{IsBookOf}
 use Rattle.suite_runs.specs.Part.{part_view, part_view_of}
 use Rattle.suite_reports.specs.Reports.{reports}
@@ -37,7 +37,7 @@ Refuses (Err fault) texts = refusal_of texts ≡ Some fault
 
 -- each part is the part of its text
 abbrev pub ArePartsOf : SettingsView → List (List ℕ) → List Part → Type 0
-ArePartsOf c texts parts = map part_view_of parts ≡ map (part_view c.scoring c.max_empties) texts
+ArePartsOf c texts parts = map part_view_of parts ≡ map (part_view c.scoring (criteria_of c)) texts
 
 -- the tasks of all texts, in their order
 abbrev pub all_tasks : Scoring → ℕ → List (List ℕ) → List TaskView
@@ -45,7 +45,7 @@ all_tasks g limit texts = flat_map (tasks g limit) texts
 
 -- the outcome has the reports of the texts, and a book of their tasks
 pub record Solves (c : SettingsView) (texts : List (List ℕ)) (outcome : Outcome) : Type 0 where
-  pub reports : texts_of outcome.reports.items ≡ reports c.scoring c.max_empties texts
+  pub reports : texts_of outcome.reports.items ≡ reports c.scoring (criteria_of c) texts
   pub book : IsBookOf c.scoring (all_tasks c.scoring c.max_empties texts) outcome.book
 
 -- The result of a run: where nothing is refused, the reports and the book of the texts, or out of

@@ -1,6 +1,7 @@
 -- The clients of a run that were started, and the parts that they give.
 use Rattle.std.specs.Prelude.{◌≡◌, ℕ, List, map, Option, Some, None}
 use Rattle.othello_rules.specs.declared.scoring.Scoring.{Scoring}
+use Rattle.suite_reports.specs.declared.criteria.Criteria.{Criteria}
 use Rattle.suite_runs.specs.Part.{GivesPart, IsPartFault, PartView, part_view, part_view_of}
 use Rattle.suite_runs.specs.declared.run_fault.RunFault.{RunFault}
 use Rattle.suite_runs.specs.declared.part.Part.{Part}
@@ -8,26 +9,26 @@ use Rattle.suite_runs.specs.declared.threads.PartPromise.{PartPromise}
 use Rattle.suite_runs.specs.declared.threads.Progress.{Progress}
 use Rattle.suite_runs.specs.declared.threads.Progress.TheVariants.{Spawned, Done}
 
--- the text of a client, with the scoring and the limit of empty squares by which it is solved
+-- the text of a client, with the scoring under which it is solved, and the criteria of its lines
 pub record StartedClientView : Type 0 where
   pub scoring : Scoring
-  pub limit : ℕ
+  pub criteria : Criteria
   pub text : List ℕ
 
-abbrev pub started_view : Scoring → ℕ → List ℕ → StartedClientView
-started_view g limit text = record { scoring = g; limit = limit; text = text }
+abbrev pub started_view : Scoring → Criteria → List ℕ → StartedClientView
+started_view g by text = record { scoring = g; criteria = by; text = text }
 
 abbrev pub started_view_of : PartPromise → StartedClientView
-started_view_of promise = started_view promise.scoring promise.limit promise.text.now
+started_view_of promise = started_view promise.scoring promise.criteria promise.text.now
 
 -- the client's thread gives the part of its text, or the calling thread made it
 abbrev pub IsProgressOf : StartedClientView → Progress → Type 0
 IsProgressOf a (Spawned handle) = started_view_of handle.promise ≡ a
-IsProgressOf a (Done part) = GivesPart a.scoring a.limit a.text part
+IsProgressOf a (Done part) = GivesPart a.scoring a.criteria a.text part
 
 -- the part of a client's text
 abbrev pub part_view_at : StartedClientView → PartView
-part_view_at a = part_view a.scoring a.limit a.text
+part_view_at a = part_view a.scoring a.criteria a.text
 
 -- the clients were joined: without a fault these are their parts, in their order
 abbrev pub AreJoined : List StartedClientView → List Part → Option RunFault → Type 0

@@ -1,6 +1,6 @@
 //! The part of one client: it sends the tasks of a text to a desk, and receives their answers.
 
-ghost use Rattle.std.specs.Prelude.{◌≡◌, ◌≤◌, ◌++◌, length, Ok, IfOk, IfErr, OnOk, IsErr, IsErrOf};
+ghost use Rattle.std.specs.Prelude.{◌≡◌, ◌≤◌, ◌++◌, length, false, Ok, IfOk, IfErr, OnOk, IsErr, IsErrOf};
 ghost use Rattle.endgame_search.specs.Limits.{most_empties};
 ghost use Rattle.suite_reports.specs.Limits.{most_bytes};
 ghost use Rattle.suite_reports.specs.ParsedLine.{tasks_in};
@@ -19,7 +19,7 @@ use job_board::{Client, Desk, Turn};
 use solved_book::Claims;
 use std::alloc::{AllocError, Global};
 use std::sync::Wait;
-use suite_reports::{NumberedLine, parse_lines, rows_of};
+use suite_reports::{Criteria, NumberedLine, parse_lines, rows_of};
 
 // Submits the task of each line that has one, in the order of the lines.
 fn send_all<R: Wait>(
@@ -101,10 +101,36 @@ pub fn send_and_close<R: Wait>(
     }
 }
 
+/// Does the work of `client_part`, where the lines are refused and checked by the criteria.
+pub(crate) fn client_part_by<R: Wait, T: Bounds, G: Gate>(
+    rt: &R,
+    alloc: Global,
+    text: &[u8],
+    sender: u32,
+    criteria: Criteria,
+    worker: &Worker<'_, T, G>,
+) -> Result<Part, RunFault>
+    requires few_empties { criteria.limit ≤ most_empties }
+    requires short { length text.now ≤ most_bytes }
+    ensures rows { IfOk result (λ part. part.rows.items
+        ≡ rows (T.scoring worker.now.solver.table.now) criteria text.now) }
+    ensures solved { IfOk result (λ part. part.solved.items
+        ≡ tasks (T.scoring worker.now.solver.table.now) criteria.limit text.now) }
+    ensures faults { IfErr result IsPartFault }
+{
+    let mut client = Client::new(alloc, sender);
+    let read = parse_lines(alloc, criteria, worker.solver.scoring(), text);
+    let lines = send_and_close(rt, worker.desk, &mut client, read)?;
+    worker.gate.submitted(rt, sender, client.sent().len());
+    let solved = receive_all(rt, alloc, &mut client, worker)?;
+    let rows = rows_of(alloc, &lines, &solved)?;
+    Ok(Part { rows, solved })
+}
+
 /// Does the whole part of one client. It submits the tasks of the text's lines for `sender`, which
-/// is counted from 0, and closes that sender. Then it solves the jobs that it takes until all of
-/// its own answers came back. A position with more than `limit` empty squares is refused; the tasks
-/// are under the scoring of the table.
+/// counts from 0, and closes that sender. Then it solves the jobs that it takes until all of its
+/// own answers came back. A position with more than `limit` empty squares is refused, and a line may
+/// leave out best moves; the tasks are under the scoring of the table.
 ///
 /// Where the result is Ok, its rows are those of the text, and its solved positions are those of
 /// the text's lines, in their order: at any desk, for any claims, and whatever other threads do
@@ -124,8 +150,8 @@ pub fn client_part<R: Wait, T: Bounds, G: Gate>(
 ) -> Result<Part, RunFault>
     requires few_empties { limit ≤ most_empties }
     requires short { length text.now ≤ most_bytes }
-    ensures rows { IfOk result
-        (λ part. part.rows.items ≡ rows (T.scoring table.now) limit text.now) }
+    ensures rows { IfOk result (λ part. part.rows.items
+        ≡ rows (T.scoring table.now) (record { limit = limit; complete = false }) text.now) }
     ensures solved { IfOk result
         (λ part. part.solved.items ≡ tasks (T.scoring table.now) limit text.now) }
     ensures faults { IfErr result IsPartFault }
@@ -135,11 +161,9 @@ pub fn client_part<R: Wait, T: Bounds, G: Gate>(
         solver: Solver::new(table, claims),
         gate,
     };
-    let mut client = Client::new(alloc, sender);
-    let read = parse_lines(alloc, limit, table.scoring(), text);
-    let lines = send_and_close(rt, desk, &mut client, read)?;
-    gate.submitted(rt, sender, client.sent().len());
-    let solved = receive_all(rt, alloc, &mut client, &worker)?;
-    let rows = rows_of(alloc, &lines, &solved)?;
-    Ok(Part { rows, solved })
+    let criteria = Criteria {
+        limit,
+        complete: false,
+    };
+    client_part_by(rt, alloc, text, sender, criteria, &worker)
 }

@@ -32,7 +32,8 @@ pub use part::Part;
 pub use run_fault::RunFault;
 pub use runs::{check_files, run, run_serial};
 pub use suite_reports::{
-    Check, DEFAULT_EMPTIES, DEFAULT_EMPTIES_TEXT, DEFAULT_ENTRIES, DEFAULT_ENTRIES_TEXT,
+    Check, Criteria, DEFAULT_EMPTIES, DEFAULT_EMPTIES_TEXT, DEFAULT_ENTRIES, DEFAULT_ENTRIES_TEXT,
     DEFAULT_WORKERS, DEFAULT_WORKERS_TEXT, MOST_BYTES, MOST_EMPTIES, MOST_ENTRIES, MOST_FILES,
-    MOST_WORKERS, Refusal, ReportRow, RowResult, Settings, VERSION, check_of, write_report,
+    MOST_WORKERS, Refusal, ReportRow, RowResult, Settings, VERSION, check_of, complete_check_of,
+    write_report,
 };

@@ -3,6 +3,7 @@
 ghost use Rattle.std.specs.Prelude.{◌≡◌, ◌≢◌, ◌<◌, ◌≤◌, ◌↔◌, ℕ, length, Some, None, Err, IfOk, IfSome, IsErrOf, IsOk};
 ghost use Rattle.std.specs.List.{position};
 ghost use Rattle.suite_reports.specs.Limits.{most_files};
+ghost use Rattle.suite_reports.specs.Settings.{criteria_of};
 ghost use Rattle.suite_runs.specs.Outcome.{IsBookOf};
 ghost use Rattle.suite_reports.specs.Reports.{reports};
 ghost use Rattle.obf_text.specs.LineText.{texts_of};
@@ -93,7 +94,7 @@ pub fn run_serial(
         ((length files.now ≤ most_files) × (first_large (texts_of files.now) ≡ Some sender)) }
     ensures unmixed { result ≢ Err Mixed }
     ensures reports { IfOk result (λ outcome. texts_of outcome.reports.items
-        ≡ reports settings.now.scoring settings.now.max_empties (texts_of files.now)) }
+        ≡ reports settings.now.scoring (criteria_of settings.now) (texts_of files.now)) }
     ensures book { IfOk result (λ outcome. IsBookOf settings.now.scoring (all_tasks
         settings.now.scoring settings.now.max_empties (texts_of files.now)) outcome.book) }
 {
@@ -141,7 +142,7 @@ pub fn run<R: Threads + Wait + Sync, G: Gate>(
     ensures too_large { (sender : ℕ) → IsErrOf result (FileTooLarge sender) ↔
         ((length files.now ≤ most_files) × (first_large (texts_of files.now) ≡ Some sender)) }
     ensures reports { IfOk result (λ outcome. texts_of outcome.reports.items
-        ≡ reports settings.now.scoring settings.now.max_empties (texts_of files.now)) }
+        ≡ reports settings.now.scoring (criteria_of settings.now) (texts_of files.now)) }
     ensures book { IfOk result (λ outcome. IsBookOf settings.now.scoring (all_tasks
         settings.now.scoring settings.now.max_empties (texts_of files.now)) outcome.book) }
 {

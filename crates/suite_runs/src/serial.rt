@@ -15,7 +15,7 @@ use bound_table::Bounds;
 use endgame_search::Solved;
 use solved_book::Claims;
 use std::alloc::{AllocError, Global};
-use suite_reports::{NumberedLine, Settings, parse_lines, rows_of};
+use suite_reports::{Criteria, NumberedLine, Settings, parse_lines, rows_of};
 
 // Solves the tasks of the lines, in the order of the lines.
 fn solve_all<T: Bounds>(
@@ -40,15 +40,15 @@ fn solve_all<T: Bounds>(
 fn solve_text<T: Bounds>(
     alloc: Global,
     text: &[u8],
-    limit: u8,
+    criteria: Criteria,
     solver: &Solver<'_, T>,
 ) -> Result<Part, AllocError>
-    requires few_empties { limit ≤ most_empties }
+    requires few_empties { criteria.limit ≤ most_empties }
     requires short { length text.now ≤ most_bytes }
     ensures { IfOk result
-        (λ part. part_view_of part ≡ part_view (T.scoring solver.now.table.now) limit text.now) }
+        (λ part. part_view_of part ≡ part_view (T.scoring solver.now.table.now) criteria text.now) }
 {
-    let lines = parse_lines(alloc, limit, solver.scoring(), text)?;
+    let lines = parse_lines(alloc, criteria, solver.scoring(), text)?;
     let solved = solve_all(alloc, solver, &lines)?;
     let rows = rows_of(alloc, &lines, &solved)?;
     Ok(Part { rows, solved })
@@ -69,7 +69,7 @@ pub(crate) fn solve_texts(
     let solver = Solver::new(&table, claims);
     let mut parts = Vec::new(alloc);
     for file in files {
-        parts.push(solve_text(alloc, file, settings.max_empties(), &solver)?)?;
+        parts.push(solve_text(alloc, file, settings.criteria(), &solver)?)?;
     }
     Ok(parts)
 }

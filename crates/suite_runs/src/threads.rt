@@ -2,13 +2,14 @@
 
 ghost use Rattle.std.specs.Prelude.{◌≡◌, ◌<◌, ◌≤◌, ◌+◌, ◌++◌, ◌∷◌, length, map, IfOk, IfErr, Some, None, [], vec_len, vec_capacity};
 ghost use Rattle.suite_reports.specs.Limits.{most_bytes, most_files};
+ghost use Rattle.suite_reports.specs.Settings.{criteria_of};
 ghost use Rattle.suite_runs.specs.Part.{GivesPart, GivesParts};
 ghost use Rattle.suite_runs.specs.RunFault.{worse_fault};
 ghost use Rattle.obf_text.specs.LineText.{texts_of};
 ghost use Rattle.suite_runs.specs.Runs.{first_large};
 ghost use Rattle.suite_runs.specs.Threads.{AreJoined, started_view};
 
-use crate::client::client_part;
+use crate::client::client_part_by;
 use crate::gate::Gate;
 use crate::part::Part;
 use crate::run_fault::{RunFault, worse_fault};
@@ -23,7 +24,7 @@ use std::marker::Model;
 use std::sync::Wait;
 use std::thread;
 use std::thread::{Promise, PromisedHandle, Scope, Threads};
-use suite_reports::Settings;
+use suite_reports::{Criteria, Settings};
 
 /// The values that are made for a run, which its threads share.
 #[derive(Drop)]
@@ -70,45 +71,49 @@ impl<'a, R: Wait, G: Gate> Crew<'a, R, G> {
     fn part(&self, sender: u32, text: &[u8]) -> Result<Part, RunFault>
         requires { length text.now ≤ most_bytes }
         ensures { GivesPart self.now.shared.now.table.scoring
-            self.now.shared.now.settings.max_empties text.now result }
+            (criteria_of self.now.shared.now.settings) text.now result }
     {
         let shared = self.shared;
-        client_part(
+        let criteria = shared.settings.criteria();
+        client_part_by(
             self.rt,
             shared.alloc,
             text,
             sender,
-            shared.settings.max_empties(),
-            &shared.desk,
-            &shared.table,
-            Some(self.claims),
-            self.gate,
+            criteria,
+            &self.worker(),
         )
+    }
+
+    // Solves the jobs of the desk.
+    fn worker(&self) -> Worker<'_, BoundTable, G>
+        ensures { result.solver.table.now ≡ self.now.shared.now.table }
+    {
+        Worker {
+            desk: &self.shared.desk,
+            solver: Solver::new(&self.shared.table, Some(self.claims)),
+            gate: self.gate,
+        }
     }
 
     // Does the part of one worker.
     fn work(&self) {
-        let worker = Worker {
-            desk: &self.shared.desk,
-            solver: Solver::new(&self.shared.table, Some(self.claims)),
-            gate: self.gate,
-        };
-        worker.work(self.rt);
+        self.worker().work(self.rt);
     }
 }
 
-/// The promise of a client's thread: it gives the part of `text`, under `scoring` and with `limit`
-/// as the most empty squares, or `Memory` or `Mixed`.
+/// The promise of a client's thread: it gives the part of `text`, under `scoring` and by `criteria`,
+/// or `Memory` or `Mixed`.
 #[derive(Clone, Copy)]
 pub struct PartPromise<'a> {
     pub scoring: Scoring,
-    pub limit: u8,
+    pub criteria: Criteria,
     pub text: &'a [u8],
 }
 
 impl<'a> Promise<Result<Part, RunFault>> for PartPromise<'a> {
     ghost kept_by = { λ promise result.
-        GivesPart promise.scoring promise.limit promise.text.now result };
+        GivesPart promise.scoring promise.criteria promise.text.now result };
 }
 
 /// The thread of a client; or, where no thread could be started, its result on the calling thread.
@@ -138,7 +143,7 @@ impl<'a> Model for StartedClient<'a> {
 impl<'a> StartedClient<'a> {
     // Waits for the client's thread, if it has one, and gives the client's result.
     fn join<R: Threads>(self, rt: &R) -> Result<Part, RunFault>
-        ensures { GivesPart self.entry.scoring self.entry.limit self.entry.text result }
+        ensures { GivesPart self.entry.scoring self.entry.criteria self.entry.text result }
     {
         let StartedClient {
             promise: _,
@@ -161,7 +166,7 @@ fn start<'a, E, R: Threads + Wait + Sync, G: Gate>(
 ) -> StartedClient<'a>
     requires { length text.now ≤ most_bytes }
     ensures { result ≡ started_view crew.now.shared.now.table.scoring
-        crew.now.shared.now.settings.max_empties text.now }
+        (criteria_of crew.now.shared.now.settings) text.now }
 {
     let &Crew {
         rt,
@@ -171,14 +176,14 @@ fn start<'a, E, R: Threads + Wait + Sync, G: Gate>(
     } = crew;
     let promise = PartPromise {
         scoring: shared.table.scoring(),
-        limit: shared.settings.max_empties(),
+        criteria: shared.settings.criteria(),
         text,
     };
     let spawned = scope.spawn_with(
         promise,
         move || -> Result<Part, RunFault>
             requires { length text.now ≤ most_bytes }
-            ensures { GivesPart shared.entry.now.table.scoring shared.entry.now.settings.max_empties
+            ensures { GivesPart shared.entry.now.table.scoring (criteria_of shared.entry.now.settings)
                 text.entry.now result }
         {
             let crew = Crew {
@@ -210,7 +215,7 @@ fn start_all<'a, E, R: Threads + Wait + Sync, G: Gate>(
     requires none { clients.old.items ≡ [] }
     requires room { length files.now ≤ vec_capacity clients.old }
     ensures { clients.new.items ≡ map
-        (started_view crew.now.shared.now.table.scoring crew.now.shared.now.settings.max_empties)
+        (started_view crew.now.shared.now.table.scoring (criteria_of crew.now.shared.now.settings))
         (texts_of files.now) }
 {
     let mut sender: u32 = 0;
@@ -304,7 +309,7 @@ fn solve_in_scope<'a, E, R: Threads + Wait + Sync, G: Gate>(
     requires few { length files.now ≤ most_files }
     requires small { first_large (texts_of files.now) ≡ None }
     ensures { GivesParts crew.now.shared.now.table.scoring
-        crew.now.shared.now.settings.max_empties (texts_of files.now) result }
+        (criteria_of crew.now.shared.now.settings) (texts_of files.now) result }
 {
     let mut clients = Vec::with_capacity(crew.shared.alloc, files.len())?;
     let parts = Vec::with_capacity(crew.shared.alloc, files.len())?;
@@ -328,7 +333,7 @@ pub(crate) fn solve_texts_on_threads<R: Threads + Wait + Sync, G: Gate>(
 ) -> Result<Vec<Part>, RunFault>
     requires few { length files.now ≤ most_files }
     requires small { first_large (texts_of files.now) ≡ None }
-    ensures { GivesParts settings.now.scoring settings.now.max_empties (texts_of files.now) result }
+    ensures { GivesParts settings.now.scoring (criteria_of settings.now) (texts_of files.now) result }
 {
     let shared = Shared::new(alloc, files, settings)?;
     let none = Claims::new(alloc, settings.scoring());
@@ -340,7 +345,7 @@ pub(crate) fn solve_texts_on_threads<R: Threads + Wait + Sync, G: Gate>(
         |scope| -> Result<Vec<Part>, RunFault>
             requires { (length files.now ≤ most_files) × (first_large (texts_of files.now) ≡ None) }
             ensures { GivesParts shared.entry.now.table.scoring
-                shared.entry.now.settings.max_empties (texts_of files.entry.now) result }
+                (criteria_of shared.entry.now.settings) (texts_of files.entry.now) result }
         {
             let crew = Crew {
                 rt,

@@ -33,10 +33,11 @@ impl<'a, T: Bounds, G: Gate> Worker<'a, T, G> {
         self.gate.enter(rt, job.id.sender, job.id.number);
         let finished = self.desk.finish(rt, job.id, self.solver.answer(job.task));
         self.gate.leave(rt, job.id.sender, job.id.number);
-        match finished {
-            Ok(()) => Ok(()),
-            Err(_) => Err(RunFault::Mixed),
-        }
+        let Ok(()) = finished else {
+            return Err(RunFault::Mixed);
+        };
+        self.gate.finished(rt, job.id.sender, job.id.number);
+        Ok(())
     }
 
     /// Takes jobs at the desk and solves them until the desk is done. It ends early after a job

@@ -1,10 +1,13 @@
 -- From the bytes of standard input to those of standard output.
-use Rattle.std.proofs.Common.{◌≡◌, ◌⊎◌, ◌≤◌, ◌<◌, ◌+◌, ℕ, List, [], ◌∷◌, length, min, take, refl, sym, ◌∙◌, ap, arith, inl, inr, Bool, true, false}
+use Rattle.std.proofs.Common.{◌≡◌, ◌⊎◌, ◌≤◌, ◌<◌, ◌+◌, ℕ, List, [], ◌∷◌, length, min, take, refl, sym, subst, ◌∙◌, ap, arith, inl, inr, Bool, true, false}
 use Rattle.std.specs.Prelude.{◌↔◌, Option, Some, None, Result, Ok, Err, IfErr, IfSome, IsErrOf, OnOk}
 use Rattle.std.proofs.lemmas.List.{length-take, take_all}
 use Rattle.std.proofs.lemmas.Bool.{cases_lt}
 use Rattle.std.proofs.Math.Nat.{min_comm, min-eq_left}
 use borrow.Author.Tests.{ltb-false}
+use Rattle.clap.specs.Words.{kind_of}
+use Rattle.clap.specs.declared.error.Error.{Error}
+use Rattle.suite_solver.specs.CommandLine.{Asks, AsksForText, HasFaultBy, IsFaultless, IsTextKind, Request, ffosolve}
 use Rattle.suite_solver.specs.Programs.{AreTextsOf}
 use Rattle.program_files.specs.Inputs.{AreFrontsOf}
 use Rattle.program_files.specs.ProgramErrors.{IsSilent, status_of}
@@ -95,3 +98,12 @@ pub not_one : (s : ℕ) (P : Type 0) → (s ≡ 0) ⊎ ((s ≡ 2) ⊎ (s ≡ 3))
 not_one s P (inl zero) one = absurd (omega (arith, zero, one))
 not_one s P (inr (inl two)) one = absurd (omega (arith, two, one))
 not_one s P (inr (inr three)) one = absurd (omega (arith, three, one))
+
+-- clap finds no fault in words that ask for a request
+pub asked_faultless : (words : List (List ℕ)) (r : Request) → Asks words r → IsFaultless ffosolve words
+asked_faultless words r a = record { names = a.names; named = a.named; faultless = a.faultless }
+
+-- help or the version, which clap hands over as an error, was asked for
+pub text_asked : (words : List (List ℕ)) (error : Error) → HasFaultBy ffosolve words (kind_of error) → IsTextKind (kind_of error) → AsksForText ffosolve words
+text_asked words error h (inl e) = inl (subst (λ k. HasFaultBy ffosolve words k) e h)
+text_asked words error h (inr e) = inr (subst (λ k. HasFaultBy ffosolve words k) e h)

@@ -15,7 +15,7 @@ use Rattle.othello_rules.specs.Scores.{all_scorings, scoring_name}
 use Rattle.othello_rules.specs.declared.scoring.Scoring.{Scoring}
 use Rattle.suite_reports.specs.Settings.{IsWithinLimits, SettingsView}
 use Rattle.suite_reports.specs.declared.settings.TheConstants.{MOST_EMPTIES, MOST_ENTRIES, MOST_WORKERS}
-use Rattle.suite_reports.specs.declared.settings.TheConstants.{DEFAULT_EMPTIES_TEXT, DEFAULT_ENTRIES_TEXT, DEFAULT_WORKERS_TEXT}
+use Rattle.suite_reports.specs.Limits.{default_empties, default_entries, default_workers}
 use Rattle.suite_solver.specs.CommandLine.{HasNumber, HasSettings, NameList, NamesScorings, number_rule, scoring_rule}
 use Rattle.suite_solver.proofs.DefaultLemmas.{default_read, is_only, is_own}
 use Rattle.suite_solver.proofs.NumberLemmas.{numeral_in}
@@ -23,9 +23,9 @@ use Rattle.suite_solver.proofs.NumberLemmas.{numeral_in}
 -- the rules are those of a command that clap's definitions cover, and the options of the settings are the first
 pub record HasSettingsRules (names : NameList) (s : Shape) : Type 0 where
   pub ready : is_ready s ≡ true
-  pub max_empties : slice_get s.rules 0 ≡ Some (number_rule (codes "max-empties") MOST_EMPTIES DEFAULT_EMPTIES_TEXT.now)
-  pub workers : slice_get s.rules 1 ≡ Some (number_rule (codes "workers") MOST_WORKERS DEFAULT_WORKERS_TEXT.now)
-  pub table : slice_get s.rules 2 ≡ Some (number_rule (codes "table") MOST_ENTRIES DEFAULT_ENTRIES_TEXT.now)
+  pub max_empties : slice_get s.rules 0 ≡ Some (number_rule (codes "max-empties") MOST_EMPTIES default_empties)
+  pub workers : slice_get s.rules 1 ≡ Some (number_rule (codes "workers") MOST_WORKERS default_workers)
+  pub table : slice_get s.rules 2 ≡ Some (number_rule (codes "table") MOST_ENTRIES default_entries)
   pub scoring : slice_get s.rules 3 ≡ Some (scoring_rule names)
   pub one_max_empties : is_only 0 (codes "max-empties") s.rules ≡ true
   pub one_workers : is_only 1 (codes "workers") s.rules ≡ true
@@ -33,7 +33,7 @@ pub record HasSettingsRules (names : NameList) (s : Shape) : Type 0 where
   pub one_scoring : is_only 3 (codes "scoring") s.rules ≡ true
 
 -- an option with a number has one in its range
-number_within : (c : Command) (m : ArgMatches) (k : ℕ) (name : Text) (most : ℕ) (default : Text) → IsParsedFrom c m
+number_within : (c : Command) (m : ArgMatches) (k : ℕ) (name : Text) (most default : ℕ) → IsParsedFrom c m
     → is_ready (shape_of c) ≡ true → HasReadyLeaves c → slice_get (shape_of c).rules k ≡ Some (number_rule name most default)
     → is_only k name (shape_of c).rules ≡ true → is_own name ≡ true
     → (n : ℕ) × (n ≤ most) × HasNumber name (rows_of (found_of m)) n
@@ -89,11 +89,11 @@ pub settings_given : (c : Command) (m : ArgMatches) (names : NameList) → IsPar
     → NamesScorings names → HasSettingsRules names (shape_of c)
     → (s : SettingsView) × IsWithinLimits s × HasSettings s (rows_of (found_of m))
 settings_given c m names p leaves named rules =
-    let max_empties = number_within c m 0 (codes "max-empties") MOST_EMPTIES DEFAULT_EMPTIES_TEXT.now p rules.ready leaves rules.max_empties rules.one_max_empties refl in
-    let workers = number_within c m 1 (codes "workers") MOST_WORKERS DEFAULT_WORKERS_TEXT.now p rules.ready leaves rules.workers rules.one_workers refl in
-    let table = number_within c m 2 (codes "table") MOST_ENTRIES DEFAULT_ENTRIES_TEXT.now p rules.ready leaves rules.table rules.one_table refl in
+    let max_empties = number_within c m 0 (codes "max-empties") MOST_EMPTIES default_empties p rules.ready leaves rules.max_empties rules.one_max_empties refl in
+    let workers = number_within c m 1 (codes "workers") MOST_WORKERS default_workers p rules.ready leaves rules.workers rules.one_workers refl in
+    let table = number_within c m 2 (codes "table") MOST_ENTRIES default_entries p rules.ready leaves rules.table rules.one_table refl in
     let scoring = scoring_given c m names p rules.ready leaves named rules.scoring rules.one_scoring in (
-      record { max_empties = max_empties.0; workers = workers.0; table = table.0; scoring = scoring.0 },
+      record { max_empties = max_empties.0; workers = workers.0; table = table.0; scoring = scoring.0; complete = false },
       record { few_empties = max_empties.1; few_workers = workers.1; few_entries = table.1 },
       record { max_empties = max_empties.2; workers = workers.2; table = table.2; scoring = scoring.1 },
     )

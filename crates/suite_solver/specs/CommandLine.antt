@@ -3,6 +3,7 @@
 use Rattle.std.specs.Prelude.{◌≡◌, ◌≢◌, ◌⊎◌, ℕ, Bool, pos, true, false, List, [], ◌∷◌, map}
 use Rattle.std.specs.Prelude.{Option, Some, codes, option_map, string_bytes, unwrap_or}
 use Rattle.std.specs.Borrow.{Bor}
+use Rattle.std.specs.Fmt.{decimal}
 use Rattle.std.specs.Str.Parse.{IsNumeral, digits_value, without_leading_plus}
 use Rattle.clap.specs.Faults.{fault_of}
 use Rattle.clap.specs.Kinds.{IsAmong}
@@ -20,20 +21,20 @@ use Rattle.othello_rules.specs.declared.scoring.Scoring.TheVariants.{Winner}
 use Rattle.program_files.specs.Inputs.{names_of}
 use Rattle.suite_reports.specs.Settings.{SettingsView}
 use Rattle.suite_reports.specs.Limits.{most_empties, most_entries, most_workers}
-use Rattle.suite_reports.specs.declared.settings.TheConstants.{DEFAULT_EMPTIES_TEXT, DEFAULT_ENTRIES_TEXT, DEFAULT_WORKERS_TEXT}
+use Rattle.suite_reports.specs.Limits.{default_empties, default_entries, default_workers}
 use Rattle.suite_solver.specs.declared.run_options.Options.{Options}
 use Rattle.suite_solver.specs.declared.option_fault.OptionFault.{OptionFault}
 use Rattle.suite_solver.specs.declared.option_fault.OptionFault.TheVariants.{Memory, Refused}
 
 -- ---- the command
 
--- an option with a number from 0 to most
-abbrev pub number_rule : Text → ℕ → Text → Rule
+-- an option with a number from 0 to most, and with the decimal numeral of its default
+abbrev pub number_rule : Text → ℕ → ℕ → Rule
 number_rule name most default = record (new_rule name) {
   long = Some name;
   action = Some Set;
   value_names = 1;
-  defaults = default ∷ [];
+  defaults = decimal default ∷ [];
   parser = Some (parser.Signed (pos 0) (pos most));
 }
 
@@ -79,15 +80,16 @@ versioned name = on_top (λ (s : Shape). record s { has_version = true }) (new_a
 -- the command with the options of the settings added
 abbrev pub with_settings : App → NameList → App
 with_settings app names = with_rule (with_rule (with_rule (with_rule app
-    (number_rule (codes "max-empties") most_empties DEFAULT_EMPTIES_TEXT.now))
-    (number_rule (codes "workers") most_workers DEFAULT_WORKERS_TEXT.now))
-    (number_rule (codes "table") most_entries DEFAULT_ENTRIES_TEXT.now))
+    (number_rule (codes "max-empties") most_empties default_empties))
+    (number_rule (codes "workers") most_workers default_workers))
+    (number_rule (codes "table") most_entries default_entries))
     (scoring_rule names)
 
 -- the whole command `ffosolve`
 abbrev pub ffosolve : NameList → App
-ffosolve names = with_rule (with_rule (with_rule (with_rule
+ffosolve names = with_rule (with_rule (with_rule (with_rule (with_rule
     (with_settings (versioned (codes "ffosolve")) names)
+    (flag_rule (codes "complete")))
     (book_rule (codes "book-in")))
     (book_rule (codes "book-out")))
     (flag_rule (codes "progress")))
@@ -102,7 +104,7 @@ pub record HasNumber (name : Text) (rows : List Row) (n : ℕ) : Type 0 where
   pub numeral : IsNumeral 10 (without_leading_plus text)
   pub value : n ≡ digits_value 10 (without_leading_plus text)
 
--- the settings are the values of the options
+-- the numbers and the scoring of the settings are the values of the options
 pub record HasSettings (c : SettingsView) (rows : List Row) : Type 0 where
   pub max_empties : HasNumber (codes "max-empties") rows c.max_empties
   pub workers : HasNumber (codes "workers") rows c.workers
@@ -140,6 +142,7 @@ pub record Asks (words : List Text) (r : Request) : Type 0 where
   pub named : NamesScorings names
   pub faultless : fault_of (ffosolve names) words ≡ []
   pub settings : HasSettings r.settings (matches_of (ffosolve names) words)
+  pub complete : HasFlag (codes "complete") (matches_of (ffosolve names) words) r.settings.complete
   pub book_in : r.book_in ≡ first_of (codes "book-in") (matches_of (ffosolve names) words)
   pub book_out : r.book_out ≡ first_of (codes "book-out") (matches_of (ffosolve names) words)
   pub progress : HasFlag (codes "progress") (matches_of (ffosolve names) words) r.progress
@@ -155,6 +158,12 @@ Program = NameList → App
 abbrev pub IsTakenBy : Program → List Text → Type 0
 IsTakenBy program words =
     (names : NameList) → NamesScorings names → takes (program names) words ≡ true
+
+-- clap finds no fault in the words of a program
+pub record IsFaultless (program : Program) (words : List Text) : Type 0 where
+  pub names : NameList
+  pub named : NamesScorings names
+  pub faultless : fault_of (program names) words ≡ []
 
 -- clap finds a fault of this kind in the words of a program; a request for help or for the version
 -- is one

@@ -3,8 +3,8 @@ use Rattle.std.specs.Prelude.{◌≡◌, ◌≢◌, ◌⊎◌, ℕ, ◌≤◌, L
 use Rattle.std.specs.Prelude.{Option, None, IfSome}
 use Rattle.std.specs.Io.KnownBytes.{Appends}
 use Rattle.std.specs.List.{concat}
-use Rattle.suite_solver.specs.CommandLine.{Asks, AsksForText, IsTakenBy, Program, Request, ffosolve}
-use Rattle.suite_reports.specs.Settings.{SettingsView}
+use Rattle.suite_solver.specs.CommandLine.{Asks, AsksForText, IsFaultless, IsTakenBy, Program, Request, ffosolve}
+use Rattle.suite_reports.specs.Settings.{SettingsView, criteria_of}
 use Rattle.suite_reports.specs.Reports.{reports}
 use Rattle.suite_runs.specs.Runs.{first_large}
 use Rattle.suite_reports.specs.Limits.{most_files}
@@ -22,7 +22,7 @@ pub record PrintsReports (c : SettingsView) (texts : List (List ℕ)) (old new :
     : Type 0 where
   pub few : length texts ≤ most_files
   pub small : first_large texts ≡ None
-  pub written : Appends old new (concat (reports c.scoring c.max_empties texts))
+  pub written : Appends old new (concat (reports c.scoring (criteria_of c) texts))
 
 -- the reports of the files of these names, or of standard input, were printed
 pub record Prints (c : SettingsView) (names : List (List ℕ)) (given old new : Option (List ℕ))
@@ -47,12 +47,15 @@ pub record EndsProgram (program : Program) (words : List (List ℕ)) (old new : 
   pub taken : IsTakenBy program words → status ≢ 2
   pub refused : status ≡ 2 → new ≡ old
 
--- A call of `ffosolve` ended: with 0 after printing the reports that the words ask for, and with
--- 1 or 2 before printing anything.
+-- A call of `ffosolve` ended, with 0 after the reports that the words ask for were printed, and with
+-- 1 or 2 before anything was. With another status than 2, memory was refused before clap had taken
+-- the words or they ask for help or the version, or clap finds no fault in them.
 pub record EndsFfosolve (words : List (List ℕ)) (given old new : Option (List ℕ)) (status : ℕ)
     : Type 0 where
   pub ends : EndsProgram ffosolve words old new status (IsAnswered words given old new)
   pub unwritten : status ≡ 1 → new ≡ old
+  pub unrefused : status ≢ 2
+      → (status ≡ 1) ⊎ (AsksForText ffosolve words ⊎ IsFaultless ffosolve words)
 
 -- A call of a program ended without its words: with 2, since a word is not text, or with `memory`,
 -- for lack of memory. Nothing was printed.

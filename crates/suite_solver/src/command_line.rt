@@ -22,7 +22,7 @@ What a line of the report says:
   agree     the greatest listed score is the score, and each move listed with it
             is a best one
   differ    the greatest listed score is not the score, or a move listed with it
-            is not a best one
+            is not a best one, or, with --complete, a best one is not listed
   unlisted  the line lists no score
   refused   the line is no position, or has more empty squares than
             --max-empties allows
@@ -62,12 +62,18 @@ fn ffosolve_command<'a>(alloc: Global, names: &'a [&'a str]) -> Result<Command<'
     let bare = bare_command(alloc, "ffosolve", ABOUT, AFTER_HELP);
     let workers = "Solve on N threads beside one for each file, 0 to 64;\nit changes no report";
     let for_runs = with_settings(alloc, bare, workers, names)?;
+    let complete = flag_arg(
+        alloc,
+        "complete",
+        "Where a line lists moves and leaves out a best one,\nsay that it differs",
+    );
+    let asking = for_runs.arg(complete)?;
     let book_in = book_arg(
         alloc,
         "book-in",
         "Read a book of solved positions, whose claims are\nconfirmed; it changes no report",
     );
-    let reading_books = for_runs.arg(book_in)?;
+    let reading_books = asking.arg(book_in)?;
     let book_out = book_arg(alloc, "book-out", "Write a book of all solved positions");
     let writing_books = reading_books.arg(book_out)?;
     let progress = flag_arg(
@@ -112,11 +118,12 @@ pub fn options(alloc: Global, words: &[&str]) -> Result<Options, OptionFault>
     let matches = command.try_get_matches_from(words)?;
     // Each option has a default, and clap keeps each number in its range.
     let settings = settings_of(&matches).unwrap();
+    let complete = matches.get_flag("complete");
     let book_in = book_name_of(alloc, &matches, "book-in")?;
     let book_out = book_name_of(alloc, &matches, "book-out")?;
     let files = files_of(alloc, &matches)?;
     Ok(Options {
-        settings,
+        settings: settings.with_complete(complete),
         book_in,
         book_out,
         progress: matches.get_flag("progress"),

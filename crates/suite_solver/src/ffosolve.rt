@@ -1,9 +1,10 @@
 //! The program `ffosolve`.
 
-ghost use Rattle.std.specs.Prelude.{◌≡◌, ◌⊎◌, map, Some, OnOk, IfOk, IfErr, IsErr, IsErrOf};
+ghost use Rattle.std.specs.Prelude.{◌≡◌, ◌⊎◌, ◌↔◌, map, None, Some, OnOk, IfOk, IfErr, IfSome, IsErr, IsErrOf};
 ghost use Rattle.std.specs.List.{concat};
 ghost use Rattle.std.specs.Io.KnownBytes.{Appends};
 ghost use Rattle.program_files.specs.Inputs.{names_of};
+ghost use Rattle.program_files.specs.BookPlace.{IsFree};
 ghost use Rattle.program_files.specs.ProgramErrors.{IsSilent, status_of};
 ghost use Rattle.program_files.specs.declared.program_error.ProgramError.TheVariants.{Run};
 ghost use Rattle.suite_solver.specs.Programs.{EndsFfosolve, EndsUnread, Prints, PrintsReports};
@@ -16,8 +17,8 @@ use crate::option_fault::OptionFault;
 use crate::run_options::Options;
 use crate::streams::end_without_options;
 use program_files::{
-    NewFile, ProgramError, borrow_words, check_place, read_claims, read_files, ready_book,
-    run_told, words_error, write_book,
+    BookPlace, NewFile, ProgramError, borrow_words, check_place, read_claims, read_files,
+    ready_book, run_told, words_error, write_book,
 };
 use solved_book::Claims;
 use std::alloc::Global;
@@ -46,12 +47,14 @@ fn write_reports<W: Write>(output: &mut W, reports: &[Vec<u8>]) -> io::Result<()
 fn solve_files<'a, T: Files + Clock + Threads + Wait + Sync, W: Write, E: Write + Send>(
     rt: &T,
     alloc: Global,
-    asked: &'a Options,
+    asked: &Options,
     texts: &[Vec<u8>],
     claims: Option<&Claims>,
+    place: &Option<BookPlace<'a>>,
     output: &mut W,
     errors: &mut E,
 ) -> Result<Option<NewFile<'a>>, ProgramError<'a>>
+    requires { IfSome place.now (λ p. IsFree p.found) }
     ensures reported { OnOk result (PrintsReports asked.now.settings (texts_of texts.now)
         (W.contents output.old) (W.contents output.new)) }
     ensures silent { IfErr result
@@ -69,7 +72,7 @@ fn solve_files<'a, T: Files + Clock + Threads + Wait + Sync, W: Write, E: Write 
         asked.progress,
         errors,
     )?;
-    let book = ready_book(rt, alloc, &asked.book_out, &outcome.book)?;
+    let book = ready_book(rt, alloc, place, &outcome.book)?;
     match write_reports(output, &outcome.reports) {
         Ok(()) => Ok(book),
         Err(_) => Err(ProgramError::CannotWrite("standard output")),
@@ -77,13 +80,15 @@ fn solve_files<'a, T: Files + Clock + Threads + Wait + Sync, W: Write, E: Write 
 }
 
 // Refuses files that are too many or too large, as the run does, and then a place where the book
-// that is to be written can't be put or would destroy what is there.
+// that is to be written can't be put or would destroy what is there; else gives that place.
 fn check_run<'a, T: Files>(
     rt: &T,
     alloc: Global,
     asked: &'a Options,
     texts: &[Vec<u8>],
-) -> Result<(), ProgramError<'a>>
+) -> Result<Option<BookPlace<'a>>, ProgramError<'a>>
+    ensures named { IfOk result (λ place. place ≡ None ↔ asked.now.book_out ≡ None) }
+    ensures free { IfOk result (λ place. IfSome place (λ p. IsFree p.found)) }
     ensures files { (fault : RunFault) → refusal_of (texts_of texts.now) ≡ Some fault
         → IsErrOf result (Run fault) }
     ensures silent { IfErr result IsSilent }
@@ -113,8 +118,17 @@ fn carry_out<'a, T: Files + Clock + Threads + Wait + Sync, R: Read, W: Write, E:
 {
     let claims = read_claims(rt, alloc, &asked.book_in)?;
     let texts = read_files(rt, alloc, &asked.files, input)?;
-    check_run(rt, alloc, asked, &texts)?;
-    match solve_files(rt, alloc, asked, &texts, claims.as_ref(), output, errors) {
+    let place = check_run(rt, alloc, asked, &texts)?;
+    match solve_files(
+        rt,
+        alloc,
+        asked,
+        &texts,
+        claims.as_ref(),
+        &place,
+        output,
+        errors,
+    ) {
         Ok(book) => write_book(rt, &book),
         Err(error) => Err(error),
     }
@@ -134,12 +148,13 @@ fn print_error<E: Write>(error: &ProgramError<'_>, errors: &mut E) -> u8
 /// reports, in the order of the files, on standard output. Then it writes the book that the words
 /// name.
 ///
-/// The status is 0 where everything is done, or where help or the version was asked for and
-/// printed; 1 where the run is refused, for memory or for the number or size of its files; 2 where
-/// the command line is refused; 3 where a file can't be read or is not a book, or where standard
-/// output or the book can't be written or would destroy another file or the book that is read. An
-/// error that ends the program early is printed on standard error, as one line or as clap's text; a
-/// failure of standard error changes nothing. The call may wait for its threads.
+/// The status is 0 where all is done, or where help or the version was asked for and printed; 1
+/// where the run is refused, for memory or for the number or size of its files; 2 where the command
+/// line is refused; 3 where a file can't be read or is no book, or where standard output or the
+/// book can't be written or would destroy another file or the book that is read. An error that ends
+/// the program early is printed on standard error, as one line or as clap's text; a failure of
+/// standard error changes nothing. The call may wait for its threads.
+#[tactic(auto, using(crate::proofs::ProgramLemmas::asked_faultless))]
 pub fn program<T: Files + Clock + Threads + Wait + Sync, R: Read, W: Write, E: Write + Send>(
     rt: &T,
     alloc: Global,

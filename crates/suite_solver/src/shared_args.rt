@@ -2,7 +2,9 @@
 
 ghost use Rattle.std.specs.Prelude.{◌≡◌, ◌<◌, ◌^◌, ℕ, false, IfOk, IfSome, IsSome, Some, [], codes, map};
 ghost use Rattle.std.specs.Prelude.{option_map, unwrap_or};
+ghost use Rattle.suite_reports.specs.Limits.{default_empties, default_entries, default_workers};
 ghost use Rattle.suite_reports.specs.Limits.{most_empties, most_entries, most_workers};
+ghost use Rattle.std.specs.Fmt.{decimal};
 ghost use Rattle.clap.specs.Words.{app_of, found_of, matched_of, raw_values, rows_of, rule_of};
 ghost use Rattle.suite_reports.specs.Settings.{IsWithinLimits, SettingsView};
 ghost use Rattle.suite_solver.specs.CommandLine.{HasNumber, HasSettings, files_rule, flag_rule};
@@ -33,7 +35,7 @@ pub fn bare_command<'a>(
         .after_help(after_help)
 }
 
-// An option with a number from 0 to `most`.
+// An option with a number from 0 to `most`. `default` is a decimal numeral.
 fn number_arg<'a>(
     alloc: Global,
     name: &'a str,
@@ -41,7 +43,8 @@ fn number_arg<'a>(
     default: &'a str,
     help: &'a str,
 ) -> Arg<'a>
-    ensures rule { rule_of result ≡ number_rule name.entry.now most default.entry.now }
+    ensures rule { (n : ℕ) → default.entry.now ≡ decimal n
+        → rule_of result ≡ number_rule name.entry.now most n }
     ensures local { result.global ≡ false }
 {
     Arg::new(alloc, name)
@@ -94,7 +97,7 @@ pub fn files_arg<'a>(alloc: Global) -> Arg<'a>
 
 // The option `--max-empties`.
 fn max_empties_arg<'a>(alloc: Global) -> Arg<'a>
-    ensures rule { rule_of result ≡ number_rule (codes "max-empties") most_empties DEFAULT_EMPTIES_TEXT.now }
+    ensures rule { rule_of result ≡ number_rule (codes "max-empties") most_empties default_empties }
     ensures local { result.global ≡ false }
 {
     number_arg(
@@ -108,7 +111,7 @@ fn max_empties_arg<'a>(alloc: Global) -> Arg<'a>
 
 // The option `--workers`.
 fn workers_arg<'a>(alloc: Global, help: &'a str) -> Arg<'a>
-    ensures rule { rule_of result ≡ number_rule (codes "workers") most_workers DEFAULT_WORKERS_TEXT.now }
+    ensures rule { rule_of result ≡ number_rule (codes "workers") most_workers default_workers }
     ensures local { result.global ≡ false }
 {
     number_arg(
@@ -122,7 +125,7 @@ fn workers_arg<'a>(alloc: Global, help: &'a str) -> Arg<'a>
 
 // The option `--table`.
 fn table_arg<'a>(alloc: Global) -> Arg<'a>
-    ensures rule { rule_of result ≡ number_rule (codes "table") most_entries DEFAULT_ENTRIES_TEXT.now }
+    ensures rule { rule_of result ≡ number_rule (codes "table") most_entries default_entries }
     ensures local { result.global ≡ false }
 {
     number_arg(

@@ -3,7 +3,7 @@ complete -c ffosolve-many -l jobs -x -d 'parts that are solved at a time on each
 complete -c ffosolve-many -l lines -x -d 'lines of a part, at most 10000; 1000, if not given'
 complete -c ffosolve-many -l hosts -r -F -d 'the machines, one in each line, as ssh takes them, and `:` for this one'
 complete -c ffosolve-many -l scores -d 'ffoscores solves the parts, in place of ffosolve'
-complete -c ffosolve-many -l complete -d 'with --scores: each best move that a line with moves does not list is remarked'
+complete -c ffosolve-many -l complete -d 'a line that lists moves and leaves out a best one differs, or is remarked with --scores'
 complete -c ffosolve-many -l cut -d 'cuts the list alone, for another scheduler'
 complete -c ffosolve-many -l merge-books -d 'merges books of one scoring into one, and solves nothing'
 complete -c ffosolve-many -l sweep -d 'removes what runs of FOLDER left on other machines, and solves nothing'

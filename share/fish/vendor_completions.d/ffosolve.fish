@@ -3,6 +3,7 @@ complete -c ffosolve -l max-empties -x -d 'Solve positions with at most N empty 
 complete -c ffosolve -l workers -x -d 'Solve on N threads beside one for each file, 0 to 64; it changes no report'
 complete -c ffosolve -l table -x -d 'Keep the bounds of at most N positions'
 complete -c ffosolve -l scoring -x -a 'winner discs sign' -d 'Score finished games with empty squares for the winner (winner), by discs alone (discs), or by their sign (sign)'
+complete -c ffosolve -l complete -d 'Where a line lists moves and leaves out a best one, say that it differs'
 complete -c ffosolve -l book-in -r -F -d 'Read a book of solved positions, whose claims are confirmed; it changes no report'
 complete -c ffosolve -l book-out -r -F -d 'Write a book of all solved positions'
 complete -c ffosolve -l progress -d 'Tell on standard error, every five seconds and at the end, how many are solved'

@@ -41,7 +41,7 @@ OPTIONS = {
         ("--lines", "N", f"lines of a part, at most {MOST_LINES}; 1000, if not given"),
         ("--hosts", "FILE", "the machines, one in each line, as ssh takes them, and `:` for this one"),
         ("--scores", None, "ffoscores solves the parts, in place of ffosolve"),
-        ("--complete", None, "with --scores: each best move that a line with moves does not list is remarked"),
+        ("--complete", None, "a line that lists moves and leaves out a best one differs, or is remarked with --scores"),
         ("--cut", None, "cuts the list alone, for another scheduler"),
         ("--merge-books", None, "merges books of one scoring into one, and solves nothing"),
         ("--sweep", None, "removes what runs of FOLDER left on other machines, and solves nothing"),
@@ -121,8 +121,6 @@ def complete(command):
         raise misused(f"'{command.folder}' is no folder: one FOLDER and one LIST are taken")
     if command.scores and (command.book_in or command.book_out):
         raise misused(f"--book-{'in' if command.book_in else 'out'} is no option of ffoscores")
-    if command.complete and not command.scores:
-        raise misused("--complete is no option of ffosolve: --scores goes with it")
     check_readable(command.list)
     if not named and (not command.list.is_file() or command.list.parts[1:2] in (("dev",), ("proc",))):
         raise misused(f"'{command.list}' has no folder of its own: name a FOLDER before it")

@@ -7,6 +7,7 @@ use othello_rules::Scoring;
 use std::alloc::{AllocError, Global};
 use std::test::Fail;
 use std::thread::Threads;
+use suite_runs::Criteria;
 use suite_runs::threads::{Joined, PartPromise, Progress, StartedClient, join_all};
 use suite_solver::RunFault;
 
@@ -17,7 +18,10 @@ fn ended_with(fault: RunFault) -> StartedClient<'static>
     StartedClient {
         promise: PartPromise {
             scoring: Scoring::Winner,
-            limit: 20,
+            criteria: Criteria {
+                limit: 20,
+                complete: false,
+            },
             text: b"",
         },
         progress: Progress::Done(Err(fault)),

@@ -74,6 +74,7 @@ fn tells_each_five_seconds(rt: HostRuntime) {
         gate.enter(&rt, 0, number);
         clock.move_on(pause);
         gate.leave(&rt, 0, number);
+        gate.finished(&rt, 0, number);
         number = number.wrapping_add(1);
     }
     clock.move_on(400);
@@ -91,6 +92,7 @@ fn told_by(rt: &impl Wait, alloc: Global, reads_left: u64) -> Vec<u8> {
         gate.enter(rt, 0, number);
         clock.move_on(5_000);
         gate.leave(rt, 0, number);
+        gate.finished(rt, 0, number);
     }
     gate.end();
     errors
@@ -153,11 +155,11 @@ impl Write for HeldWriter<'_> {
 // writer may go on.
 fn end_job<R: Wait, G: Gate>(rt: &R, gate: &G, signals: &Signals, thread: usize) -> bool {
     if thread == 0 {
-        gate.leave(rt, 0, 0);
+        gate.finished(rt, 0, 0);
         return true;
     }
     let writes = wait_for(&signals.is_writing);
-    gate.leave(rt, 0, 1);
+    gate.finished(rt, 0, 1);
     signals.may_end.store(true, Ordering::SeqCst);
     writes
 }

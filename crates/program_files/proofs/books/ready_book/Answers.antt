@@ -1,5 +1,5 @@
 use Rattle.std.proofs.Common.{rules}
 use Rattle.program_files.proofs.books.ready_book.Goals as goal
 
-pub returns-clause-named : goal.returns-clause-named
-returns-clause-named g c = search rules
+pub returns-clause-placed : goal.returns-clause-placed
+returns-clause-placed g c = search rules

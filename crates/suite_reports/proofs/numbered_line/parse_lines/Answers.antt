@@ -15,7 +15,7 @@ loop-bytes-init c =
     let room = c.split_lines-bytes-items.ensures.room in
     let few = c.requires.short in
     record {
-      rows = rw (c.new-lines.ensures.items, same) (sym (rows_start c.args.scoring c.args.limit c.args.text.now));
+      rows = rw (c.new-lines.ensures.items, same) (sym (rows_start c.args.scoring c.args.criteria c.args.text.now));
       tasks = rw (c.new-lines.ensures.items, same) (search rules);
       first = omega arith;
       room = rw same (omega arith);
@@ -24,7 +24,7 @@ loop-bytes-init c =
 pub loop-bytes-preserved : goal.loop-bytes-preserved
 loop-bytes-preserved c =
     let g = c.args.scoring in
-    let limit = c.args.limit in
+    let by = c.args.criteria in
     let n = c.loop-bytes.line in
     let line = c.in-Some.bytes.now in
     let left = c.loop-bytes.bytes-iterator in
@@ -41,8 +41,8 @@ loop-bytes-preserved c =
           let result = sym c.in_ok-parsed.ensures.result ∙ ap (option_map parsed_result) w.in-Some-2.is in
           let task = sym (ap (option_and_then task_in) w.in-Some-2.is) ∙ c.in_ok-parsed.ensures.task in
           record {
-            rows = rw items (rows_more g limit n _ line left lines r made (rows g limit c.args.text.now) (omega arith) cut result kept.rows);
-            tasks = rw items (tasks_more g limit line left lines cut made (tasks g limit c.args.text.now) kept.tasks
+            rows = rw items (rows_more g by n _ line left lines r made (rows g by c.args.text.now) (omega arith) cut result kept.rows);
+            tasks = rw items (tasks_more g by.limit line left lines cut made (tasks g by.limit c.args.text.now) kept.tasks
                 (record { line = n; parsed = r }) task);
             first = omega arith;
             room = room;
@@ -53,8 +53,8 @@ loop-bytes-preserved c =
           let result = sym c.in_ok-parsed.ensures.result ∙ ap (option_map parsed_result) none in
           let task = sym (ap (option_and_then task_in) none) ∙ c.in_ok-parsed.ensures.task in
           record {
-            rows = rw items (rows_skip g limit n _ line left lines _ (rows g limit c.args.text.now) (omega arith) cut result kept.rows);
-            tasks = rw items (tasks_skip g limit line left lines cut made (tasks g limit c.args.text.now) kept.tasks task);
+            rows = rw items (rows_skip g by n _ line left lines _ (rows g by c.args.text.now) (omega arith) cut result kept.rows);
+            tasks = rw items (tasks_skip g by.limit line left lines cut made (tasks g by.limit c.args.text.now) kept.tasks task);
             first = omega arith;
             room = room;
           }
@@ -63,11 +63,11 @@ loop-bytes-preserved c =
 pub returns-clause-rows : goal.returns-clause-rows
 returns-clause-rows c =
     let none : c.loop-bytes.bytes-iterator ≡ [] = search rules in
-    rows_all c.args.scoring c.args.limit c.loop-bytes.line c.loop-bytes.bytes-iterator _ (rows c.args.scoring c.args.limit c.args.text.now) none
+    rows_all c.args.scoring c.args.criteria c.loop-bytes.line c.loop-bytes.bytes-iterator _ (rows c.args.scoring c.args.criteria c.args.text.now) none
     c.loop-bytes.invariant.rows
 
 pub returns-clause-tasks : goal.returns-clause-tasks
 returns-clause-tasks c =
     let none : c.loop-bytes.bytes-iterator ≡ [] = search rules in
-    tasks_all c.args.scoring c.args.limit c.loop-bytes.bytes-iterator _ (tasks c.args.scoring c.args.limit c.args.text.now) none
+    tasks_all c.args.scoring c.args.criteria.limit c.loop-bytes.bytes-iterator _ (tasks c.args.scoring c.args.criteria.limit c.args.text.now) none
     c.loop-bytes.invariant.tasks

@@ -8,6 +8,6 @@ use Rattle.suite_runs.proofs.serial.solve_text.Goals as goal
 pub solve_all-requires : goal.solve_all-requires
 solve_all-requires g c =
     let scoring = g.T.Bounds.scoring c.args.solver.now.table.now in
-    All-same (HasScoring scoring) (tasks_in c.deref.result.now) (tasks scoring c.args.limit c.args.text.now)
-    (ap tasks_in c.deref.ensures.value ∙ c.in_ok-lines.ensures.tasks ∙ (λ k. tasks (c.scoring.ensures k) c.args.limit c.args.text.now))
-    (tasks_scored scoring c.args.limit c.args.text.now)
+    All-same (HasScoring scoring) (tasks_in c.deref.result.now) (tasks scoring c.args.criteria.limit c.args.text.now)
+    (ap tasks_in c.deref.ensures.value ∙ c.in_ok-lines.ensures.tasks ∙ (λ k. tasks (c.scoring.ensures k) c.args.criteria.limit c.args.text.now))
+    (tasks_scored scoring c.args.criteria.limit c.args.text.now)

@@ -1,5 +1,6 @@
 use Rattle.std.proofs.Common.{◌∷◌, [], ◌∙◌, length, map, ap, ap₂, arith}
 use Rattle.std.proofs.lemmas.List.{map-append}
+use Rattle.suite_reports.specs.Settings.{criteria_of}
 use Rattle.suite_runs.specs.Part.{part_view, part_view_of}
 use Rattle.suite_runs.proofs.PartLemmas.{views_step}
 use Rattle.suite_runs.proofs.RunLemmas.{small_at}
@@ -14,9 +15,9 @@ solve_text-requires-clause-short c =
 pub loop-file-preserved : goal.loop-file-preserved
 loop-file-preserved c =
     let s = c.args.settings.now in
-    let f = part_view s.scoring s.max_empties in
+    let f = part_view s.scoring (criteria_of s) in
     let made = c.in_ok-solve_text.ensures
-    ∙ ap₂ (λ g limit. part_view g limit c.deref.result.now) (ap (λ t. t.scoring) c.new-solver.ensures ∙ c.in_ok-table.ensures) c.max_empties.ensures.value
+    ∙ ap₂ (λ g by. part_view g by c.deref.result.now) (ap (λ t. t.scoring) c.new-solver.ensures ∙ c.in_ok-table.ensures) c.criteria.ensures.value
     ∙ ap f (c.deref.ensures.value ∙ ap (λ v. v.items) c.file-item.is) in
     rw c.in_ok-push.ensures.items (map-append part_view_of c.loop-file.parts.items (c.in_ok-solve_text.field-0 ∷ [])
     ∙ views_step f c.args.files.now c.loop-file.file-index c.file-item.result (map part_view_of c.loop-file.parts.items) (part_view_of c.in_ok-solve_text.field-0)

@@ -1,4 +1,4 @@
-use Rattle.std.proofs.Common.{◌≡◌, ◌∙◌, List, [], Option, ap, inl, inr, map, refl, subst, sym, true, codes}
+use Rattle.std.proofs.Common.{◌≡◌, ◌∙◌, Bool, List, [], Option, ap, inl, inr, map, refl, subst, sym, true, codes}
 use Rattle.std.specs.Prelude.{IfSome, unwrap_or}
 use Rattle.std.specs.Borrow.{Bor}
 use Rattle.std.specs.List.{list_all}
@@ -8,6 +8,7 @@ use Rattle.clap.specs.Kinds.{HasKind}
 use Rattle.clap.specs.Simple.{HasReadyLeaves, is_ready_leaf}
 use Rattle.clap.proofs.OnLiterals.{clap_on_literals}
 use Rattle.clap.proofs.WalkLemmas.{first_value-rows, one_text-rows, raw_values-rows}
+use Rattle.suite_reports.specs.Settings.{SettingsView}
 use Rattle.suite_solver.proofs.SettingsLemmas.{HasSettingsRules, settings_given}
 use Rattle.suite_solver.specs.CommandLine.{HasSettings, IsFaultOf, NameList, NamesScorings, ffosolve}
 use Rattle.suite_solver.specs.declared.option_fault.OptionFault.{OptionFault}
@@ -45,6 +46,10 @@ unwrap-settings-requires c =
     let given = settings_given c.in_ok-command.command c.in_ok-matches.matches names c.in_ok-matches.ensures.parsed leaves named rules in
     c.settings_of.ensures.found given.0 given.1 given.2
 
+-- a flag leaves the numbers and the scoring
+with_flag : (s : SettingsView) (b : Bool) (t : SettingsView) (rows : List Row) → t ≡ record s { complete = b } → HasSettings s rows → HasSettings t rows
+with_flag s b t rows e h = rw e (record { max_empties = h.max_empties; workers = h.workers; table = h.table; scoring = h.scoring })
+
 pub returns-clause-asked : goal.returns-clause-asked
 returns-clause-asked c =
     let names = c.as_slice.result in
@@ -57,8 +62,13 @@ returns-clause-asked c =
       names = names;
       named = ap (map (λ (name : Bor Text). name.now)) c.as_slice.ensures ∙ c.names-names.ensures;
       faultless = ap (λ (a : App). fault_of a words) (sym app) ∙ c.in_ok-matches.ensures.kinds (ap is_simple_and_free app ∙ free names);
-      settings = subst (λ (r : List Row). HasSettings c.unwrap-settings.result r) rows
-          (subst (λ o. IfSome o (λ s. HasSettings s (rows_of found))) c.unwrap-settings.ensures c.settings_of.ensures.value);
+      settings = with_flag c.unwrap-settings.result c.get_flag-complete.result _ _ c.with_complete.ensures
+          (subst (λ (r : List Row). HasSettings c.unwrap-settings.result r) rows
+          (subst (λ o. IfSome o (λ s. HasSettings s (rows_of found))) c.unwrap-settings.ensures c.settings_of.ensures.value));
+      complete = record {
+        set = λ e. ap (λ (s : SettingsView). s.complete) c.with_complete.ensures ∙ c.get_flag-complete.ensures.value (one_text-rows found (codes "complete") ∙ ap (one_of (codes "complete")) rows ∙ e);
+        unset = λ e. ap (λ (s : SettingsView). s.complete) c.with_complete.ensures ∙ c.get_flag-complete.ensures.other (one_text-rows found (codes "complete") ∙ ap (one_of (codes "complete")) rows ∙ e);
+      };
       book_in = c.in_ok-book_in.ensures ∙ first_value-rows found (codes "book-in") ∙ ap (first_of (codes "book-in")) rows;
       book_out = c.in_ok-book_out.ensures ∙ first_value-rows found (codes "book-out") ∙ ap (first_of (codes "book-out")) rows;
       progress = record {

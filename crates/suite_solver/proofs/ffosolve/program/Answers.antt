@@ -10,5 +10,6 @@ returns g c = record {
     taken = search rules;
     refused = search rules;
   };
+  unrefused = search rules;
   unwritten = not_one _ _ c.end_without_options.ensures.status;
 }

@@ -15,26 +15,26 @@ returns-in-Ok-clause-result c =
     let g = c.args.scoring in
     let p = c.of_grid.result in
     let whole = whole_from c.args.entry.grid p c.of_grid.ensures.meaning in
-    let small : empties_of p ≤ c.args.limit = let within = c.in-Ok.ensures.when.0 refl in omega arith in
+    let small : empties_of p ≤ c.args.criteria.limit = let within = c.in-Ok.ensures.when.0 refl in omega arith in
     let exact : answer_of c.in-Ok.task.scoring c.in-Ok.task.position ≡ answer_of g p = ap (λ t. answer_of t.scoring t.position) c.in-Ok.ensures.task in
-    solved_entry g c.args.limit (entry_of c.args.entry) p whole c.of_grid.ensures.value (answer_of c.in-Ok.task.scoring c.in-Ok.task.position) small exact
+    solved_entry g c.args.criteria (entry_of c.args.entry) p whole c.of_grid.ensures.value (answer_of c.in-Ok.task.scoring c.in-Ok.task.position) small exact
 
 pub returns-in-Ok-clause-task : goal.returns-in-Ok-clause-task
 returns-in-Ok-clause-task c =
     let p = c.of_grid.result in
     let whole = whole_from c.args.entry.grid p c.of_grid.ensures.meaning in
-    let small : empties_of p ≤ c.args.limit = let within = c.in-Ok.ensures.when.0 refl in omega arith in
-    entry_task c.args.scoring c.args.limit (entry_of c.args.entry) p whole c.of_grid.ensures.value c.in-Ok.task small c.in-Ok.ensures.task
+    let small : empties_of p ≤ c.args.criteria.limit = let within = c.in-Ok.ensures.when.0 refl in omega arith in
+    entry_task c.args.scoring c.args.criteria (entry_of c.args.entry) p whole c.of_grid.ensures.value c.in-Ok.task small c.in-Ok.ensures.task
 
 pub returns-in-Err-clause-result : goal.returns-in-Err-clause-result
 returns-in-Err-clause-result c =
     let whole = whole_from c.args.entry.grid c.of_grid.result c.of_grid.ensures.meaning in
     let facts = c.in-Err.ensures in
-    refused_entry c.args.scoring c.args.limit (entry_of c.args.entry) c.of_grid.result whole c.of_grid.ensures.value c.in-Err.field-0.0
+    refused_entry c.args.scoring c.args.criteria (entry_of c.args.entry) c.of_grid.result whole c.of_grid.ensures.value c.in-Err.field-0.0
     (λ h. false≢true (facts.when.1 (let few = c.requires in omega arith))) facts.refused
 
 pub returns-in-Err-clause-task : goal.returns-in-Err-clause-task
 returns-in-Err-clause-task c =
     let whole = whole_from c.args.entry.grid c.of_grid.result c.of_grid.ensures.meaning in
-    entry_none c.args.scoring c.args.limit (entry_of c.args.entry) c.of_grid.result whole c.of_grid.ensures.value
+    entry_none c.args.scoring c.args.criteria (entry_of c.args.entry) c.of_grid.result whole c.of_grid.ensures.value
     (λ h. false≢true (c.in-Err.ensures.when.1 (let few = c.requires in omega arith)))

@@ -1,6 +1,6 @@
 use Rattle.std.proofs.Common.{rules}
 use Rattle.solved_book.specs.Books.{header}
-use Rattle.program_files.proofs.book_place.is_header.Goals as goal
+use Rattle.program_files.proofs.found.is_header.Goals as goal
 
 pub returns-in-None : goal.returns-in-None
 unfolding header

@@ -1,0 +1,10 @@
+//! By what the lines of a file are refused and checked.
+
+/// By what the lines of a file are refused and checked.
+#[derive(Clone, Copy, PartialEq, Eq, Debug)]
+pub struct Criteria {
+    /// The most empty squares of a position that is solved. One with more is refused.
+    pub limit: u8,
+    /// Whether a line agrees only where it lists every best move, if it lists moves at all.
+    pub complete: bool,
+}
