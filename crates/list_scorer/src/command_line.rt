@@ -17,8 +17,8 @@ use suite_solver::shared_args::{
 };
 
 const ABOUT: &str = "\
-Prints OBF files again, line by line, each position with every legal move and
-its exact score in discs, as the side to move sees it, and remarks where a line
+Prints OBF files again, line by line: each position with every legal move and
+its exact score in discs for the side to move, and a remark wherever a line
 lists something else.";
 
 const AFTER_HELP: &str = "\
@@ -30,13 +30,13 @@ Exit status:
   0  no line is refused and nothing is remarked, or this help, or the version
   1  a line is refused, or something is remarked
   2  the command line is refused
-  3  a file can't be read, is larger than 1 MiB or one of more than 64, standard
-     output can't be written, or memory ran out
+  3  more than 64 files, a file that can't be read or is larger than 1 MiB,
+     standard output that can't be written, or out of memory
 
 Examples:
-  # what is wrong in a file of positions with all their moves
+  # show what is wrong in a file of positions with all their moves
   ffoscores scored.obf | diff scored.obf -
-  # every move's score, four positions at once
+  # score every move, four positions at once
   ffoscores --workers 3 list.obf > scored.obf";
 
 /// The options of a command line of `ffoscores`.
@@ -57,12 +57,12 @@ fn ffoscores_command<'a>(alloc: Global, names: &'a [&'a str]) -> Result<Command<
 {
     let bare = bare_command(alloc, "ffoscores", ABOUT, AFTER_HELP);
     let workers =
-        "Score up to N + 1 positions at once, 0 to 64;\nit changes nothing that is printed";
+        "Score up to N + 1 positions at once, 0 to 64; what is\nprinted stays the same";
     let with_settings = with_settings(alloc, bare, workers, names)?;
     let complete = flag_arg(
         alloc,
         "complete",
-        "Where a line lists moves, remark each best move\nthat it does not list",
+        "Remark each best move that a line with listed moves\nleaves out",
     );
     let with_complete = with_settings.arg(complete)?;
     with_complete.arg(files_arg(alloc))

@@ -13,18 +13,18 @@ use othello_rules::Scoring;
 use std::alloc::{AllocError, Global};
 
 const ABOUT: &str = "\
-Solves Othello endgames exactly. For each position of OBF files it prints the
-score in discs, as the side to move sees it, every best move, and how the scores
-that the line lists compare.";
+Solves Othello endgames exactly. For each position in OBF files it prints the
+exact score in discs for the side to move, every best move, and how the scores
+listed on the line compare.";
 
 const AFTER_HELP: &str = "\
-What a line of the report says:
-  agree     the greatest listed score is the score, and each move listed with it
-            is a best one
-  differ    the greatest listed score is not the score, or a move listed with it
-            is not a best one, or, with --complete, a best one is not listed
+The words of a report:
+  agree     the highest listed score is the exact one, and every move listed
+            with it is a best move
+  differ    the highest listed score is not the exact one, or a move listed with
+            it is not a best move, or, with --complete, a best move is missing
   unlisted  the line lists no score
-  refused   the line is no position, or has more empty squares than
+  refused   the line is not a position, or more squares are empty than
             --max-empties allows
 
 In place of moves:
@@ -33,15 +33,16 @@ In place of moves:
 
 Exit status:
   0  all reports were printed, or this help, or the version
-  1  more than 64 files, a file of more than 1 MiB, or memory ran out
+  1  more than 64 files, a file larger than 1 MiB (ffosolve-many takes longer
+     lists), or out of memory
   2  the command line is refused
   3  a file or a stream can't be read or written, or the book of --book-in is
      refused
 
 Examples:
-  # the lines of a suite whose listed scores are wrong
+  # show the lines of a suite whose listed scores are wrong
   ffosolve --workers 4 suite.obf | grep differ
-  # the answers as a book, which --book-in reads
+  # write the answers as a book, which --book-in reads
   ffosolve --book-out suite.book suite.obf";
 
 // An option with the name of a book's file.
@@ -60,26 +61,26 @@ fn ffosolve_command<'a>(alloc: Global, names: &'a [&'a str]) -> Result<Command<'
     ensures { IfOk result (λ c. app_of c ≡ ffosolve names.entry) }
 {
     let bare = bare_command(alloc, "ffosolve", ABOUT, AFTER_HELP);
-    let workers = "Solve on N threads beside one for each file, 0 to 64;\nit changes no report";
+    let workers = "Use N extra solver threads, besides one per file,\n0 to 64; reports stay the same";
     let for_runs = with_settings(alloc, bare, workers, names)?;
     let complete = flag_arg(
         alloc,
         "complete",
-        "Where a line lists moves and leaves out a best one,\nsay that it differs",
+        "Say that a line differs if the moves that it lists\nleave out a best one",
     );
     let asking = for_runs.arg(complete)?;
     let book_in = book_arg(
         alloc,
         "book-in",
-        "Read a book of solved positions, whose claims are\nconfirmed; it changes no report",
+        "Read a book of solved positions and test its claims\nfirst; reports stay the same",
     );
     let reading_books = asking.arg(book_in)?;
-    let book_out = book_arg(alloc, "book-out", "Write a book of all solved positions");
+    let book_out = book_arg(alloc, "book-out", "Write all solved positions to FILE as a book");
     let writing_books = reading_books.arg(book_out)?;
     let progress = flag_arg(
         alloc,
         "progress",
-        "Tell on standard error, every five seconds and at the\nend, how many are solved",
+        "Report on standard error, every five seconds and at\nthe end, how many positions are solved",
     );
     let telling = writing_books.arg(progress)?;
     telling.arg(files_arg(alloc))

@@ -69,7 +69,7 @@ fn scoring_arg<'a>(alloc: Global, names: &'a [&'a str]) -> Arg<'a>
         .value_parser(names)
         .hide_possible_values(true)
         .help(
-            "Score finished games with empty squares for the winner\n(winner), by discs alone (discs), or by their sign\n(sign)",
+            "Score a finished game with its empty squares given to\nthe winner (winner), by discs alone (discs), or as a\nwin, draw or loss (sign)",
         )
 }
 
@@ -133,7 +133,7 @@ fn table_arg<'a>(alloc: Global) -> Arg<'a>
         "table",
         MOST_ENTRIES,
         DEFAULT_ENTRIES_TEXT,
-        "Keep the bounds of at most N positions",
+        "Keep bounds of at most N positions, 32 bytes each",
     )
 }
 
