@@ -13,8 +13,8 @@ abbrev pub GivesWay : List (List ℕ) → Type 0
 GivesWay [] = Unit {0}
 GivesWay (line ∷ lines) = (g : Scoring) × (line ≡ header g)
 
--- A book may be written over what was found: it is no regular file, or one that is empty or a book,
--- and neither a list nor the book that is read.
+-- A book may be written over what was found: it is not a regular file, or one that is empty or a
+-- book, and neither a list nor the book that is read.
 abbrev pub IsFree : Found → Type 0
 IsFree found.NoFile = Unit {0}
 IsFree found.Empty = Unit {0}

@@ -97,11 +97,11 @@ pub struct BookPlace<'a> {
 
 /// Tests that the book to be written, if there is one, can be written under its name, and destroys
 /// nothing there, and gives its place; None where there is no name. A file of that name, unless it
-/// is a pipe, has to open for writing. A file has to be made beside it, where it is a regular file
-/// or doesn't exist. The errors are `NoPlace` with the name, also where it is empty or the file is
-/// read as a list; `ReadBook` where the file is the book that is read, by whatever name; `NoBook`
-/// where it is neither empty nor begins as a book; `CannotRead` where that can't be seen; and want
-/// of memory.
+/// is a pipe, has to open for writing. It must be possible to make a file next to it, where it is a
+/// regular file or doesn't exist. The errors are `NoPlace` with the name, even where it is empty or
+/// the file is read as a list; `ReadBook` where the file is the book that is read, by whatever
+/// name; `NoBook` where it isn't empty and doesn't begin as a book; `CannotRead` where that can't
+/// be seen; and out of memory.
 pub fn check_place<'a, T: Files>(
     rt: &T,
     alloc: Global,

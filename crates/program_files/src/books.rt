@@ -19,7 +19,7 @@ use std::{fs, io};
 // How many bytes of a book are looked at before the rest is read.
 const FRONT: usize = 65_536;
 
-// Whether what the first bytes of a book give stands whatever follows them: a fault does, unless it
+// Whether the result of a book's first bytes holds whatever follows them: a fault does, unless it
 // is that of a last line that may go on.
 fn is_final(read: &Result<Claims, BookFault>, front: &[u8]) -> bool {
     let ended = front.iter().filter(|byte| **byte == b'\n').count();
@@ -77,8 +77,8 @@ fn read_book<'a, T: Files>(rt: &T, alloc: Global, name: &'a str) -> Result<Claim
 }
 
 /// Reads the claims of the book in the file of this name; None where there is no name. The errors
-/// are a file that can't be read, or is neither a regular file nor a pipe; a text that is no book;
-/// and want of memory.
+/// are a file that can't be read, or is neither a regular file nor a pipe; a text that is not a
+/// book; and out of memory.
 pub fn read_claims<'a, T: Files>(
     rt: &T,
     alloc: Global,
@@ -108,7 +108,7 @@ fn text_of(alloc: Global, book: &Book) -> Result<Vec<u8>, AllocError>
 }
 
 /// Makes the file of the book that is to be written at this place, with the book's text; None where
-/// there is no place. Nothing is opened. The error is want of memory.
+/// there is no place. Nothing is opened. The only error is out of memory.
 pub fn ready_book<'a, T: Files>(
     rt: &T,
     alloc: Global,

@@ -1,4 +1,4 @@
-//! What stands under the name of a book that is to be written.
+//! What is found under the name of a book that is to be written.
 
 ghost use Rattle.std.specs.Prelude.{◌≡◌, ◌⊎◌, ◌↔◌, IsTrue};
 ghost use Rattle.obf_text.specs.LineText.{lines_of};
@@ -14,12 +14,12 @@ use std::os::unix::fs::MetadataExt;
 use std::rt::Files;
 use std::{fs, io};
 
-/// What stands under the name of a book that is to be written.
+/// What is found under the name of a book that is to be written.
 #[derive(Clone, Copy, PartialEq, Eq, Debug)]
 pub enum Found {
-    /// No regular file: nothing, or a device, a pipe or a folder.
+    /// Not a regular file: nothing, or a device, a pipe or a folder.
     NoFile,
-    /// A regular file without a byte.
+    /// An empty regular file.
     Empty,
     /// A regular file that begins with the header of a book.
     Book,
@@ -42,7 +42,7 @@ fn is_header(line: &[u8]) -> bool
     }
 }
 
-// What a regular file is that begins so.
+// What a regular file that begins like this is.
 fn found_in(front: &[u8]) -> Found
     ensures free { IsFree result ↔ GivesWay (lines_of front.now) }
     ensures other { IsFree result ⊎ (result ≡ Found.Other) }
@@ -68,7 +68,7 @@ fn leads_to<T: Files>(rt: &T, name: &str, file: &Metadata) -> bool {
 }
 
 impl Found {
-    /// What stands under this name, whatever the program reads. The error is that of a file that
+    /// What is found under this name, whatever the program reads. The error is that of a file that
     /// can't be read.
     pub(crate) fn under<T: Files>(rt: &T, name: &str) -> io::Result<Found> {
         match fs::metadata(rt, name) {
@@ -84,8 +84,8 @@ impl Found {
         }
     }
 
-    /// What stands under this name, where the program reads this book and these lists. The error is
-    /// that of a file that can't be read.
+    /// What is found under this name, where the program reads this book and these lists. The error
+    /// is that of a file that can't be read.
     pub(crate) fn beside<T: Files>(
         rt: &T,
         name: &str,

@@ -167,8 +167,8 @@ impl<C: Clock + Sync, E: Write + Send> Gate for ProgressGate<'_, C, E> {
     }
 }
 
-/// Does the work of `run`. Where it `tells` how far it is, lines on `errors` have the number of solved
-/// positions: one every five seconds at most, and one at the end.
+/// Does the work of `run`. With `tells`, lines on `errors` give the number of solved positions: at
+/// most one every five seconds, and one at the end.
 pub fn run_told<T: Clock + Threads + Wait + Sync, E: Write + Send>(
     rt: &T,
     alloc: Global,

@@ -53,7 +53,7 @@ abbrev pub lists_best : List Field → ℤ → Best → Bool
 lists_best fields score (best.Moves mask) = list_all (lists_square fields score) (squares_of mask)
 lists_best fields score _ = true
 
--- `Unlisted` where no score is listed, and else whether the fields agree with the answer and list
+-- `Unlisted` where no score is listed, otherwise whether the fields agree with the answer and list
 -- every best move
 unfoldable pub complete_check : List Field → AnswerView → Check
 complete_check [] answer = Unlisted

@@ -32,6 +32,6 @@ defaults = record {
   complete = false;
 }
 
--- by what the lines of a run with these settings are refused and checked
+-- the criteria by which the lines of a run with these settings are refused and checked
 abbrev pub criteria_of : SettingsView → Criteria
 criteria_of c = record { limit = c.max_empties; complete = c.complete }

@@ -118,7 +118,7 @@ pub fn complete_check_of(listed: &[(ListedMove, i8)], answer: &Answer) -> Check
     }
 }
 
-/// `complete_check_of` for a line that has to list every best move, and else `check_of`.
+/// `complete_check_of` for a line that has to list every best move, otherwise `check_of`.
 pub(crate) fn check_by(complete: bool, listed: &[(ListedMove, i8)], answer: &Answer) -> Check
     ensures { result ≡ check_by complete listed.now answer.now }
 {

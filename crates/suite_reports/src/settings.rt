@@ -101,7 +101,7 @@ impl Settings {
         })
     }
 
-    /// These settings, by which a line that lists moves has to list every best one, or need not.
+    /// These settings, where a line that lists moves has to list every best one, or need not.
     pub fn with_complete(self, complete: bool) -> Settings
         ensures { result ≡ record self { complete = complete } }
     {
@@ -138,7 +138,7 @@ impl Settings {
         self.scoring
     }
 
-    /// By what the lines of the run are refused and checked.
+    /// The criteria by which the lines of the run are refused and checked.
     pub fn criteria(&self) -> Criteria
         ensures value { result ≡ criteria_of self.now }
         ensures within { result.limit ≤ most_empties }

@@ -128,7 +128,7 @@ pub(crate) fn client_part_by<R: Wait, T: Bounds, G: Gate>(
 }
 
 /// Does the whole part of one client. It submits the tasks of the text's lines for `sender`, which
-/// counts from 0, and closes that sender. Then it solves the jobs that it takes until all of its
+/// is counted from 0, and closes that sender. Then it solves the jobs that it takes until all of its
 /// own answers came back. A position with more than `limit` empty squares is refused, and a line may
 /// leave out best moves; the tasks are under the scoring of the table.
 ///

@@ -103,7 +103,7 @@ not_one s P (inr (inr three)) one = absurd (omega (arith, three, one))
 pub asked_faultless : (words : List (List ℕ)) (r : Request) → Asks words r → IsFaultless ffosolve words
 asked_faultless words r a = record { names = a.names; named = a.named; faultless = a.faultless }
 
--- help or the version, which clap hands over as an error, was asked for
+-- help or the version, which clap returns as an error, was asked for
 pub text_asked : (words : List (List ℕ)) (error : Error) → HasFaultBy ffosolve words (kind_of error) → IsTextKind (kind_of error) → AsksForText ffosolve words
 text_asked words error h (inl e) = inl (subst (λ k. HasFaultBy ffosolve words k) e h)
 text_asked words error h (inr e) = inr (subst (λ k. HasFaultBy ffosolve words k) e h)

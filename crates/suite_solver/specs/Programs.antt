@@ -47,9 +47,9 @@ pub record EndsProgram (program : Program) (words : List (List ℕ)) (old new : 
   pub taken : IsTakenBy program words → status ≢ 2
   pub refused : status ≡ 2 → new ≡ old
 
--- A call of `ffosolve` ended, with 0 after the reports that the words ask for were printed, and with
--- 1 or 2 before anything was. With another status than 2, memory was refused before clap had taken
--- the words or they ask for help or the version, or clap finds no fault in them.
+-- A call of `ffosolve` ended: with 0 after printing the reports that the words ask for, and with
+-- 1 or 2 before printing anything. With a status other than 2, clap finds no fault in the words, or
+-- they ask for help or the version, or memory was refused before clap had taken them.
 pub record EndsFfosolve (words : List (List ℕ)) (given old new : Option (List ℕ)) (status : ℕ)
     : Type 0 where
   pub ends : EndsProgram ffosolve words old new status (IsAnswered words given old new)

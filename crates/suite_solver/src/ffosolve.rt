@@ -80,7 +80,7 @@ fn solve_files<'a, T: Files + Clock + Threads + Wait + Sync, W: Write, E: Write 
 }
 
 // Refuses files that are too many or too large, as the run does, and then a place where the book
-// that is to be written can't be put or would destroy what is there; else gives that place.
+// that is to be written can't be put or would destroy what is there; otherwise gives that place.
 fn check_run<'a, T: Files>(
     rt: &T,
     alloc: Global,
@@ -148,12 +148,12 @@ fn print_error<E: Write>(error: &ProgramError<'_>, errors: &mut E) -> u8
 /// reports, in the order of the files, on standard output. Then it writes the book that the words
 /// name.
 ///
-/// The status is 0 where all is done, or where help or the version was asked for and printed; 1
-/// where the run is refused, for memory or for the number or size of its files; 2 where the command
-/// line is refused; 3 where a file can't be read or is no book, or where standard output or the
-/// book can't be written or would destroy another file or the book that is read. An error that ends
-/// the program early is printed on standard error, as one line or as clap's text; a failure of
-/// standard error changes nothing. The call may wait for its threads.
+/// The status is 0 where everything is done, or where help or the version was asked for and
+/// printed; 1 where the run is refused, for memory or for the number or size of its files; 2 where
+/// the command line is refused; 3 where a file can't be read or is not a book, or where standard
+/// output or the book can't be written or would destroy another file or the book that is read. An
+/// error that ends the program early is printed on standard error, as one line or as clap's text; a
+/// failure of standard error changes nothing. The call may wait for its threads.
 #[tactic(auto, using(crate::proofs::ProgramLemmas::asked_faultless))]
 pub fn program<T: Files + Clock + Threads + Wait + Sync, R: Read, W: Write, E: Write + Send>(
     rt: &T,
