@@ -7,7 +7,7 @@ PASSES = ("--", "pass", "ps", "pa")
 # and so is a result, which is the last of all.
 TOKEN = re.compile(
     r"""
-    ( [a-h]\s*[1-8] | pass | ps | pa | --+ )
+    ( [a-h]\s*[1-8] | pass | --+ )
     | [\s,]+ | -(?![-\d])
     | (?<![^\s,]) [(\[]? (?: \d{1,2}\s*[-:]\s*\d{1,2} | 1/2-1/2 | [+-]?\d{1,2} ) [)\]]? \s*\Z
     | - | \d{1,3}\s*[.):]+ | (?<![^\s,]) \d{1,3} (?= [\s,a-h] )
