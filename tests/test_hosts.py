@@ -492,7 +492,7 @@ class Swept(Case):
         """A run whose last part is solved by h1, when h2 is gone without a word."""
         self.write("slow", "10", self.h1.home)
         ran = self.start(by="slow", hosts="1/h1\n1/h2\n")
-        wait_until(lambda: len(self.begun("h1") + self.begun("h2")) >= 10 and not self.at_work(self.h2))
+        wait_until(lambda: len(self.begun("h1") + self.begun("h2", "done")) == 10 and self.begun("h2", "done"))
         self.h2.lose_link()
         return ran
 
