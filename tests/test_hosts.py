@@ -119,10 +119,10 @@ class Case(unittest.TestCase):
         ran.wait()
 
     def told(self):
-        """The lines that were told, but for the first, which tells what the list holds, and those of progress."""
+        """The lines that were told, but for the first, which tells what the list holds, and those of what takes its time."""
         lines = (BASE / "told").read_text().splitlines()
         return [line.removeprefix("ffosolve-many: ") for line in lines
-                if not re.search(": lines 60, parts |: parts [0-9]+ of ", line)]
+                if not re.search(": lines 60, parts |, parts [0-9]+ of |: waits for ", line)]
 
     def wait(self, ran, seconds=300):
         return ran.wait(timeout=seconds)
@@ -500,7 +500,8 @@ class Swept(Case):
         ran = self.lose_one()
         wait_until(lambda: (BASE / "out").read_text() == self.one and (ROOM.home / "joined.book").exists())
         self.assertIsNone(ran.poll())
-        wait_until(lambda: "waits for h2 to remove what lies there, 30 seconds at most" in self.told())
+        waits = "ffosolve-many: waits for h2 to remove what lies there, 30 seconds at most\n"
+        wait_until(lambda: waits in (BASE / "told").read_text())
         self.assertIsNone(ran.poll())
         os.kill(child_of(ran.pid), signal.SIGINT)
         self.whole(ran, seconds=10 * busy())
@@ -509,7 +510,7 @@ class Swept(Case):
         ran = self.start(by="slow", hosts="1/h1\n")
         wait_until(lambda: (BASE / "out").read_text() == self.one)
         self.assertLess(time.monotonic() - begun, 5 * busy())  # all was solved before
-        wait_until(lambda: any(line.startswith("waits for h2 ") for line in self.told()))
+        wait_until(lambda: waits in (BASE / "told").read_text())
         os.kill(child_of(ran.pid), signal.SIGINT)
         self.whole(ran)
 
