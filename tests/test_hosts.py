@@ -85,6 +85,21 @@ class Case(unittest.TestCase):
         words = ("--hosts", "hosts", f"--lines={self.LINES}", "--book-out", "joined.book", *words, "work", "list.obf")
         return ROOM.words(BASE / by / "bin/ffosolve-many", *words, **environment)
 
+    def slow(self, seconds, *hosts):
+        """Has parts take so long on machines, so that all is not solved before the others were asked."""
+        for host in hosts:
+            self.write("slow", str(seconds), host.home)
+
+    def configured(self, *lines):
+        """The caller's configuration of ssh has more lines for all machines."""
+        config = ROOM.home / ".ssh/config"
+        self.addCleanup(config.write_text, config.read_text())
+        config.write_text(config.read_text() + "Host *\n " + "\n ".join(lines) + "\n")
+
+    def lost_soon(self):
+        """A machine that is lost is known in ten seconds, and not in 25."""
+        self.configured("ServerAliveInterval 2", "ConnectTimeout 4")
+
     def start(self, *words, **how):
         """The command, which goes on meanwhile; what it tells is written to a file."""
         with open(BASE / "out", "wb") as output, open(BASE / "told", "wb") as told:
@@ -104,10 +119,10 @@ class Case(unittest.TestCase):
         ran.wait()
 
     def told(self):
-        """The lines that were told, but for the first, which tells what the list holds, and those of progress."""
+        """The lines that were told, but for the first, which tells what the list holds, and those of what takes its time."""
         lines = (BASE / "told").read_text().splitlines()
         return [line.removeprefix("ffosolve-many: ") for line in lines
-                if not re.search(": lines 60, parts |: parts [0-9]+ of ", line)]
+                if not re.search(": lines 60, parts |, parts [0-9]+ of |: waits for ", line)]
 
     def wait(self, ran, seconds=300):
         return ran.wait(timeout=seconds)
@@ -177,9 +192,11 @@ class Gone(Case):
         self.nothing_left()
 
     def test_machine_that_is_lost_while_the_program_is_copied(self):
+        self.lost_soon()
         self.write("big.book", "% ffobook 2 winner\n" + "% " + os.urandom(300_000).hex() + "\n")
         self.h3.delay(20, 200)  # 12 seconds at least for that
-        ran = self.start("--book-in", "big.book")
+        self.slow(5, self.h1, self.h2)
+        ran = self.start("--book-in", "big.book", by="slow")
         wait_until(lambda: any(self.h3.home.glob("run-*/solve")))
         self.h3.relay.kill()
         self.whole(ran)
@@ -196,6 +213,7 @@ class Gone(Case):
         self.assertEqual(self.told(), ["on h1"])
 
     def test_only_machine_is_tried_again(self):
+        self.lost_soon()
         self.write("slow", "1", self.h1.home)
         ran = self.start(by="hasty", hosts="1/h1\n")
         wait_until(lambda: self.begun("h1", "done"))
@@ -247,9 +265,7 @@ class Connections(Case):
         self.nothing_left(self.h1)
 
     def test_users_own_configuration_decides(self):
-        with open(ROOM.home / ".ssh/config", "a") as config:
-            config.write("Host *\n ServerAliveInterval 2\n ConnectTimeout 20\n")
-        self.addCleanup((ROOM.home / ".ssh/config").write_text, (ROOM.home / ".ssh/config").read_text())
+        self.configured("ServerAliveInterval 2", "ConnectTimeout 20")
         for words in ({}, {"PARALLEL_SSH": "ssh -o ServerAliveInterval=1"}):
             self.whole(self.start(hosts="h1", **words))
             place = next((ROOM.home / "work").glob("run-*"))
@@ -291,7 +307,8 @@ class Tried(Case):
         self.h2.more = "SetEnv PATH=/home/me/tools\n"
         self.h2.end()
         self.h2.boot()
-        self.whole(self.start())
+        self.slow(1, self.h3)
+        self.whole(self.start(by="slow"))
         self.assertEqual(sorted(self.told()), [
             "h1 is left out: its shell prints 'Welcome', where results are read", "h2 is left out: sha256sum is not there",
             "on h3"])
@@ -300,7 +317,7 @@ class Tried(Case):
     def test_program_that_does_not_run_there_or_is_wrong(self):
         self.write("wrong", "", self.h1.home)
         self.write("dies", "", self.h2.home)
-        self.write("slow", "1", self.h3.home)  # so that all machines are asked before all is solved
+        self.slow(1, self.h3)
         self.whole(self.start(by="slow"))
         self.assertEqual(sorted(self.told()), ["h1 is left out: it solves a known line wrong",
                                                "h2 is left out: it can't solve: Killed", "on h1, h2, h3"])
@@ -338,7 +355,8 @@ class Tried(Case):
     def test_machines_that_cannot_be_reached_are_named(self):
         self.h2.end()
         hosts = "ssh -p 23 h1\nnone.invalid\nh2\nssh -i /dev/null -o IdentitiesOnly=yes h1\n2/h3\n"
-        self.whole(self.start(hosts=hosts))
+        self.slow(2, self.h3)
+        self.whole(self.start(by="slow", hosts=hosts))
         told = "\n".join(self.told())
         for line in ("h1 is left out: .*port 23: Connection refused", "none.invalid is left out: .*resolve",
                      "h2 is left out: .*(No route to host|timed out)", "h1 is left out: .*Permission denied", "on h3"):
@@ -361,16 +379,11 @@ class Tried(Case):
         self.assertEqual(told[3], "no machine can work")
         self.assertFalse([line for line in told if line.startswith("h2") and "may lie" in line], told)
 
-    def configured(self, line):
-        """The caller's configuration of ssh has one more line for all machines."""
-        text = (ROOM.home / ".ssh/config").read_text()
-        self.addCleanup((ROOM.home / ".ssh/config").write_text, text)
-        (ROOM.home / ".ssh/config").write_text(f"{text}Host *\n {line}\n")
-
     def test_reason_that_ssh_does_not_tell(self):
         self.configured("LogLevel QUIET")
         self.h2.end()
-        self.whole(self.start(hosts="1/h1\nh2\n"))
+        self.slow(1, self.h1)
+        self.whole(self.start(by="slow", hosts="1/h1\nh2\n"))
         self.assertEqual(self.told(), ["h2 is left out: ssh tells no reason", "on h1"])
 
     def test_terminal_that_ssh_forces(self):
@@ -410,7 +423,7 @@ class Tried(Case):
             if shutil.which(shell):
                 host.end()
                 host.boot(shell=shutil.which(shell))
-            self.write("slow", "1", host.home)
+            self.slow(1, host)
         self.whole(self.start(by="slow"))
         self.assertEqual(self.told(), ["on h1, h2, h3"])
         self.assertTrue(all(self.begun(name, "done") for name in ROOM.hosts))
@@ -438,6 +451,7 @@ class Swept(Case):
         self.nothing_left()
 
     def test_machine_that_was_away_is_swept_by_the_next_run(self):
+        self.lost_soon()
         self.write("slow", "20", self.h2.home)
         ran = self.start(by="slow")
         wait_until(lambda: any("sleep 20" in line for line in self.at_work(self.h2)))
@@ -474,14 +488,11 @@ class Swept(Case):
         self.nothing_left(self.h1, self.h2)
         self.assertEqual((ROOM.home / "work/hosts").read_text(), "")
 
-    def lose_one(self, begun=True):
-        """A run that is done but for sweeping: h2 is gone, without a word, after its last part."""
-        for host in (self.h1, self.h2):
-            self.write("slow", "3", host.home)
+    def lose_one(self):
+        """A run whose last part is solved by h1, when h2 is gone without a word."""
+        self.write("slow", "10", self.h1.home)
         ran = self.start(by="slow", hosts="1/h1\n1/h2\n")
-        wait_until(lambda: len(self.begun("h1", "done") + self.begun("h2", "done")) >= 8 and self.begun("h2", "done"))
-        (self.h2.home / "slow").unlink()
-        wait_until(lambda: len(self.begun("h1") + self.begun("h2")) >= 10 and not self.at_work(self.h2))
+        wait_until(lambda: len(self.begun("h1") + self.begun("h2", "done")) == 10 and self.begun("h2", "done"))
         self.h2.lose_link()
         return ran
 
@@ -489,7 +500,8 @@ class Swept(Case):
         ran = self.lose_one()
         wait_until(lambda: (BASE / "out").read_text() == self.one and (ROOM.home / "joined.book").exists())
         self.assertIsNone(ran.poll())
-        wait_until(lambda: "waits for h2 to remove what lies there, 30 seconds at most" in self.told())
+        waits = "ffosolve-many: waits for h2 to remove what lies there, 30 seconds at most\n"
+        wait_until(lambda: waits in (BASE / "told").read_text())
         self.assertIsNone(ran.poll())
         os.kill(child_of(ran.pid), signal.SIGINT)
         self.whole(ran, seconds=10 * busy())
@@ -498,6 +510,8 @@ class Swept(Case):
         ran = self.start(by="slow", hosts="1/h1\n")
         wait_until(lambda: (BASE / "out").read_text() == self.one)
         self.assertLess(time.monotonic() - begun, 5 * busy())  # all was solved before
+        wait_until(lambda: waits in (BASE / "told").read_text())
+        os.kill(child_of(ran.pid), signal.SIGINT)
         self.whole(ran)
 
     def test_shell_that_hangs_is_not_waited_for(self):

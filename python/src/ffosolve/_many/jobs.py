@@ -126,7 +126,7 @@ def sweep(run, command, watch, stack, lock):
     try:
         process = stack.enter_context(parallel(run, lock, len(machines)))
         with contextlib.suppress(subprocess.TimeoutExpired):
-            process.wait(timeout=2)
+            process.wait(timeout=5)
         if names := ", ".join(machine.name for machine in waits()):
             watch.tell(f"waits for {names} to remove what lies there, {HOST_SECONDS} seconds at most", is_fault=False)
         process.wait()

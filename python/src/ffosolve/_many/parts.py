@@ -5,10 +5,10 @@ import re
 from pathlib import Path
 from typing import NamedTuple
 
+from .._text import MARKS
 from .files import MOST_BYTES, digest_of, read_or_nothing
 from .messages import REFUSED, UNREADABLE, Refusal
 
-MARKS = (b"\xef\xbb\xbf", b"\xff\xfe", b"\xfe\xff")  # of UTF-8 and UTF-16
 SKIPPED = re.compile(rb"[ \t]*(?:%.*|\r?)", re.DOTALL)
 ROW = re.compile(rb"[+-]\d\d (?:[A-H][1-8](?:,[A-H][1-8])*|PS|--) [a-z]+|refused: [^\0]+")
 
