@@ -209,7 +209,7 @@ fn the_longest_job_is_taken_first(rt: HostRuntime) -> Result<(), AllocError> {
 }
 
 // Whether a job is taken before another one.
-fn is_before(first: Job, second: Job) -> bool {
+fn is_before(first: &Job, second: &Job) -> bool {
     let (more, fewer) = (first.task.pos().empties(), second.task.pos().empties());
     let (a, b) = (first.id, second.id);
     let is_earlier = a.sender < b.sender || a.sender == b.sender && a.number < b.number;
@@ -233,19 +233,22 @@ fn are_submitted(rt: &impl Abort, board: &mut Board) -> Result<bool, AllocError>
     Ok(true)
 }
 
-// Whether this many jobs are taken, each before those after it.
-fn are_taken_in_order(board: &mut Board, count: u32) -> bool {
-    let Some(mut last) = board.take() else {
-        return false;
-    };
-    for _ in 1..count {
-        let Some(job) = board.take() else {
-            return false;
-        };
-        if !is_before(last, job) {
+// The jobs that wait, as they are taken, but no more than so many.
+fn taken_jobs(alloc: Global, board: &mut Board, most: u32) -> Result<Vec<Job>, AllocError> {
+    let mut jobs = Vec::new(alloc);
+    for _ in 0..most {
+        if let Some(job) = board.take() {
+            jobs.push(job)?;
+        }
+    }
+    Ok(jobs)
+}
+
+fn are_in_order(jobs: &[Job]) -> bool {
+    for i in 1..jobs.len() {
+        if !is_before(&jobs[i - 1], &jobs[i]) {
             return false;
         }
-        last = job;
     }
     true
 }
@@ -256,6 +259,7 @@ fn many_jobs_are_taken_in_order(rt: HostRuntime) -> Result<(), AllocError> {
         return Err(AllocError);
     };
     assert!(rt; are_submitted(&rt, &mut board)?);
-    assert!(rt; are_taken_in_order(&mut board, 60) && board.take().is_none());
+    let jobs = taken_jobs(rt.alloc(), &mut board, 100)?;
+    assert!(rt; jobs.len() == 60 && are_in_order(&jobs));
     Ok(())
 }
