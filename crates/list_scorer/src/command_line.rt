@@ -56,8 +56,7 @@ fn ffoscores_command<'a>(alloc: Global, names: &'a [&'a str]) -> Result<Command<
     ensures { IfOk result (λ c. app_of c ≡ ffoscores names.entry) }
 {
     let bare = bare_command(alloc, "ffoscores", ABOUT, AFTER_HELP);
-    let workers =
-        "Score up to N + 1 positions at once, 0 to 64; what is\nprinted stays the same";
+    let workers = "Score up to N + 1 positions at once, 0 to 64; what is\nprinted stays the same";
     let with_settings = with_settings(alloc, bare, workers, names)?;
     let complete = flag_arg(
         alloc,

@@ -61,7 +61,8 @@ fn ffosolve_command<'a>(alloc: Global, names: &'a [&'a str]) -> Result<Command<'
     ensures { IfOk result (λ c. app_of c ≡ ffosolve names.entry) }
 {
     let bare = bare_command(alloc, "ffosolve", ABOUT, AFTER_HELP);
-    let workers = "Use N extra solver threads, besides one per file,\n0 to 64; reports stay the same";
+    let workers =
+        "Use N extra solver threads, besides one per file,\n0 to 64; reports stay the same";
     let for_runs = with_settings(alloc, bare, workers, names)?;
     let complete = flag_arg(
         alloc,
@@ -75,7 +76,11 @@ fn ffosolve_command<'a>(alloc: Global, names: &'a [&'a str]) -> Result<Command<'
         "Read a book of solved positions and test its claims\nfirst; reports stay the same",
     );
     let reading_books = asking.arg(book_in)?;
-    let book_out = book_arg(alloc, "book-out", "Write all solved positions to FILE as a book");
+    let book_out = book_arg(
+        alloc,
+        "book-out",
+        "Write all solved positions to FILE as a book",
+    );
     let writing_books = reading_books.arg(book_out)?;
     let progress = flag_arg(
         alloc,
