@@ -134,6 +134,13 @@ class Gate(Check):
                 self.sums(1, "3 passed, 1 failed", ci=text)
                 self.sums(1, "7 passed, 1 failed", check=text)
 
+    def test_any_word_is_refused(self):
+        for words in (["--help"], [""], ["ci", "check"]):
+            ran = run(".ci/run", *words, text=True, env={**self.place, "PATH": "/usr/bin:/bin"})
+            self.assertEqual((ran.returncode, ran.stdout), (2, ""))
+            self.assertEqual(ran.stderr, "usage: .ci/run, without any word: runs rt ci and then make check\n")
+        self.assertFalse(Path("out").exists())
+
     def test_status_alone_fails(self):
         self.sums(1, "10 passed, 1 failed", ci_status=1)
         self.sums(1, "10 passed, 1 failed", check_status=2)
