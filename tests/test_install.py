@@ -71,7 +71,7 @@ class Install(Case):
         self.assertEqual(self.install().stdout, f"installed below {self.root}\n")
         libraries = [f"{at}/{name}" for at in ("lib", "lib/glibc-hwcaps/x86-64-v3")
                      for name in ("libffosolve.so", "libffosolve.so.1", f"libffosolve.so.{VERSION}")]
-        wanted = {*libraries, "lib/libffosolve.a", "lib/pkgconfig/ffosolve.pc", "include/ffosolve.h",
+        wanted = {*libraries, "lib/libffosolve.a", "lib/libffosolve-x86-64-v3.a", "lib/pkgconfig/ffosolve.pc", "include/ffosolve.h",
                   *(f"lib/cmake/ffosolve/ffosolve-config{name}.cmake" for name in ("", "-version")), "share/ffosolve/VERSION",
                   *(f"share/ffosolve/{name}" for name in names_of_files() if name.startswith("python/src/"))}
         for name in COMMANDS:
@@ -80,7 +80,7 @@ class Install(Case):
         documents = {name for name in self.files() if name.startswith("share/doc/ffosolve/")}
         self.assertEqual(self.files() - documents, wanted)
         for name in ("README.md", "LICENSE", "CHANGELOG.md", "docs/user-guide.md", "examples/first.obf", "python/pyproject.toml",
-                     "rust/Cargo.toml"):
+                     "rust/Cargo.toml", "crates/othello_rules/specs/Rules.antt"):
             self.assertIn(f"share/doc/ffosolve/{name}", documents)
         for name in ("include/ffosolve.h", "lib/pkgconfig/ffosolve.pc", "lib/cmake/ffosolve/ffosolve-config.cmake"):
             self.assertEqual(re.findall("@[A-Z]+@", (self.root / name).read_text()), [])
@@ -152,6 +152,13 @@ class Install(Case):
         before = times()
         self.assertEqual((len(before), times()), (3, before))
 
+    def test_library_of_either_level_is_made_anew(self):
+        for level, other in (LEVELS, LEVELS[::-1]):
+            for kind in ("so", "a"):
+                (CHECKOUT / f"out/{level}/libffosolve.{kind}").unlink()
+                self.install(f"CPU={other}")
+            self.assertTrue((self.root / "lib/libffosolve-x86-64-v3.a").is_file())
+
     def test_by_another_user(self):
         """Who has no rt, and may not write the checkout."""
         folders = [CHECKOUT, *(path for path in CHECKOUT.rglob("*") if path.is_dir())]
@@ -187,12 +194,11 @@ class Install(Case):
 
 class Installed(Case):
     def test_each_level_runs(self):
-        """And says of which level the program and the static library are; of less, the loader ends it with one line."""
+        """And says of which level the program is; of less, the loader ends it with one line."""
         need("qemu-x86_64", "qemu-user")
         need("readelf", "binutils")
         for level, lesser in zip(LEVELS, ("core2duo", "Nehalem")):
             self.install(f"CPU={level}")
-            self.assertIn(f"\nlevel={level}\n", (self.root / "lib/pkgconfig/ffosolve.pc").read_text())
             for name in ("ffosolve", "ffoscores"):
                 program = self.root / "bin" / name
                 self.assertEqual(program.read_bytes()[:4], b"\x7fELF")
@@ -204,6 +210,19 @@ class Installed(Case):
             self.assertEqual((ran.returncode, ran.stdout, ran.stderr), (0, FIRST, ""))
         ran = run("qemu-x86_64", "-cpu", "Nehalem", CHECKOUT / "out/x86-64-v2/ffosolve", ROOT / "examples/first.obf", text=True)
         self.assertEqual((ran.returncode, ran.stdout), (0, FIRST), ran)
+
+    def test_static_library(self):
+        """Whatever the level of the programs, that without a level's name is for x86-64-v2."""
+        need("qemu-x86_64", "qemu-user")
+        need("cc", "gcc")
+        masks, wanted = ("".join((ROOT / f"examples/{name}.txt").open().readlines()[:4]) for name in ("masks", "answers"))
+        for level in LEVELS:
+            self.install(f"CPU={level}")
+            self.assertIn("\nlevel=x86-64-v2\n", (self.root / "lib/pkgconfig/ffosolve.pc").read_text())
+            for name, is_for in (("libffosolve.a", True), ("libffosolve-x86-64-v3.a", False)):
+                run("cc", "-o", "answers", ROOT / "examples/c/answers.c", "-I", self.root / "include", self.root / "lib" / name, check=True)
+                ran = run("qemu-x86_64", "-cpu", "Nehalem", "./answers", input=masks, text=True)
+                self.assertEqual((ran.returncode == 0, ran.stdout == wanted), (is_for, is_for), ran)
 
     def test_the_loader_picks_the_library(self):
         need("qemu-x86_64", "qemu-user")
