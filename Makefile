@@ -75,11 +75,11 @@ $(levels:%=out/%/libffosolve.so): %.so: %.o VERSION
 $(programs:%=out/%): out/%: out/$(CPU)/% always
 	cmp -s $< $@ || { cp $< $(new) && mv -f $(new) $@; }
 
-# Writes a text with the version, the greatest table and the places in it: $(call fill,FILE,TO).
+# Writes a text with the version, the greatest table and places in it: $(call fill,FILE,TO).
 number = $(shell echo $(version) | awk -F . '{ print 10000 * $$1 + 100 * $$2 + $$3 }')
 entries = $(shell awk '/const MOST_ENTRIES/ { gsub("[^0-9]", ""); print }' crates/bound_table/src/bound_table.rt)
 fill = sed -e 's/@VERSION@/$(version)/g; s/@NUMBER@/$(number)/g; s/@MAJOR@/$(major)/g; s/@ENTRIES@/$(entries)/g' \
-    -e "s|@INCLUDE@|$$(realpath -ms --relative-to='$(LIBDIR)' '$(INCLUDEDIR)')|g" $1 | install -D -m 644 /dev/stdin $2
+    -e "s|@BINDIR@|$(BINDIR)|g; s|@INCLUDE@|$$(realpath -ms --relative-to='$(LIBDIR)' '$(INCLUDEDIR)')|g" $1 | install -D -m 644 /dev/stdin $2
 
 # The library as a program in the making takes it: two names of the shared one, and no link, which rt refuses in a checkout.
 library: out/$(CPU)/libffosolve.a out/$(CPU)/libffosolve.so ## builds libffosolve.a, libffosolve.so and ffosolve.h in out/library
@@ -126,8 +126,15 @@ install: $(programs:%=out/$(CPU)/%) $(foreach level,$(levels),out/$(level)/libff
 	install -D -t "$(DESTDIR)$(BINDIR)" $(programs:%=out/$(CPU)/%)
 	place=$$(realpath -ms --relative-to='$(BINDIR)/..' '$(PREFIX)/share/ffosolve')
 	for name in $(scripts); do sed "s|share/ffosolve|$$place|" bin/$$name | install -m 755 /dev/stdin "$(DESTDIR)$(BINDIR)/$$name"; done
-	for page in share/man/*; do $(call fill,"$$page","$(DESTDIR)$(MANDIR)/man1/$${page##*/}"); done
-	for file in share/bash-completion/*/* share/zsh/*/* share/fish/*/*; do install -D -m 644 "$$file" "$(DESTDIR)$(PREFIX)/$$file"; done
+	for program in $(programs:%=out/$(CPU)/%) $(scripts:%=bin/%); do
+	    name=$${program##*/}
+	    said=$$(COLUMNS=80 "$$program" --help) || echo "$$name: its manual page has no options, since --help can't be run" >&2
+	    echo "$$said" | awk -f share/man/page.awk | sed -e '/^@HELP@$$/{r /dev/stdin' -e d -e '}' share/man/$$name.1 |
+	        $(call fill,/dev/stdin,"$(DESTDIR)$(MANDIR)/man1/$$name.1")
+	    $(call fill,share/completions/bash,$(share)/bash-completion/completions/$$name")
+	    $(call fill,share/completions/zsh,$(share)/zsh/site-functions/_$$name")
+	    $(call fill,share/completions/fish,$(share)/fish/vendor_completions.d/$$name.fish")
+	done
 	rm -rf $(doc)" $(share)/ffosolve"
 	for file in $(modules); do install -D -m 644 "$$file" $(share)/ffosolve/$$file"; done
 	for file in $(documents); do install -D -m 644 "$$file" $(doc)/$$file"; done

@@ -14,7 +14,7 @@ import unittest
 from pathlib import Path
 
 from tests.checkouts import FIRST, copied_checkout, make_all, names_of_files, path_without
-from tests.support import ROOT, SECONDS, InFolder, need, run
+from tests.support import ROOT, SECONDS, InFolder, lack, need, run
 
 PREFIX = "/opt/a prefix"
 NOBODY = 65534
@@ -277,11 +277,20 @@ def plain(text):
 
 
 class Texts(Case):
-    """What is written in share/ of each program, beside its --help."""
+    """What is made of the --help of each program, and what stands in share/. Behind the bin/ffosolve of a checkout that is not
+    built, nothing is started for it."""
 
     def setUp(self):
         super().setUp()
-        self.install()
+        self.root = self.folder / "a prefix"
+        self.install("DESTDIR=", prefix=self.root)
+        shutil.copytree(ROOT / "examples", "examples")
+        Path("examples/bin").mkdir()
+        Path("examples/bin/ffosolve").write_text("#!/bin/sh\n: >begun\n")
+        Path("examples/bin/ffosolve").chmod(0o755)
+
+    def tearDown(self):
+        self.assertFalse(Path("examples/begun").exists())
 
     def test_manual_pages(self):
         """Each shows without a warning, and has each option and its text."""
@@ -298,49 +307,44 @@ class Texts(Case):
                 self.assertIn(plain(names), text)
                 self.assertIn(plain(told), text)
 
+    def told(self, shell, script, name, *words):
+        """The first words of the lines that a shell offers."""
+        need(shell, shell)
+        ran = run(shell, *script, name, *words, cwd="examples", text=True, env={**self.places, "SHARE": str(self.root / "share")})
+        self.assertEqual((ran.returncode, ran.stderr), (0, ""))
+        return sorted({line.split("\t")[0] for line in ran.stdout.splitlines()} - {""})
+
+    def completes(self, *shell):
+        for name in (*COMMANDS, "bin/ffosolve"):
+            self.assertEqual(set(self.told(*shell, name, "--")), set(self.options_of(Path(name).name)))
+            self.assertEqual(self.told(*shell, name, "fi"), ["first.book", "first.obf"])
+        self.assertEqual(self.told(*shell, "ffosolve", "--sco"), ["--scoring"])
+        self.assertEqual(self.told(*shell, "ffosolve", "--book-in", "fi"), ["first.book", "first.obf"])
+        for name in ("ffosolve", "ffoscores", "ffosolve-many"):
+            self.assertEqual(self.told(*shell, name, "--scoring", ""), ["discs", "sign", "winner"])
+            self.assertEqual(self.told(*shell, name, "--scoring", "d"), ["discs"])
+
     def test_bash(self):
-        need("bash", "bash")
-        script = '. "$1"; shift; COMP_WORDS=("$@"); COMP_CWORD=$(($# - 1)); "_${1//-/_}"; printf "%s\\n" "${COMPREPLY[@]}"'
-
-        def told(name, *words):
-            path = self.root / "share/bash-completion/completions" / name
-            ran = run("bash", "-c", script, "bash", path, name, *words, cwd=ROOT / "examples", text=True)
-            self.assertEqual(ran.stderr, "")
-            return sorted(filter(None, ran.stdout.split("\n")))
-
-        for name in COMMANDS:
-            self.assertEqual([word for word in told(name, "--") if word.startswith("--")], self.options_of(name))
-            self.assertIn("first.obf", told(name, "fi"))
-            self.assertNotIn("first.obf", told(name, "--fi"))
-        for before in (("--scoring", "d"), ("--scoring", "=", "d")):
-            self.assertEqual(told("ffosolve", *before), ["discs"])
-        self.assertEqual(told("ffosolve", "--scoring", "="), ["discs", "sign", "winner"])
-        self.assertEqual(told("ffosolve", "--table", "f"), [])
+        if not Path("/usr/share/bash-completion/bash_completion").exists():
+            lack("bash_completion (Debian: bash-completion)")
+        script = ('. /usr/share/bash-completion/bash_completion; . "$SHARE/bash-completion/completions/${0##*/}"; COMP_WORDS=("$0" "$@"); '
+                  'COMP_CWORD=$#; COMP_LINE="$0 $*"; COMP_LINE=${COMP_LINE// = /=}; COMP_POINT=${#COMP_LINE}; compopt() { :; }; '
+                  '$(complete -p "${0##*/}" | cut -d " " -f 3) "$0" "${!#}" "${COMP_WORDS[COMP_CWORD-1]}"; printf "%s\\n" "${COMPREPLY[@]}"')
+        self.completes("bash", ("-c", script))
+        self.assertEqual(self.told("bash", ("-c", script), "ffosolve", "--scoring", "=", "d"), ["discs"])
 
     def test_fish(self):
-        need("fish", "fish")
-
-        def told(name, line):
-            path = self.root / f"share/fish/vendor_completions.d/{name}.fish"
-            ran = run("fish", "--no-config", "-c", "source $argv[1]; complete -C $argv[2]", path, f"{name} {line}",
-                      cwd=ROOT / "examples", env=self.places, text=True)
-            self.assertEqual((ran.returncode, ran.stderr), (0, ""))
-            return sorted(line.split("\t")[0] for line in ran.stdout.splitlines())
-
-        for name in COMMANDS:
-            self.assertEqual([word for word in told(name, "--") if word.startswith("--")], self.options_of(name))
-            self.assertIn("first.obf", told(name, "fi"))
-        self.assertEqual((told("ffosolve", "--scoring d"), told("ffosolve", "--scoring ")), (["discs"], ["discs", "sign", "winner"]))
+        script = ("--no-config", "-c", "source $SHARE/fish/vendor_completions.d/(basename $argv[1]).fish; complete -C \"$argv\"")
+        self.completes("fish", script)
+        self.assertEqual(self.told("fish", script, "ffosolve", "--scoring=d"), ["--scoring=discs"])
 
     def test_zsh(self):
-        """Each option, and on a terminal some lines by its own line editor."""
+        """On a terminal, by its own line editor."""
         need("zsh", "zsh")
-        for name in COMMANDS:
-            named = re.findall(r"--[a-z-]+", (self.root / f"share/zsh/site-functions/_{name}").read_text())
-            self.assertEqual(sorted(set(named)), self.options_of(name))
         shell = Shell(self.root, self.folder)
         self.addCleanup(shell.end)
         for begun, whole in (("ffosolve --sco", "ffosolve --scoring"), ("ffosolve --scoring=d", "ffosolve --scoring=discs"),
+                             ("ffoscores --scoring w", "ffoscores --scoring winner"), ("bin/ffosolve --sco", "bin/ffosolve --scoring"),
                              ("ffosolve --book-in fir", "ffosolve --book-in first."), ("ffosolve kinds.o", "ffosolve kinds.obf"),
                              *((f"{name} {option}",) * 2 for name in COMMANDS for option in self.options_of(name))):
             self.assertTrue(shell.completes(begun, whole), (whole, shell.told))
@@ -354,8 +358,8 @@ class Shell:
         self.child, self.terminal = pty.fork()
         if self.child == 0:
             try:
-                os.chdir(ROOT / "examples")
-                places = {"PATH": f"{root}/bin:/usr/bin:/bin", "HOME": str(folder), "TERM": "dumb"}
+                os.chdir("examples")
+                places = {"PATH": "/usr/bin:/bin", "HOME": str(folder), "TERM": "dumb"}
                 os.execvpe("zsh", ["zsh", "-f", "-i"], places)
             finally:
                 os._exit(99)
