@@ -13,8 +13,8 @@ lay = $(MAKE) -s install CPU=x86-64-v2 DESTDIR="$$room" PREFIX=$2 $1 >/dev/null;
         install packaging/start "$$room$2/bin/$$program"; \
     done
 
-# Lays README.md and PROVED in a folder: $(call texts,KIND,OTHER KIND,BIN,EXAMPLES,FOLDER).
-texts = sed -e '/^$2|/d; s/^$1|//; s|@BIN@|$3|g; s|@EXAMPLES@|$4|g' packaging/README.md | $(call fill,/dev/stdin,"$5/README.md"); \
+# Lays README.md and PROVED in a folder: $(call texts,KIND,OTHER KIND,BIN,DOC,FOLDER).
+texts = sed -e '/^$2|/d; s/^$1|//; s|@BIN@|$3|g; s|@DOC@|$4|g' packaging/README.md | $(call fill,/dev/stdin,"$5/README.md"); \
     { \
         echo "ffosolve $(version), commit $$(git rev-parse HEAD), $$(rt version)"; \
         echo; \
@@ -30,7 +30,7 @@ dist: levels ## makes out/ffosolve-VERSION-linux-x86-64.tar.gz, which runs where
 	$(call lay,,/$(archive))
 	rm "$$top/share/doc/ffosolve/README.md"
 	ln -s share/doc/ffosolve/examples "$$top/examples"
-	$(call texts,archive,deb,bin/,examples,$$top)
+	$(call texts,archive,deb,bin/,share/doc/ffosolve,$$top)
 	(cd "$$top" && find . -type f ! -name SHA256SUMS | LC_ALL=C sort | xargs -d '\n' sha256sum >SHA256SUMS)
 	chmod -R u=rwX,go=rX "$$top"
 	tar -C "$$room" --sort=name --mtime="@$(seconds)" --owner=0 --group=0 --numeric-owner --format=ustar -c $(archive) | gzip -9n >out/$(archive).tar.gz.new
@@ -44,7 +44,7 @@ deb: levels ## makes out/ffosolve_VERSION_amd64.deb, a package for Debian
 	$(room)
 	usr="$$room/usr" doc="$$room/usr/share/doc/ffosolve" python="$$room/usr/lib/python3/dist-packages"
 	$(call lay,LIBDIR=/usr/lib/x86_64-linux-gnu,/usr)
-	$(call texts,deb,archive,,/usr/share/doc/ffosolve/examples,$$doc)
+	$(call texts,deb,archive,,/usr/share/doc/ffosolve,$$doc)
 	wheel=$$(cd python/backend && python3 -Bc 'import sys, ffosolve_wheel; print(ffosolve_wheel.build_wheel(sys.argv[1]))' "$$room")
 	python3 -m zipfile -e "$$room/$$wheel" "$$python"
 	rm -r "$$room/$$wheel" "$$python"/*.dist-info/RECORD "$$doc/python"
