@@ -104,7 +104,8 @@ class Archive(unittest.TestCase):
                 self.assertLessEqual({it for it in uses[name].split() if it in uses}, set(names[:at]))
 
     def test_names_no_place(self):
-        """What was built does not name where; and each file that a text of the archive names is in it."""
+        """What was built does not name where; and each file that a text of the archive names is in it, but for tests, benchmarks and
+        proofs of which a document tells."""
         for path in [path for below in ("bin", "lib", "libexec") for path in (UNPACKED / below).rglob("*") if path.is_file()]:
             for place in (ROOT, FIRST_ONE, UNPACKED, os.sep + "tmp."):
                 self.assertNotIn(os.fsencode(place), path.read_bytes())
@@ -113,7 +114,8 @@ class Archive(unittest.TestCase):
             if path.suffix not in (".md", ".py", ".c", ".rs", ".h", ".toml", ".pc") and path.parent.name != "man1":
                 continue
             for name in re.findall(r"(?<![\w/<}.-])((?:[\w-]+[\w.-]*/)+[\w-]+\.(?:md|py|rs|c|h|toml|txt|obf|antt|a|so))\b", path.read_text()):
-                is_there = name.startswith("FOLDER/") or any(str(file).endswith(f"/{name.lstrip('./')}") for file in files)
+                is_told = path.parent.name == "docs" and name.startswith(("tests/", "bench/", "proofs/"))
+                is_there = name.startswith("FOLDER/") or is_told or any(str(file).endswith(f"/{name.lstrip('./')}") for file in files)
                 self.assertTrue(is_there, (path, name))
 
 
