@@ -173,6 +173,16 @@ class Install(Case):
                 path.chmod(0o755)
         self.assertEqual(run(self.root / "bin/ffosolve", ROOT / "examples/first.obf", text=True).stdout, FIRST)
 
+    def test_without_python(self):
+        """All is laid; which page then tells less is said."""
+        ran = self.make("install", env={**self.places, "PATH": path_without("python3", self.folder)})
+        self.assertEqual((ran.returncode, ran.stdout), (0, f"installed below {self.root}\n"))
+        told = re.findall("^(.*): its manual page has no options, since --help can't be run$", ran.stderr, re.M)
+        self.assertEqual(told, ["ffosolve-many", "ffosolve-games"])
+        for name, has_options in (("ffosolve", True), *((name, False) for name in told)):
+            page = (self.root / f"share/man/man1/{name}.1").read_text()
+            self.assertEqual((".SH SEE ALSO" in page, "OPTIONS" in page), (True, has_options))
+
     def test_what_is_refused(self):
         for prefix in ("relative", "", "~/a"):
             for target in ("install", "uninstall"):
