@@ -251,23 +251,38 @@ class Debian(InFolder):
 
     def test_installed_and_removed(self):
         """By apt-get, with its commands, pages and libraries where a system looks for them; nothing is left behind."""
+        need("dpkg-shlibdeps", "dpkg-dev")
         if os.getuid() != 0:
             self.skipTest("layers over the system's folders are for root")
         apt = ("apt-get", "-q", "-y")
         self.apart(*apt, "install", "--no-install-recommends", self.package)
+        self.apart("test", "-d", "/usr/lib/python3/dist-packages/ffosolve/__pycache__")
         for name in ("ffosolve", "ffoscores", "ffosolve-many", "ffosolve-games"):
             self.assertEqual(self.apart(name, "--version").stdout, f"{name} {VERSION}\n")
         run("dpkg-deb", "-x", self.package, "root", check=True)
         shows(self, self.folder / "root/usr/share/doc/ffosolve/README.md", 6, lambda *words: self.apart(*words, check=False))
         say = ("import ffosolve, importlib.metadata; print(ffosolve.Solver().library_version, importlib.metadata.version('ffosolve'), "
-               "ffosolve.__file__, ffosolve.__cached__)")
+               "ffosolve.__file__)")
         told = self.apart("/usr/bin/python3", "-c", say).stdout.split()
-        self.assertEqual(told[:3], [VERSION, VERSION, "/usr/lib/python3/dist-packages/ffosolve/__init__.py"])
-        self.apart("test", "-e", told[3])
+        self.assertEqual(told, [VERSION, VERSION, "/usr/lib/python3/dist-packages/ffosolve/__init__.py"])
+        self.needed_by_another_package()
         self.apart(*apt, "purge", "ffosolve")
         left = "find /usr /etc /var/lib/dpkg/info -iname '*ffosolve*' | grep -v '^/usr/share/doc/ffosolve$' || :"
         self.assertEqual(self.apart("sh", "-c", left).stdout, "")
         self.assertFalse(Path("/usr/bin/ffosolve").exists())
+
+    def needed_by_another_package(self):
+        """A package over the library, as Debian's tools make it of the program that README has built."""
+        needs = f"libffosolve1 (>= {VERSION})"
+        for name, text in (("debian/control", "Source: one\n\nPackage: one\nArchitecture: any\n"),
+                           ("one/DEBIAN/control", f"Package: one\nVersion: 1\nArchitecture: all\nMaintainer: A <a@b>\nDescription: a\n"
+                                                  f"Depends: {needs}, libffosolve-dev, python3-ffosolve\n")):
+            Path(name).parent.mkdir(parents=True)
+            Path(name).write_text(text)
+        self.assertIn(needs, self.apart("dpkg-shlibdeps", "-O", "-eanswers").stdout)
+        run("dpkg-deb", "--build", "one", check=True)
+        self.apart("dpkg", "-i", self.folder / "one.deb")
+        self.apart("dpkg", "-P", "one")
 
 
 class Wheel(InFolder):
