@@ -225,14 +225,14 @@ class Installed(Case):
         """Whatever the level of the programs, that without a level's name is for x86-64-v2."""
         need("qemu-x86_64", "qemu-user")
         need("cc", "gcc")
-        masks, wanted = ("".join((ROOT / f"examples/{name}.txt").open().readlines()[:4]) for name in ("masks", "answers"))
+        masks, wanted = ((ROOT / f"examples/{name}.txt").read_text().splitlines()[:4] for name in ("masks", "answers"))
         for level in LEVELS:
             self.install(f"CPU={level}")
             self.assertIn("\nlevel=x86-64-v2\n", (self.root / "lib/pkgconfig/ffosolve.pc").read_text())
             for name, is_for in (("libffosolve.a", True), ("libffosolve-x86-64-v3.a", False)):
                 run("cc", "-o", "answers", ROOT / "examples/c/answers.c", "-I", self.root / "include", self.root / "lib" / name, check=True)
-                ran = run("qemu-x86_64", "-cpu", "Nehalem", "./answers", input=masks, text=True)
-                self.assertEqual((ran.returncode == 0, ran.stdout == wanted), (is_for, is_for), ran)
+                ran = run("qemu-x86_64", "-cpu", "Nehalem", "./answers", input="\n".join(masks), text=True)
+                self.assertEqual((ran.returncode == 0, ran.stdout.splitlines()[:4] == wanted), (is_for, is_for), ran)
 
     def test_the_loader_picks_the_library(self):
         need("qemu-x86_64", "qemu-user")
