@@ -13,7 +13,7 @@ LIBDIR = $(PREFIX)/lib
 INCLUDEDIR = $(PREFIX)/include
 MANDIR = $(PREFIX)/share/man
 LIST =
-# The level of processors that the programs and the static library are for: by default the best that this machine is of.
+# The level of processors that the programs are for: by default the best that this machine is of.
 CPU := $(shell /lib64/ld-linux-x86-64.so.2 --help 2>&1 | grep -q 'x86-64-v3 .supported' && echo x86-64-v3 || echo x86-64-v2)
 tell = 2# the descriptor on which a build tells how far it is
 
@@ -75,11 +75,11 @@ $(levels:%=out/%/libffosolve.so): %.so: %.o VERSION
 $(programs:%=out/%): out/%: out/$(CPU)/% always
 	cmp -s $< $@ || { cp $< $(new) && mv -f $(new) $@; }
 
-# Writes a text with the version, the greatest table and the places in it: $(call fill,FILE,TO).
+# Writes a text with the version, the greatest table and places in it: $(call fill,FILE,TO).
 number = $(shell echo $(version) | awk -F . '{ print 10000 * $$1 + 100 * $$2 + $$3 }')
 entries = $(shell awk '/const MOST_ENTRIES/ { gsub("[^0-9]", ""); print }' crates/bound_table/src/bound_table.rt)
-fill = sed -e 's/@VERSION@/$(version)/g; s/@NUMBER@/$(number)/g; s/@MAJOR@/$(major)/g; s/@LEVEL@/$(CPU)/g; s/@ENTRIES@/$(entries)/g' \
-    -e "s|@INCLUDE@|$$(realpath -ms --relative-to='$(LIBDIR)' '$(INCLUDEDIR)')|g" $1 | install -D -m 644 /dev/stdin $2
+fill = sed -e 's/@VERSION@/$(version)/g; s/@NUMBER@/$(number)/g; s/@MAJOR@/$(major)/g; s/@ENTRIES@/$(entries)/g' \
+    -e "s|@BINDIR@|$(BINDIR)|g; s|@INCLUDE@|$$(realpath -ms --relative-to='$(LIBDIR)' '$(INCLUDEDIR)')|g" $1 | install -D -m 644 /dev/stdin $2
 
 # The library as a program in the making takes it: two names of the shared one, and no link, which rt refuses in a checkout.
 library: out/$(CPU)/libffosolve.a out/$(CPU)/libffosolve.so ## builds libffosolve.a, libffosolve.so and ffosolve.h in out/library
@@ -116,23 +116,31 @@ lib = "$(DESTDIR)$(LIBDIR)
 share = "$(DESTDIR)$(PREFIX)/share
 doc = $(share)/doc/ffosolve
 documents = README.md LICENSE CHANGELOG.md VERSION \
-    $(shell find docs examples python rust \( -name __pycache__ -o -name target -o -name Cargo.lock \) -prune -o -type f -print)
+    $(shell find docs examples python rust crates/*/specs \( -name __pycache__ -o -name target -o -name Cargo.lock \) -prune -o -type f -print)
 # What the scripts run. The documents have it too, but a system may leave those out.
 modules = VERSION $(shell find python/src -name __pycache__ -prune -o -type f -print)
 absolute = case "$(PREFIX)" in /*) ;; *) echo "PREFIX is $(PREFIX), and has to begin with a slash" >&2; exit 1 ;; esac
 
-install: $(programs:%=out/$(CPU)/%) out/$(CPU)/libffosolve.a $(levels:%=out/%/libffosolve.so) ## lays programs, library, manual pages, completions and documents below PREFIX (/usr/local), in DESTDIR
+install: $(programs:%=out/$(CPU)/%) $(foreach level,$(levels),out/$(level)/libffosolve.a out/$(level)/libffosolve.so) ## lays programs, library, manual pages, completions and documents below PREFIX (/usr/local), in DESTDIR
 	$(absolute)
 	install -D -t "$(DESTDIR)$(BINDIR)" $(programs:%=out/$(CPU)/%)
 	place=$$(realpath -ms --relative-to='$(BINDIR)/..' '$(PREFIX)/share/ffosolve')
 	for name in $(scripts); do sed "s|share/ffosolve|$$place|" bin/$$name | install -m 755 /dev/stdin "$(DESTDIR)$(BINDIR)/$$name"; done
-	for page in share/man/*; do $(call fill,"$$page","$(DESTDIR)$(MANDIR)/man1/$${page##*/}"); done
-	for file in share/bash-completion/*/* share/zsh/*/* share/fish/*/*; do install -D -m 644 "$$file" "$(DESTDIR)$(PREFIX)/$$file"; done
+	for program in $(programs:%=out/$(CPU)/%) $(scripts:%=bin/%); do
+	    name=$${program##*/}
+	    said=$$(COLUMNS=80 "$$program" --help) || echo "$$name: its manual page has no options, since --help can't be run" >&2
+	    echo "$$said" | awk -f share/man/page.awk | sed -e '/^@HELP@$$/{r /dev/stdin' -e d -e '}' share/man/$$name.1 |
+	        $(call fill,/dev/stdin,"$(DESTDIR)$(MANDIR)/man1/$$name.1")
+	    $(call fill,share/completions/bash,$(share)/bash-completion/completions/$$name")
+	    $(call fill,share/completions/zsh,$(share)/zsh/site-functions/_$$name")
+	    $(call fill,share/completions/fish,$(share)/fish/vendor_completions.d/$$name.fish")
+	done
 	rm -rf $(doc)" $(share)/ffosolve"
 	for file in $(modules); do install -D -m 644 "$$file" $(share)/ffosolve/$$file"; done
 	for file in $(documents); do install -D -m 644 "$$file" $(doc)/$$file"; done
 	rm -f $(lib)/"libffosolve.so* $(lib)/glibc-hwcaps/x86-64-v3/"libffosolve.so*
-	install -D -m 644 out/$(CPU)/libffosolve.a $(lib)/libffosolve.a"
+	install -D -m 644 out/x86-64-v2/libffosolve.a $(lib)/libffosolve.a"
+	install -D -m 644 out/x86-64-v3/libffosolve.a $(lib)/libffosolve-x86-64-v3.a"
 	install -D -m 644 out/x86-64-v2/libffosolve.so $(lib)/libffosolve.so.$(version)"
 	install -D -m 644 out/x86-64-v3/libffosolve.so $(lib)/glibc-hwcaps/x86-64-v3/libffosolve.so.$(version)"
 	for folder in $(lib)" $(lib)/glibc-hwcaps/x86-64-v3"; do
@@ -152,7 +160,7 @@ uninstall: ## takes away what make install laid, and folders that are empty then
 	    rm -f "$(DESTDIR)$(BINDIR)/$$name" "$(DESTDIR)$(MANDIR)/man1/$$name.1" $(share)/bash-completion/completions/$$name" \
 	        $(share)/zsh/site-functions/_$$name" $(share)/fish/vendor_completions.d/$$name.fish"
 	done
-	rm -f $(lib)/"libffosolve.* $(lib)/glibc-hwcaps/x86-64-v3/"libffosolve.* $(lib)/pkgconfig/ffosolve.pc" "$(DESTDIR)$(INCLUDEDIR)/ffosolve.h"
+	rm -f $(lib)/"libffosolve.* $(lib)/libffosolve-x86-64-v3.a" $(lib)/glibc-hwcaps/x86-64-v3/"libffosolve.* $(lib)/pkgconfig/ffosolve.pc" "$(DESTDIR)$(INCLUDEDIR)/ffosolve.h"
 	rm -rf $(doc)" $(share)/ffosolve" $(lib)/cmake/ffosolve"
 	# The folders of the system stay, empty or not.
 	case '$(PREFIX)' in /usr | /usr/local) exit 0 ;; esac

@@ -6,28 +6,31 @@ clean = change=$$(git status --porcelain | head -n 1) || exit; [ -z "$$change" ]
 room = room=$$(mktemp -d); trap 'rm -rf "$$room"' EXIT; umask 022
 seconds = $$(git log -1 --format=%ct)
 
-# Lays an installation below $$room: in bin/, what picks the program of the best level; the static library is that of v2.
-lay = $(MAKE) -s install CPU=x86-64-v2 DESTDIR="$$room" $1 >/dev/null; \
+# Lays an installation below $$room: $(call lay,WORDS,PREFIX); in bin/ stands what picks the program of the best level.
+lay = $(MAKE) -s install CPU=x86-64-v2 DESTDIR="$$room" PREFIX=$2 $1 >/dev/null; \
     for program in $(programs); do \
         for level in $(levels); do install -D "out/$$level/$$program" "$$room$2/libexec/ffosolve/$$level/$$program"; done; \
         install packaging/start "$$room$2/bin/$$program"; \
     done
 
+# Lays README.md and PROVED in a folder: $(call texts,KIND,OTHER KIND,BIN,DOC,FOLDER).
+texts = sed -e '/^$2|/d; s/^$1|//; s|@BIN@|$3|g; s|@DOC@|$4|g' packaging/README.md | $(call fill,/dev/stdin,"$5/README.md"); \
+    { \
+        echo "ffosolve $(version), commit $$(git rev-parse HEAD), $$(rt version)"; \
+        echo; \
+        echo 'Each function of these crates was proved against its contract; nothing else is built into:'; \
+        for program in $(programs); do echo "bin/$$program:" $$(scripts/below $$program); done; \
+        echo "lib/libffosolve.*:" $$(scripts/below ffosolve_c); \
+    } | install -m 644 /dev/stdin "$5/PROVED"
+
 dist: levels ## makes out/ffosolve-VERSION-linux-x86-64.tar.gz, which runs where it is unpacked
 	$(clean)
 	$(room)
-	top="$$room/$(archive)" doc="$$room/$(archive)/share/doc/ffosolve"
-	$(call lay,PREFIX=/$(archive) documents='LICENSE VERSION $(filter examples/% python/% rust/%,$(documents))',/$(archive))
-	$(call fill,packaging/README.md,"$$top/README.md")
-	install -m 644 docs/definitions.md "$$doc"
-	for specs in crates/*/specs; do mkdir -p "$$doc/$${specs#crates/}" && cp -R "$$specs/." "$$doc/$${specs#crates/}"; done
-	{
-	    echo "ffosolve $(version), commit $$(git rev-parse HEAD), $$(rt version)"
-	    echo
-	    echo 'Each function of these crates was proved against its contract; nothing else is built into:'
-	    for program in $(programs); do echo "bin/$$program:" $$(scripts/below $$program); done
-	    echo "lib/libffosolve.*:" $$(scripts/below ffosolve_c)
-	} >"$$top/PROVED"
+	top="$$room/$(archive)"
+	$(call lay,,/$(archive))
+	rm "$$top/share/doc/ffosolve/README.md"
+	ln -s share/doc/ffosolve/examples "$$top/examples"
+	$(call texts,archive,deb,bin/,share/doc/ffosolve,$$top)
 	(cd "$$top" && find . -type f ! -name SHA256SUMS | LC_ALL=C sort | xargs -d '\n' sha256sum >SHA256SUMS)
 	chmod -R u=rwX,go=rX "$$top"
 	tar -C "$$room" --sort=name --mtime="@$(seconds)" --owner=0 --group=0 --numeric-owner --format=ustar -c $(archive) | gzip -9n >out/$(archive).tar.gz.new
@@ -35,18 +38,27 @@ dist: levels ## makes out/ffosolve-VERSION-linux-x86-64.tar.gz, which runs where
 	(cd out && sha256sum $(archive).tar.gz >$(archive).tar.gz.sha256)
 	echo "made: $$PWD/out/$(archive).tar.gz"
 
+# The package for Python lies where Debian's Python looks, as pip lays it, but pip can't take it away.
 deb: levels ## makes out/ffosolve_VERSION_amd64.deb, a package for Debian
 	$(clean)
 	$(room)
-	$(call lay,PREFIX=/usr,/usr)
-	doc="$$room/usr/share/doc/ffosolve"
+	usr="$$room/usr" doc="$$room/usr/share/doc/ffosolve" python="$$room/usr/lib/python3/dist-packages"
+	$(call lay,LIBDIR=/usr/lib/x86_64-linux-gnu,/usr)
+	$(call texts,deb,archive,,/usr/share/doc/ffosolve,$$doc)
+	wheel=$$(cd python/backend && python3 -Bc 'import sys, ffosolve_wheel; print(ffosolve_wheel.build_wheel(sys.argv[1]))' "$$room")
+	python3 -m zipfile -e "$$room/$$wheel" "$$python"
+	rm -r "$$room/$$wheel" "$$python"/*.dist-info/RECORD "$$doc/python"
+	echo debian >"$$python/ffosolve-$(version).dist-info/INSTALLER"
 	mv "$$doc/LICENSE" "$$doc/copyright"
-	mv "$$doc/CHANGELOG.md" "$$doc/changelog"
-	gzip -9n "$$doc/changelog" "$$room"/usr/share/man/man1/*
-	strip --strip-unneeded "$$room"/usr/libexec/ffosolve/*/* "$$room"/usr/lib/libffosolve.so.$(version) "$$room"/usr/lib/glibc-hwcaps/*/libffosolve.so.$(version)
+	printf '%s\n' 'ffosolve ($(version)) unstable; urgency=medium' '' '  * CHANGELOG.md, beside this file, has what is new.' '' \
+	    " -- Gimzolens <ffosolve@gimzolens.invalid>  $$(date -Rud "@$(seconds)")" >"$$doc/changelog"
+	gzip -9n "$$doc/changelog" "$$usr"/share/man/man1/*
+	strip --strip-unneeded -R .comment "$$usr"/libexec/ffosolve/*/* $$(find "$$usr/lib" -name 'libffosolve.so.$(version)')
+	install -D -m 644 packaging/lintian-overrides "$$usr/share/lintian/overrides/ffosolve"
 	$(call fill,packaging/control.in,"$$room/DEBIAN/control")
+	install packaging/postinst packaging/prerm "$$room/DEBIAN"
 	echo 'activate-noawait ldconfig' >"$$room/DEBIAN/triggers"
-	echo 'libffosolve $(major) ffosolve (>= $(version))' >"$$room/DEBIAN/shlibs"
+	echo 'libffosolve $(major) libffosolve$(major) (>= $(version))' >"$$room/DEBIAN/shlibs"
 	(cd "$$room" && find usr -type f | LC_ALL=C sort | xargs -d '\n' md5sum >DEBIAN/md5sums)
 	chmod -R u=rwX,go=rX "$$room"
 	SOURCE_DATE_EPOCH="$(seconds)" dpkg-deb --root-owner-group -Zxz --build "$$room" out/ffosolve_$(version)_amd64.deb >/dev/null

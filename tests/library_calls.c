@@ -70,8 +70,9 @@ static void list(const ffosolve_position *positions, size_t count, size_t room, 
     size_t at = 99;
     for (size_t i = 0; i < 4; i++) answers[i] = told(99, 99, 99);
     int32_t status = ffosolve_solve_all(positions, count, scoring, 64, answers, room, &at);
-    printf("solve_all of %zu into %zu: status %" PRId32 ", at %zu\n", count, room, status, at);
-    for (size_t i = 0; i < 4; i++) show("  answer", status, answers[i]);
+    printf("solve_all of %zu into %zu: status %" PRId32 ", at %zu:", count, room, status, at);
+    for (size_t i = 0; i < 4; i++) printf(" %" PRId32 " %" PRId32 " %" PRIx64 ";", answers[i].score, answers[i].kind, answers[i].best);
+    printf("\n");
 }
 
 static void list_of_scores(const ffosolve_position *positions, size_t count, size_t room) {

@@ -77,10 +77,11 @@ def main():
     solutions = 0
     for scoring in ffosolve.Scoring:
         own = [words for words in lines if words[0] == "solve" and int(words[3]) == scoring]
-        answers = SOLVERS[scoring, 1024].solve_all(solution(words)[0] for words in own)
-        expect("number of answers", len(answers), len(own), [])
-        for answer, words in zip(answers, own):
+        positions = [solution(words)[0] for words in own]
+        both = SOLVERS[scoring, 1024].solve_all(positions), SOLVERS[scoring, 1024].move_scores_all(positions)
+        for answer, scores, words in zip(*both, own, strict=True):
             expect("solve_all", answer, solution(words)[2], words)
+            expect("move_scores_all", list(scores.values()), solution(words)[3], words)
         solutions += len(own)
     print(f"{solutions} solutions and {len(lines) - solutions} rules agree")
 

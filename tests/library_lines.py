@@ -1,5 +1,5 @@
-"""Prints what library_lines.c does, by the Python package: by read_lines over the whole text, and over its lines; and
-again by Position.from_obf, of each line."""
+"""Prints what lines of OBF text on standard input say: the line's number, masks, side and listed moves; or why it is refused;
+nothing of a line that is skipped. By read_lines over the whole text, and over its lines; and again by Position.from_obf."""
 import sys
 
 import ffosolve

@@ -1,4 +1,5 @@
-"""How the built program tries the place of a book, and puts the book there, and what it opens and does not read.
+"""How the built program tries the place of a book, and puts the book there, what it opens and does not read; and that a book
+destroys no other file: not what is no book, and not the book that is read.
 
 Run as root, it gives up its rights for the files that may not be written.
 """
@@ -13,15 +14,17 @@ import tempfile
 import unittest
 from pathlib import Path
 
-from tests.support import ROOT, SECONDS, InFolder, built, limit, preload, run, stored
+from tests.support import ROOT, SECONDS, InFolder, built, lay_many, limit, preload, run, stored
 
 TEXT = stored("examples", "first.obf")
 BOOK = stored("examples", "first.book")
 OLD = BOOK + b"% an old book, longer than the new one\n" * 99
+NOTES = b"notes, and no book\n"
 NOBODY = 65534
 # The status, whether anything is printed, and what is told: before anything is solved, and behind the reports.
 REFUSED = (3, False, b"ffosolve: cannot write it.book\n")
 UNWRITTEN = (3, True, b"ffosolve: cannot write it.book\n")
+NO_BOOK = (3, False, b"ffosolve: it.book is no book and would be overwritten\n")
 DONE = (0, True, b"")
 
 
@@ -180,7 +183,7 @@ class Files(Books):
         beside is chosen."""
         put("list", TEXT * 2000)
         os.chmod(".", 0o777)
-        for name, new, new_mode in (("it.book", b"notes, and no book\n", 0o666), ("it.book", BOOK, 0o444),
+        for name, new, new_mode in (("it.book", NOTES, 0o666), ("it.book", BOOK, 0o444),
                                     ("it.book", OLD, 0o222), ("it.book.0.part", b"of another", 0o666)):
             with self.subTest(name=name, new=new[:9]):
                 put("it.book", OLD, 0o666)
@@ -316,15 +319,76 @@ class Lists(Books):
                 ran = run(PROGRAM, *words.split(), stdin=folder)
                 self.assertEqual((ran.returncode, ran.stdout, ran.stderr), (3, b"", f"ffosolve: {told}\n".encode()))
 
-    def test_file_past_the_limit_is_not_read(self):
-        """A pipe as the 66th file, whose writer writes nothing: a program that reads it waits for ever."""
+    def test_order_of_what_is_tried(self):
+        """Files are counted and measured first, then the place of the book is tried, and then hours of work begin. A pipe as the
+        66th file, whose writer writes nothing, is not read; nor is a position of 60 empty squares solved."""
         put("list", TEXT)
+        put("notes", NOTES)
+        put("large", b" " * (limit("MOST_BYTES") + 1))
+        put("long", b"-" * 27 + b"OX" + b"-" * 6 + b"XO" + b"-" * 27 + b" X\n")
         os.mkfifo("pipe")
         self.addCleanup(os.close, os.open("pipe", os.O_RDWR))
-        self.solves((1, False, b"ffosolve: more than 64 files\n"), "it.book", *["list"] * 65, "pipe")
-        self.assertFalse(os.path.exists("it.book"))
+        too_large = b"ffosolve: file 2 is larger than %d bytes\n" % limit("MOST_BYTES")
+        for place, told in (("", b"cannot write "), ("no/it.book", b"cannot write no/it.book"),
+                            ("notes/it.book", b"cannot write notes/it.book"), ("notes", b"notes is no book and would be overwritten")):
+            with self.subTest(place=place):
+                self.solves((1, False, b"ffosolve: more than 64 files\n"), place, *["list"] * 65, "pipe")
+                self.solves((1, False, too_large), place, "list", "large")
+                self.solves((3, False, b"ffosolve: " + told + b"\n"), place, "--max-empties", "60", "long")
+        self.assertEqual((content("notes"), os.path.exists("it.book")), (NOTES, False))
 
-    def test_before_hours_of_work(self):
-        """A position of 60 empty squares, which nobody solves."""
-        put("list", b"-" * 27 + b"OX" + b"-" * 6 + b"XO" + b"-" * 27 + b" X\n")
-        self.solves((3, False, b"ffosolve: cannot write no/it.book\n"), "no/it.book", "--max-empties", "60", "list")
+
+class Overwrites(Books):
+    def test_what_may_go_and_what_stays(self):
+        """Also through a link."""
+        mine = ((b"", DONE), (b"% ffobook 2 sign\n" + 99 * b"% longer than the new one\n", DONE),
+                *((old, NO_BOOK) for old in (NOTES, TEXT, b"\n", b"% ffobook 3 winner\n", Path(PROGRAM).read_bytes())))
+        for place in ("it.book", "there"):
+            for old, wanted in mine:
+                for of in (0o644, 0o444)[:2 if wanted == NO_BOOK else 1]:
+                    with self.subTest(old=old[:40], place=place, mode=of):
+                        put(place, old, of)
+                        place == "it.book" or os.symlink(place, "it.book")
+                        self.solves(wanted)
+                        self.assertEqual((content(place), set(os.listdir())), (BOOK if wanted == DONE else old, {place, "it.book"}))
+                        for name in os.listdir():
+                            os.remove(name)
+
+    def test_log_that_is_written_on(self):
+        """/dev/stdout, where a log of earlier runs is; and where nothing is but the report that the run puts there."""
+        for old, told in ((NOTES, b"/dev/stdout is no book and would be overwritten"), (b"", b"cannot write /dev/stdout")):
+            put("log", old)
+            with self.subTest(old=old), open("log", "ab") as log:
+                ran = run(PROGRAM, "--book-out", "/dev/stdout", input=TEXT, capture_output=False, stdout=log, stderr=subprocess.PIPE)
+                self.assertEqual((ran.returncode, ran.stderr), (3, b"ffosolve: " + told + b"\n"))
+                self.assertTrue(content("log").startswith(old or b"[1]\n"))
+
+    def test_book_that_is_read(self):
+        """By its name, other forms of it, a link and a second name; and the way that is told instead."""
+        put("it.book", b"% ffobook 2 winner\n" + b"X" * 64 + b" X; --:+64;\n")
+        read = content("it.book")
+        os.symlink("it.book", "link")
+        os.link("it.book", "twin")
+        for name in ("it.book", "./it.book", os.path.abspath("it.book"), "link", "twin"):
+            for book in ("it.book", "twin"):
+                with self.subTest(name=name, book=book):
+                    told = f"ffosolve: {name} is read and would be overwritten: write --book-out NEW, then ffosolve-many --merge-books {name} NEW\n"
+                    self.solves((3, False, told.encode()), name, "--book-in", book)
+                    self.assertEqual((content("it.book"), len(os.listdir())), (read, 3))
+        self.solves(DONE, "new", "--book-in", "it.book")
+        many = lay_many("many")
+        shutil.copy(PROGRAM, many.parent)
+        merged = run(many, "--merge-books", "it.book", "new", check=True).stdout
+        self.assertEqual(set(merged.splitlines()), set(BOOK.splitlines() + read.splitlines()))
+
+    def test_two_at_once(self):
+        put("first", TEXT)
+        put("other", TEXT.splitlines(keepends=True)[1])
+        self.assertEqual(run(PROGRAM, "--book-out", "other.book", "other").returncode, 0)
+        books = (BOOK, content("other.book"))
+        self.assertNotEqual(*books)
+        for _ in range(20):
+            runs = [subprocess.Popen([PROGRAM, "--book-out", "it.book", name], stdout=subprocess.DEVNULL) for name in ("first", "other")]
+            self.assertLessEqual({one.wait(timeout=SECONDS) for one in runs}, {0, 3})
+            self.assertIn(content("it.book"), books)
+            self.assertEqual(sorted(os.listdir()), ["first", "it.book", "other", "other.book"])

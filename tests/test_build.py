@@ -10,28 +10,25 @@ import struct
 import subprocess
 import termios
 import time
-import unittest
 from pathlib import Path
 
 from tests.support import ROOT, SECONDS, InFolder, as_at_a_login, lack, need, processes_with, run, wait_until
 
-# It tells each start and what it is handed in files, and waits, fails or changes a source where the environment says so.
+# It tells each start, what it is handed and what it reads in files, and waits, fails or changes a source where the environment
+# says so.
 RT = r"""#!/bin/sh
+ls -l /proc/$$/fd >>"$STARTS.rt"
 case $1 in
 version) echo "${KIT:-rattle-kit-13f} logic 0123"; exit ;;
 doc) echo "$KIT_FOLDER/START-HERE.md"; exit ;;
 esac
-ls -l /proc/$$/fd >>"$STARTS.rt"
+cat >>"$STARTS.read"
 echo start "$@" >>"$STARTS"
 printf '%s\n' 'rt: chose --jobs 4 for othello_rules' 'so far: 34 of 83 functions checked; the verdict comes last'
 [ -z "${WAITS:-}" ] || for left in $(seq 450); do [ ! -e "$STARTS.go" ] || break; sleep 0.1; done
 [ -z "${CHANGE:-}" ] || [ -e "$CHANGE.done" ] || { echo 2 >"$CHANGE"; : >"$CHANGE.done"; }
 [ -z "${FAILS:-}" ] || { echo 'src/main.rt:1:2: error: a goal is open'; echo 'one more line'; exit 1; }
-for spoiled in ../*/out/spoiled; do
-    [ -e "$spoiled" ] || [ -n "${SPOILS:-}" ] || continue
-    echo "rt: the kept work of $(basename ${spoiled%/out/spoiled}) cannot be used: remove it" | sed "s/ \* / ${PWD##*/} /"
-    exit 1
-done
+[ ! -e ../ffosolve/out/spoiled ] && [ -z "${SPOILS:-}" ] || { echo 'rt: the kept work of ffosolve cannot be used: remove it'; exit 1; }
 mkdir -p out
 [ "$1" != lib ] || exec cp "$KIT_FOLDER/libffosolve_c.a" out
 cat >out/${PWD##*/}.o <<END
@@ -45,14 +42,8 @@ cat
 exit 3
 END
 """
-LINK = 'while [ "$1" != -o ]; do shift; done\ncp "$3" "$2" && chmod +x "$2"\n'
-ASSEMBLE = 'while [ "$1" != -o ]; do shift; done\n: >"$2"\n'
-CRATE = """#include <stdint.h>
-int32_t hidden_call(void) { return 1; }
-extern int32_t heap_call(void);
-int32_t ffosolve_moves(void) { return hidden_call() + heap_call(); }
-"""
-HEAP = "#include <stdint.h>\nint32_t heap_call(void) { return 3; }\n"
+LINK = '#!/bin/sh\nwhile [ "$1" != -o ]; do shift; done\ncp "$3" "$2" && chmod +x "$2"\n'
+ASSEMBLE = '#!/bin/sh\nwhile [ "$1" != -o ]; do shift; done\n: >"$2"\n'
 NOBODY = 65534
 IS_V3 = b"x86-64-v3 (supported" in run("/lib64/ld-linux-x86-64.so.2", "--help").stdout
 LEVEL = "x86-64-v3" if IS_V3 else "x86-64-v2"
@@ -69,8 +60,8 @@ class Case(InFolder):
     def setUp(self):
         super().setUp()
         self.root, self.tools, self.kit = self.folder / "a checkout", self.folder / "tools", self.folder / "kit"
-        for name in ("crates/ffosolve", "crates/ffoscores", "crates/othello_rules", "crates/ffosolve_c"):
-            self.write(self.root / name / "src/main.rt", "1\n")
+        for name in ("ffosolve", "ffoscores", "othello_rules", "ffosolve_c"):
+            self.write(self.root / f"crates/{name}/src/main.rt", "1\n")
         self.source = self.root / "crates/ffosolve/src/main.rt"
         self.write(self.root / "crates.txt", "# low first\nothello_rules: std\nother: othello_rules\nffosolve: othello_rules\n"
                    "ffoscores: othello_rules\nffosolve_c staticlib: othello_rules\n")
@@ -78,9 +69,9 @@ class Case(InFolder):
             shutil.copytree(ROOT / name, self.root / name)
         for name in ("Makefile", "VERSION"):
             shutil.copy(ROOT / name, self.root)
-        self.tool(self.tools / "rt", RT)
-        self.tool(self.kit / "bin/rattle-link", LINK)
-        self.tool(self.kit / "toolchain/bin/clang", ASSEMBLE)
+        self.rt, self.link = self.tools / "rt", self.kit / "bin/rattle-link"
+        for path, text in ((self.rt, RT), (self.link, LINK), (self.kit / "toolchain/bin/clang", ASSEMBLE)):
+            self.write(path, text)
         self.starts = self.folder / "starts"
         self.script = self.root / "bin/ffosolve"
         self.log = self.root / "out" / LEVEL / "ffosolve.o.log"
@@ -89,15 +80,11 @@ class Case(InFolder):
     def write(path, text):
         path.parent.mkdir(parents=True, exist_ok=True)
         path.write_text(text)
-
-    def tool(self, path, text):
-        self.write(path, text if text.startswith("#!") else "#!/bin/sh\n" + text)
-        path.chmod(0o755)
+        path.chmod(0o755 if text.startswith("#!") else 0o644)
 
     def how(self, path=None, **environment):
-        path = f"{self.tools}:/usr/bin:/bin" if path is None else path
-        places = {"PATH": str(path), "STARTS": str(self.starts), "KIT_FOLDER": str(self.kit), **environment}
-        return {"env": places, "text": True, "preexec_fn": as_at_a_login, "cwd": "/"}
+        places = {"PATH": str(path or f"{self.tools}:/usr/bin:/bin"), "STARTS": str(self.starts), "KIT_FOLDER": str(self.kit)}
+        return {"env": {**places, **environment}, "text": True, "preexec_fn": as_at_a_login, "cwd": "/"}
 
     def use(self, *words, path=None, user=None, **environment):
         """A run of the program, to its end; user is another one, where this test is root's."""
@@ -114,35 +101,17 @@ class Case(InFolder):
     def builds(self):
         return self.starts.read_text().count("start") if self.starts.exists() else 0
 
-    def let_go(self):
-        self.write(Path(f"{self.starts}.go"), "")
-
-    def ran(self, ran, text, words="<w>", read="read\n", builds=None):
+    def ran(self, ran, text, words="<w>", builds=None):
         """Compares what a run printed: what the program was made of, its words, its folder, what it read."""
-        self.assertEqual((ran.returncode, ran.stdout), (3, f"made of {text}\n{words}/\n{read}"), ran.stderr)
+        self.assertEqual((ran.returncode, ran.stdout), (3, f"made of {text}\n{words}/\nread\n"), ran.stderr)
         self.assertEqual(self.builds(), builds or self.builds())
 
-    def refused(self, ran, words):
+    def refused(self, ran, words, lines=None):
         """Compares a run that ends with status 4 and one line, behind those that tell of a build."""
         last = ran.stderr.splitlines()[-1]
         self.assertEqual((ran.returncode, ran.stdout), (4, ""), ran)
         self.assertTrue(last.startswith("ffosolve: not built: ") and words in last, ran.stderr)
-        return last
-
-    def one_line(self, ran, words):
-        self.refused(ran, words)
-        self.assertEqual(ran.stderr.count("\n"), 1, ran.stderr)
-
-    def two(self, **environment):
-        """Two runs at once: one that builds until it is let go, and one that has told that it waits."""
-        Path(f"{self.starts}.go").unlink(missing_ok=True)
-        begun = self.builds()
-        first = self.start(WAITS="yes", **environment)
-        wait_until(lambda: self.builds() > begun)
-        second = self.start()
-        self.assertTrue(select.select([second.stderr], [], [], SECONDS)[0])
-        self.assertIn(f"waiting for another build; its log is in {self.root}/out\n", second.stderr.readline())
-        return first, second
+        self.assertEqual(ran.stderr.count("\n"), lines or ran.stderr.count("\n"), ran.stderr)
 
     def left_over(self):
         """The processes that stay in the checkout, where the stand-in would wait for 45 seconds."""
@@ -152,75 +121,81 @@ class Case(InFolder):
         return processes_with("cwd", self.root)
 
 
-class FirstUse(Case):
-    def test_builds_tells_and_runs(self):
+class Builds(Case):
+    def test_first_use(self):
+        """It builds, tells how far it is and runs; then it runs alone. So by a link, and the other program by its name."""
         ran = self.use("one", "a b")
         self.ran(ran, 1, "<one><a b>", builds=1)
         self.assertTrue(all(line.startswith("ffosolve: ") for line in ran.stderr.splitlines()), ran.stderr)
-        for words in ("minutes", "GB", str(self.log), "crate 1 of 2, othello_rules\n"):
-            self.assertIn(words, ran.stderr)
+        for words in ("minutes", "GB", str(self.log), "ffosolve: 0 min, crate 1 of 2, othello_rules\n"):
+            self.assertEqual(ran.stderr.count(words), 1, ran.stderr)
+        self.assertFalse("34 of 83" in ran.stderr or "\r" in ran.stderr, ran.stderr)
         self.assertIn("functions checked", self.log.read_text())
-        ran = self.use()
-        self.ran(ran, 1, builds=1)
-        self.assertEqual(ran.stderr, "")
-
-    def test_by_a_link_and_in_its_folder(self):
-        (self.folder / "solve").symlink_to(self.script)
-        self.script = self.folder / "solve"
-        self.ran(self.use(), 1)
+        self.write(self.root / "crates/ffoscores/src/main.rt", "scores\n")
+        for name, builds, text in (("ffosolve", 2, 1), ("ffosolve", 2, 1), ("ffoscores", 3, "scores")):
+            self.script = self.folder / f"{name}-{builds}"
+            self.script.exists() or self.script.symlink_to(self.root / "bin" / name)
+            ran = self.use()
+            self.ran(ran, text, builds=builds)
+        self.assertEqual(self.use().stderr, "")
         ran = run("sh", "ffosolve", "w", **{**self.how(), "cwd": self.root / "bin"})
         self.assertEqual(ran.stdout, f"made of 1\n<w>{self.root}/bin\n", ran)
 
-    def test_another_program_by_its_name(self):
-        self.write(self.root / "crates/ffoscores/src/main.rt", "scores\n")
-        self.ran(self.use(), 1)
-        for script in (self.root / "bin/ffoscores", self.folder / "score"):
-            script.exists() or script.symlink_to(self.root / "bin/ffoscores")
-            self.script = script
-            self.ran(self.use(), "scores", builds=2)
-
     def test_what_is_handed_over(self):
-        """rt gets no standard input and no lock; the program the caller's three streams alone, and his process."""
+        """rt gets nothing to read and no lock; the program the caller's three streams alone, and his process."""
         ran = self.start()
         ran.communicate(timeout=SECONDS)
         to_rt, to_program = Path(f"{self.starts}.rt").read_text(), Path(f"{self.starts}.program").read_text()
-        self.assertRegex(to_rt, r" 0 -> /dev/null\n")
+        self.assertIn("/dev/null\n", to_rt)
         self.assertNotIn("/crates\n", to_rt + to_program)
         self.assertEqual(re.findall(r" (\d) -> ", to_program), ["0", "1", "2"])
         self.assertIn(f"process {ran.pid}\n", to_program)
+        self.write(self.source, "2\n")
+        run("make", "-C", self.root, f"out/{LEVEL}/ffosolve.o", input="read\n", **self.how())
+        self.assertEqual((self.builds(), Path(f"{self.starts}.read").read_text()), (2, ""))
 
-
-class Changes(Case):
     def test_what_is_built_again(self):
-        """A change, an older text under its old time, a new file, another name and a file that went; no other time alone."""
+        """A change, an older text under its old time, a new file, another name, a file that went and a crate below; no other
+        time, and no file that is no source. Where nothing changed, no source is read."""
+        for name in ("out/kept.rt", "must-fail/one.rt"):
+            self.write(self.root / "crates/ffosolve" / name, "")
         self.use()
+        os.link(self.root / "out/ffosolve", self.folder / "old")
         old = os.stat(self.source)
         self.write(self.source, "2\n")
         self.ran(self.use(), 2, builds=2)
+        self.assertIn("made of 1", (self.folder / "old").read_text())  # as one that runs meanwhile keeps its own
         self.write(self.source, "1\n")
         os.utime(self.source, ns=(old.st_atime_ns, old.st_mtime_ns))
         self.ran(self.use(), 1, builds=3)
-        other = self.source.with_name("other.rt")
-        for builds, change in enumerate((lambda: self.write(other, ""), lambda: other.rename(self.source.with_name("b.rt")),
-                                         self.source.with_name("b.rt").unlink), 4):
+        one, other = self.source.with_name("one.rt"), self.source.with_name("other.rt")
+        changes = (lambda: self.write(one, ""), lambda: one.rename(other), other.unlink,
+                   lambda: self.write(self.root / "crates/ffosolve/specs/Lib.antt", ""),
+                   lambda: self.write(self.root / "crates/othello_rules/src/main.rt", "2\n"))
+        for builds, change in enumerate(changes, 4):
             change()
             self.ran(self.use(), 1, builds=builds)
+        time.sleep(2.1)  # until the times of the sources are older than the build
+        self.use()
+        for name in ("out/two.rt", "must-fail/two.rt"):
+            self.write(self.root / "crates/ffosolve" / name, "")
+        self.write(self.tools / "sha256sum", "#!/bin/sh\nexit 9\n")
+        self.ran(self.use(), 1, builds=8)
+        (self.tools / "sha256sum").unlink()
+        self.write(self.root / "crates/ffosolve/stdin", "")
         os.utime(self.source)
         ran = self.use()
-        self.ran(ran, 1, builds=6)
+        self.ran(ran, 1, builds=8)
         self.assertEqual(ran.stderr, "")
+        self.write(self.root / "crates.txt", (self.root / "crates.txt").read_text() + "\n")
+        self.ran(self.use(), 1, builds=9)
 
-    def test_what_is_a_source(self):
+    def test_a_disk_whose_clock_is_behind(self):
+        """By less than a second, as the times of files are."""
+        self.write(self.tools / "date", '#!/bin/sh\necho $(($(/usr/bin/date "$@") + 1))\n')
         self.use()
-        for builds, name in enumerate(("crates/ffosolve/specs/Lib.antt", "crates.txt", "crates/othello_rules/src/main.rt"), 2):
-            time.sleep(2.1)  # until the times of the others are older than the build
-            self.use()
-            path = self.root / name
-            self.write(path, (path.read_text() if path.exists() else "") + "\n")
-            self.ran(self.use(), 1, builds=builds)
-        for name in ("crates/ffosolve/out/kept.rt", "crates/ffosolve/must-fail/one.rt", "crates/ffosolve/stdin"):
-            self.write(self.root / name, "")
-            self.ran(self.use(), 1, builds=4)
+        self.write(self.source, "2\n")
+        self.ran(self.use(), 2, builds=2)
 
     def test_a_change_during_a_build(self):
         self.ran(self.use(CHANGE=str(self.source)), 2, builds=2)
@@ -232,35 +207,22 @@ class Changes(Case):
             run("rm", "-r", self.root / lost, check=True)
             self.ran(self.use(), 1, builds=max(builds, 1))
 
-    def test_a_new_program_is_another_file(self):
-        """So one that runs meanwhile keeps its own."""
-        self.use()
-        os.link(self.root / "out/ffosolve", self.folder / "old")
-        self.write(self.source, "2\n")
-        self.ran(self.use(), 2)
-        self.assertIn("made of 1", (self.folder / "old").read_text())
-
-    def test_what_a_run_costs_when_built(self):
-        """No text of a source is read again, also not of one that was touched: sha256sum is not called."""
-        self.use()
-        os.utime(self.source)
-        time.sleep(2.1)  # until the times of the sources are older than the build
-        self.use()
-        self.tool(self.tools / "sha256sum", "exit 9\n")
-        self.ran(self.use(), 1, builds=1)
-
-
-class Several(Case):
     def test_two_at_once(self):
-        """The second builds where the first fails, and runs what the first built."""
+        """The second tells that it waits, builds where the first fails, and runs what the first built."""
+        go = Path(f"{self.starts}.go")
         for number, fails, wanted in ((1, {"FAILS": "yes"}, (4, "")), (2, {}, (3, "made of 2\n<w>/\n"))):
             self.write(self.source, f"{number}\n")
-            first, second = self.two(**fails)
-            self.let_go()
+            begun = self.builds()
+            first = self.start(WAITS="yes", **fails)
+            wait_until(lambda: self.builds() > begun)
+            second = self.start()
+            self.assertIn(f"waiting for another build; its log is in {self.root}/out\n", second.stderr.readline())
+            go.touch()
             self.assertEqual((first.communicate(timeout=SECONDS)[0], first.returncode), wanted[::-1])
             told = second.communicate(timeout=SECONDS)
             self.assertEqual((second.returncode, told[0]), (3, f"made of {number}\n<w>/\n"), told)
             self.assertEqual(self.builds(), number + 1)
+            go.unlink()
 
     def test_many_at_once(self):
         for ran in [self.start() for _ in range(8)]:
@@ -270,15 +232,16 @@ class Several(Case):
 
 
 class Failures(Case):
-    def test_tools_that_are_missing(self):
-        self.one_line(self.use(path="/usr/bin:/bin"), "rt (rattle-kit-13b or rattle-kit-13f) is not on the path")
+    def test_tools(self):
+        """One that is missing is told; another kit, too, and it is tried."""
+        self.refused(self.use(path="/usr/bin:/bin"), "rt (rattle-kit-13b or rattle-kit-13f) is not on the path", lines=1)
+        links = self.folder / "links"
+        links.mkdir()
         for name in set(os.listdir("/usr/bin")) - {"make"}:
-            (self.tools / name).exists() or (self.tools / name).symlink_to(f"/usr/bin/{name}")
-        ran = self.use(path=self.tools)
+            (links / name).symlink_to(f"/usr/bin/{name}")
+        ran = self.use(path=f"{self.tools}:{links}")
         self.assertEqual((ran.returncode, ran.stdout, ran.stderr.count("\n")), (4, "", 1), ran)
         self.assertIn("make", ran.stderr)
-
-    def test_another_kit_is_told_and_tried(self):
         for builds, kit in enumerate(("rattle-kit-13b", "rattle-kit-13f", "rattle-kit-14a", "rattle-kit-13"), 1):
             self.write(self.source, f"{builds}\n")
             ran = self.use(KIT=kit)
@@ -291,8 +254,7 @@ class Failures(Case):
         self.use()
         self.write(self.source, "2\n")
         for _ in range(2):
-            last = self.refused(self.use(FAILS="yes"), "src/main.rt:1:2: error: a goal is open; see ")
-            self.assertIn(str(self.log), last)
+            self.refused(self.use(FAILS="yes"), f"src/main.rt:1:2: error: a goal is open; see {self.log}")
         self.write(self.source, "1\n")
         self.ran(self.use(), 1, builds=3)
         self.write(self.source, "2\n")
@@ -300,18 +262,17 @@ class Failures(Case):
 
     def test_a_link_that_fails(self):
         """Its first line is told; what a link tells where it succeeds is not."""
-        self.tool(self.kit / "bin/rattle-link", "echo 'ld.lld: error: no room' >&2\nexit 1\n")
+        self.write(self.link, "#!/bin/sh\necho 'ld.lld: error: no room' >&2\nexit 1\n")
         ran = self.use()
         self.assertEqual((ran.returncode, ran.stdout, ran.stderr.splitlines()[-1]), (4, "", "ld.lld: error: no room"), ran)
-        self.tool(self.kit / "bin/rattle-link", "echo linked >&2\n" + LINK)
+        self.write(self.link, LINK + "echo linked >&2\n")
         ran = self.use()
         self.ran(ran, 1, builds=1)
         self.assertEqual(ran.stderr, "")
 
     def test_kept_work_that_cannot_be_used(self):
-        for name in ("othello_rules", "ffosolve"):
-            self.write(self.root / "crates" / name / "out/kept", "")
-        self.write(self.root / "crates/ffosolve/out/spoiled", "")
+        for name in ("othello_rules/out/kept", "ffosolve/out/spoiled"):
+            self.write(self.root / "crates" / name, "")
         ran = self.use()
         self.ran(ran, 1, builds=2)
         self.assertIn("dropped the kept work of ffosolve", ran.stderr)
@@ -322,15 +283,17 @@ class Failures(Case):
 
     def test_a_program_that_cannot_be_kept(self):
         """Nothing is left beside it, and an old one is not taken for it."""
-        self.tool(self.tools / "mv", '[ ! -e "$STARTS.fails" ] || exit 1\nexec /usr/bin/mv "$@"\n')
         self.use()
         self.write(self.source, "2\n")
-        fails, kept = Path(f"{self.starts}.fails"), self.root / "out" / LEVEL / "ffosolve.o"
-        fails.touch()
+        self.write(self.tools / "mv", "#!/bin/sh\nexit 1\n")
+        kept = self.root / "out" / LEVEL / "ffosolve.o"
         self.refused(self.use(), f"{kept} can't be written")
         self.assertEqual([name for name in os.listdir(kept.parent) if ".new" in name], [])
-        fails.unlink()
-        self.ran(self.use(), 2, builds=3)
+        self.write(self.tools / "mv", '#!/bin/sh\n/usr/bin/mv "$@"\nexit 1\n')  # as where it is ended behind that
+        self.refused(self.use(), f"{kept} can't be written")
+        (self.tools / "mv").unlink()
+        self.write(self.source, "1\n")
+        self.ran(self.use(), 1, builds=4)
 
     def test_a_full_disk(self):
         """A small disk for out/, which is full at once, and is full when the program comes."""
@@ -339,51 +302,36 @@ class Failures(Case):
         space = ["unshare", "-m"] if os.getuid() == 0 else ["unshare", "-r", "-m"]
         if run(*space, "mount", "-t", "tmpfs", "none", self.root / "out").returncode:
             lack("a right to mount a disk")
-        self.tool(self.tools / "rt", RT + 'head -c 30000 /dev/zero >>out/${PWD##*/}.o\n')
+        self.write(self.rt, RT + 'head -c 30000 /dev/zero >>out/${PWD##*/}.o\n')
         for filled in (40960, 20000):
             words = [*space, "sh", "-c", small, "sh", filled, self.script]
             self.refused(run(*words, **{**self.how(), "cwd": self.root}), "written")
         self.ran(self.use(), 1)
 
-
-class Others(Case):
-    """A checkout that is another user's."""
-
-    def close(self):
-        for at, _, names in os.walk(self.root):
-            for name in names:
-                path = Path(at, name)
-                path.chmod(0o555 if os.access(path, os.X_OK) else 0o444)
-            Path(at).chmod(0o555)
-        Path(f"{self.starts}.program").touch()
-        Path(f"{self.starts}.program").chmod(0o666)
-        self.addCleanup(self.open)
-
-    def open(self):
-        for at, _, _ in os.walk(self.root):
-            Path(at).chmod(0o755)
-        self.source.chmod(0o644)
-
-    def test_built(self):
-        """It runs where a source is touched or closed, and where their folder is closed."""
-        for closed, mode in ((self.source, 0o444), (self.root / "crates", 0o700), (self.source, 0o000)):
-            self.use()
-            self.close()
-            os.utime(self.source)
-            closed.chmod(mode)
+    def test_a_checkout_of_another_user(self):
+        """It runs where it is built, though a source is touched or closed; else it is refused by one line."""
+        def closed(out=0o555, **how):
+            paths = [self.root, *self.root.rglob("*")]
+            modes = [path.stat().st_mode for path in paths]
+            for path in paths[::-1]:
+                path.chmod(path.stat().st_mode & how.get(str(path.relative_to(self.root)), 0o555))
+            (self.root / "out").exists() and (self.root / "out").chmod(out)
             ran = self.use(user=NOBODY)
-            self.open()
+            for path, mode in zip(paths, modes):
+                path.chmod(mode)
+            return ran
+
+        self.refused(closed(), "can't be written", lines=1)
+        self.use()
+        Path(f"{self.starts}.program").chmod(0o666)
+        for how in ({}, {"crates": 0o700}, {"crates/ffosolve/src/main.rt": 0}):
+            os.utime(self.source)
+            ran = closed(**how)
             self.ran(ran, 1, builds=1)
             self.assertEqual(ran.stderr, "")
-
-    def test_changed_or_not_built(self):
-        self.close()
-        self.one_line(self.use(user=NOBODY), "can't be written")
-        self.open()
-        self.use()
+        self.assertEqual(closed(out=0o777, **{"crates/ffosolve/src/main.rt": 0}).returncode, 4)
         self.write(self.source, "2\n")
-        self.close()
-        self.one_line(self.use(user=NOBODY), "can't be written")
+        self.refused(closed(), "can't be written", lines=1)
 
 
 class Signals(Case):
@@ -391,29 +339,15 @@ class Signals(Case):
         for count, number in enumerate((signal.SIGTERM, signal.SIGHUP, signal.SIGINT, signal.SIGKILL), 1):
             ran = self.start(WAITS="yes")
             wait_until(lambda: self.builds() >= count)
-            ran.send_signal(number)
-            self.assertEqual(ran.communicate(timeout=SECONDS)[0], "")
-            self.assertEqual((ran.returncode, self.left_over()), (-number, {}))
+            waits = self.start()
+            wait_until(lambda: any(words.startswith("flock 9") for words in processes_with("cwd", self.root).values()))
+            for one in (waits, ran):
+                one.send_signal(number)
+                self.assertEqual((one.communicate(timeout=20)[0], one.returncode), ("", -number))
+            self.assertEqual(self.left_over(), {})
         self.ran(self.use(), 1, builds=5)
 
-    def test_the_one_that_waits(self):
-        first, second = self.two()
-
-        def waits():
-            return any(words.startswith("flock 9") for words in processes_with("cwd", self.root).values())
-
-        wait_until(waits)
-        second.terminate()
-        second.communicate(timeout=20)  # which is before the first one gives up
-        self.assertEqual(second.returncode, -signal.SIGTERM)
-        wait_until(lambda: not waits())
-        self.let_go()
-        self.assertEqual(first.communicate(timeout=SECONDS)[0], "made of 1\n<w>/\n")
-        self.assertEqual((self.builds(), self.left_over()), (1, {}))
-
-
-class Progress(Case):
-    def on_a_terminal(self, keys, columns=80):
+    def on_a_terminal(self, keys, go=False, columns=80):
         """What it prints on a terminal, and its status. Once it shows how far the crate is, the keys are typed."""
         child, terminal = pty.fork()
         if child == 0:
@@ -433,121 +367,72 @@ class Progress(Case):
                 break
             if keys and (b" functions" in told or columns < 40 and b"crate 1" in told):
                 os.write(terminal, keys)
-                if keys != b"\x03":
-                    self.let_go()
                 keys = b""
+                go and Path(f"{self.starts}.go").touch()
         os.close(terminal)
         return told.decode(), os.waitpid(child, 0)[1]
 
     def test_on_a_terminal(self):
-        """One line that is written over, and fits where the terminal is narrow."""
-        told, status = self.on_a_terminal(b"\x04")
+        """One line is written over, and fits where the terminal is narrow; an interrupt ends all."""
+        told, status = self.on_a_terminal(b"\x03")
+        self.assertTrue(os.WIFSIGNALED(status) and os.WTERMSIG(status) == signal.SIGINT, (told, status))
+        self.assertEqual(self.left_over(), {})
+        told, status = self.on_a_terminal(b"\x04", go=True)
         self.assertIn("\r\x1b[Kffosolve: 0 min, crate 1 of 2, othello_rules: 34 of 83 functions\r\x1b[K", told)
         self.assertIn("made of 1", told)
         self.assertEqual(os.WEXITSTATUS(status), 3)
         self.write(self.source, "2\n")
-        told, _ = self.on_a_terminal(b"\x04", 30)
+        Path(f"{self.starts}.go").unlink()
+        told, _ = self.on_a_terminal(b"\x04", go=True, columns=30)
         shown = [line for line in re.split(r"\r\n?|\x1b\[K", told) if "crate 1" in line]
         self.assertTrue(shown and all(len(line) < 30 for line in shown), told)
 
-    def test_interrupted_on_a_terminal(self):
-        told, status = self.on_a_terminal(b"\x03")
-        self.assertTrue(os.WIFSIGNALED(status) and os.WTERMSIG(status) == signal.SIGINT, (told, status))
-        self.assertEqual(self.left_over(), {})
-        self.ran(self.use(), 1)
-
-    def test_in_a_log(self):
-        """A line for each crate, and no functions."""
-        told = self.use().stderr
-        self.assertEqual(told.count("ffosolve: 0 min, crate 1 of 2, othello_rules\n"), 1, told)
-        self.assertNotIn("34 of 83", told)
-        self.assertNotIn("\r", told)
-
 
 class Targets(Case):
-    def make(self, *words, **environment):
-        return run("make", "-s", "-C", self.root, *words, **self.how(**environment))
+    def make(self, *words):
+        return run("make", "-s", "-C", self.root, *words, **self.how())
 
-    def setUp(self):
-        super().setUp()
-        for tool, package in (("cc", "gcc"), ("ld", "binutils"), ("objcopy", "binutils"), ("nm", "binutils")):
+    def test_levels_and_version(self):
+        """Each level is proved once; where the version is another, the library is linked again. One that can't be linked, since
+        a tool fails or a call is nowhere, is told."""
+        for tool, package in (("cc", "gcc"), ("ar", "binutils"), ("objcopy", "binutils"), ("readelf", "binutils")):
             need(tool, package)
         (self.kit / "c").mkdir()
-        for name, text in (("libffosolve_c.a", CRATE), ("c/liblibc_c.a", HEAP)):
+        crate = "extern int heap_call(void);\nint ffosolve_moves(void) { return heap_call(); }\n"
+        for name, text in (("libffosolve_c.a", crate), ("c/liblibc_c.a", "int heap_call(void) { return 3; }\n")):
             run("cc", "-fPIC", "-c", "-o", "one.o", "-x", "c", "-", input=text.encode(), check=True)
             run("ar", "rcs", self.kit / name, "one.o", check=True)
-
-    def shown(self, *words):
-        told = run("nm", *words, text=True, check=True).stdout
-        return {line.split()[-1].split("@")[0] for line in told.splitlines() if len(line.split()) == 3}
-
-    def test_the_library(self):
-        """It shows the calls of the header alone, under the names of the version, with no link, for each level."""
-        ran = self.make("library")
-        self.assertEqual((ran.returncode, ran.stdout), (0, ""), ran)
-        library = self.root / "out/library"
-        self.assertEqual(sorted(os.listdir(library)), ["ffosolve.h", "libffosolve.a", "libffosolve.so", "libffosolve.so.1"])
-        self.assertEqual([path for path in self.root.rglob("*") if path.is_symlink()], [])
-        self.assertEqual(self.shown("--defined-only", "-g", library / "libffosolve.a"), {"ffosolve_moves"})
-        self.assertEqual(self.shown("-D", "--defined-only", library / "libffosolve.so"), {"ffosolve_moves", "FFOSOLVE_1"})
-        self.assertIn("soname: [libffosolve.so.1]", run("readelf", "-d", library / "libffosolve.so", text=True).stdout)
-        self.assertIn(LEVEL, run("readelf", "-n", library / "libffosolve.so", text=True).stdout)
-        self.assertNotIn("@", re.sub(r"/\*.*?\*/", "", (library / "ffosolve.h").read_text(), flags=re.DOTALL))
-
-    def test_what_is_linked_again(self):
-        """What is missing alone, and where the version is another; nothing is proved for it."""
-        self.make("library")
-        shared = self.root / "out" / LEVEL / "libffosolve.so"
-        shared.unlink()
-        self.make("library")
-        self.assertTrue(shared.exists())
-        self.write(self.root / "VERSION", "2.3.4\n")
-        self.make("library")
-        self.assertIn("soname: [libffosolve.so.2]", run("readelf", "-d", shared, text=True).stdout)
-        self.assertIn('"2.3.4"', (self.root / "out/library/ffosolve.h").read_text())
-        self.assertEqual(self.builds(), 1)
-
-    def test_a_library_that_cannot_be_linked(self):
-        """A call that is nowhere, and a tool that fails."""
-        run("ar", "d", self.kit / "c/liblibc_c.a", "one.o", check=True)
-        ran = self.make("library")
-        self.assertEqual(ran.returncode, 2)
-        self.assertIn("heap_call", ran.stderr)
-        self.assertFalse((self.root / "out" / LEVEL / "libffosolve.so").exists())
-        self.tool(self.tools / "objcopy", "echo 'objcopy: no room' >&2\nexit 1\n")
-        (self.root / "out" / LEVEL / "libffosolve.o").unlink()
-        self.assertIn("objcopy: no room", self.make("library").stderr)
-
-    def test_all_and_the_level(self):
         for level in ("x86-64-v2", "x86-64-v3"):
-            ran = self.make(f"CPU={level}")
-            self.assertEqual(ran.returncode, 0, ran)
-            for name in ("ffosolve.o", "ffoscores.o", "libffosolve.a"):
-                self.assertTrue((self.root / "out" / level / name).exists())
-        told = self.starts.read_text()
-        for verb in ("run", "run", "lib"):
-            self.assertIn(f"start {verb} --cpu=x86-64-v2\n", told)
+            self.assertEqual(self.make(f"CPU={level}").returncode, 0)
+            self.assertIn(f"start run --cpu={level}\nstart lib --cpu={level}\n", self.starts.read_text())
+        self.write(self.root / "VERSION", "2.3.4\n")
+        self.assertEqual(self.make("library").returncode, 0)
+        shared = run("readelf", "-d", self.root / "out/library/libffosolve.so", text=True).stdout
+        self.assertIn("soname: [libffosolve.so.2]", shared)
+        self.assertIn('"2.3.4"', (self.root / "out/library/ffosolve.h").read_text())
         self.assertEqual(self.builds(), 6)
         ran = self.make("CPU=x86-64-v4")
         self.assertEqual(ran.returncode, 2)
         self.assertIn("CPU is x86-64-v4, and has to be one of: x86-64-v2 x86-64-v3", ran.stderr)
+        self.write(self.tools / "objcopy", "#!/bin/sh\necho 'objcopy: no room' >&2\nexit 1\n")
+        (self.root / "out" / LEVEL / "libffosolve.o").unlink()
+        self.assertIn("objcopy: no room", self.make("library").stderr)
+        (self.tools / "objcopy").unlink()
+        run("ar", "d", self.kit / "c/liblibc_c.a", "one.o", check=True)
+        (self.root / "out" / LEVEL / "libffosolve.so").unlink()
+        self.assertIn("heap_call", self.make("library").stderr)
+        self.assertFalse((self.root / "out" / LEVEL / "libffosolve.so").exists())
 
     def test_look(self):
         """Prints what `rt try` does of the report, and what is not proved; else why there is none."""
-        look = 'shift\necho "$@" >"$STARTS"\necho report\necho "checked: ended status=3" >&2\necho "run=ended status=3" >&2\nexit 3\n'
         self.write(self.root / "crates/ffosolve/stdin", "")
-        self.tool(self.tools / "rt", look)
+        self.write(self.rt, '#!/bin/sh\nshift\necho "$@" >"$STARTS"\necho report\necho "checked: ended status=3" >&2\necho "run=ended status=3" >&2\nexit 3\n')
         self.write(self.folder / "a list", "")
         for words, told in (((), "\n"), ((f"LIST={self.folder}/a list",), f"--data list.obf={self.folder}/a list -- list.obf\n")):
             ran = self.make("look", *words)
             self.assertEqual(ran.stdout, "report\nnothing is proved yet: bin/ffosolve proves the program, and then runs it\n", ran)
             self.assertEqual(self.starts.read_text(), told)
         self.assertIn("no such list", self.make("look", "LIST=no such list").stderr)
-        self.tool(self.tools / "rt", "echo 'rt: no answer' >&2\nexit 6\n")
+        self.write(self.rt, "#!/bin/sh\necho 'rt: no answer' >&2\nexit 6\n")
         ran = self.make("look")
-        self.assertEqual((ran.returncode, ran.stdout), (2, ""))
-        self.assertTrue(ran.stderr.startswith("rt: no answer\n"), ran)
-
-
-if __name__ == "__main__":
-    unittest.main()
+        self.assertEqual((ran.returncode, ran.stdout, ran.stderr.split("\n")[0]), (2, "", "rt: no answer"), ran)

@@ -10,7 +10,10 @@ from pathlib import Path
 from tests.support import ROOT, SECONDS, InFolder, as_at_a_login, need, processes_with, run, wait_until
 
 MODULE = "import os, time, unittest\nfrom tests.support import *\n\n\nclass Some(InFolder):\n"
-PASSES = "    def test_{}(self):\n        pass\n"
+PASSES = "    def test_a(self):\n        pass\n"
+FAILS = "    def test_b(self):\n        for row in range(3):\n            with self.subTest(row=row):\n                self.assertEqual('b', row)\n"
+LACKS = '    def test_b(self):\n        need("no-such", "a-package")\n'
+MAKE = ("make", "-f", "tests/check.mk")
 
 
 class Check(InFolder):
@@ -29,7 +32,7 @@ class Check(InFolder):
     def module(name, tests):
         Path(f"tests/test_{name}.py").write_text(MODULE + tests)
 
-    def ends(self, status, last, *told, words=("make", "-f", "tests/check.mk"), **places):
+    def ends(self, status, last, *told, words=MAKE, **places):
         ran = run(*words, env={**self.place, **places}, text=True)
         self.assertEqual((ran.returncode, ran.stdout.splitlines()[-1:]), (status, [last]), ran)
         for text in told:
@@ -37,65 +40,45 @@ class Check(InFolder):
 
 
 class Modules(Check):
-    def test_all_pass(self):
-        """Also a module with the name of a target."""
-        self.module("one", PASSES.format("a") + PASSES.format("b"))
-        self.module("check", PASSES.format("a"))
-        self.ends(0, "3 passed, 0 failed", "tests.test_one: 2 passed, 0 failed, in ", "tests.test_check: 1 passed")
-        self.assertIn("test_a (", Path("out/tests/one.log").read_text())
-
-    def test_one_that_fails_is_shown_and_stops_no_other(self):
-        fails = "    def test_{0}(self):\n        for row in range(3):\n            with self.subTest(row=row):\n" \
-                "                self.assertEqual({0!r}, row)\n"
-        self.module("one", fails.format("b") + PASSES.format("a") + fails.format("c"))
-        self.module("two", PASSES.format("a"))
-        self.ends(2, "2 passed, 2 failed", "AssertionError: 'c' != 2", "tests.test_one: 1 passed, 2 failed")
-
-    def test_one_that_does_not_run_fails(self):
-        for text in ("    def test_a(self)\n", "    pass\n", PASSES.format("a") + "\n\ndef setUpModule():\n    1 / 0\n"):
-            with self.subTest(text=text):
-                self.module("one", text)
-                self.ends(2, "0 passed, 1 failed")
-
-    def test_one_that_is_killed_fails(self):
-        self.module("one", PASSES.format("a") + "    def test_b(self):\n        os.kill(os.getpid(), 9)\n")
-        self.ends(2, "1 passed, 1 failed")
-
-    def test_one_that_hangs_is_ended(self):
-        self.module("one", PASSES.format("a") + "    def test_b(self):\n        time.sleep(50)\n")
-        self.module("two", PASSES.format("a"))
-        words = ("make", "-f", "tests/check.mk", "TEST_SECONDS=12")
-        self.ends(2, "2 passed, 1 failed", "ended, since it took longer than 12 seconds", words=words)
+    def test_what_is_counted(self):
+        """Of one module, beside one that passes, with the name of a target: what fails is shown, also where it does not run, is
+        killed, hangs or changes the checkout; a missing tool is a failure where CI=true."""
+        self.ends(2, "0 passed, 0 failed")
+        self.module("check", PASSES)
+        for tests, passed, failed, told in (
+            (PASSES + PASSES.replace("_a", "_c"), 2, 0, "tests.test_one: 2 passed, 0 failed, in "),
+            (PASSES + FAILS + FAILS.replace("_b", "_c"), 1, 2, "AssertionError: 'b' != 2"),
+            ("    def test_a(self)\n", 0, 1, "SyntaxError"),
+            ("    pass\n", 0, 1, "tests.test_check: 1 passed"),
+            (PASSES + "\n\ndef setUpModule():\n    1 / 0\n", 0, 1, "ZeroDivisionError"),
+            (PASSES + "    def test_b(self):\n        os.kill(os.getpid(), 9)\n", 1, 1, ""),
+            (PASSES + "    def test_b(self):\n        time.sleep(50)\n", 1, 1, "ended, since it took longer than 8 seconds"),
+            ('    def test_a(self):\n        (ROOT / "new-file").write_text("")\n', 1, 1, "?? new-file"),
+        ):
+            with self.subTest(tests=tests):
+                self.module("one", tests)
+                self.ends(2 if failed else 0, f"{passed + 1} passed, {failed} failed", told, words=(*MAKE, "TEST_SECONDS=8"))
+        self.ends(0, "1 passed, 0 failed", words=(*MAKE, "TESTS=check"))
+        self.ends(2, "0 passed, 1 failed", words=(*MAKE, "TESTS=three"))
+        self.module("one", PASSES + LACKS)
+        self.ends(0, "2 passed, 0 failed, 1 skipped")
+        self.ends(2, "2 passed, 1 failed", "no-such (Debian: a-package) is missing", CI="true")
+        self.module("one", PASSES + "\n\ndef setUpModule():\n" + LACKS.splitlines(keepends=True)[1][4:])
+        self.ends(0, "1 passed, 0 failed, 1 skipped")
+        self.ends(2, "1 passed, 1 failed", CI="true")
 
     def test_signal_ends_all(self):
         """An interrupt to the whole group of processes, as typed on a terminal, and one that ends make alone."""
         self.module("one", f"    def test_a(self):\n        run('sh', '-c', 'echo >{self.folder}/begun; exec sleep 50')\n")
         how = {"stdin": subprocess.DEVNULL, "stdout": subprocess.PIPE, "stderr": subprocess.STDOUT}
         for kill, number in ((os.killpg, signal.SIGINT), (os.kill, signal.SIGTERM)):
-            with self.subTest(number=number):
-                Path("begun").unlink(missing_ok=True)
-                make = subprocess.Popen(("make", "-f", "tests/check.mk"), preexec_fn=as_at_a_login, start_new_session=True, **how)
-                wait_until(Path("begun").exists)
-                kill(make.pid, number)
-                make.communicate(timeout=SECONDS)
-                self.assertNotEqual(make.returncode, 0)
-                wait_until(lambda: not processes_with("cwd", self.folder), 30)
-
-    def test_missing_tool(self):
-        """Skips a test or a module; where CI=true, it fails."""
-        needs = '        need("no-such", "a-package")\n'
-        self.module("one", PASSES.format("a") + "    def test_b(self):\n" + needs)
-        self.module("two", PASSES.format("a") + "\n\ndef setUpModule():\n" + needs[4:])
-        self.ends(0, "1 passed, 0 failed, 2 skipped")
-        self.ends(2, "1 passed, 2 failed", "no-such (Debian: a-package) is missing", CI="true")
-
-    def test_nothing_runs(self):
-        self.ends(2, "0 passed, 0 failed")
-
-    def test_checkout_that_is_changed(self):
-        self.module("one", '    def test_a(self):\n        (ROOT / "new-file").write_text("")\n')
-        self.ends(2, "1 passed, 1 failed", "?? new-file")
-        self.ends(0, "1 passed, 0 failed")
+            Path("begun").unlink(missing_ok=True)
+            make = subprocess.Popen(MAKE, preexec_fn=as_at_a_login, start_new_session=True, **how)
+            wait_until(Path("begun").exists)
+            kill(make.pid, number)
+            make.communicate(timeout=SECONDS)
+            self.assertNotEqual(make.returncode, 0)
+            wait_until(lambda: not processes_with("cwd", self.folder), 30)
 
     def test_no_word_of_make_is_handed_on(self):
         """To a make that a test calls, which would wait for the jobs of this one, or tell that it can't."""
@@ -104,39 +87,33 @@ class Modules(Check):
         self.module("one", "    def test_a(self):\n" + made)
         self.ends(0, "1 passed, 0 failed", words=("make", "--no-print-directory", "check"))
 
-    def test_some_alone(self):
-        self.module("one", PASSES.format("a"))
-        self.module("two", "    def test_a(self):\n        1 / 0\n")
-        self.ends(0, "1 passed, 0 failed", words=("make", "-f", "tests/check.mk", "TESTS=one"))
-        self.ends(2, "0 passed, 1 failed", words=("make", "-f", "tests/check.mk", "TESTS=three"))
-
 
 class Gate(Check):
-    """.ci/run, with what rt ci and make check print and how they end."""
-
-    def sums(self, status, last, ci="7 passed, 0 failed", ci_status=0, check="3 passed, 0 failed", check_status=0):
-        tools = Path("tools")
-        tools.mkdir(exist_ok=True)
-        for name, text, ends in (("rt", ci, ci_status), ("make", check, check_status)):
-            (tools / name).write_text(f'#!/bin/sh\n[ "$CI" = true ] || exit 9\necho "{name} $*"; printf "{text}\\n"; exit {ends}\n')
-            (tools / name).chmod(0o755)
-        self.ends(status, last, "rt ci\n", "make check", words=(".ci/run",), PATH=f"{tools.resolve()}:{os.environ['PATH']}")
-
     def test_both_are_run_and_summed(self):
-        self.sums(0, "10 passed, 0 failed")
-        self.sums(1, "9 passed, 1 failed", ci="6 passed, 1 failed", ci_status=1)
-        self.sums(1, "9 passed, 3 failed", ci="6 passed, 1 failed (in 3 s)", ci_status=1, check="3 passed, 2 failed", check_status=2)
-        self.sums(1, "3 passed, 9 failed", ci="0 passed, 9 failed", ci_status=1)
+        """.ci/run, by what rt ci and make check print and how they end; one that counts nothing fails."""
+        tools, all_pass = Path("tools"), ("7 passed, 0 failed", 0)
+        tools.mkdir()
+        for status, last, ci, check in (
+            (0, "14 passed, 0 failed", all_pass, all_pass),
+            (1, "13 passed, 1 failed", ("6 passed, 1 failed", 1), all_pass),
+            (1, "13 passed, 3 failed", ("6 passed, 1 failed (in 3 s)", 1), ("7 passed, 2 failed", 2)),
+            *((1, "7 passed, 1 failed", *both[::turn]) for text in ("0 passed, 0 failed", "killed", "7 passed, 0 failed\\nand more")
+              for both in [((text, 0), all_pass)] for turn in (1, -1)),
+            (1, "7 passed, 9 failed", ("0 passed, 9 failed", 1), all_pass),
+            (1, "14 passed, 1 failed", all_pass, (all_pass[0], 2)),
+            (1, "14 passed, 1 failed", (all_pass[0], 1), all_pass),
+        ):
+            for name, (text, ends) in (("rt", ci), ("make", check)):
+                (tools / name).write_text(f'#!/bin/sh\n[ "$CI" = true ] || exit 9\necho "{name} $*"; printf "{text}\\n"; exit {ends}\n')
+                (tools / name).chmod(0o755)
+            self.ends(status, last, "rt ci\n", "make check", words=(".ci/run",), PATH=f"{tools.resolve()}:{os.environ['PATH']}")
 
-    def test_one_that_counts_nothing_fails(self):
-        for text in ("0 passed, 0 failed", "killed", "7 passed, 0 failed\\nand more"):
-            with self.subTest(text=text):
-                self.sums(1, "3 passed, 1 failed", ci=text)
-                self.sums(1, "7 passed, 1 failed", check=text)
-
-    def test_status_alone_fails(self):
-        self.sums(1, "10 passed, 1 failed", ci_status=1)
-        self.sums(1, "10 passed, 1 failed", check_status=2)
+    def test_any_word_is_refused(self):
+        for words in (["--help"], [""], ["ci", "check"]):
+            ran = run(".ci/run", *words, text=True, env={**self.place, "PATH": "/usr/bin:/bin"})
+            self.assertEqual((ran.returncode, ran.stdout), (2, ""))
+            self.assertEqual(ran.stderr, "usage: .ci/run, without any word: runs rt ci and then make check\n")
+        self.assertFalse(Path("out").exists())
 
 
 class Sources(unittest.TestCase):

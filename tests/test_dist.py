@@ -75,12 +75,14 @@ class Archive(unittest.TestCase):
         self.assertEqual(run("git", "-C", FIRST_ONE, "status", "--porcelain", env=WITHOUT_GIT).stdout, b"")
 
     def test_has_what_install_lays(self):
-        """But for documents of the checkout."""
+        """But README, which speaks of the checkout; and there, as that has them, is what README and the guide show."""
         stage = UNPACKED.parent / "stage"
         run("make", "-s", "-C", FIRST_ONE, "install", "PREFIX=/p", f"DESTDIR={stage}", env=WITHOUT_GIT, check=True)
         missing = {path.relative_to(stage / "p") for path in (stage / "p").rglob("*")} - {path.relative_to(UNPACKED) for path in UNPACKED.rglob("*")}
-        doc = "share/doc/ffosolve"
-        self.assertTrue(all(str(path).startswith((f"{doc}/docs", f"{doc}/README", f"{doc}/CHANGELOG")) for path in missing), missing)
+        self.assertEqual(missing, {Path("share/doc/ffosolve/README.md")})
+        for name in ("docs/user-guide.md", "CHANGELOG.md", "docs/definitions.md", "crates/othello_rules/specs/Rules.antt"):
+            self.assertEqual((UNPACKED / "share/doc/ffosolve" / name).read_bytes(), (ROOT / name).read_bytes())
+        self.assertEqual((UNPACKED / "examples/first.obf").read_bytes(), (ROOT / "examples/first.obf").read_bytes())
 
     def test_sums(self):
         told = (UNPACKED / "SHA256SUMS").read_text()
@@ -102,7 +104,8 @@ class Archive(unittest.TestCase):
                 self.assertLessEqual({it for it in uses[name].split() if it in uses}, set(names[:at]))
 
     def test_names_no_place(self):
-        """What was built does not name where; and each file that a text of the archive names is in it."""
+        """What was built does not name where; and each file that a text of the archive names is in it, but for tests, benchmarks and
+        proofs of which a document tells."""
         for path in [path for below in ("bin", "lib", "libexec") for path in (UNPACKED / below).rglob("*") if path.is_file()]:
             for place in (ROOT, FIRST_ONE, UNPACKED, os.sep + "tmp."):
                 self.assertNotIn(os.fsencode(place), path.read_bytes())
@@ -111,29 +114,34 @@ class Archive(unittest.TestCase):
             if path.suffix not in (".md", ".py", ".c", ".rs", ".h", ".toml", ".pc") and path.parent.name != "man1":
                 continue
             for name in re.findall(r"(?<![\w/<}.-])((?:[\w-]+[\w.-]*/)+[\w-]+\.(?:md|py|rs|c|h|toml|txt|obf|antt|a|so))\b", path.read_text()):
-                is_there = name.startswith("FOLDER/") or any(str(file).endswith(f"/{name.lstrip('./')}") for file in files)
+                is_told = path.parent.name == "docs" and name.startswith(("tests/", "bench/", "proofs/"))
+                is_there = name.startswith("FOLDER/") or is_told or any(str(file).endswith(f"/{name.lstrip('./')}") for file in files)
                 self.assertTrue(is_there, (path, name))
+
+
+def shows(test, readme, count, start):
+    """Runs each command of a README of a package: it prints what stands there."""
+    for tool, package in (("cc", "gcc"), ("pkg-config", "pkg-config"), ("man", "man-db")):
+        need(tool, package)
+    text = readme.read_text()
+    test.assertLessEqual(len(text.split()), 400)
+    test.assertEqual(re.findall(r"@\w+@|^\w+\|.*", text, re.M), [])
+    blocks = [re.sub("^    ", "", block, flags=re.M) for block in re.findall(r"(?:^    .*\n)+", text, re.M)]
+    commands = [line for block in blocks for line in block.splitlines() if not re.match(r"\[1\]|\d \S|solved", line)]
+    test.assertIn(FIRST, blocks)
+    test.assertEqual(len(commands), count)
+    for command in commands:
+        ran = start("sh", "-c", command)
+        test.assertEqual((ran.stderr, ran.returncode), ("", int("ffoscores" in command)), ran)
+        if command.endswith("first.obf"):
+            test.assertEqual(ran.stdout, FIRST)
+        if "masks.txt" in command:
+            test.assertEqual(ran.stdout, (ROOT / "examples/answers.txt").read_text())
 
 
 class Unpacked(InFolder):
     def test_readme(self):
-        """Each command that it shows is run, and prints what it shows."""
-        for tool, package in (("cc", "gcc"), ("pkg-config", "pkg-config"), ("man", "man-db")):
-            need(tool, package)
-        readme = (UNPACKED / "README.md").read_text()
-        self.assertLessEqual(len(readme.split()), 400)
-        blocks = [re.sub("^    ", "", block, flags=re.M) for block in re.findall(r"(?:^    .*\n)+", readme, re.M)]
-        commands = [line for block in blocks for line in block.splitlines() if not re.match(r"\[1\]|\d \S|solved", line)]
-        self.assertIn(FIRST, blocks)
-        self.assertEqual(len(commands), 7)
-        for command in commands:
-            ran = run("sh", "-c", command, cwd=UNPACKED, env=WITHOUT_RT, text=True, timeout=300)
-            self.assertEqual(ran.stderr, "", command)
-            if command.startswith("bin/ffosolve"):
-                self.assertEqual(ran.stdout, FIRST)
-            if "./answers" in command or "answers.py" in command:
-                self.assertEqual(ran.stdout, (ROOT / "examples/answers.txt").read_text())
-            self.assertEqual(ran.returncode, int(command.startswith("bin/ffoscores")), command)
+        shows(self, UNPACKED / "README.md", 7, lambda *words: run(*words, cwd=UNPACKED, env=WITHOUT_RT, text=True, timeout=300))
 
     def test_many(self):
         """Its parts are solved by a program that runs on every machine."""
@@ -216,18 +224,21 @@ class Debian(InFolder):
             raise AssertionError(ran)
 
     def test_what_lintian_finds(self):
+        """No error, no warning, and no override of what it does not find."""
         need("lintian", "lintian")
-        ran = run("lintian", "--fail-on", "error", "--tag-display-limit", "0", "--allow-root", self.package, text=True, timeout=300)
-        self.assertEqual((ran.returncode, re.findall("^E: .*", ran.stdout, re.M)), (0, []), ran)
+        ran = run("lintian", "--display-info", "--tag-display-limit", "0", "--allow-root", self.package, text=True, timeout=300)
+        self.assertEqual((ran.returncode, re.findall("^(?:[EW]|.*override).*", ran.stdout, re.M)), (0, []), ran)
+        self.assertIn("no-symbols-control-file", ran.stdout)
 
     def test_what_it_has(self):
         """All that the archive has of programs, library and texts; and it runs where it is unpacked."""
         run("dpkg-deb", "-x", self.package, "root", check=True)
         files = {str(path.relative_to("root/usr")) for path in Path("root/usr").rglob("*") if not path.is_dir()}
         wanted = {str(path.relative_to(UNPACKED)) for path in UNPACKED.rglob("*") if not path.is_dir()}
-        wanted = {name + ".gz" * ("/man1/" in name) for name in wanted if "/" in name and not name.startswith("share/doc/")}
+        wanted = {re.sub("^lib/", "lib/x86_64-linux-gnu/", name) + ".gz" * ("/man1/" in name) for name in wanted
+                  if "/" in name and not name.startswith(("share/doc/ffosolve/python", "share/doc/ffosolve/LICENSE"))}
         self.assertLessEqual(wanted, files)
-        self.assertLessEqual({f"share/doc/ffosolve/{name}" for name in ("copyright", "changelog.gz", "README.md")}, files)
+        self.assertLessEqual({f"share/doc/ffosolve/{name}" for name in ("copyright", "changelog.gz", "README.md", "PROVED")}, files)
         ran = run("root/usr/bin/ffosolve", "root/usr/share/doc/ffosolve/examples/first.obf", env=WITHOUT_RT, text=True)
         self.assertEqual((ran.returncode, ran.stdout, ran.stderr), (0, FIRST, ""))
 
@@ -236,27 +247,42 @@ class Debian(InFolder):
         ran = run("unshare", "--mount", "sh", "-euc", APART, "sh", self.folder / "layers", *words, text=True, timeout=None,
                   env={"PATH": "/usr/sbin:/usr/bin:/sbin:/bin", "DEBIAN_FRONTEND": "noninteractive"})
         self.assertFalse(check and ran.returncode, ran)
-        return ran.stdout
+        return ran
 
     def test_installed_and_removed(self):
-        """By apt-get, with its commands, pages and library where a system looks for them; nothing is left behind."""
+        """By apt-get, with its commands, pages and libraries where a system looks for them; nothing is left behind."""
+        need("dpkg-shlibdeps", "dpkg-dev")
         if os.getuid() != 0:
             self.skipTest("layers over the system's folders are for root")
         apt = ("apt-get", "-q", "-y")
         self.apart(*apt, "install", "--no-install-recommends", self.package)
-        listed = self.apart("dpkg", "-L", "ffosolve").splitlines()
-        left = ("sh", "-c", 'for path; do [ -d "$path" ] || [ ! -e "$path" ] || echo "$path"; done', "sh", *listed)
-        there = self.apart(*left).splitlines()
-        for path in ("/usr/bin/ffosolve", f"/usr/lib/libffosolve.so.{VERSION}", "/usr/share/man/man1/ffosolve.1.gz"):
-            self.assertIn(path, there)
-        self.assertEqual(self.apart("ffosolve", "/usr/share/doc/ffosolve/examples/first.obf"), FIRST)
+        self.apart("test", "-d", "/usr/lib/python3/dist-packages/ffosolve/__pycache__")
         for name in ("ffosolve", "ffoscores", "ffosolve-many", "ffosolve-games"):
-            self.assertEqual(self.apart(name, "--version"), f"{name} {VERSION}\n")
-        self.apart("/usr/bin/python3", "-c", "import ctypes; ctypes.CDLL('libffosolve.so.1').ffosolve_version()")
+            self.assertEqual(self.apart(name, "--version").stdout, f"{name} {VERSION}\n")
+        run("dpkg-deb", "-x", self.package, "root", check=True)
+        shows(self, self.folder / "root/usr/share/doc/ffosolve/README.md", 6, lambda *words: self.apart(*words, check=False))
+        say = ("import ffosolve, importlib.metadata; print(ffosolve.Solver().library_version, importlib.metadata.version('ffosolve'), "
+               "ffosolve.__file__)")
+        told = self.apart("/usr/bin/python3", "-c", say).stdout.split()
+        self.assertEqual(told, [VERSION, VERSION, "/usr/lib/python3/dist-packages/ffosolve/__init__.py"])
+        self.needed_by_another_package()
         self.apart(*apt, "purge", "ffosolve")
-        self.assertEqual(self.apart(*left), "")
-        self.assertEqual(self.apart("ls", "/usr/share/doc/ffosolve", check=False), "")
+        left = "find /usr /etc /var/lib/dpkg/info -iname '*ffosolve*' | grep -v '^/usr/share/doc/ffosolve$' || :"
+        self.assertEqual(self.apart("sh", "-c", left).stdout, "")
         self.assertFalse(Path("/usr/bin/ffosolve").exists())
+
+    def needed_by_another_package(self):
+        """A package over the library, as Debian's tools make it of the program that README has built."""
+        needs = f"libffosolve1 (>= {VERSION})"
+        for name, text in (("debian/control", "Source: one\n\nPackage: one\nArchitecture: any\n"),
+                           ("one/DEBIAN/control", f"Package: one\nVersion: 1\nArchitecture: all\nMaintainer: A <a@b>\nDescription: a\n"
+                                                  f"Depends: {needs}, libffosolve-dev, python3-ffosolve\n")):
+            Path(name).parent.mkdir(parents=True)
+            Path(name).write_text(text)
+        self.assertIn(needs, self.apart("dpkg-shlibdeps", "-O", "-eanswers").stdout)
+        run("dpkg-deb", "--build", "one", check=True)
+        self.apart("dpkg", "-i", self.folder / "one.deb")
+        self.apart("dpkg", "-P", "one")
 
 
 class Wheel(InFolder):

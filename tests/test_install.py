@@ -14,7 +14,7 @@ import unittest
 from pathlib import Path
 
 from tests.checkouts import FIRST, copied_checkout, make_all, names_of_files, path_without
-from tests.support import ROOT, SECONDS, InFolder, need, run
+from tests.support import ROOT, SECONDS, InFolder, lack, need, run
 
 PREFIX = "/opt/a prefix"
 NOBODY = 65534
@@ -71,7 +71,7 @@ class Install(Case):
         self.assertEqual(self.install().stdout, f"installed below {self.root}\n")
         libraries = [f"{at}/{name}" for at in ("lib", "lib/glibc-hwcaps/x86-64-v3")
                      for name in ("libffosolve.so", "libffosolve.so.1", f"libffosolve.so.{VERSION}")]
-        wanted = {*libraries, "lib/libffosolve.a", "lib/pkgconfig/ffosolve.pc", "include/ffosolve.h",
+        wanted = {*libraries, "lib/libffosolve.a", "lib/libffosolve-x86-64-v3.a", "lib/pkgconfig/ffosolve.pc", "include/ffosolve.h",
                   *(f"lib/cmake/ffosolve/ffosolve-config{name}.cmake" for name in ("", "-version")), "share/ffosolve/VERSION",
                   *(f"share/ffosolve/{name}" for name in names_of_files() if name.startswith("python/src/"))}
         for name in COMMANDS:
@@ -80,7 +80,7 @@ class Install(Case):
         documents = {name for name in self.files() if name.startswith("share/doc/ffosolve/")}
         self.assertEqual(self.files() - documents, wanted)
         for name in ("README.md", "LICENSE", "CHANGELOG.md", "docs/user-guide.md", "examples/first.obf", "python/pyproject.toml",
-                     "rust/Cargo.toml"):
+                     "rust/Cargo.toml", "crates/othello_rules/specs/Rules.antt"):
             self.assertIn(f"share/doc/ffosolve/{name}", documents)
         for name in ("include/ffosolve.h", "lib/pkgconfig/ffosolve.pc", "lib/cmake/ffosolve/ffosolve-config.cmake"):
             self.assertEqual(re.findall("@[A-Z]+@", (self.root / name).read_text()), [])
@@ -152,6 +152,13 @@ class Install(Case):
         before = times()
         self.assertEqual((len(before), times()), (3, before))
 
+    def test_library_of_either_level_is_made_anew(self):
+        for level, other in (LEVELS, LEVELS[::-1]):
+            for kind in ("so", "a"):
+                (CHECKOUT / f"out/{level}/libffosolve.{kind}").unlink()
+                self.install(f"CPU={other}")
+            self.assertTrue((self.root / "lib/libffosolve-x86-64-v3.a").is_file())
+
     def test_by_another_user(self):
         """Who has no rt, and may not write the checkout."""
         folders = [CHECKOUT, *(path for path in CHECKOUT.rglob("*") if path.is_dir())]
@@ -165,6 +172,16 @@ class Install(Case):
             for path in folders:
                 path.chmod(0o755)
         self.assertEqual(run(self.root / "bin/ffosolve", ROOT / "examples/first.obf", text=True).stdout, FIRST)
+
+    def test_without_python(self):
+        """All is laid; which page then tells less is said."""
+        ran = self.make("install", env={**self.places, "PATH": path_without("python3", self.folder)})
+        self.assertEqual((ran.returncode, ran.stdout), (0, f"installed below {self.root}\n"))
+        told = re.findall("^(.*): its manual page has no options, since --help can't be run$", ran.stderr, re.M)
+        self.assertEqual(told, ["ffosolve-many", "ffosolve-games"])
+        for name, has_options in (("ffosolve", True), *((name, False) for name in told)):
+            page = (self.root / f"share/man/man1/{name}.1").read_text()
+            self.assertEqual((".SH SEE ALSO" in page, "OPTIONS" in page), (True, has_options))
 
     def test_what_is_refused(self):
         for prefix in ("relative", "", "~/a"):
@@ -187,12 +204,11 @@ class Install(Case):
 
 class Installed(Case):
     def test_each_level_runs(self):
-        """And says of which level the program and the static library are; of less, the loader ends it with one line."""
+        """And says of which level the program is; of less, the loader ends it with one line."""
         need("qemu-x86_64", "qemu-user")
         need("readelf", "binutils")
         for level, lesser in zip(LEVELS, ("core2duo", "Nehalem")):
             self.install(f"CPU={level}")
-            self.assertIn(f"\nlevel={level}\n", (self.root / "lib/pkgconfig/ffosolve.pc").read_text())
             for name in ("ffosolve", "ffoscores"):
                 program = self.root / "bin" / name
                 self.assertEqual(program.read_bytes()[:4], b"\x7fELF")
@@ -204,6 +220,19 @@ class Installed(Case):
             self.assertEqual((ran.returncode, ran.stdout, ran.stderr), (0, FIRST, ""))
         ran = run("qemu-x86_64", "-cpu", "Nehalem", CHECKOUT / "out/x86-64-v2/ffosolve", ROOT / "examples/first.obf", text=True)
         self.assertEqual((ran.returncode, ran.stdout), (0, FIRST), ran)
+
+    def test_static_library(self):
+        """Whatever the level of the programs, that without a level's name is for x86-64-v2."""
+        need("qemu-x86_64", "qemu-user")
+        need("cc", "gcc")
+        masks, wanted = ((ROOT / f"examples/{name}.txt").read_text().splitlines()[:4] for name in ("masks", "answers"))
+        for level in LEVELS:
+            self.install(f"CPU={level}")
+            self.assertIn("\nlevel=x86-64-v2\n", (self.root / "lib/pkgconfig/ffosolve.pc").read_text())
+            for name, is_for in (("libffosolve.a", True), ("libffosolve-x86-64-v3.a", False)):
+                run("cc", "-o", "answers", ROOT / "examples/c/answers.c", "-I", self.root / "include", self.root / "lib" / name, check=True)
+                ran = run("qemu-x86_64", "-cpu", "Nehalem", "./answers", input="\n".join(masks), text=True)
+                self.assertEqual((ran.returncode == 0, ran.stdout.splitlines()[:4] == wanted), (is_for, is_for), ran)
 
     def test_the_loader_picks_the_library(self):
         need("qemu-x86_64", "qemu-user")
@@ -258,11 +287,20 @@ def plain(text):
 
 
 class Texts(Case):
-    """What is written in share/ of each program, beside its --help."""
+    """What is made of the --help of each program, and what stands in share/. Behind the bin/ffosolve of a checkout that is not
+    built, nothing is started for it."""
 
     def setUp(self):
         super().setUp()
-        self.install()
+        self.root = self.folder / "a prefix"
+        self.install("DESTDIR=", prefix=self.root)
+        shutil.copytree(ROOT / "examples", "examples")
+        Path("examples/bin").mkdir()
+        Path("examples/bin/ffosolve").write_text("#!/bin/sh\n: >begun\n")
+        Path("examples/bin/ffosolve").chmod(0o755)
+
+    def tearDown(self):
+        self.assertFalse(Path("examples/begun").exists())
 
     def test_manual_pages(self):
         """Each shows without a warning, and has each option and its text."""
@@ -279,49 +317,44 @@ class Texts(Case):
                 self.assertIn(plain(names), text)
                 self.assertIn(plain(told), text)
 
+    def told(self, shell, script, name, *words):
+        """The first words of the lines that a shell offers."""
+        need(shell, shell)
+        ran = run(shell, *script, name, *words, cwd="examples", text=True, env={**self.places, "SHARE": str(self.root / "share")})
+        self.assertEqual((ran.returncode, ran.stderr), (0, ""))
+        return sorted({line.split("\t")[0] for line in ran.stdout.splitlines()} - {""})
+
+    def completes(self, *shell):
+        for name in (*COMMANDS, "bin/ffosolve"):
+            self.assertEqual(set(self.told(*shell, name, "--")), set(self.options_of(Path(name).name)))
+            self.assertEqual(self.told(*shell, name, "fi"), ["first.book", "first.obf"])
+        self.assertEqual(self.told(*shell, "ffosolve", "--sco"), ["--scoring"])
+        self.assertEqual(self.told(*shell, "ffosolve", "--book-in", "fi"), ["first.book", "first.obf"])
+        for name in ("ffosolve", "ffoscores", "ffosolve-many"):
+            self.assertEqual(self.told(*shell, name, "--scoring", ""), ["discs", "sign", "winner"])
+            self.assertEqual(self.told(*shell, name, "--scoring", "d"), ["discs"])
+
     def test_bash(self):
-        need("bash", "bash")
-        script = '. "$1"; shift; COMP_WORDS=("$@"); COMP_CWORD=$(($# - 1)); "_${1//-/_}"; printf "%s\\n" "${COMPREPLY[@]}"'
-
-        def told(name, *words):
-            path = self.root / "share/bash-completion/completions" / name
-            ran = run("bash", "-c", script, "bash", path, name, *words, cwd=ROOT / "examples", text=True)
-            self.assertEqual(ran.stderr, "")
-            return sorted(filter(None, ran.stdout.split("\n")))
-
-        for name in COMMANDS:
-            self.assertEqual([word for word in told(name, "--") if word.startswith("--")], self.options_of(name))
-            self.assertIn("first.obf", told(name, "fi"))
-            self.assertNotIn("first.obf", told(name, "--fi"))
-        for before in (("--scoring", "d"), ("--scoring", "=", "d")):
-            self.assertEqual(told("ffosolve", *before), ["discs"])
-        self.assertEqual(told("ffosolve", "--scoring", "="), ["discs", "sign", "winner"])
-        self.assertEqual(told("ffosolve", "--table", "f"), [])
+        if not Path("/usr/share/bash-completion/bash_completion").exists():
+            lack("bash_completion (Debian: bash-completion)")
+        script = ('. /usr/share/bash-completion/bash_completion; . "$SHARE/bash-completion/completions/${0##*/}"; COMP_WORDS=("$0" "$@"); '
+                  'COMP_CWORD=$#; COMP_LINE="$0 $*"; COMP_LINE=${COMP_LINE// = /=}; COMP_POINT=${#COMP_LINE}; compopt() { :; }; '
+                  '$(complete -p "${0##*/}" | cut -d " " -f 3) "$0" "${!#}" "${COMP_WORDS[COMP_CWORD-1]}"; printf "%s\\n" "${COMPREPLY[@]}"')
+        self.completes("bash", ("-c", script))
+        self.assertEqual(self.told("bash", ("-c", script), "ffosolve", "--scoring", "=", "d"), ["discs"])
 
     def test_fish(self):
-        need("fish", "fish")
-
-        def told(name, line):
-            path = self.root / f"share/fish/vendor_completions.d/{name}.fish"
-            ran = run("fish", "--no-config", "-c", "source $argv[1]; complete -C $argv[2]", path, f"{name} {line}",
-                      cwd=ROOT / "examples", env=self.places, text=True)
-            self.assertEqual((ran.returncode, ran.stderr), (0, ""))
-            return sorted(line.split("\t")[0] for line in ran.stdout.splitlines())
-
-        for name in COMMANDS:
-            self.assertEqual([word for word in told(name, "--") if word.startswith("--")], self.options_of(name))
-            self.assertIn("first.obf", told(name, "fi"))
-        self.assertEqual((told("ffosolve", "--scoring d"), told("ffosolve", "--scoring ")), (["discs"], ["discs", "sign", "winner"]))
+        script = ("--no-config", "-c", "source $SHARE/fish/vendor_completions.d/(basename $argv[1]).fish; complete -C \"$argv\"")
+        self.completes("fish", script)
+        self.assertEqual(self.told("fish", script, "ffosolve", "--scoring=d"), ["--scoring=discs"])
 
     def test_zsh(self):
-        """Each option, and on a terminal some lines by its own line editor."""
+        """On a terminal, by its own line editor."""
         need("zsh", "zsh")
-        for name in COMMANDS:
-            named = re.findall(r"--[a-z-]+", (self.root / f"share/zsh/site-functions/_{name}").read_text())
-            self.assertEqual(sorted(set(named)), self.options_of(name))
         shell = Shell(self.root, self.folder)
         self.addCleanup(shell.end)
         for begun, whole in (("ffosolve --sco", "ffosolve --scoring"), ("ffosolve --scoring=d", "ffosolve --scoring=discs"),
+                             ("ffoscores --scoring w", "ffoscores --scoring winner"), ("bin/ffosolve --sco", "bin/ffosolve --scoring"),
                              ("ffosolve --book-in fir", "ffosolve --book-in first."), ("ffosolve kinds.o", "ffosolve kinds.obf"),
                              *((f"{name} {option}",) * 2 for name in COMMANDS for option in self.options_of(name))):
             self.assertTrue(shell.completes(begun, whole), (whole, shell.told))
@@ -335,8 +368,8 @@ class Shell:
         self.child, self.terminal = pty.fork()
         if self.child == 0:
             try:
-                os.chdir(ROOT / "examples")
-                places = {"PATH": f"{root}/bin:/usr/bin:/bin", "HOME": str(folder), "TERM": "dumb"}
+                os.chdir("examples")
+                places = {"PATH": "/usr/bin:/bin", "HOME": str(folder), "TERM": "dumb"}
                 os.execvpe("zsh", ["zsh", "-f", "-i"], places)
             finally:
                 os._exit(99)

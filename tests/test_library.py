@@ -31,51 +31,6 @@ PIP = [sys.executable, "-m", "pip", "--disable-pip-version-check", "install", "-
 THREADS = 8
 LONGEST = 300  # seconds of a command, since on a busy machine compilers and solvers take a while
 STACK_ROOM = {"14": 32 << 10, "60": 128 << 10}  # bytes that suffice, as the header says, by empty squares
-# Each of these makes the header wrong.
-WRONG = [
-    ("uint64_t own;\n    uint64_t opp;", "uint64_t opp;\n    uint64_t own;"),
-    ("int32_t score;\n    int32_t kind;\n    uint64_t best", "int32_t kind;\n    int32_t score;\n    uint64_t best"),
-    ("size_t listed;\n    int32_t side;", "int32_t side;\n    size_t listed;"),
-    ("int32_t score;\n    int32_t kind;\n    uint8_t", "int32_t kind;\n    int32_t score;\n    uint8_t"),
-    ("uint8_t square;\n}", "uint16_t square;\n    uint64_t more;\n}"),
-    ("ffosolve_solve(ffosolve_position position, uint32_t scoring, size_t entries",
-     "ffosolve_solve(ffosolve_position position, uint32_t scoring, uint16_t entries"),
-    ("size_t entries, ffosolve_answer claim,\n                         ffosolve_answer *answer",
-     "size_t entries,\n                         ffosolve_answer *answer"),
-    ("*answers, size_t room, size_t *at);", "*answers, size_t *at, size_t room);"),
-    ("*found, size_t room, size_t *at);", "*found, size_t *at, size_t room);"),
-    ("int8_t scores[64];\n    uint64_t moves;", "uint64_t moves;\n    int8_t scores[64];"),
-    ("int8_t scores[64],\n                             uint64_t *moves", "uint64_t *moves, int8_t scores[64]"),
-    ("uint8_t square, ffosolve_position *after", "ffosolve_position *after, uint8_t square"),
-    ("ffosolve_listed *listed, size_t room,\n                           size_t *at",
-     "ffosolve_listed *listed, size_t *at,\n                           size_t room"),
-    ("size_t ffosolve_limit(uint32_t limit)", "uint16_t ffosolve_limit(uint32_t limit)"),
-    ("FFOSOLVE_SHARED_SQUARE = 4", "FFOSOLVE_SHARED_SQUARE = 5"),
-    ("FFOSOLVE_BAD_SIDE = 11", "FFOSOLVE_BAD_SIDE = 10"),
-    ("FFOSOLVE_DISCS = 1", "FFOSOLVE_DISCS = 2"),
-    ("FFOSOLVE_PASS = 1", "FFOSOLVE_PASS = 0"),
-    ("FFOSOLVE_WHITE = 1", "FFOSOLVE_WHITE = 2"),
-    ("FFOSOLVE_LIMIT_EMPTIES = 1", "FFOSOLVE_LIMIT_EMPTIES = 2"),
-    ("MOST_ENTRIES 4", "MOST_ENTRIES 5"),
-    ("MOST_EMPTIES 6", "MOST_EMPTIES 5"),
-    ("NO_SCORE 127", "NO_SCORE 0"),
-    ("solve_all(positions || count ? positions : &no_position", "solve_all(positions"),
-    ("scores_all(positions || count ? positions : &no_position", "scores_all(positions"),
-    ("found || room ? found : &no_scores", "found"),
-    ("&no_scores, room, at ? at : &nobody_asks", "&no_scores, room, at"),
-    ("answers || room ? answers : &no_answer", "answers"),
-    ("&no_answer, room, at ? at : &nobody_asks", "&no_answer, room, at"),
-    ('text || length ? text : ""', "text"),
-    ("listed || room ? listed : &no_move", "listed"),
-    ("room,\n                              at ? at : &nobody_asks", "room,\n                              at"),
-    ("answers || room ? answers", "answers && room ? answers"),
-    ("solve_all(positions || count", "solve_all(positions || room"),
-    ("scores_all(positions || count", "scores_all(positions || room"),
-    ("answers || room", "answers || count"),
-    ("found || room", "found || count"),
-    ("text || length", "text || room"),
-    ("listed || room", "listed || length"),
-]
 LINES = 10_000  # odd ones
 REFUSED = ("board has N of N squares", "bad square at column N", "bad side at column N", "N empties, limit N")
 SMALL, LARGE = 9, 10  # positions of examples/masks.txt, without the one of 20 empty squares and with it
@@ -345,25 +300,6 @@ class Calls(unittest.TestCase):
         wanted += "read_line: status 7, side 99, listed 99, square 99, at 99\n"
         self.assertEqual(told.stdout, wanted)
 
-    def test_wrong_headers_are_noticed(self):
-        need_tool("cc")
-        folder = PREFIX.work / "wrong"
-        words = [*C, "-Wno-unused-variable", "-Wno-unused-parameter", "-I", folder, "-o", folder / "calls"]
-        wanted = {(self.SOURCE, PREFIX.archive): self.wanted, (TESTS / "library_nulls.c",): NULLS}
-        for old, new in WRONG:
-            with self.subTest(new=new):
-                self.assertEqual(PREFIX.text.count(old), 1)
-                PREFIX.write("wrong/ffosolve.h", PREFIX.text.replace(old, new))
-                self.assertFalse(all(self.prints([*words, *sources], text) for sources, text in wanted.items()))
-
-    @staticmethod
-    def prints(compile_it, wanted):
-        """Whether a program is compiled, and prints what it should."""
-        if PREFIX.run(*compile_it).returncode != 0:
-            return False
-        told = PREFIX.run(compile_it[compile_it.index("-o") + 1])
-        return (told.returncode, told.stdout) == (0, wanted)
-
     def test_null_pointers_end_in_the_header(self):
         for compiler in (C, CXX):
             with self.subTest(compiler=compiler[0]):
@@ -443,6 +379,10 @@ class PythonPackage(unittest.TestCase):
         self.assertTrue((self.site / "ffosolve/py.typed").exists())
         told = PREFIX.make(sys.executable, "-m", "unittest", "discover", "-s", PREFIX.work / "python/tests")
         self.assertRegex(told.stderr, r"Ran [1-9]\d* tests")
+
+    def test_the_program_that_pip_installs(self):
+        for words, wanted in ((["--version"], f"ffosolve-games {PREFIX.version}\n"), (["--empties", "59"], r"\S{64} O; % standard input, game 1\n")):
+            self.assertRegex(PREFIX.make(self.site / "bin/ffosolve-games", *words, text="f5").stdout, rf"\A{wanted}\Z")
 
     def test_library_that_is_named(self):
         """The library that FFOSOLVE_LIBRARY names is taken; another version of it is not, nor one that lacks a call."""
@@ -563,34 +503,23 @@ def lies(text):
 
 
 class RandomPositions(unittest.TestCase):
-    """Random positions beside plain minimax on 64 cells, by library_oracle.c, on eight threads at once."""
+    """Random positions beside plain minimax on 64 cells, by library_oracle.c: through Python, on eight threads at once, by each
+    call of the library. What C and Rust do of it are their examples, and tests of their own."""
 
-    @classmethod
-    def setUpClass(cls):
-        cls.seconds = LONGEST if POSITIONS <= 10_000 and MOST <= 8 else None
+    def test_as_plain_minimax(self):
+        seconds = LONGEST if POSITIONS <= 10_000 and MOST <= 8 else None
         oracle = PREFIX.compile([*C, "-O2"], "oracle", [TESTS / "library_oracle.c"])
-        cls.text = PREFIX.make(oracle, POSITIONS, MOST, timeout=cls.seconds).stdout
-        cls.file = PREFIX.write("positions.txt", cls.text)
-
-    def agree(self, *compare):
-        solutions, rules = (len(re.findall(f"^{kind} ", self.text, re.MULTILINE)) for kind in ("solve", "rules"))
+        text = PREFIX.make(oracle, POSITIONS, MOST, timeout=seconds).stdout
+        solutions, rules = (len(re.findall(f"^{kind} ", text, re.MULTILINE)) for kind in ("solve", "rules"))
         self.assertEqual(solutions, 3 * POSITIONS)
         self.assertGreater(rules, POSITIONS // 2)
-        told = PREFIX.make(*compare, self.file, THREADS, timeout=self.seconds)
+        compare = (PREFIX.site and sys.executable, TESTS / "library_compare.py")
+        told = PREFIX.make(*compare, PREFIX.write("positions.txt", text), THREADS, timeout=seconds)
         self.assertEqual(told.stdout, f"{solutions} solutions and {rules} rules agree\n")
-        for lie in lies(self.text):
+        for lie in lies(text):
             told = PREFIX.run(*compare, PREFIX.write("lie.txt", lie), THREADS)
             self.assertEqual(told.returncode, 1, "a wrong line is not noticed")
             self.assertIn("differs", told.stderr)
-
-    def test_through_c(self):
-        self.agree(PREFIX.compile([*C, "-pthread"], "compare", [TESTS / "library_compare.c"]))
-
-    def test_through_python(self):
-        self.agree(PREFIX.site and sys.executable, TESTS / "library_compare.py")
-
-    def test_through_rust(self):
-        self.agree(PREFIX.rust_client("library_compare", (TESTS / "library_compare.rs").read_text()))
 
 
 def odd_line(chance):
@@ -624,7 +553,7 @@ def spoiled(chance, line):
 
 
 class OddLines(unittest.TestCase):
-    """Many odd lines, as C, Python and Rust read them, beside the report of the program."""
+    """Many odd lines, as they are read through Python, beside the report of the program."""
 
     @classmethod
     def setUpClass(cls):
@@ -633,24 +562,17 @@ class OddLines(unittest.TestCase):
         cls.file = PREFIX.write("odd.obf", "")
         cls.file.write_bytes(cls.text)
         cls.report = PREFIX.make(built("ffosolve"), cls.file).stdout.splitlines()[1:-1]
-        cls.program = PREFIX.compile(C, "lines", [TESTS / "library_lines.c"])
-        cls.rows = cls.told(cls.program)
+        cls.rows = cls.told(cls.text)
 
-    @classmethod
-    def told(cls, *command, text=None):
-        ran = run(*command, input=text or cls.text, env=PREFIX.environment, timeout=LONGEST, check=True)
-        return ran.stdout.decode().splitlines()
+    @staticmethod
+    def told(text):
+        reads = (PREFIX.site and sys.executable, TESTS / "library_lines.py")
+        return run(*reads, input=text, env=PREFIX.environment, timeout=LONGEST, check=True).stdout.decode().splitlines()
 
     def test_worked_lines(self):
         """tests/rows/lines.read has what each line of lines.obf says; it follows from the grammar, and no program printed it."""
-        told = self.told(self.program, text=(TESTS / "rows/lines.obf").read_bytes())
+        told = self.told((TESTS / "rows/lines.obf").read_bytes())
         self.assertEqual(told, (TESTS / "rows/lines.read").read_text().splitlines())
-
-    def test_through_python(self):
-        self.assertEqual(self.told(PREFIX.site and sys.executable, TESTS / "library_lines.py"), self.rows)
-
-    def test_through_rust(self):
-        self.assertEqual(self.told(PREFIX.rust_client("library_lines", (TESTS / "library_lines.rs").read_text())), self.rows)
 
     def test_as_the_report_says(self):
         """The numbers of lines, what is refused and why; and of each position its answer, and whether the line agrees."""

@@ -4,7 +4,6 @@ import re
 import select
 import subprocess
 import time
-import unittest
 
 from tests.support import ROOT, SECONDS, InFolder, built, run
 
@@ -78,7 +77,3 @@ class Told(InFolder):
         self.assertEqual((told.returncode, told.stdout), (0, plain))
         told = run(program, "--progress", "short", preexec_fn=lambda: os.close(2))
         self.assertEqual((told.returncode, told.stdout), (0, plain))
-
-
-if __name__ == "__main__":
-    unittest.main()

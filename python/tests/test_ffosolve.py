@@ -353,7 +353,7 @@ class Refusals(unittest.TestCase):
 def loaded(*words):
     """The path of a library of this process, which has one of these words."""
     with open("/proc/self/maps") as maps:
-        return next(line.split()[-1] for line in maps if any(word in line for word in words))
+        return next(line.split(maxsplit=5)[5].strip() for line in maps if any(word in line for word in words))
 
 
 class Obf(unittest.TestCase):

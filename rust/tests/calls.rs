@@ -27,11 +27,14 @@ fn solves() {
     let solver = Solver::new();
     assert_eq!(solver.solve(corners()), Ok(ANSWER));
     assert_eq!(ANSWER.squares().to_string(), "H1");
-    assert_eq!(solver.solve(corners().passed()).map(|answer| answer.score), Ok(-40));
-    let scores = [Scoring::Discs, Scoring::Sign].map(|scoring| {
-        Solver::new().scoring(scoring).entries(64).solve(corners().passed()).expect("an answer").score
-    });
-    assert_eq!(scores, [-39, -1]);
+    for (scoring, score) in [(Scoring::Winner, -40), (Scoring::Discs, -39), (Scoring::Sign, -1)] {
+        let (of, passed) = (Solver::new().scoring(scoring).entries(64), corners().passed());
+        let answer = of.solve(passed).expect("an answer");
+        assert_eq!(answer.score, score);
+        assert_eq!(of.confirm(passed, ANSWER), Ok(answer));
+        assert_eq!(of.solve_all(&[passed]), Ok(vec![answer]));
+        assert_eq!(of.move_scores(passed), Ok(vec![(square("H1"), score)]));
+    }
     assert_eq!(solver.solve(position(0x7e, !0x7f)), Ok(Answer { score: -64, best: Best::Pass }));
     assert_eq!(solver.solve(position(0xffff_ffff, 0xffff << 48)), Ok(Answer { score: 32, best: Best::Over }));
     for best in [Best::Pass, Best::Over] {

@@ -1,0 +1,20 @@
+# Makes the middle of a manual page of what a program prints for --help. A heading begins a section; of the lines that are set
+# in, one with two blanks behind a name begins an entry, and one that is set in far goes on with it.
+BEGIN { title = "DESCRIPTION" }
+{ gsub(/\\/, "\\e"); gsub(/-/, "\\-") }
+/^[Uu]sage: / { title = "SYNOPSIS"; sub(/^[^ ]* /, ".nf\n") }
+/^[A-Za-z][^:]*:$/ { title = toupper(substr($0, 1, length - 1)); order[++count] = title; next }
+/^[^ .]/ && count { title = "NOTES"; if (!(title in text)) order[++count] = title }
+/^ / && title != "SYNOPSIS" {
+    if (match($0, /^ +[^ ]+( [^ ]+)*  +/)) {
+        name = substr($0, 1, RLENGTH - 2)
+        gsub(/^ +| +$/, "", name)
+        $0 = ".TP\n.B " name "\n" substr($0, RLENGTH + 1)
+    } else if (!/^     /) $0 = ".PP\n" $0
+}
+/^$/ { if (title == "SYNOPSIS") { text[title] = text[title] ".fi\n"; title = "DESCRIPTION" } else $0 = ".PP" }
+/./ { sub(/^ +/, ""); sub(/\n +/, "\n"); text[title] = text[title] $0 "\n" }
+END {
+    printf ".SH SYNOPSIS\n%s.SH DESCRIPTION\n%s", text["SYNOPSIS"], text["DESCRIPTION"]
+    for (at = 1; at <= count; at++) printf ".SH \"%s\"\n%s", order[at], text[order[at]]
+}
