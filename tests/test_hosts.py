@@ -400,7 +400,7 @@ class Tried(Case):
         (ROOM.home / "tmp").mkdir()
         ROOM.do("mount", "-t", "tmpfs", "-o", "size=16k,mode=1777", "none", "/home/me/tmp")
         self.addCleanup(ROOM.do, "umount", "/home/me/tmp")
-        ROOM.do("sh", "-c", "yes >/home/me/tmp/all 2>/dev/null; :")
+        ROOM.do("sh", "-c", "cd /home/me/tmp; yes >all 2>/dev/null; :")
         self.whole(self.start(hosts="2/h1\n", TMPDIR="/home/me/tmp"))
         self.assertEqual(self.told(), ["on h1"])
 
