@@ -821,10 +821,12 @@ class Recipe(Case):
         return wthor([record(*both) for both in zip(games, exact)], empties=6)
 
     def test_the_guide(self):
-        guide = stored("docs", "user-guide.md").decode()
-        commands = re.search(r"theoretical scores of a WTHOR file\n.*?^```sh\n(.*?)^```", guide, re.M | re.S)[1]
-        self.assertEqual(len(commands.splitlines()), 3)
-        self.check(commands, ["list.obf", "list.report"])
+        blocks = re.findall(r"^```sh\n(.*?)^```", stored("docs", "check-wthor.md").decode(), re.M | re.S)
+        self.assertEqual([len(block.splitlines()) for block in blocks], [3, 1])
+        wanted = self.check(blocks[0], ["list.obf", "list.report"])
+        fix = blocks[1].split()
+        self.assertEqual(run(*fix).returncode, 1)
+        self.assertEqual((self.folder / fix[-1]).read_bytes(), wanted)
 
     def test_the_help(self):
         """It keeps the list, which compare needs, and writes a file with exact scores."""

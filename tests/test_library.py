@@ -451,17 +451,15 @@ class RustCrate(unittest.TestCase):
         self.assertIn(why, told.stderr)
 
 
-def shown(language):
-    """The one block that README or the user guide shows of the library in a language, and what its comments say that it
-    prints."""
-    texts = [(ROOT / name).read_text() for name in ("README.md", "docs/user-guide.md")]
-    sections = "".join(text.split("## From your own program")[1].split("\n## ")[0] for text in texts)
-    (block,) = re.findall(rf"^```{language}\n(.*?)^```$", sections, re.MULTILINE | re.DOTALL)
+def shown(language, *names):
+    """The one block that these documents show of the library in a language, and what its comments say that it prints."""
+    texts = "".join((ROOT / name).read_text() for name in names or ("README.md", "docs/library.md"))
+    (block,) = re.findall(rf"^```{language}\n(.*?)^```$", texts, re.MULTILINE | re.DOTALL)
     return block, "".join(f"{line}\n" for line in re.findall(r"(?:  # |// )(.*)$", block, re.MULTILINE))
 
 
 class Readme(unittest.TestCase):
-    """What README and the user guide show of the library."""
+    """What the documents show of the library."""
 
     def prints(self, wanted, *command):
         self.assertNotEqual(wanted, "")
@@ -484,6 +482,14 @@ class Readme(unittest.TestCase):
 
     def test_in_python(self):
         block, wanted = shown("python")
+        self.prints(wanted, PREFIX.site and sys.executable, "-c", block)
+
+    def test_of_an_evaluation(self):
+        """Over the list that the page shows."""
+        page = "docs/check-evaluation.md"
+        listed = re.search(r"^> (\S{64} X; .*\n)", (ROOT / page).read_text(), re.MULTILINE)[1]
+        PREFIX.write("list.obf", listed)
+        block, wanted = shown("python", page)
         self.prints(wanted, PREFIX.site and sys.executable, "-c", block)
 
     def test_in_rust(self):
