@@ -172,7 +172,7 @@ def expected(name, games, empties, more=""):
         else:
             left = f"{60 - len(squares)} empty square" + "s" * (len(squares) < 59)
             told += (f"ffosolve-games: {name}, game {number}, move {len(squares)}: "
-                     f"it ends here, with {left}, and {empties} are asked for\n")
+                     f"it ends here, with {left}; {empties} are asked for\n")
     return lines, told
 
 
@@ -228,16 +228,16 @@ class Faults(Case):
             ("f5d6c3", None),
             ("% a comment", None),
             ("", None),
-            ("f5d6d5", "move 3: D5 is no move"),
-            ("F5 D6 C5 z9", "move 4: 'z9' is no square"),
-            ("f5d6c", "move 3: 'c' is no square"),
-            ("f5d6i1c3", "move 3: 'i1' is no square"),
-            ("f5a9", "move 2: 'a9' is no square"),
-            ("e4", "move 1: E4 is no move"),
-            ("f5d6psc3", "move 3: it has a pass where there is a move"),
-            ("pass", "move 1: it has a pass where there is a move"),
-            ("f5", "move 1: it ends here, with 59 empty squares, and 58 are asked for"),
-            ("f5d6c3d3c4f4c5b3c2\xff", "move 10: '\ufffd' is no square"),
+            ("f5d6d5", "move 3: D5 is not a legal move"),
+            ("F5 D6 C5 z9", "move 4: 'z9' is not a square"),
+            ("f5d6c", "move 3: 'c' is not a square"),
+            ("f5d6i1c3", "move 3: 'i1' is not a square"),
+            ("f5a9", "move 2: 'a9' is not a square"),
+            ("e4", "move 1: E4 is not a legal move"),
+            ("f5d6psc3", "move 3: it passes where there is a legal move"),
+            ("pass", "move 1: it passes where there is a legal move"),
+            ("f5", "move 1: it ends here, with 59 empty squares; 58 are asked for"),
+            ("f5d6c3d3c4f4c5b3c2\xff", "move 10: '\ufffd' is not a square"),
         )
         self.write("games", "\n".join(text for text, _ in lines).encode("latin-1"))
         told = "".join(f"ffosolve-games: games, game {number}, {why}\n" for number, (_, why) in enumerate(lines, 1) if why)
@@ -247,7 +247,7 @@ class Faults(Case):
         game = squares_of(random_game(random.Random(1)))
         for more in (game[:1], game[-1:]):
             self.write("long", transcript(game + more))
-            told = f"ffosolve-games: long, game 1, move {len(game) + 1}: {NAMES[more[0]]} is behind the game's end\n"
+            told = f"ffosolve-games: long, game 1, move {len(game) + 1}: {NAMES[more[0]]} comes after the end of the game\n"
             self.games("--empties=30", "long", status=1, out="", told=told)
 
     def test_passes_at_the_end(self):
@@ -262,26 +262,25 @@ class Faults(Case):
         gap, no_square, twice = (whole[:18] + bytes([byte]) + whole[19:] for byte in (0, 99, whole[17]))
         name = NAMES[game[9]]
         for records, count, why in (
-            ([whole, whole[:67]], 2, "game 2: the file ends after 67 of the 68 bytes of this game, and {} 2"),
-            ([whole, whole[:1]], 7, "game 2: the file ends after 1 of the 68 bytes of this game, and {} 7"),
-            ([whole], 301, "game 2: the file ends before this game, and {} 301"),
-            ([whole, whole], 1, "game 2: the file goes on, and {} 1"),
-            ([whole, b"\n"], 1, "game 2: the file goes on, and {} 1"),
-            ([whole, gap], 2, "game 2, move 11: 0 is no square"),
-            ([whole, no_square], 2, "game 2, move 11: 99 is no square"),
-            ([whole, twice], 2, f"game 2, move 11: {name} is no move"),
+            ([whole, whole[:67]], 2, "game 2: the file ends after 67 of the 68 bytes of this game, but its header counts 2 games"),
+            ([whole, whole[:1]], 7, "game 2: the file ends after 1 of the 68 bytes of this game, but its header counts 7 games"),
+            ([whole], 301, "game 2: the file ends before this game, but its header counts 301 games"),
+            ([whole, whole], 1, "game 2: the file goes on, but its header counts 1 game"),
+            ([whole, b"\n"], 1, "game 2: the file goes on, but its header counts 1 game"),
+            ([whole, gap], 2, "game 2, move 11: 0 is not a square"),
+            ([whole, no_square], 2, "game 2, move 11: 99 is not a square"),
+            ([whole, twice], 2, f"game 2, move 11: {name} is not a legal move"),
             ([whole, record([])], 2, "game 2: it has no moves"),
-            ([whole, record(game[:37])], 2, "game 2, move 37: it ends here, with 23 empty squares, and 22 are asked for"),
+            ([whole, record(game[:37])], 2, "game 2, move 37: it ends here, with 23 empty squares; 22 are asked for"),
         ):
             self.write("it.wtb", wthor(records, count=count))
-            why = why.format("the header's number of games is")
             self.games("it.wtb", status=1, out=line, told=f"ffosolve-games: it.wtb, {why}\n")
 
     def test_a_game_that_ends_with_one_empty_square(self):
         rng = random.Random(4)
         game = next(squares for squares in iter(lambda: squares_of(random_game(rng)), None) if len(squares) == 59)
         self.write("text", transcript(game))
-        told = "text, game 1, move 59: it ends here, with 1 empty square, and 0 are asked for"
+        told = "text, game 1, move 59: it ends here, with 1 empty square; 0 are asked for"
         self.games("--empties=0", "text", status=1, out="", told=f"ffosolve-games: {told}\n")
 
     def test_scores_of_records(self):
@@ -291,7 +290,7 @@ class Faults(Case):
         for squares, theoretical, written, why in (
             (game, 64, real, ()),
             (game, 65, real, ("its theoretical score is 65, more than 64 discs",)),
-            (game, 33, real + 1, (f"its real score is {real + 1}, and by its moves it is {real}",)),
+            (game, 33, real + 1, (f"its real score is {real + 1}, but its moves give {real}",)),
             (game, 255, 65, ("its theoretical score is 255, more than 64 discs", "its real score is 65, more than 64 discs")),
             (game[:-1], 33, 0, ("its moves stop before the end of the game, so its real score 0 is not checked",)),
             (game[:-1], 33, 200, ("its real score is 200, more than 64 discs",)),
@@ -307,7 +306,7 @@ class Faults(Case):
         self.games("it.wtb", status=1, told="ffosolve-games: it.wtb, game 1: its moves stop before the end of the game, "
                    "so its real score 20 is not checked\n")
         self.write("it.wtb", wthor([record(game, 255, real + 1)]))
-        told = f"ffosolve-games: it.wtb, game 1: its real score is {real + 1}, and by its moves it is {real}\n"
+        told = f"ffosolve-games: it.wtb, game 1: its real score is {real + 1}, but its moves give {real}\n"
         self.games("it.wtb", "--empties=20", status=1, out=line_of(at[20], "it.wtb, game 1"), told=told)
 
     def test_real_scores_of_games_that_end_early(self):
@@ -324,7 +323,7 @@ class Faults(Case):
                 real = {1: black + empty, 0: 32, -1: black}[kind]
                 for written in (real, 64 - real if kind else 31):
                     self.write("it.wtb", wthor([record(game, real=written)], empties=30))
-                    told = f"ffosolve-games: it.wtb, game 1: its real score is {written}, and by its moves it is {real}\n"
+                    told = f"ffosolve-games: it.wtb, game 1: its real score is {written}, but its moves give {real}\n"
                     self.games("it.wtb", status=int(written != real), told=told if written != real else "")
 
     def test_headers(self):
@@ -338,14 +337,14 @@ class Faults(Case):
             (wthor([])[:15], "it ends within its header of 16 bytes"),
             (wthor([whole], board=10), "its board has 10 by 10 squares"),
             (wthor([whole], another=9),
-             "its header counts 9 records of another kind, as in a file of players or tournaments"),
+             "its header counts 9 records of another kind, like a file of players or tournaments"),
             (wthor([whole], kind=2), "byte 14 of its header is 2, and has to be 0 or 1"),
-            (wthor([whole], empties=61), "its theoretical scores are for 61 empty squares, of which a game has 60"),
-            (b"f5d6c3d3c4f4c5b3c2\n", "it begins as a text does"),
+            (wthor([whole], empties=61), "its theoretical scores are for 61 empty squares, but a game has only 60"),
+            (b"f5d6c3d3c4f4c5b3c2\n", "it begins like a text"),
         ):
             self.write("none.wtb", content)
             self.write("it.wtb", wthor([whole]))
-            told = f"ffosolve-games: none.wtb is no WTHOR file of games: {why}\n"
+            told = f"ffosolve-games: none.wtb is not a WTHOR file of games: {why}\n"
             self.games("none.wtb", "it.wtb", status=3, out=line, told=told)
 
     def test_the_number_of_empty_squares(self):
@@ -358,10 +357,10 @@ class Faults(Case):
         self.games("--empties", "22", "it.wtb", out=line_of(at[22], "it.wtb, game 1"), told="")
         self.write("it.wtb", wthor([record(game, 20)], empties=0))
         self.games("--empties", "22", "it.wtb", out=line_of(at[22], "it.wtb, game 1, theoretical score 20"), told="")
-        told = "it.wtb does not tell the empty squares of its theoretical scores; try --empties 22 or 24, which are usual"
+        told = "it.wtb does not say how many squares are empty at its theoretical scores; try --empties 22 or 24, the usual numbers"
         self.games("it.wtb", status=2, out="", told=f"ffosolve-games: {told}\n")
         self.write("text", transcript(game))
-        self.games("text", status=2, out="", told="ffosolve-games: text is a text, whose games need --empties N\n")
+        self.games("text", status=2, out="", told="ffosolve-games: text is a text: its games need --empties N\n")
 
     def test_each_byte_changed(self):
         """What is printed of a changed file is a position of the game that its record tells, by the plain player."""
@@ -376,7 +375,7 @@ class Faults(Case):
         ran = run(sys.executable, PROGRAM, *files)
         self.assertEqual(ran.returncode, 3)
         for told in ran.stderr.decode().splitlines():
-            self.assertRegex(told, r"^ffosolve-games: \d+-\d+\.wtb(, game \d+(, move \d+)?: | is no WTHOR file| does not tell )")
+            self.assertRegex(told, r"^ffosolve-games: \d+-\d+\.wtb(, game \d+(, move \d+)?: | is not a WTHOR file| does not say )")
         lines = ran.stdout.decode().splitlines()
         for line in lines:
             squares, side, name, number = re.fullmatch(r"(\S{64}) ([XO]); % (\S+), game (\d+)(?:, .*)?", line).groups()
@@ -441,7 +440,7 @@ class Use(Case):
         """It is no WTHOR file: those have a name, or a beginning, that no text has. An archive is neither."""
         for content in (b"f5\0d6\n" + transcript(self.game).encode(), b"PK\3\4\24\0\0\0"):
             self.write("bad", content)
-            told = UNREADABLE.format("cannot read bad", "its line 1 has a NUL, which no text has")
+            told = UNREADABLE.format("cannot read bad", "its line 1 has a NUL byte, so it is not a text")
             self.games("--empties=20", "bad", "text", status=3, out=self.line.format("text"), told=told)
 
     def test_long_lines(self):
@@ -474,7 +473,7 @@ class Use(Case):
         self.games("--version", out=f"ffosolve-games {stored('VERSION').decode()}", told="")
         for words in (("--help",), ("compare", "--help")):
             told = self.games(*words)[0]
-            self.assertRegex(" ".join(told.split()), "Black's discs.*with the empty squares to the winner")
+            self.assertRegex(" ".join(told.split()), "Black's discs.*the winner gets the empty squares")
             self.assertLessEqual(max(map(len, told.splitlines())), 80)
 
     def test_standard_output_that_fails(self):
@@ -543,7 +542,7 @@ class Compare(Case):
         self.games("compare", "list", "report", **expected)
 
     def unfit(self, listed, report, why):
-        self.compare(listed, report, status=3, out="", told=f"ffosolve-games: report is no report of list: {why}\n")
+        self.compare(listed, report, status=3, out="", told=f"ffosolve-games: report is not a report of list: {why}\n")
 
     def test_scores_are_discs_of_black(self):
         out = ("a, b.wtb, game 8: published 34, exact 1, difference +33\n"
@@ -570,9 +569,9 @@ class Compare(Case):
         self.compare(listed, report, status=1, out="a, b.wtb, game 8: published 34, exact 1, difference +33\n"
                      "compared 3 differ 1 refused 0 unscored 2\n", told="")
         self.unfit(listed, self.REPORT,
-                   "line 4 of the list is refused (bad square at column 64), and the report says: -64 PS")
+                   "line 4 of the list is refused (bad square at column 64), but the report says: -64 PS")
         self.unfit(listed, report.replace("column 64", "column 63"), "line 4 of the list is refused (bad square at column 64), "
-                   "and the report says: bad square at column 63")
+                   "but the report says: bad square at column 63")
 
     def test_what_is_no_report(self):
         rows = self.REPORT.splitlines(True)
@@ -585,11 +584,11 @@ class Compare(Case):
             (self.REPORT[:-12], cut),
             ("[1]\n", cut),
             (self.REPORT + self.REPORT.replace("[1]", "[2]"), "the report is of several lists"),
-            ("".join(rows[:3] + ["x\n"] + rows[3:]), "line 4 of the report is no row"),
-            (self.REPORT.replace("2 +62 H1", "2 +62 H9"), "line 2 of the report is no row"),
-            (self.REPORT.replace("2 +62 H1", "9" * 5000 + " +62 H1"), "line 2 of the report is no row"),
+            ("".join(rows[:3] + ["x\n"] + rows[3:]), "line 4 of the report is not a row"),
+            (self.REPORT.replace("2 +62 H1", "2 +62 H9"), "line 2 of the report is not a row"),
+            (self.REPORT.replace("2 +62 H1", "9" * 5000 + " +62 H1"), "line 2 of the report is not a row"),
             ("".join(rows[:3] + rows[2:]), "line 4 of the report is a second row of line 3 of the list"),
-            ("".join(rows[:2] + rows[3:]), "the report ends with `solved 5 refused 0`, and has 4 rows, of which 0 are refused"),
+            ("".join(rows[:2] + rows[3:]), "the report ends with `solved 5 refused 0`, but has 4 rows, 0 of them refused"),
         ):
             self.unfit(self.LISTED, report, why)
         self.unfit(re.sub(", theo.*", "", self.LISTED), self.REPORT, "no line of the list has a theoretical score")
@@ -609,17 +608,17 @@ class Compare(Case):
             ("7 -32 --", "7 -30 --", "7 of the list is the end of a game with the score -32, and not -30"),
             ("2 +62 H1", "2 +61 H1", "2 of the list has the score +61 in the report, which is of another scoring than winner"),
             ("2 +62 H1", "2 -98 H1", "2 of the list has the score -98 in the report, which is of another scoring than winner"),
-            ("2 +62 H1 unlisted", "2 +62 H1 agree", "2 of the list lists no move, and the report says agree"),
+            ("2 +62 H1 unlisted", "2 +62 H1 agree", "2 of the list lists no move, but the report says agree"),
             ("4 -64", "5 -64", "4 of the list has no row in the report"),
-            ("2 +62", "1 +62", "1 of the list is no position, and the report has a row of it"),
+            ("2 +62", "1 +62", "1 of the list is not a position, but the report has a row for it"),
             ("7 -32", "8 -32", "7 of the list has no row in the report"),
         ):
             self.unfit(self.LISTED, self.REPORT.replace(old, new), f"line {why}")
         listed = self.LISTED.replace(" X; % a", " X; H1:+62; % a")
-        self.unfit(listed, self.REPORT, "line 2 of the list lists a move, and the report says unlisted")
+        self.unfit(listed, self.REPORT, "line 2 of the list lists a move, but the report says unlisted")
         for says in ("3 empties, limit 1", "board has 2 of 64 squares"):
             report = self.REPORT.replace("3 +62 H1 unlisted", f"3 refused: {says}").replace("solved 5 refused 0", "solved 4 refused 1")
-            self.unfit(self.LISTED, report, f"line 3 of the list has 2 empty squares, and the report says: {says}")
+            self.unfit(self.LISTED, report, f"line 3 of the list has 2 empty squares, but the report says: {says}")
 
     def test_a_whole_report_of_another_list(self):
         """Of other games, as many, and as many empty squares; the first best move that is not legal shows it."""
@@ -634,7 +633,7 @@ class Compare(Case):
             out, told = self.games("compare", "list", "report", status=status)
         wrong = [(number, name) for number, (at, names) in enumerate(zip(mine, best), 1) for name in names
                  if name not in [NAMES[square] for square in moves_of(*at)]]
-        self.assertEqual((out, told), ("", "ffosolve-games: report is no report of list: line {} of the list has no legal move {}, "
+        self.assertEqual((out, told), ("", "ffosolve-games: report is not a report of list: line {} of the list has no legal move {}, "
                                            "which the report calls best\n".format(*wrong[0])))
 
 
@@ -706,7 +705,7 @@ class Fix(Case):
         os.mkdir("folder.wtb")
         self.write("other.wtb", "other")
         for name in ("it.wtb", "./it.wtb", "link.wtb", "twin.wtb", "broken.wtb", "folder.wtb", "other.wtb", "list", "report"):
-            self.fix(3, f"{name} is there already, and would be overwritten", place=name)
+            self.fix(3, f"{name} already exists and would be overwritten", place=name)
         self.assertEqual(self.content("other.wtb"), b"other")
         self.assertEqual(os.readlink("broken.wtb"), "nowhere")
 
@@ -754,12 +753,12 @@ class Fix(Case):
         self.fix(3, "cannot read it.wtb, which the list names: No such file or directory")
         os.mkfifo("it.wtb")
         self.assertEqual(self.games("compare", "list", "report", "--fix", "new.wtb", status=3)[1],
-                         "ffosolve-games: it.wtb, which the list names, is no regular file\n")
+                         "ffosolve-games: it.wtb, which the list names, is not a regular file\n")
 
     def test_a_list_that_names_no_one_file(self):
         self.write("other.wtb", self.whole)
         self.write_list("it.wtb", "other.wtb")
-        self.fix(3, "--fix takes a list of one WTHOR file, and this one is of 2")
+        self.fix(3, "--fix takes a list of one WTHOR file; this one has games of 2")
         self.write_list("it.wtb", skipped=range(1, len(self.exact) + 1))
         self.fix(3, "no theoretical score is compared, so --fix has none to write")
         self.write("list", run(PROGRAM, "-", input=self.whole).stdout)
@@ -772,7 +771,7 @@ class Fix(Case):
         words = [sys.executable, PROGRAM, "compare", "list", "report", "--fix", "new.wtb"]
         runs = [subprocess.Popen(words, stdout=subprocess.PIPE, stderr=subprocess.PIPE) for _ in range(6)]
         told = sorted(it.communicate(timeout=SECONDS)[1].decode() for it in runs)
-        lost = "ffosolve-games: new.wtb is there already, and would be overwritten\n"
+        lost = "ffosolve-games: new.wtb already exists and would be overwritten\n"
         self.assertEqual(told, sorted([f"ffosolve-games: {self.told}\n"] + 5 * [lost]))
         self.assertEqual(sorted(it.returncode for it in runs), [1] + 5 * [3])
         self.assertEqual(self.content("new.wtb"), self.wanted)

@@ -458,7 +458,7 @@ class Swept(Case):
         self.h2.lose_power()
         self.whole(ran)
         self.assertEqual(len(self.left(self.h2)), 1)
-        self.assertRegex(self.told()[-1], f"^h2: {self.left(self.h2)[0]} may lie there, until the next run reaches it: .")
+        self.assertRegex(self.told()[-1], f"^h2: {self.left(self.h2)[0]} may still be there, until the next run reaches it: .")
         self.h2.boot()
         self.whole(self.start(by="slow"))
         self.nothing_left()
@@ -500,12 +500,12 @@ class Swept(Case):
         ran = self.lose_one()
         wait_until(lambda: (BASE / "out").read_text() == self.one and (ROOM.home / "joined.book").exists())
         self.assertIsNone(ran.poll())
-        waits = "ffosolve-many: waits for h2 to remove what lies there, 30 seconds at most\n"
+        waits = "ffosolve-many: waits for h2 to remove what is left there, 30 seconds at most\n"
         wait_until(lambda: waits in (BASE / "told").read_text())
         self.assertIsNone(ran.poll())
         os.kill(child_of(ran.pid), signal.SIGINT)
         self.whole(ran, seconds=10 * busy())
-        self.assertEqual(self.told()[-1], f"h2: {self.left(self.h2)[0]} may lie there, until the next run reaches it: interrupted")
+        self.assertEqual(self.told()[-1], f"h2: {self.left(self.h2)[0]} may still be there, until the next run reaches it: interrupted")
         begun = time.monotonic()
         ran = self.start(by="slow", hosts="1/h1\n")
         wait_until(lambda: (BASE / "out").read_text() == self.one)
@@ -529,7 +529,7 @@ class Swept(Case):
         words = ROOM.words(BASE / "slow/bin/ffosolve-many", "--sweep", "work")
         ran = run(*words)
         self.assertEqual((ran.returncode, ran.stdout), (3, b""))
-        self.assertRegex(ran.stderr.decode(), "ffosolve-many: h3: run-.* may lie there, until the next run reaches it: ssh: ")
+        self.assertRegex(ran.stderr.decode(), "ffosolve-many: h3: run-.* may still be there, until the next run reaches it: ssh: ")
         self.nothing_left(self.h2)
         self.assertEqual(sorted(path.name for path in self.h1.home.rglob("*") if path.is_file() and path.read_text() == "mine"),
                          ["mine", "notes", "run-0123456789ab"])

@@ -196,7 +196,7 @@ class Functions(InFolder):
             return list(many.parts.read_parts(io.BytesIO(text), 2, "LIST"))
 
         self.assertEqual(len(read(half * 4)), 2)
-        with self.assertRaisesRegex(many.messages.Refusal, r"part 0000001 \(from line 3 of LIST on\).*as --lines 1"):
+        with self.assertRaisesRegex(many.messages.Refusal, r"part 0000001 \(from line 3 of LIST on\).*such as --lines 1"):
             read(b"\n\n" + (b"%" + half) * 2)
 
     def test_report_is_taken_where_it_is_whole(self):
@@ -238,15 +238,15 @@ class Functions(InFolder):
         write(Path("hosts"), "# all\n\n:\n 8/me@a \nssh -p 22 b # the third\n2 / c\n5/c\n::1\n4/ssh://me@d:22\n")
         with contextlib.redirect_stderr(io.StringIO()) as told:
             machines = many.hosts.read_hosts("hosts")
-        self.assertEqual(told.getvalue(), "ffosolve-many: hosts line 7: c stands there twice; this line counts\n")
+        self.assertEqual(told.getvalue(), "ffosolve-many: hosts line 7: c is listed twice; this line counts\n")
         self.assertEqual([(machine.jobs, machine.login, machine.name) for machine in machines],
                          [("", ":", "this machine"), ("8", "me@a", "me@a"), ("", "ssh -p 22 b", "b"),
                           ("5", "c", "c"), ("", "::1", "::1"), ("4", "ssh://me@d:22", "ssh://me@d:22")])
         self.assertEqual([machine.command for machine in machines[1:4]], [["ssh"], ["ssh", "-p", "22"], ["ssh"]])
         for text, told in (("", "names no machine"), ("# none\n", "names no machine"), ("a\n8/\n", "line 2: it names no"),
                            ("0/h2", "line 1: a machine has from 1 to 999 jobs"), ("1000/h2", "from 1 to 999 jobs"),
-                           ('ssh -o "User me" h2', "line 1: quotes are not read"), ("h1 h2", "no command is 'h1'"),
-                           ("me@h2:2200", "a port stands before the name: ssh -p 2200 me@h2"), ("x/h2", "'x/h2' is no name"),
+                           ('ssh -o "User me" h2', "line 1: quotes are not read"), ("h1 h2", "'h1' is not a command"),
+                           ("me@h2:2200", "a port goes before the name: ssh -p 2200 me@h2"), ("x/h2", "'x/h2' is not the name"),
                            ("-oProxyCommand=x", "it names no machine"), ("@h2", "'@h2' names no user before its @"),
                            ("me@", "it names no machine"), ("ssh://@h2", "names no user before its @")):
             write(Path("hosts"), text)
@@ -255,7 +255,7 @@ class Functions(InFolder):
 
     def test_command_in_place_of_ssh_is_told_by_its_name(self):
         write(Path("hosts"), "h1\n")
-        for words, told in (("/none/ssh", "PARALLEL_SSH: no command is '/none/ssh'"), ("ssh 'x", "PARALLEL_SSH: No closing")):
+        for words, told in (("/none/ssh", "PARALLEL_SSH: '/none/ssh' is not a command"), ("ssh 'x", "PARALLEL_SSH: No closing")):
             with mock.patch.dict(os.environ, {"PARALLEL_SSH": words}), self.assertRaisesRegex(many.messages.Refusal, told):
                 many.hosts.read_hosts("hosts")
         for words in ("", " "):
@@ -305,7 +305,7 @@ class Results(Case):
 
     def test_report_and_book_are_those_of_one_run(self):
         self.same("--lines", 7, "work", "list.obf", "--book-out", "joined.book",
-                  told="lines 60, parts 9, of them solved before 0")
+                  told="60 lines in 9 parts, 0 of them solved before")
         self.same_book()
         self.assertEqual(self.jobs(), 9)
 
@@ -369,9 +369,9 @@ class Results(Case):
 
     def test_what_is_told(self):
         told = self.same("--lines=20", "work", "list.obf").stderr.decode().splitlines()
-        self.assertEqual(told, ["ffosolve-many: list.obf: lines 60, parts 3, of them solved before 0; folder work"])
+        self.assertEqual(told, ["ffosolve-many: list.obf: 60 lines in 3 parts, 0 of them solved before; folder work"])
         self.part("0000001.done").unlink()
-        self.same("--lines=20", "work", "list.obf", told="parts 3, of them solved before 2")
+        self.same("--lines=20", "work", "list.obf", told="in 3 parts, 2 of them solved before")
         self.assertEqual(self.same("--lines=20", "work", "list.obf", "--quiet").stderr, b"")
 
     def test_environment_of_parallel_changes_nothing(self):
@@ -436,7 +436,7 @@ class Results(Case):
         ran = run("sh", "-c", f'"{MANY}" --quiet list.obf >&-')
         told = b"ffosolve-many: cannot write standard output: it is closed\n"
         self.assertEqual((ran.returncode, ran.stderr), (3, told))
-        self.same("list.obf", told="solved before 1")
+        self.same("list.obf", told=", 1 of them solved before")
 
     def test_output_that_nobody_reads_any_more_ends_the_program_as_others(self):
         for words in (("list.obf",), ("--help",), ("--merge-books", "one.book")):
@@ -446,7 +446,7 @@ class Results(Case):
                                  timeout=SECONDS, check=False)
             os.close(writing)
             self.assertEqual((ran.returncode, ran.stderr), (-signal.SIGPIPE, b""), words)
-        self.same("list.obf", told="solved before 1")
+        self.same("list.obf", told=", 1 of them solved before")
 
     def test_help_that_cannot_be_written_is_told(self):
         for word in ("--help", "--version"):
@@ -474,14 +474,14 @@ class Scores(Case):
         for _ in range(2):
             ran = self.many("--lines=50", "work2", "other.obf", "--scores")
             self.assertEqual((ran.returncode, ran.stdout), (1, b"% refused: ?\n" + self.one))
-        self.assertIn("solved before 3", ran.stderr.decode())
+        self.assertIn(", 3 of them solved before", ran.stderr.decode())
 
     def test_scores_with_a_lost_line_are_made_again(self):
         self.one = SMALL
         self.same("--scores", "--lines=20", "work", "list.obf")
         scores = self.part("0000001.scores")
         scores.write_bytes(scores.read_bytes().partition(b"\n")[2])
-        self.same("--scores", "--lines=20", "work", "list.obf", told="solved before 2")
+        self.same("--scores", "--lines=20", "work", "list.obf", told=", 2 of them solved before")
 
     def test_part_that_fails_is_no_remark(self):
         write(Path("list.obf"), SMALL + b"DIE\n")
@@ -500,7 +500,7 @@ class Scores(Case):
 
     def test_books_are_refused(self):
         for words in (("--book-in", "one.book"), ("--book-out", "b")):
-            self.refused(2, f"{words[0]} is no option of ffoscores", "--scores", "list.obf", *words)
+            self.refused(2, f"{words[0]} is not an option of ffoscores", "--scores", "list.obf", *words)
 
     def test_options_come_to_the_program_of_each_part(self):
         self.one = SMALL
@@ -523,7 +523,7 @@ class Scores(Case):
         asked = Path("work/asked.json").read_text()
         Path("work/asked.json").write_text(asked.replace('  "--complete": false,\n', ""))
         self.assertNotEqual(Path("work/asked.json").read_text(), asked)
-        self.same("--scores", "work", "list.obf", told="solved before 1")
+        self.same("--scores", "work", "list.obf", told=", 1 of them solved before")
 
     def test_missing_program_is_told(self):
         self.refused(4, "ffoscores is not beside ffosolve-many", "--scores", "list.obf", by=SLOWLY)
@@ -552,7 +552,7 @@ class Resuming(Case):
 
     def again(self, solved):
         """The command again solves just the other parts, and gives what one run does."""
-        self.same(*self.WORDS, told=f"parts 3, of them solved before {solved};")
+        self.same(*self.WORDS, told=f"in 3 parts, {solved} of them solved before;")
         self.same_book()
         Path("joined.book").unlink()
 
@@ -611,7 +611,7 @@ class Resuming(Case):
         kept = next(Path("work").glob("run-*")) / "program"
         before = kept.read_bytes()
         self.part("0000001.done").unlink()
-        self.same(*self.WORDS, by=install("another program", ffosolve='#!/bin/sh\nexec "@real@" "$@"\n'), told="solved before 2")
+        self.same(*self.WORDS, by=install("another program", ffosolve='#!/bin/sh\nexec "@real@" "$@"\n'), told=", 2 of them solved before")
         self.assertEqual(kept.read_bytes(), before)
 
     def test_spoiled_parts_and_tools_are_laid_again(self):
@@ -627,7 +627,7 @@ class Resuming(Case):
         self.same("--lines=20", "work", "list.obf")
         self.refused(2, "work was begun without --book-out: take another folder, or the same options", *self.WORDS)
         self.refused(2, "work was begun without --book-in and without --book-out: ", "--book-in=one.book", *self.WORDS)
-        self.same("--lines=20", "work", "list.obf", told="solved before 3")
+        self.same("--lines=20", "work", "list.obf", told=", 3 of them solved before")
 
     def test_other_options_are_told_by_name(self):
         words = ("--lines=20", "--scoring=discs", "--max-empties=7", "--book-in=one.book", "work", "list.obf")
@@ -643,18 +643,18 @@ class Resuming(Case):
                          *(new if word == old else word for word in words))
         self.refused(2, "begun with --lines 20 and with --scoring discs and with --max-empties 7 and without --scores "
                         "and with --book-in: take another folder", "--scores", "work", "list.obf")
-        self.same(*words, "--table=9", "--workers=1", "--jobs=3", told="solved before 3")
+        self.same(*words, "--table=9", "--workers=1", "--jobs=3", told=", 3 of them solved before")
 
     def test_list_that_grew_at_its_end_goes_on(self):
         self.begin()
         write(Path("list.obf"), SMALL + SMALL[:68 * 30])
         self.one = self.solve("list.obf")
-        self.same(*self.WORDS, told="lines 90, parts 5, of them solved before 3")
+        self.same(*self.WORDS, told="90 lines in 5 parts, 3 of them solved before")
         write(Path("list.obf"), SMALL + SMALL[:68 * 30] + b"% more" + SMALL[:68 * 40])
         self.one = self.solve("list.obf")
-        self.same(*self.WORDS, told="lines 130, parts 7, of them solved before 4")
+        self.same(*self.WORDS, told="130 lines in 7 parts, 4 of them solved before")
         self.same_book()
-        self.same(*self.WORDS, told="lines 130, parts 7, of them solved before 7")
+        self.same(*self.WORDS, told="130 lines in 7 parts, 7 of them solved before")
 
     def test_list_that_changed_is_told(self):
         self.begin()
@@ -678,7 +678,7 @@ class Resuming(Case):
             self.assertFalse(Path("joined.book").exists())
         self.assertEqual(self.jobs(), 2)
         shutil.copy(BASE / "plain/bin/ffosolve", next(Path("work").glob("run-*")) / "program")
-        self.same(*self.WORDS, told="solved before 5")
+        self.same(*self.WORDS, told=", 5 of them solved before")
         self.assertEqual(self.jobs(), 2)
         self.same_book()
 
@@ -706,7 +706,7 @@ class Pipes(Case):
 
     def test_piped_list_is_solved(self):
         self.same("--lines=20", "work", "/dev/stdin", told="lines 60, parts 3", by=self.piped("list.obf"))
-        self.same("--lines=20", "work", "/dev/stdin", told="solved before 3", by=self.piped("list.obf"))
+        self.same("--lines=20", "work", "/dev/stdin", told=", 3 of them solved before", by=self.piped("list.obf"))
         names = [path.name for path in Path("work").iterdir() if not path.is_dir()]
         self.assertEqual(sorted(names), ["asked.json", "lock", "log"])
         write(Path("list.obf"), SMALL[68:])
@@ -785,7 +785,7 @@ class Folders(Case):
         self.same(*read)
         for path in [*Path("work").glob("run-*/book-in"), *Path("work").glob("run-*/parts/0000001.*")]:
             write(path, "spoiled\n")
-        self.same(*read, told="solved before 2")
+        self.same(*read, told=", 2 of them solved before")
 
     def test_folder_with_other_files_is_refused_and_untouched(self):
         Path("mine/run-1").mkdir(parents=True)
@@ -823,9 +823,9 @@ class Folders(Case):
 
     def test_place_that_cannot_be_written_is_told(self):
         self.refused(3, "cannot write /proc/work", "/proc/work", "list.obf")
-        self.refused(2, "'list.obf' is no folder", "list.obf", "list.obf")
+        self.refused(2, "'list.obf' is not a folder", "list.obf", "list.obf")
         write(Path("list.obf.parts"), "")
-        self.refused(2, "'list.obf.parts' is no folder", "list.obf")
+        self.refused(2, "'list.obf.parts' is not a folder", "list.obf")
 
     def test_refused_command_leaves_an_empty_folder_empty(self):
         Path("work").mkdir()
@@ -843,13 +843,13 @@ class Words(Case):
         for status, told, words in (
                 (2, "no list is named", ()),
                 (2, "'two.obf' is one word too many", ("work", "list.obf", "two.obf")),
-                (2, "'list.obf' is no folder: one FOLDER and one LIST are taken", ("list.obf", "two.obf")),
-                (2, "no option is '-x'; a file of that name is ./-x", ("-x",)),
+                (2, "'list.obf' is not a folder: name one FOLDER and one LIST", ("list.obf", "two.obf")),
+                (2, "'-x' is not an option; a file of that name is ./-x", ("-x",)),
                 (2, "'/dev/stdin' has no folder of its own", ("-",)),
-                (2, "no option is '--joobs=2'", ("list.obf", "--joobs=2")),
-                (2, "no option is '--line'", ("--line", "5", "list.obf")),
-                (2, "no option is '-rf *'", ("-rf *", "list.obf")),
-                (2, "'' names no file", ("work", "")),
+                (2, "'--joobs=2' is not an option", ("list.obf", "--joobs=2")),
+                (2, "'--line' is not an option", ("--line", "5", "list.obf")),
+                (2, "'-rf *' is not an option", ("-rf *", "list.obf")),
+                (2, "'' is not the name of a file", ("work", "")),
                 (2, "--jobs: takes a number from 1 to 999, not '0'", ("--jobs", "0", "list.obf")),
                 (2, "--jobs: takes a number from 1 to 999, not '1_0'", ("--jobs=1_0", "list.obf")),
                 (2, "--lines: takes a number from 1 to 10000, not '10001'", ("list.obf", "--lines", "10001")),
@@ -869,9 +869,9 @@ class Words(Case):
                 (3, "cannot read none: it is not there", ("list.obf", "--hosts", "none")),
                 (2, "empty.hosts names no machine", ("list.obf", "--hosts", "empty.hosts")),
                 (2, "part 0000000 (from line 1 of big.obf on) has more than 1048576 bytes: take fewer lines, "
-                    "as --lines 2", ("big.obf",)),
+                    "such as --lines 2", ("big.obf",)),
                 (2, "--merge-books names no book", ("--merge-books",)),
-                (2, "--lines is no option of --merge-books", ("--merge-books", "--lines=5", "one.book"))):
+                (2, "--lines is not an option of --merge-books", ("--merge-books", "--lines=5", "one.book"))):
             if "big.obf" in words:
                 write(Path("big.obf"), (b"%" * 400_000 + b"\n") * 3)
             with self.subTest(words=words):
@@ -939,7 +939,7 @@ class Words(Case):
 
     def test_program_that_is_another_is_told(self):
         by = install("another", ffosolve="#!/bin/sh\n:\n")
-        self.refused(4, "is another program than ffosolve", "list.obf", by=by)
+        self.refused(4, "is not the program ffosolve", "list.obf", by=by)
         (by.parent / "ffosolve").unlink()
         self.refused(4, "ffosolve is not beside ffosolve-many", "list.obf", by=by)
 
@@ -971,15 +971,15 @@ class Cutting(Case):
     def test_cut_parts_are_solved_by_their_script(self):
         words = ("--lines=20", "work", "list.obf", "--book-out", "joined.book")
         ran = self.many("--cut", *words)
-        told = b"3 parts, of them solved 0; sh work/run-*/solve NAME solves one, from 0000000 to 0000002\n"
+        told = b"3 parts, 0 of them solved; sh work/run-*/solve NAME solves one, from 0000000 to 0000002\n"
         self.assertEqual((ran.returncode, ran.stdout), (0, told))
         self.assertEqual([path.name for path in Path("work").glob("run-*/parts/*") if "." in path.name], [])
         self.assertFalse(Path("work/log").exists())
         for name in ("0000000", "parts/0000002"):
             ran = run("sh", "-c", f"sh work/run-*/solve {name}")
             self.assertEqual((ran.returncode, ran.stdout, ran.stderr), (0, b"", b""))
-        self.assertTrue(self.many("--cut", *words).stdout.startswith(b"3 parts, of them solved 2;"))
-        self.same(*words, told="parts 3, of them solved before 2")
+        self.assertTrue(self.many("--cut", *words).stdout.startswith(b"3 parts, 2 of them solved;"))
+        self.same(*words, told="in 3 parts, 2 of them solved before")
         self.same_book()
 
     def test_joining_needs_no_parallel(self):
@@ -1049,7 +1049,7 @@ class Signals(Case):
             again = self.same(*self.WORDS, by=SLOWLY)
             self.same_book()
             told = again.stderr.decode()
-            self.assertGreaterEqual(int(told.partition("solved before ")[2].partition(";")[0]), before)
+            self.assertGreaterEqual(int(told.partition(" of them solved before")[0].rpartition(" ")[2]), before)
             shutil.rmtree("work")
 
     def test_two_signals_together_end_it_without_a_traceback(self):
@@ -1277,7 +1277,7 @@ class Hosts(Case):
                 ran = self.many(*self.by("near"), **spoiled)
                 self.assertEqual((ran.returncode, ran.stdout), (1, b""))
                 self.assertIn("not solved: 1 of 3 parts: part 0000001 (lines 21 to 40)", ran.stderr.decode())
-                self.same(*self.by("near"), told="solved before 2", **self.how)
+                self.same(*self.by("near"), told=", 2 of them solved before", **self.how)
                 self.same_book()
                 shutil.rmtree("work")
 

@@ -233,9 +233,9 @@ class Games(InFolder):
 
     def test_what_is_no_transcript(self):
         for text, move, why in (
-            ("f5d6d5", 3, "D5 is no move"), ("1. f5 2. d5 3. c3", 2, "D5 is no move"), ("f5,d6,z9", 3, "'z9' is no square"),
-            ("f5d6c33d3", 4, "'3d' is no square"), ("f5d6c33-31", 4, "'3-' is no square"), ("f5 d6 33-31 c3", 3, "'33' is no square"),
-            ("f5 d6 100-3", 3, "'10' is no square"), ("f5--d6", 2, "it has a pass where there is a move"),
+            ("f5d6d5", 3, "D5 is not a legal move"), ("1. f5 2. d5 3. c3", 2, "D5 is not a legal move"), ("f5,d6,z9", 3, "'z9' is not a square"),
+            ("f5d6c33d3", 4, "'3d' is not a square"), ("f5d6c33-31", 4, "'3-' is not a square"), ("f5 d6 33-31 c3", 3, "'33' is not a square"),
+            ("f5 d6 100-3", 3, "'10' is not a square"), ("f5--d6", 2, "it passes where there is a legal move"),
         ):
             with self.assertRaisesRegex(ffosolve.GameRefused, f"^game 7, move {move}: {why}$") as refused:
                 self.solver.positions(ffosolve.Game.of_text(text, 7))
@@ -287,7 +287,7 @@ class Games(InFolder):
                 list(ffosolve.read_games("it.wtb"))
         for content in (b"", b"f5d6c3" * 20, wthor([whole], board=10)):
             (self.folder / "it.wtb").write_bytes(content)
-            with self.assertRaisesRegex(ValueError, "^it.wtb is no WTHOR file of games: "):
+            with self.assertRaisesRegex(ValueError, "^it.wtb is not a WTHOR file of games: "):
                 list(ffosolve.read_games("it.wtb"))
         with self.assertRaisesRegex(ValueError, "its line 1 has more than [0-9]+ bytes$"):
             list(ffosolve.read_games(io.BytesIO(b"f5" * 1_000_000)))

@@ -83,10 +83,10 @@ class Slurm(unittest.TestCase):
         how = {"cwd": self.place, "env": self.environment}
         words = ("bin/ffosolve-many", "--lines=3", "work", "list.obf", "--book-out", "joined.book")
         ran = run(*words, "--cut", **how)
-        self.assertEqual(ran.stdout, b"20 parts, of them solved 0; sh work/run-*/solve NAME solves one, from 0000000 to 0000019\n")
+        self.assertEqual(ran.stdout, b"20 parts, 0 of them solved; sh work/run-*/solve NAME solves one, from 0000000 to 0000019\n")
         ran = run("sbatch", "--wait", "--array=0-19", "part.sh", **how, check=True, timeout=5 * SECONDS)
         ran = run(*words, **how)
-        self.assertIn(b"of them solved before 20", ran.stderr)
+        self.assertIn(b"20 of them solved before", ran.stderr)
         one = run("bin/ffosolve", "--book-out", "one.book", "list.obf", **how)
         self.assertEqual((ran.returncode, ran.stdout), (0, one.stdout))
         self.assertEqual((self.place / "joined.book").read_bytes(), (self.place / "one.book").read_bytes())

@@ -23,7 +23,7 @@ TEXT = bytes([*b"\t\n\v\f\r", *range(32, 256)])  # what a text begins with, and 
 
 
 class NotGames(Exception):
-    """Why a file is no WTHOR file of games."""
+    """Why a file is not a WTHOR file of games."""
 
 
 class Fault(Exception):
@@ -97,28 +97,29 @@ class Wthor:
         self._file = file
         self.count, other, board, kind, self.empties = HEADER.unpack(head)
         if b"\0" not in head:
-            raise NotGames("it begins as a text does")
+            raise NotGames("it begins like a text")
         if board not in (0, 8):
             raise NotGames(f"its board has {board} by {board} squares")
         if other != 0:
-            raise NotGames(f"its header counts {other} records of another kind, as in a file of players or tournaments")
+            raise NotGames(f"its header counts {other} records of another kind, like a file of players or tournaments")
         if kind > 1:
             raise NotGames(f"byte 14 of its header is {kind}, and has to be 0 or 1")
         if self.empties > START.empties:
-            raise NotGames(f"its theoretical scores are for {self.empties} empty squares, of which a game has {START.empties}")
+            raise NotGames(f"its theoretical scores are for {self.empties} empty squares, but a game has only {START.empties}")
 
     def games(self, has_scores: bool) -> Iterator[Game]:
         """The games, each with its theoretical score where those are wanted."""
+        counts = f"its header counts {self.count} game{'s' * (self.count != 1)}"
         for number in range(1, self.count + 1):
             record = self._file.read(RECORD)
             if len(record) < RECORD:
                 where = f"after {len(record)} of the {RECORD} bytes of this game" if record else "before this game"
-                yield Game(number, fault=f"the file ends {where}, and the header's number of games is {self.count}")
+                yield Game(number, fault=f"the file ends {where}, but {counts}")
                 return
             game = game_of(number, record)
             yield game if has_scores else game._replace(score=None)
         if self._file.read(1):
-            yield Game(self.count + 1, fault=f"the file goes on, and the header's number of games is {self.count}")
+            yield Game(self.count + 1, fault=f"the file goes on, but {counts}")
 
 
 def game_of(number: int, record: bytes) -> Game:
@@ -149,7 +150,7 @@ class Player:
         since a move that is not legal tells that an earlier one may be wrong. Raises Fault."""
         found, last = self._played(game, range(empties, empties + 1))
         if not found:
-            told = f"it ends here, with {last.empties} empty square{'s' * (last.empties > 1)}, and {empties} are asked for"
+            told = f"it ends here, with {last.empties} empty square{'s' * (last.empties > 1)}; {empties} are asked for"
             raise Fault(told, START.empties - last.empties) if game.moves else Fault("it has no moves")
         is_over = not any(self._has_move(CPosition(*it)) for it in (last, last.passed()))
         discs = discs_of_black(final_score(*last), last.side) if is_over else None
@@ -192,9 +193,9 @@ class Player:
         square = game.moves[index]
         number = sum(it != PASS for it in game.moves[: index + 1])
         if square == NO_SQUARE:
-            return Fault(f"{game.words[index]!r} is no square", number)
+            return Fault(f"{game.words[index]!r} is not a square", number)
         if square == PASS:
-            return Fault("it has a pass where there is a move", number + 1)
+            return Fault("it passes where there is a legal move", number + 1)
         if not self._has_move(at):
-            return Fault(f"{square_name(square)} is behind the game's end", number)
-        return Fault(f"{square_name(square)} is no move", number)
+            return Fault(f"{square_name(square)} comes after the end of the game", number)
+        return Fault(f"{square_name(square)} is not a legal move", number)

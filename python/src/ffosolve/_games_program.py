@@ -20,24 +20,28 @@ from ._text import NotText, text_lines
 NAME = "ffosolve-games"
 DONE, REMARKED, MISUSED, UNREADABLE, NO_LIBRARY, INTERRUPTED = 0, 1, 2, 3, 4, 130
 WHAT = """\
-Prints of each game the position with N empty squares, as a line of OBF.
+Prints one position of each game as a line of OBF: the first with N empty
+squares.
 
-A FILE is a WTHOR file (.wtb), or a text with one game a line: its squares, as
-f5d6c3 or `1. F5 2. D6`, with blanks, commas, hyphens or nothing between them. A
-pass is left out, or written `pass`, `ps`, `pa` or `--`; a result at the end, as
-33-31, is skipped. A line's comment names the file and the game, which is the
-text's line or the place in the WTHOR file; and the theoretical score where the
-WTHOR file has one for N empty squares. That is Black's discs at the end of
-perfect play, 0 to 64, with the empty squares to the winner.
+A FILE is a WTHOR file (.wtb) or a text with one game in each line. A line of a
+text has the squares of the moves, as f5d6c3 or `1. F5 2. D6`, with blanks,
+commas, hyphens or nothing between them. A pass is left out, or is written as
+`pass`, `ps`, `pa` or `--`. A result at the end, as 33-31, is skipped.
+
+The comment of a printed line names the file and the game: its line in a text,
+or its place in a WTHOR file. If the WTHOR file has a theoretical score for N
+empty squares, the comment has that too: Black's discs after perfect play, 0 to
+64, where the winner gets the empty squares.
 """
 MORE = """\
-The first position with N empty squares is printed; its mover may have to pass.
-A game with a move that is not legal, or that ends before, has a line on
-standard error in its place. A line there also tells a game of a WTHOR file
-whose real score is not that of its moves, or whose moves stop before the end.
+The side to move in a printed position may have to pass. A game is reported on
+standard error instead if it has an illegal move, or ends before the position.
+There is also a line if the real score of a WTHOR file's game does not fit its
+moves, or the moves stop before the end of the game.
 
 `ffosolve-games compare LIST REPORT` compares the theoretical scores of a list
-with the exact ones, and with --fix writes a WTHOR file that has these.
+with the exact ones. With --fix it also writes a WTHOR file that has the exact
+ones.
 
 examples:
   ffosolve-games --empties 20 games.txt >list.obf
@@ -50,34 +54,34 @@ status:
   0  done
   1  a game is refused, or its real score is wrong or can't be checked
   2  the command line is refused, or --empties is missing
-  3  a file can't be read, or is no WTHOR file and no text; or the output can't
-     be written
+  3  a file can't be read, or is neither a WTHOR file nor a text; or the output
+     can't be written
   4  the library can't be found
 """
 WHAT_COMPARE = """\
 Prints each game whose theoretical score is not the exact one.
 
-LIST is what ffosolve-games prints of a WTHOR file, and REPORT what ffosolve or
-ffosolve-many then prints of LIST, under the scoring `winner`. Scores are
-Black's discs, 0 to 64, with the empty squares to the winner, as WTHOR files
-have them; the difference is the published score less the exact one.
+LIST is what ffosolve-games prints for a WTHOR file. REPORT is what ffosolve or
+ffosolve-many prints for LIST under the scoring `winner`. Scores are Black's
+discs, 0 to 64, where the winner gets the empty squares, as in WTHOR files. The
+difference is the published score minus the exact one.
 """
 MORE_COMPARE = """\
---fix reads the WTHOR file again that LIST names. A score that is not compared
-stays, and standard error tells how many do.
+--fix reads the WTHOR file that LIST names. Scores that were not compared stay
+as they are, and a line on standard error counts them.
 
 status:
   0  all theoretical scores are exact
   1  one is not, or its position is refused in REPORT
   2  the command line is refused
-  3  a file can't be read, or REPORT is not of LIST; or the output or FILE can't
-     be written
+  3  a file can't be read, or REPORT does not belong to LIST; or the output or
+     FILE can't be written
   4  the library can't be found
 
 example:
   ffosolve-games compare list.obf list.report --fix WTH_2001.new.wtb
 """
-FIX = "where the WTHOR file of LIST is written with the exact theoretical scores; no such file may be there yet"
+FIX = "write the WTHOR file of LIST with the exact theoretical scores to FILE, which must not exist yet"
 
 
 class Stop(Exception):
@@ -156,15 +160,16 @@ def parser_of(name: str, what: str, more: str) -> argparse.ArgumentParser:
 
 def games_options(words: List[str]) -> argparse.Namespace:
     parser = parser_of(NAME, WHAT, MORE)
-    parser.add_argument("files", metavar="FILE", nargs="*", help="the files; standard input, if not given, or for `-`")
+    parser.add_argument("files", metavar="FILE", nargs="*",
+                        help="WTHOR files or texts; `-` is standard input [default: standard input]")
     parser.add_argument("--empties", metavar="N", type=number_of_empties,
-                        help=f"the empty squares of the positions, 0 to {MOST_EMPTIES}; those of the theoretical scores "
-                             "of a WTHOR file, if not given")
-    parser.add_argument("--fix", metavar="FILE", help=f"with compare: {FIX}")
+                        help=f"how many squares are empty in the positions, 0 to {MOST_EMPTIES} [default: as many as for "
+                             "the theoretical scores of the WTHOR file]")
+    parser.add_argument("--fix", metavar="FILE", help=f"only with compare: {FIX}")
     parser.add_argument("--version", "-V", action="version", version=f"{NAME} {__version__}")
     options = parser.parse_intermixed_args(words)
     if options.fix is not None:
-        parser.error("--fix goes with compare, which is the first word")
+        parser.error("--fix goes with compare, which has to be the first word")
     return options
 
 
@@ -175,9 +180,9 @@ def compare_options(words: List[str]) -> argparse.Namespace:
     parser.add_argument("--fix", metavar="FILE", help=FIX)
     options = parser.parse_intermixed_args(words)
     if options.list == options.report == "-":
-        parser.error("LIST and REPORT are both standard input")
+        parser.error("LIST and REPORT can't both be standard input")
     if options.fix == "-":
-        parser.error("--fix takes a file, and not standard output")
+        parser.error("--fix takes a file, not standard output")
     return options
 
 
@@ -226,7 +231,7 @@ def print_file(name: str, file: io.BufferedReader, wanted: Optional[int], player
             for wrong in wrong_scores(game, played):
                 status = tell(f"{shown(name)}, game {game.number}: {wrong}", REMARKED)
     except NotGames as why:
-        raise FileRefused(UNREADABLE, f"{shown(name)} is no WTHOR file of games: {why}") from None
+        raise FileRefused(UNREADABLE, f"{shown(name)} is not a WTHOR file of games: {why}") from None
     except NotText as why:
         raise FileRefused(UNREADABLE, str(why)) from None
     except OSError as error:
@@ -238,13 +243,13 @@ def games_of(name: str, file: io.BufferedReader, wanted: Optional[int]) -> Tuple
     """The games of a file, and how many empty squares their positions have. Raises NotGames and FileRefused."""
     if not is_wthor(name, file.peek(HEADER.size)):
         if wanted is None:
-            raise FileRefused(MISUSED, f"{shown(name)} is a text, whose games need --empties N")
+            raise FileRefused(MISUSED, f"{shown(name)} is a text: its games need --empties N")
         return transcripts(file, shown(name)), wanted
     wthor = Wthor(file)
     if wanted is not None:
         return wthor.games(has_scores=wthor.empties in (0, wanted)), wanted
     if wthor.empties == 0:
-        told = "does not tell the empty squares of its theoretical scores; try --empties 22 or 24, which are usual"
+        told = "does not say how many squares are empty at its theoretical scores; try --empties 22 or 24, the usual numbers"
         raise FileRefused(MISUSED, f"{shown(name)} {told}")
     return wthor.games(has_scores=True), wthor.empties
 
@@ -263,7 +268,7 @@ def wrong_scores(game: Game, played: Played) -> Iterator[str]:
         if played.discs is None:
             yield f"its moves stop before the end of the game, so its real score {game.real} is not checked"
         else:
-            yield f"its real score is {game.real}, and by its moves it is {played.discs}"
+            yield f"its real score is {game.real}, but its moves give {played.discs}"
 
 
 def compare(options: argparse.Namespace, find: Callable[[], Optional[str]], output: Output) -> int:
@@ -274,7 +279,7 @@ def compare(options: argparse.Namespace, find: Callable[[], Optional[str]], outp
     try:
         found = Comparison(lines_of(options.list), lines_of(options.report), solver.moves)
     except Unfit as why:
-        raise Stop(UNREADABLE, f"{shown(options.report)} is no report of {shown(options.list)}: {why}") from None
+        raise Stop(UNREADABLE, f"{shown(options.report)} is not a report of {shown(options.list)}: {why}") from None
     if options.fix is not None:
         fix(options.fix, found, Player(load(path)))
     for it in found.differences:
@@ -291,7 +296,7 @@ def fix(place: str, found: Comparison, player: Player) -> None:
     if not files:
         raise Stop(UNREADABLE, "no theoretical score is compared, so --fix has none to write")
     if len(files) > 1:
-        raise Stop(UNREADABLE, f"--fix takes a list of one WTHOR file, and this one is of {len(files)}")
+        raise Stop(UNREADABLE, f"--fix takes a list of one WTHOR file; this one has games of {len(files)}")
     (name,) = files
     with opened_again(name) as source:
         fixed = Fixed(source, found.compared, player)
@@ -310,14 +315,14 @@ def opened_again(name: str) -> io.BufferedReader:
     """The WTHOR file that a list names. Raises Stop."""
     try:
         if not stat.S_ISREG(os.stat(name).st_mode):
-            raise FileRefused(UNREADABLE, f"{shown(name)}, which the list names, is no regular file")
+            raise FileRefused(UNREADABLE, f"{shown(name)}, which the list names, is not a regular file")
         return open(name, "rb")
     except OSError as error:
         raise FileRefused(UNREADABLE, f"cannot read {shown(name)}, which the list names: {error.strerror}") from None
 
 
 def would_be_lost(name: str) -> Stop:
-    return Stop(UNREADABLE, f"{shown(name)} is there already, and would be overwritten")
+    return Stop(UNREADABLE, f"{shown(name)} already exists and would be overwritten")
 
 
 def lines_of(name: str) -> Iterator[bytes]:

@@ -100,14 +100,15 @@ def read_report(lines: Iterable[bytes]) -> Dict[int, Row]:
     for place, text in enumerate(texts[1:-1], 2):
         match = ROW.fullmatch(text)
         if match is None:
-            raise Unfit("the report is of several lists" if LAST.fullmatch(text) else f"line {place} of the report is no row")
+            told = "the report is of several lists" if LAST.fullmatch(text) else f"line {place} of the report is not a row"
+            raise Unfit(told)
         number, score, best, word, refusal = match.groups("")
         if int(number) in found:
             raise Unfit(f"line {place} of the report is a second row of line {number} of the list")
         found[int(number)] = Row(None if refusal else int(score), best.split(","), word, refusal)
     refused = sum(row.score is None for row in found.values())
     if (len(found) - refused, refused) != (int(last[1]), int(last[2])):
-        raise Unfit(f"the report ends with `{texts[-1]}`, and has {len(found)} rows, of which {refused} are refused")
+        raise Unfit(f"the report ends with `{texts[-1]}`, but has {len(found)} rows, {refused} of them refused")
     return found
 
 
@@ -116,7 +117,7 @@ def fitting(
 ) -> Tuple[Listed, Row]:
     """A line of a list and its row, of which nothing shows that they are of different lists. Raises Unfit."""
     if line is None:
-        raise Unfit(f"line {number} of the list is no position, and the report has a row of it")
+        raise Unfit(f"line {number} of the list is not a position, but the report has a row for it")
     if row is None:
         raise Unfit(f"line {number} of the list has no row in the report")
     if line.position is None or row.score is None:
@@ -132,11 +133,11 @@ def other_refusal(line: Listed, row: Row) -> str:
     """What shows that a row is not of a line, one of which is refused; nothing where they fit."""
     said = row.refusal or f"{row.score:+03} {','.join(row.best)}"
     if line.position is None:
-        return "" if row.refusal == line.refusal else f"is refused ({line.refusal}), and the report says: {said}"
+        return "" if row.refusal == line.refusal else f"is refused ({line.refusal}), but the report says: {said}"
     match = EMPTIES.fullmatch(said)
     if match is not None and int(match[1]) == line.position.empties:
         return ""
-    return f"has {line.position.empties} empty squares, and the report says: {said}"
+    return f"has {line.position.empties} empty squares, but the report says: {said}"
 
 
 def other_answer(position: Line, score: int, row: Row, moves: Callable[[Position], int]) -> str:
@@ -146,7 +147,7 @@ def other_answer(position: Line, score: int, row: Row, moves: Callable[[Position
         if name not in legal:
             return f"has no legal move {name}, which the report calls best"
     if (row.word == "unlisted") != (not position.listed):
-        return f"lists {'a move' if position.listed else 'no move'}, and the report says {row.word}"
+        return f"lists {'a move' if position.listed else 'no move'}, but the report says {row.word}"
     if score % 2 or abs(score) > 64:
         return f"has the score {score:+03} in the report, which is of another scoring than winner"
     if row.best == ["--"] and score != final_score(position.own, position.opp):

@@ -54,7 +54,7 @@ def read_games(
                     raise error
                 refused(error)
         except NotGames as why:
-            raise ValueError(f"{name} is no WTHOR file of games: {why}") from None
+            raise ValueError(f"{name} is not a WTHOR file of games: {why}") from None
         except NotText as why:
             raise ValueError(str(why)) from None
 

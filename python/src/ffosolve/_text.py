@@ -20,6 +20,6 @@ def text_lines(file: BinaryIO, name: str) -> Iterator[bytes]:
         if len(line) > MOST_BYTES:
             raise NotText(f"cannot read {name}: its line {number} has more than {MOST_BYTES} bytes")
         if b"\0" in line:
-            raise NotText(f"cannot read {name}: its line {number} has a NUL, which no text has")
+            raise NotText(f"cannot read {name}: its line {number} has a NUL byte, so it is not a text")
         yield line
         number, line = number + 1, file.readline(MOST_BYTES + 1)

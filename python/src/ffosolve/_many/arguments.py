@@ -15,12 +15,13 @@ USAGE = f"""{NAME} [OPTIONS] [FOLDER] LIST
        {NAME} --sweep FOLDER
        {NAME} --merge-books [--book-out FILE] BOOK.."""
 WHAT = """\
-Solves a list of any length in parts, several at a time, on this machine or
-on many, and prints one report."""
+Solves a list of any length in parts, several at a time, on this machine or on
+many, and prints one report.
+"""
 MORE = f"""\
-FOLDER keeps the parts of LIST and their results; LIST.parts, if not given. The
-same command again goes on where it was interrupted. Options may stand in any
-place; `--` ends them. `-` is standard input.
+FOLDER keeps the parts of LIST and their results [default: LIST.parts]. After an
+interruption, the same command goes on where it stopped. Options may stand
+anywhere; `--` ends them. `-` is standard input.
 
 examples:
   {NAME} list.obf --max-empties 24 --lines 10 >list.report
@@ -28,34 +29,35 @@ examples:
 
 status:
   0  done
-  1  not all parts are solved; with --scores: a remark or a refusal stands in
-     the output
+  1  not all parts are solved; with --scores: there is a remark or a refused
+     line in the output
   2  the command line is refused
-  3  a file can't be read or written, or another run works in FOLDER; or not all
-     parts are solved, with --scores
+  3  a file can't be read or written, or another run works in FOLDER; with
+     --scores also: not all parts are solved
   4  a tool is missing, or the program can't be built
 """
 OPTIONS = {
     "how the list is solved": (
-        ("--jobs", "N", "parts that are solved at a time on each machine; the number of its processors, if not given"),
-        ("--lines", "N", f"lines of a part, at most {MOST_LINES}; 1000, if not given"),
-        ("--hosts", "FILE", "the machines, one in each line, as ssh takes them, and `:` for this one"),
-        ("--scores", None, "ffoscores solves the parts, in place of ffosolve"),
-        ("--complete", None, "a line that lists moves and leaves out a best one differs, or is remarked with --scores"),
-        ("--cut", None, "cuts the list alone, for another scheduler"),
-        ("--merge-books", None, "merges books of one scoring into one, and solves nothing"),
-        ("--sweep", None, "removes what runs of FOLDER left on other machines, and solves nothing"),
-        ("--quiet", None, "tells nothing but what fails"),
-        ("--version -V", None, "prints the version"),
-        ("--help -h", None, "prints help")),
-    "options of ffosolve, which mean what they do for one run of it": (
-        ("--max-empties", "N", f"the most empty squares of a position that is solved [default: {DEFAULT_EMPTIES}]"),
-        ("--workers", "N", "threads of each part that solve, beside one of its own [default: 0]"),
-        ("--table", "N", "entries of the table of each part"),
+        ("--jobs", "N", "parts solved at a time on each machine [default: the number of its processors]"),
+        ("--lines", "N", f"lines of a part, 1 to {MOST_LINES} [default: 1000]"),
+        ("--hosts", "FILE", "a file that names the machines, one in each line, as ssh takes them; `:` is this one"),
+        ("--scores", None, "solve the parts with ffoscores instead of ffosolve"),
+        ("--complete", None, "a line that lists moves has to list every best one: otherwise it differs, or with --scores "
+                             "has a remark"),
+        ("--cut", None, "only cut the list, for another scheduler"),
+        ("--merge-books", None, "solve nothing, and merge books of one scoring into one"),
+        ("--sweep", None, "solve nothing, and remove what runs of FOLDER left on other machines"),
+        ("--quiet", None, "report only what fails"),
+        ("--version -V", None, "print the version"),
+        ("--help -h", None, "print this help")),
+    "options of ffosolve, which mean the same as there": (
+        ("--max-empties", "N", f"solve positions with at most N empty squares, 0 to 60 [default: {DEFAULT_EMPTIES}]"),
+        ("--workers", "N", "threads for each part, besides one of its own, 0 to 64 [default: 0]"),
+        ("--table", "N", "entries of the table for each part, 32 bytes each"),
         ("--scoring", "NAME",
          "how a finished game is scored [default: winner] [possible values: winner, discs, sign]"),
-        ("--book-in", "FILE", "a book of solved positions, whose claims are tested"),
-        ("--book-out", "FILE", "where the book of all solved positions is written"))}
+        ("--book-in", "FILE", "a book of claimed answers, which are tested before they are used"),
+        ("--book-out", "FILE", "write all solved positions to FILE as a book"))}
 
 
 class Once(argparse.Action):
@@ -95,10 +97,10 @@ def parse(words):
         command.help = parser.format_help()
     for word in others:
         if word.startswith("-") and word != "-" and not command.help:
-            raise misused(f"no option is '{word}'; a file of that name is ./{word}")
+            raise misused(f"'{word}' is not an option; a file of that name is ./{word}")
     command.words = ["/dev/stdin" if word == "-" else word for word in others + words[end + 1:]]
     if "" in command.words:
-        raise misused("'' names no file")
+        raise misused("'' is not the name of a file")
     return command
 
 
@@ -106,21 +108,21 @@ def refuse_others(command, mode, *taken):
     """Refuses the first option that is given and that this mode does not take."""
     for name, value in vars(command).items():
         if value not in (None, False) and name not in (mode, "words", "quiet", *taken):
-            raise misused(f"--{name.replace('_', '-')} is no option of --{mode.replace('_', '-')}")
+            raise misused(f"--{name.replace('_', '-')} is not an option of --{mode.replace('_', '-')}")
 
 
 def complete(command):
     """Finds FOLDER and LIST among the words, and sets what is not given."""
     if not command.words:
-        raise misused("no list is named; standard input is `-`, with a FOLDER before it")
+        raise misused("no list is named; for standard input use `-`, with a FOLDER before it")
     if len(command.words) > 2:
-        raise misused(f"'{command.words[2]}' is one word too many: one FOLDER and one LIST are taken")
+        raise misused(f"'{command.words[2]}' is one word too many: name one FOLDER and one LIST")
     *named, command.list = map(Path, command.words)
     command.folder = named[0] if named else Path(f"{command.list}.parts")
     if command.folder.exists() and not command.folder.is_dir():
-        raise misused(f"'{command.folder}' is no folder: one FOLDER and one LIST are taken")
+        raise misused(f"'{command.folder}' is not a folder: name one FOLDER and one LIST")
     if command.scores and (command.book_in or command.book_out):
-        raise misused(f"--book-{'in' if command.book_in else 'out'} is no option of ffoscores")
+        raise misused(f"--book-{'in' if command.book_in else 'out'} is not an option of ffoscores")
     check_readable(command.list)
     if not named and (not command.list.is_file() or command.list.parts[1:2] in (("dev",), ("proc",))):
         raise misused(f"'{command.list}' has no folder of its own: name a FOLDER before it")

@@ -112,7 +112,7 @@ def merge_books(command, programs):
         for name, path in zip(command.words, paths):
             if scoring_of(path) != scoring:
                 raise Refusal(REFUSED, f"{first} has the scoring {scoring} and {name} {scoring_of(path)}: "
-                                       "books of one scoring are merged")
+                                       "only books of one scoring can be merged")
         whole = stack.enter_context(tempfile.NamedTemporaryFile(prefix=f"{NAME}-"))
         whole.write(header_of(scoring))
         whole.writelines(merged(map(entries_of, paths, command.words)))

@@ -41,7 +41,7 @@ def usual_command():
     except ValueError as why:
         raise misused(f"PARALLEL_SSH: {why}") from None
     if words != ["ssh"] and not shutil.which(words[0]):
-        raise misused(f"PARALLEL_SSH: no command is '{words[0]}'")
+        raise misused(f"PARALLEL_SSH: '{words[0]}' is not a command")
     return words
 
 
@@ -53,7 +53,7 @@ def read_hosts(path):
     for place, line in ((f"{path} line {number}", line) for number, line in enumerate(lines, 1) if line):
         machine = read_host(line, place)
         if machine.key in machines:
-            say(f"{place}: {machine.name} stands there twice; this line counts")
+            say(f"{place}: {machine.name} is listed twice; this line counts")
         machines[machine.key] = machine
     if not machines:
         raise misused(f"{path} names no machine: a line is as ssh takes it, or `:` for this machine")
@@ -68,13 +68,13 @@ def read_host(line, place):
     address = name.rpartition("@")[2]
     bare = "" if "://" in name else address
     for is_wrong, why in (
-            (set(line) & set("'\"\\"), "quotes are not read: what needs them stands in ~/.ssh/config"),
+            (set(line) & set("'\"\\"), "quotes are not read: put what needs them into ~/.ssh/config"),
             (jobs and not 1 <= int(jobs) <= MOST_JOBS, f"a machine has from 1 to {MOST_JOBS} jobs"),
             (not address or name.startswith("-"), "it names no machine"),
             (name.startswith(("@", "ssh://@")), f"'{name}' names no user before its @"),
-            (re.fullmatch(r"[^:]+:\d+", bare), f"a port stands before the name: ssh -p {' '.join(name.split(':')[::-1])}"),
-            ("/" in bare, f"'{name}' is no name of a machine"),
-            (not (machine.is_here or shutil.which(command)), f"no command is '{command}': a line has one machine")):
+            (re.fullmatch(r"[^:]+:\d+", bare), f"a port goes before the name: ssh -p {' '.join(name.split(':')[::-1])}"),
+            ("/" in bare, f"'{name}' is not the name of a machine"),
+            (not (machine.is_here or shutil.which(command)), f"'{command}' is not a command: a line names one machine")):
         if is_wrong:
             raise misused(f"{place}: {why}")
     return machine

@@ -41,7 +41,7 @@ def lay_round(run, command, machines, parts):
     write_lines(place / "todo", [f"sh job ask {path.name}" for path in far] + [f"sh job part {part.name}" for part in parts])
     lay_scripts(run, command, "ask", "job", "ssh_config", "parts/known")
     if far and subprocess.call(["sh", "solve", "known"], cwd=place, stdin=subprocess.DEVNULL) != DONE:
-        raise Refusal(UNBUILT, f"{place}/program solves no line on this machine")
+        raise Refusal(UNBUILT, f"{place}/program can't solve a line on this machine")
 
 
 def end_session(session):
@@ -128,10 +128,10 @@ def sweep(run, command, watch, stack, lock):
         with contextlib.suppress(subprocess.TimeoutExpired):
             process.wait(timeout=5)
         if names := ", ".join(machine.name for machine in waits()):
-            watch.tell(f"waits for {names} to remove what lies there, {HOST_SECONDS} seconds at most", is_fault=False)
+            watch.tell(f"waits for {names} to remove what is left there, {HOST_SECONDS} seconds at most", is_fault=False)
         process.wait()
     finally:
         stack.close()
         watch.read()
         for machine in waits():
-            watch.tell(f"{machine.name}: {run.name}-{machine.key} may lie there, until the next run reaches it: interrupted")
+            watch.tell(f"{machine.name}: {run.name}-{machine.key} may still be there, until the next run reaches it: interrupted")

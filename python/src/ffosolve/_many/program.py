@@ -45,7 +45,7 @@ def solve_list(command, programs):
     if command.cut:
         last = f"{max(len(parts) - 1, 0):07d}"
         with standard_output() as output:
-            output.write(os.fsencode(f"{len(parts)} parts, of them solved {len(parts) - len(run.unsolved())}; "
+            output.write(os.fsencode(f"{len(parts)} parts, {len(parts) - len(run.unsolved())} of them solved; "
                                      f"sh {run.folder}/run-*/solve NAME solves one, from 0000000 to {last}\n"))
         return DONE
     return solve_and_sweep(run, command, machines, lock)
@@ -55,8 +55,8 @@ def solve_and_sweep(run, command, machines, lock):
     """Has parts solved and prints the report; then machines are swept, which changes neither report nor status."""
     parts, status = run.unsolved(), None
     if not command.quiet:
-        say(f"{command.list}: lines {sum(part.lines for part in run.parts)}, parts {len(run.parts)}, "
-            f"of them solved before {len(run.parts) - len(parts)}; folder {run.folder}")
+        say(f"{command.list}: {sum(part.lines for part in run.parts)} lines in {len(run.parts)} parts, "
+            f"{len(run.parts) - len(parts)} of them solved before; folder {run.folder}")
     watch = Watch(run, command, parts)
     try:
         with contextlib.ExitStack() as stack:

@@ -37,7 +37,7 @@ class Program:
         if ran.returncode != DONE:
             raise SystemExit(ran.returncode if ran.returncode > 0 else UNBUILT)
         if ran.stdout != expected or not os.access(self.itself, os.X_OK):
-            raise Refusal(UNBUILT, f"{self.start} is another program than {self.start.name}")
+            raise Refusal(UNBUILT, f"{self.start} is not the program {self.start.name}")
 
 
 def run_options(command):

@@ -14,7 +14,7 @@ def write_report(run, output):
     for part in run.parts:
         rows = run.report(part)
         if rows is None:
-            raise Refusal(UNSOLVED, f"{part.span()} was changed meanwhile: the same command again solves it")
+            raise Refusal(UNSOLVED, f"{part.span()} was changed meanwhile; the same command solves it again")
         output.writelines(b"%d %b\n" % (part.first - 1 + number, rest) for number, rest in rows.items())
         count += len(rows)
         refused += refused_in(rows.values())
@@ -27,7 +27,7 @@ def finish(run, command, unsolved):
         named = ", ".join(part.span() for part in unsolved[:3]) + (", .." if len(unsolved) > 3 else "")
         raise Refusal(UNREADABLE if command.scores else UNSOLVED,
                       f"not solved: {len(unsolved)} of {len(run.parts)} parts: {named}; see {run.folder / LOG}. "
-                      "The same command again solves them alone")
+                      "The same command solves only these")
     for pattern in ("asked.json.*.new", "run-*/*.????????.new", "run-*/parts/[0-9]*.new.*"):  # what killed runs left
         for path in run.folder.glob(pattern):
             path.unlink(missing_ok=True)
