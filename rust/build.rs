@@ -1,4 +1,4 @@
-//! Finds the library: in the folder that FFOSOLVE_LIB_DIR names, else by pkg-config, else in /usr/local/lib.
+//! Finds the library: in the folder that FFOSOLVE_LIB_DIR names, otherwise by pkg-config, or in /usr/local/lib.
 use std::env::{var, var_os};
 use std::path::PathBuf;
 use std::process::Command;

@@ -384,7 +384,7 @@ class Tried(Case):
         self.h2.end()
         self.slow(1, self.h1)
         self.whole(self.start(by="slow", hosts="1/h1\nh2\n"))
-        self.assertEqual(self.told(), ["h2 is left out: ssh tells no reason", "on h1"])
+        self.assertEqual(self.told(), ["h2 is left out: ssh gives no reason", "on h1"])
 
     def test_terminal_that_ssh_forces(self):
         self.configured("RequestTTY force")

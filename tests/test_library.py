@@ -387,7 +387,7 @@ class PythonPackage(unittest.TestCase):
     def test_library_that_is_named(self):
         """The library that FFOSOLVE_LIBRARY names is taken; another version of it is not, nor one that lacks a call."""
         need_tool("cc")
-        older, lacking = "has version 20000, and not 1.x.y", "is not this package's library"
+        older, lacking = "has version 20000, not 1.x.y", "is not this package's library"
         whole = len(PREFIX.calls)
         for calls, number, why in ((whole, 10203, ""), (whole, 20000, older), (whole - 1, 10203, lacking)):
             names = sorted(PREFIX.calls)[::-1][:calls]

@@ -241,7 +241,7 @@ class Games(InFolder):
                 self.solver.positions(ffosolve.Game.of_text(text, 7))
             for it in (refused.exception, pickle.loads(pickle.dumps(refused.exception))):
                 self.assertEqual((it.game, it.move, it.reason, isinstance(it, ValueError)), (7, move, why, True))
-        with self.assertRaisesRegex(TypeError, "^a game is a Game or the text of a transcript, and not "):
+        with self.assertRaisesRegex(TypeError, "^a game is a Game or the text of a transcript, not "):
             self.solver.positions(5)
 
     def test_files(self):
@@ -292,7 +292,7 @@ class Games(InFolder):
         with self.assertRaisesRegex(ValueError, "its line 1 has more than [0-9]+ bytes$"):
             list(ffosolve.read_games(io.BytesIO(b"f5" * 1_000_000)))
         for source in (5, b"f5d6c3", io.StringIO("f5d6c3"), ["f5d6c3"], None):
-            with self.assertRaisesRegex(TypeError, "^games are read from a path or from a file opened for bytes, and not from "):
+            with self.assertRaisesRegex(TypeError, "^games are read from a path or from a file opened for bytes, not from "):
                 list(ffosolve.read_games(source))
         with self.assertRaises(FileNotFoundError):
             list(ffosolve.read_games("nowhere"))

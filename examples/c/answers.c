@@ -1,6 +1,6 @@
-/* Reads positions, two hexadecimal masks a line, the mover's discs and the other side's. Prints the answer of each: the
-   score and the best moves, PS for a pass or -- at the end of the game. Then the first position is played to its end,
-   always by the first best move.
+/* Reads positions: on each line two hexadecimal masks, the discs of the side to move and those of the other side. Prints
+   the answer for each: the score and the best moves, PS for a pass, or -- at the end of the game. Then plays the first
+   position to its end, always with the first best move.
 
        cc -o answers answers.c $(pkg-config --cflags --libs ffosolve)
        ./answers <../masks.txt */
@@ -58,7 +58,7 @@ static int lowest(uint64_t mask) {
     return square;
 }
 
-/* Plays on to the end, and prints each move and the moves that there were. */
+/* Plays on to the end, and prints each move with all the legal ones. */
 static int32_t play_on(ffosolve_position position) {
     for (;;) {
         ffosolve_answer answer;

@@ -1,9 +1,9 @@
-"""Reads positions, two hexadecimal masks a line, the mover's discs and the other side's. Prints the answer of each: the
-score and the best moves, PS for a pass or -- at the end of the game. Then the first position is played to its end,
-always by the first best move.
+"""Reads positions: on each line two hexadecimal masks, the discs of the side to move and those of the other side. Prints
+the answer for each: the score and the best moves, PS for a pass, or -- at the end of the game. Then plays the first
+position to its end, always with the first best move.
 
     pip install ../../python
-    python3 answers.py <../masks.txt              with the library installed; else name it: FOLDER/libffosolve.so
+    python3 answers.py <../masks.txt              if the library is not installed, add its path: FOLDER/libffosolve.so
 """
 import sys
 
@@ -16,7 +16,7 @@ def text(answer):
 
 
 def play_on(solver, position):
-    """Plays on to the end, and prints each move and the moves that there were."""
+    """Plays on to the end, and prints each move with all the legal ones."""
     while True:
         answer = solver.solve(position)
         if answer.kind == Kind.OVER:

@@ -1,8 +1,8 @@
-//! Reads positions, two hexadecimal masks a line, the mover's discs and the other side's. Prints the answer of each: the
-//! score and the best moves, PS for a pass or -- at the end of the game. Then the first position is played to its end,
-//! always by the first best move.
+//! Reads positions: on each line two hexadecimal masks, the discs of the side to move and those of the other side. Prints
+//! the answer for each: the score and the best moves, PS for a pass, or -- at the end of the game. Then plays the first
+//! position to its end, always with the first best move.
 //!
-//!     cargo run <../masks.txt              with the library installed; else FFOSOLVE_LIB_DIR names its folder
+//!     cargo run <../masks.txt              if the library is not installed, FFOSOLVE_LIB_DIR names its folder
 use ffosolve::{Answer, Best, Position, Solver};
 use std::error::Error;
 use std::io::read_to_string;
@@ -26,7 +26,7 @@ fn read_positions() -> Result<Vec<Position>, Box<dyn Error>> {
     Ok(positions)
 }
 
-/// Plays on to the end, and prints each move and the moves that there were.
+/// Plays on to the end, and prints each move with all the legal ones.
 fn play_on(mut position: Position) -> Result<(), Box<dyn Error>> {
     loop {
         position = match Solver::new().solve(position)?.best {

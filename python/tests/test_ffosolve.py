@@ -139,7 +139,7 @@ class Calls(unittest.TestCase):
         for text in (white.to_obf(), "oB" + "." * 62 + "w;A1:+2;"):
             self.assertEqual(Position.from_obf(text).to_obf(), "OX" + "-" * 62 + " O;")
         self.assertEqual(white.to_obf("X"), "XO" + "-" * 62 + " X;")
-        with self.assertRaisesRegex(ValueError, "^the side to move is 'X' or 'O', and not 'black'$"):
+        with self.assertRaisesRegex(ValueError, "^the side to move is 'X' or 'O', not 'black'$"):
             Position(1, 2, "black")
 
     def test_what_is_told(self):
@@ -302,16 +302,16 @@ class Refusals(unittest.TestCase):
     def test_what_is_no_claim_and_no_scores(self):
         line = Position.from_obf(CORNERS)
         for it in (line.listed, 62, None, (62, 0, 0x80)):
-            with self.assertRaisesRegex(TypeError, r"^a claim is an Answer\(score, kind, best\), and not "):
+            with self.assertRaisesRegex(TypeError, r"^a claim is an Answer\(score, kind, best\), not "):
                 Solver().confirm(POSITION, it)
         for it in (62, [("H1", 62)], line.listed):
-            with self.assertRaisesRegex(TypeError, "^scores are an Answer, or by squares' names as move_scores gives them, and not "):
+            with self.assertRaisesRegex(TypeError, "^scores are an Answer, or by squares' names as move_scores gives them, not "):
                 POSITION.show(it)
         self.assertEqual(str(line.show(ANSWER)), str(line.show({"H1": 62})))
         for it in (Answer(-64, Kind.PASS, 0), Answer(32, Kind.OVER, 0)):
             self.assertEqual(str(line.show(it)), str(line))
         for it in (5, None, ["a"]):
-            with self.assertRaisesRegex(TypeError, "^a line of OBF text is of the type str or bytes, and not "):
+            with self.assertRaisesRegex(TypeError, "^a line of OBF text is of the type str or bytes, not "):
                 Position.from_obf(it)
 
     def test_no_memory(self):

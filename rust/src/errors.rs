@@ -8,15 +8,15 @@ use std::fmt;
 pub enum Error {
     /// No scoring has the number.
     UnknownScoring,
-    /// More than `MOST_ENTRIES` entries.
+    /// More than `MOST_ENTRIES` table entries.
     TooManyEntries,
     /// The two masks share a square.
     SharedSquare,
     /// The position has more than `MOST_EMPTIES` empty squares; in a list, the first such has this index.
     TooManyEmpties { index: usize },
-    /// The mover may not move to the square.
+    /// The move is not legal.
     NoMove,
-    /// No memory for the table; never with 0 entries.
+    /// Out of memory for the table; never with 0 entries.
     NoMemory,
     /// A status of a library that is newer than this crate.
     Other { status: i32 },
@@ -64,11 +64,11 @@ pub enum ObfError {
     NoPosition,
     /// The line ends after so many squares.
     ShortBoard { squares: usize },
-    /// A byte that is no square.
+    /// A byte that is not a square.
     BadSquare { column: usize },
-    /// A byte that is no side to move, or the end of the line in its place.
+    /// A byte that is not a side to move, or the end of the line in its place.
     BadSide { column: usize },
-    /// No memory for the moves that the line lists.
+    /// Out of memory for the moves that the line lists.
     NoMemory,
     /// A status of a library that is newer than this crate.
     Other { status: i32 },
@@ -104,7 +104,7 @@ impl fmt::Display for ObfError {
 
 impl std::error::Error for ObfError {}
 
-/// Want of memory, and a newer library, come of no call that a test can make.
+/// No call that a test can make runs out of memory, or meets a newer library.
 #[test]
 fn tells_statuses_that_no_call_gives() {
     assert_eq!(ObfError::of_status(7, 5), Err(ObfError::NoMemory));

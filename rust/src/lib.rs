@@ -10,11 +10,11 @@
 //! # Ok::<(), Box<dyn std::error::Error>>(())
 //! ```
 //!
-//! The crate links the library `libffosolve.a`, or `libffosolve.so` with the feature `shared`. Its folder is the one that
-//! `FFOSOLVE_LIB_DIR` names when the crate is built, else what pkg-config says, else `/usr/local/lib`.
+//! The crate links the library `libffosolve.a`, or with the feature `shared` the library `libffosolve.so`. It looks in the
+//! folder that `FFOSOLVE_LIB_DIR` names when the crate is built; otherwise where pkg-config says, or in `/usr/local/lib`.
 //!
 //! Calls share nothing: any threads may call at once. A call can't be stopped, and two more empty squares take some 3
-//! to 16 times as long; a program that has to be able to stop one makes it in a process of its own. A call takes up to
+//! to 16 times as long. A program that has to be able to stop a call makes it in a process of its own. A call needs up to
 //! 32 KiB of stack for 14 empty squares, and 128 KiB for 60.
 
 mod answers;

@@ -14,7 +14,7 @@ impl Position {
     /// The position of two masks, in which A1 is bit 0 and H8 bit 63: the mover's discs, and the other side's.
     ///
     /// # Errors
-    /// `SharedSquare` where they share a bit.
+    /// `SharedSquare` if they share a bit.
     pub const fn new(own: u64, opp: u64) -> Result<Position, Error> {
         if own & opp == 0 {
             Ok(Position { own, opp })
@@ -57,13 +57,13 @@ impl Position {
         Squares(!(self.own | self.opp))
     }
 
-    /// The position after a pass: the other side is the mover.
+    /// The position after a pass, in which the other side is to move.
     #[must_use]
     pub const fn passed(self) -> Position {
         Position { own: self.opp, opp: self.own }
     }
 
-    /// The mover's moves.
+    /// The legal moves.
     pub fn moves(self) -> Squares {
         let mut moves = 0;
         // SAFETY: the pointer is to a number of this call's own.
@@ -72,10 +72,10 @@ impl Position {
         Squares(moves)
     }
 
-    /// The position after the mover moved to a square: the other side is the mover then.
+    /// The position after a move to a square, in which the other side is to move.
     ///
     /// # Errors
-    /// `NoMove` where the mover may not move there.
+    /// `NoMove` if the move is not legal.
     pub fn play(self, square: Square) -> Result<Position, Error> {
         let mut after = raw::Position::default();
         // SAFETY: the pointer is to a position of this call's own.

@@ -2,18 +2,18 @@
 use crate::raw;
 use crate::{Answer, Error, Position, Square, Squares};
 
-/// The most empty squares of a position that is solved.
+/// The most empty squares that a position may have to be solved.
 pub const MOST_EMPTIES: usize = 60;
 /// The most entries of a table.
 pub const MOST_ENTRIES: usize = 4_194_304;
 
-/// What a score counts once the game is over, as the mover sees it.
+/// What a score counts when the game is over, for the side to move.
 #[derive(Clone, Copy, PartialEq, Eq, Hash, Debug, Default)]
 pub enum Scoring {
-    /// Discs less the other side's, the empty squares counted for the side that has more.
+    /// Its discs minus the other side's; the winner gets the empty squares.
     #[default]
     Winner = 0,
-    /// Discs less the other side's.
+    /// Its discs minus the other side's.
     Discs = 1,
     /// 1, 0 or -1 for a win, a draw or a loss.
     Sign = 2,
@@ -32,8 +32,8 @@ impl TryFrom<u32> for Scoring {
     }
 }
 
-/// A fit number of table entries, of 32 bytes each, for positions of so many empty squares. It changes how long an
-/// answer takes, and never the answer.
+/// A suitable number of table entries, of 32 bytes each, for positions with this many empty squares. It changes how long
+/// an answer takes, never the answer.
 pub const fn table_entries(empties: usize) -> usize {
     match empties {
         0..=10 => 0,
@@ -49,7 +49,7 @@ pub fn library_version() -> u32 {
     unsafe { raw::ffosolve_version() }
 }
 
-/// Solves positions under a scoring, each call by a search over a new table. It keeps nothing between calls.
+/// Solves positions under a scoring. Each call searches with a new table, and keeps nothing.
 #[derive(Clone, Copy, PartialEq, Eq, Hash, Debug, Default)]
 pub struct Solver {
     scoring: Scoring,
@@ -68,13 +68,13 @@ impl Solver {
         Solver { scoring, ..self }
     }
 
-    /// The solver with tables of so many entries. Above `MOST_ENTRIES` its calls are refused.
+    /// The solver with tables of so many entries. With more than `MOST_ENTRIES` its calls are refused.
     #[must_use]
     pub const fn entries(self, entries: usize) -> Solver {
         Solver { entries: Some(entries), ..self }
     }
 
-    /// The answer of a position.
+    /// The answer for a position.
     ///
     /// # Errors
     /// `TooManyEntries`, `TooManyEmpties` and `NoMemory`, tested in this order.
@@ -86,8 +86,8 @@ impl Solver {
         Ok(Answer::of_raw(answer))
     }
 
-    /// The answer of a position, for which a claim is tested first. Any claim may be made; it is right if it equals the
-    /// answer. It pays for claims that are mostly right, from 10 empty squares on with a table.
+    /// The answer for a position; a claimed answer is tested first. The claim may be wrong: it is right if the result equals
+    /// it. This is faster than `solve` if most claims are right, from 10 empty squares on and with a table.
     ///
     /// # Errors
     /// Those of `solve`.
@@ -100,7 +100,7 @@ impl Solver {
         Ok(Answer::of_raw(answer))
     }
 
-    /// The answers of positions, in their order, over one table.
+    /// The answers for positions, in their order, with one table.
     ///
     /// # Errors
     /// Those of `solve`; `TooManyEmpties` has the index of the first position that is refused.
@@ -117,8 +117,8 @@ impl Solver {
         Ok(answers.into_iter().map(Answer::of_raw).collect())
     }
 
-    /// Each of the mover's moves with its score as the mover sees it, in the order of the squares; none where the mover
-    /// has none. All by searches over one table.
+    /// Each legal move with its score for the side to move, in the order of the squares; empty if there is no legal move.
+    /// One table serves all moves.
     ///
     /// # Errors
     /// Those of `solve`.

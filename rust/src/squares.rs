@@ -7,7 +7,7 @@ use std::str::FromStr;
 pub struct Square(u8);
 
 impl Square {
-    /// The square of a number from 0 to 63; None of any other.
+    /// The square with a number from 0 to 63; None for any other number.
     pub const fn new(number: u8) -> Option<Square> {
         if number < 64 {
             Some(Square(number))
@@ -39,7 +39,7 @@ impl fmt::Debug for Square {
     }
 }
 
-/// A text is no name of a square: a letter from A to H, in either case, and a digit from 1 to 8.
+/// A text is not the name of a square, which is a letter from A to H, in either case, and a digit from 1 to 8.
 #[derive(Clone, Copy, PartialEq, Eq, Debug)]
 pub struct SquareError;
 
@@ -75,17 +75,17 @@ impl Squares {
         self.0
     }
 
-    /// How many they are.
+    /// How many squares there are.
     pub const fn len(self) -> usize {
         self.0.count_ones() as usize
     }
 
-    /// Whether there is none.
+    /// Whether the set is empty.
     pub const fn is_empty(self) -> bool {
         self.0 == 0
     }
 
-    /// Whether a square is one of them.
+    /// Whether a square is in the set.
     pub const fn contains(self, square: Square) -> bool {
         self.0 >> square.0 & 1 == 1
     }

@@ -1,4 +1,4 @@
-//! A call for whose table there is no memory: a process of its own, since it limits its memory.
+//! A call that has no memory for its table. It is a process of its own, since it limits its memory.
 use ffosolve::{Answer, Best, Error, Position, Solver, Squares, MOST_ENTRIES};
 
 const ADDRESS_SPACE: i32 = 9;

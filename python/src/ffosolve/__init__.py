@@ -10,11 +10,11 @@
     >>> solver.move_scores(position)
     {'A1': 52, 'H1': 62}
 
-A Solver calls the shared library libffosolve.so.1, which a wheel of `make wheel` has; else it has to be installed, or
-named by its path: `Solver("FOLDER/libffosolve.so")`. Reading and showing positions needs no library.
+A Solver calls the shared library libffosolve.so.1. The wheel of `make wheel` contains it. Otherwise install it, or give its
+path: `Solver("FOLDER/libffosolve.so")`. Reading and showing positions needs no library.
 
-A call can't be stopped, not by Ctrl-C either, and two more empty squares take some 3 to 16 times as long: a program that
-has to be able to stop one makes it in a process of its own (`multiprocessing`). Calls from several threads run at once.
+A call can't be stopped, not even by Ctrl-C, and two more empty squares take some 3 to 16 times as long. A program that has to
+be able to stop a call makes it in a process of its own (`multiprocessing`). Calls from several threads run at the same time.
 """
 import os
 

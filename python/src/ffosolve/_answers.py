@@ -9,13 +9,13 @@ class Kind(enum.IntEnum):
     """What attains a score."""
 
     MOVES = 0
-    PASS = 1  # the mover has no move, and the other side has one
-    OVER = 2  # neither side has a move
+    PASS = 1  # the side to move has no legal move, but the other side has one
+    OVER = 2  # neither side has a legal move
 
 
 class Answer(NamedTuple):
-    """The score of a position as the mover sees it, -64 to 64; what attains it; and the mask of every move that does,
-    0 where `kind` is PASS or OVER."""
+    """The score of a position for the side to move, -64 to 64; what attains it; and the mask of every move that does, 0
+    if `kind` is PASS or OVER."""
 
     score: int
     kind: Kind

@@ -1,4 +1,4 @@
-"""Many positions in arrays of NumPy, which is no dependency: this module is taken where it is called."""
+"""Many positions in arrays of NumPy. The package does not depend on it: this module is imported when it is called."""
 import ctypes
 from collections import deque
 from typing import TYPE_CHECKING, Any, List, NamedTuple

@@ -13,12 +13,12 @@ GREEN, LINES, INK, MARK = "#2f8f5b", "#14472c", "#333333", "#ffd54a"
 
 def checked_side(side: str) -> str:
     if side not in SIDES:
-        raise ValueError(f"the side to move is 'X' or 'O', and not {side!r}")
+        raise ValueError(f"the side to move is 'X' or 'O', not {side!r}")
     return side
 
 
 class Board:
-    """A position as it is looked at: a picture where a notebook shows it, and a text where it is printed.
+    """A position to look at: a picture in a notebook, a text when it is printed.
 
     `own` and `opp` are the masks of the mover's discs and the other side's, and `side` is the mover's colour, "X" for
     Black or "O" for White. `scores` are written into their squares, by the squares' names; the greatest are marked.
@@ -31,7 +31,7 @@ class Board:
         self.best = max(self.scores.values(), default=None)
         for at in self.scores:
             if self.letters[at] != "-":
-                raise ValueError(f"{square_name(at)} has a score, and is not empty")
+                raise ValueError(f"{square_name(at)} has a score, but is not empty")
 
     def __str__(self) -> str:
         width = 4 if self.scores else 1

@@ -34,7 +34,7 @@ if hasattr(int, "bit_count"):  # as Python 3.10 and later have it
 
 
 def no_position(it: object) -> TypeError:
-    return TypeError("a position is two masks, as Position(own, opp) and Position.from_obf(line) give them, and not "
+    return TypeError("a position is two masks, as Position(own, opp) and Position.from_obf(line) give them, not "
                      + reprlib.repr(it))
 
 

@@ -39,7 +39,7 @@ class Game(NamedTuple):
 
     `number` is the game's, from 1: its line in a text, or its place in a WTHOR file. The scores of a WTHOR file are
     Black's discs, 0 to 64, with the empty squares to the winner: `score` is the theoretical score, under perfect play from
-    the position with so many `empties` on (None where the file does not tell that), and `real` that of the moves that were
+    the position with so many `empties` on (None where the file does not say that), and `real` that of the moves that were
     played.
     """
 
@@ -147,7 +147,7 @@ class Player:
 
     def play(self, game: Game, empties: int) -> Played:
         """What a game's first position with so many empty squares is, and how the game ends. It is played to its end,
-        since a move that is not legal tells that an earlier one may be wrong. Raises Fault."""
+        since an illegal move shows that an earlier one may be wrong. Raises Fault."""
         found, last = self._played(game, range(empties, empties + 1))
         if not found:
             told = f"it ends here, with {last.empties} empty square{'s' * (last.empties > 1)}; {empties} are asked for"

@@ -12,7 +12,7 @@ MOST_ENTRIES = 4_194_304
 
 
 class LibraryNotFound(OSError):
-    """The shared library isn't there, or is none that this package can call."""
+    """The shared library isn't there, or this package can't call it."""
 
 
 class CPosition(ctypes.Structure):
@@ -75,5 +75,5 @@ def declared(place: str) -> ctypes.CDLL:
             raise LibraryNotFound(f"{place} is not this package's library: {error}") from None
         call.argtypes, call.restype = arguments, size if name == "limit" else ctypes.c_int32
     if library.ffosolve_version() // 10000 != MAJOR:
-        raise LibraryNotFound(f"{place} has version {library.ffosolve_version()}, and not {MAJOR}.x.y")
+        raise LibraryNotFound(f"{place} has version {library.ffosolve_version()}, not {MAJOR}.x.y")
     return library

@@ -33,7 +33,7 @@ class Masks(NamedTuple):
 class Position(Masks):
     """The masks of the mover's discs (the mover is the side to move) and of the other side's, and the mover's colour.
 
-    Square A1 is bit 0 of a mask and H8 bit 63. Any two numbers can be put in; a Solver refuses what is no position.
+    Square A1 is bit 0 of a mask and H8 bit 63. Any two numbers can be put in; a Solver refuses what is not a position.
     `side` is the mover's colour, "X" (black) or "O" (white): positions are printed and shown in their colours, and no
     answer depends on them, so positions with equal masks are equal. Raises ValueError for another side.
     """
@@ -77,7 +77,7 @@ class Position(Masks):
             scores = dict.fromkeys(scores.squares, scores.score)
         elif scores is not None and not isinstance(scores, Mapping):
             told = "scores are an Answer, or by squares' names as move_scores gives them"
-            raise TypeError(f"{told}, and not {reprlib.repr(scores)}")
+            raise TypeError(f"{told}, not {reprlib.repr(scores)}")
         return Board(self.own, self.opp, self.side if side is None else side, scores)
 
     def __str__(self) -> str:
@@ -146,7 +146,7 @@ def fault_of(line: bytes, number: Optional[int]) -> LineRefused:
 def without_end(text: Union[str, bytes]) -> bytes:
     """The bytes of a line without its end: an LF, and a CR before it."""
     if not isinstance(text, (str, bytes, bytearray)):
-        raise TypeError(f"a line of OBF text is of the type str or bytes, and not {type(text).__name__}")
+        raise TypeError(f"a line of OBF text is of the type str or bytes, not {type(text).__name__}")
     line = text.encode("utf-8", "surrogatepass") if isinstance(text, str) else text
     if line[-1:] == b"\n":
         line = line[:-1]

@@ -74,7 +74,7 @@ def opened(source: Any) -> Iterator[Any]:
         finally:
             reader.detach()
     else:
-        raise TypeError(f"games are read from a path or from a file opened for bytes, and not from {type(source).__name__}")
+        raise TypeError(f"games are read from a path or from a file opened for bytes, not from {type(source).__name__}")
 
 
 def games_in(file: Any, name: str) -> Iterator[Game]:

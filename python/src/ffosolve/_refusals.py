@@ -23,9 +23,9 @@ class Status(enum.IntEnum):
 
 
 class Refused(Exception):
-    """A call was refused. `index` is that of the position to blame, from 0, where the call was for a list, else None."""
+    """A call was refused. `index` is that of the refused position, from 0, if the call was for a list, else None."""
 
-    status: int  # a Status, but of an OtherRefusal
+    status: int  # a Status, except for an OtherRefusal
     reason: str
 
     def __init__(self, index: Optional[int] = None) -> None:
@@ -61,25 +61,25 @@ class SharedSquare(Refused, ValueError):
 
 
 class TooManyEmpties(Refused, ValueError):
-    """A position that is to be solved has more than MOST_EMPTIES empty squares."""
+    """A position to solve has more than MOST_EMPTIES empty squares."""
 
     status, reason = Status.TOO_MANY_EMPTIES, f"more than {MOST_EMPTIES} empty squares"
 
 
 class NoMove(Refused, ValueError):
-    """The mover may not move to the square."""
+    """The move is not legal."""
 
     status, reason = Status.NO_MOVE, "no move"
 
 
 class NoMemory(Refused, MemoryError):
-    """There is no memory for the table, never with 0 entries; or for the moves that a line lists."""
+    """Out of memory for the table (never with 0 entries), or for the moves that a line lists."""
 
     status, reason = Status.NO_MEMORY, "out of memory"
 
 
 class OtherRefusal(Refused):
-    """The status is none that this package knows: the library is newer."""
+    """A status that this package does not know: the library is newer."""
 
     def __init__(self, status: int) -> None:
         self.status, self.reason = status, f"refused with status {status}"
@@ -90,8 +90,8 @@ class OtherRefusal(Refused):
 
 
 class LineRefused(Refused, ValueError):
-    """A line of OBF text is refused. `line` is its number, from 1, where many were read, else None. `at` is the column,
-    from 1 in bytes, for BadSquare and BadSide, and how many squares there are for ShortBoard."""
+    """A line of OBF text is refused. `line` is its number, from 1, if many were read, else None. `at` is the column, from 1
+    in bytes, for BadSquare and BadSide; for ShortBoard it is the number of squares."""
 
     def __init__(self, at: int = 0, line: Optional[int] = None) -> None:
         super().__init__()
@@ -100,7 +100,7 @@ class LineRefused(Refused, ValueError):
 
     @property
     def column(self) -> Optional[int]:
-        """The column of the byte to blame, or of the end of the line, from 1 in bytes; None where there is none."""
+        """The column of the wrong byte, or of the end of the line, from 1 in bytes; None if there is none."""
         return self.at if self.status in (Status.BAD_SQUARE, Status.BAD_SIDE) else None
 
     def __reduce__(self) -> Tuple[Type["Refused"], Tuple[Optional[int], ...]]:
@@ -120,7 +120,7 @@ class ShortBoard(LineRefused):
 
 
 class BadSquare(LineRefused):
-    """A byte in a square's place is no square."""
+    """A byte in the place of a square is not one."""
 
     status, reason = Status.BAD_SQUARE, "bad square at column {}"
 
@@ -150,5 +150,5 @@ REFUSALS: Dict[int, Type[Refused]] = {
 
 
 def refusal_of(status: int, *told: Optional[int]) -> Refused:
-    """The refusal that a status says, made of what is told of it."""
+    """The refusal for a status, made with what is known of it."""
     return REFUSALS[status](*told) if status in REFUSALS else OtherRefusal(status)

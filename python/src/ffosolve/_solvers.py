@@ -23,7 +23,7 @@ from ._squares import NAMES, square_number
 if TYPE_CHECKING:
     from ._arrays import Answers
 
-NO_SCORE = 127  # in an array of scores, at a square that is no move
+NO_SCORE = 127  # in an array of scores, at a square that is not a legal move
 OF_A_POSITION = (Status.SHARED_SQUARE, Status.TOO_MANY_EMPTIES)
 KINDS = tuple(Kind)
 ANSWER = struct.Struct("iiQ")
@@ -31,16 +31,16 @@ BYTES = ctypes.sizeof(CMoveScores)
 
 
 class Scoring(enum.IntEnum):
-    """What a score counts once the game is over, as the mover sees it."""
+    """What a score counts when the game is over, for the side to move."""
 
-    WINNER = 0  # discs less the other side's, the empty squares counted for the side that has more
-    DISCS = 1  # discs less the other side's
+    WINNER = 0  # its discs minus the other side's; the winner gets the empty squares
+    DISCS = 1  # its discs minus the other side's
     SIGN = 2  # 1, 0 or -1 for a win, a draw or a loss
 
 
 def table_entries(empties: int) -> int:
-    """A fit number of table entries, of 32 bytes each, for positions of so many empty squares. It changes how long an
-    answer takes, and never the answer."""
+    """A suitable number of table entries, of 32 bytes each, for positions with this many empty squares. It changes how long
+    an answer takes, never the answer."""
     for most, entries in ((10, 0), (14, 1_024), (19, 65_536)):
         if empties <= most:
             return entries
@@ -48,13 +48,14 @@ def table_entries(empties: int) -> int:
 
 
 class Solver:
-    """Solves positions under a scoring, each call by a search over a new table of so many entries.
+    """Solves positions under a scoring. Each call searches with a new table.
 
-    `library` is the path of the shared library; without one it is looked for (the environment's FFOSOLVE_LIBRARY, the
-    system's places, this Python's and /usr/local's `lib`). `entries` is a number from 0 to MOST_ENTRIES; without one it
-    is chosen by the empty squares, as `table_entries` says. Raises LibraryNotFound, UnknownScoring and TooManyEntries.
+    `library` is the path of the shared library. Without it the library is looked for: where the environment variable
+    FFOSOLVE_LIBRARY says, in the system's places, and in `lib` of this Python and of /usr/local. `entries` is the size of
+    the table, 0 to MOST_ENTRIES; without it `table_entries` chooses one by the empty squares. Raises LibraryNotFound,
+    UnknownScoring and TooManyEntries.
 
-    A solver keeps nothing between calls. Any threads may use one at once, and their calls run side by side.
+    A solver keeps nothing between calls. Any threads may use one at the same time.
     """
 
     def __init__(
@@ -67,7 +68,7 @@ class Solver:
         if scoring not in tuple(Scoring):
             raise UnknownScoring()
         if entries is not None and operator.index(entries) < 0:
-            raise ValueError("a table has no negative number of entries")
+            raise ValueError("a table can't have a negative number of entries")
         if entries is not None and entries > MOST_ENTRIES:
             raise TooManyEntries()
         self._library = load(library)
@@ -81,63 +82,63 @@ class Solver:
 
     @property
     def library_version(self) -> str:
-        """The version of the shared library, as "1.2.3"."""
+        """The version of the shared library, such as "1.2.3"."""
         number = self._library.ffosolve_version()
         return f"{number // 10000}.{number // 100 % 100}.{number % 100}"
 
     def solve(self, position: Position) -> Answer:
-        """The answer of a position. Raises SharedSquare, TooManyEmpties and NoMemory, and ValueError for a mask that is
-        no number from 0 to 2**64 - 1."""
+        """The answer for a position. Raises SharedSquare, TooManyEmpties and NoMemory, and ValueError for a mask that is
+        not a number from 0 to 2**64 - 1."""
         answer = CAnswer()
         entries = self._entries_for(empties_of(position))
         accept(self._library.ffosolve_solve(given(position), self._scoring, entries, answer))
         return Answer(answer.score, KINDS[answer.kind], answer.best)
 
     def confirm(self, position: Position, claim: Answer) -> Answer:
-        """The answer of a position, for which a claim is tested first. Any claim may be made; it is right if it equals
-        the answer. It pays for claims that are mostly right, from 10 empty squares on with a table. Raises what
-        `solve` does."""
+        """The answer for a position; a claimed answer is tested first. The claim may be wrong: it is right if the result
+        equals it. This is faster than `solve` if most claims are right, from 10 empty squares on and with a table. Raises
+        the same as `solve`."""
         if not isinstance(claim, Answer):
-            raise TypeError(f"a claim is an Answer(score, kind, best), and not {reprlib.repr(claim)}")
+            raise TypeError(f"a claim is an Answer(score, kind, best), not {reprlib.repr(claim)}")
         answer, claimed = CAnswer(), CAnswer(*claim)
         entries = self._entries_for(empties_of(position))
         accept(self._library.ffosolve_confirm(given(position), self._scoring, entries, claimed, answer))
         return Answer(answer.score, KINDS[answer.kind], answer.best)
 
     def move_scores(self, position: Position) -> Dict[str, int]:
-        """The score of each of the mover's moves as the mover sees it, by the square's name, in the order A1, B1, ..
-        H8; empty where the mover has none. All by searches over one table. Raises what `solve` does."""
+        """The score of each legal move for the side to move, by the square's name, in the order A1, B1, .. H8. It is
+        empty if there is no legal move. One table serves all moves. Raises the same as `solve`."""
         found, refusal = self._score_part(Part(0, empties_of(position), [position]))
         if refusal is not None:
             raise type(refusal)()
         return found[0]
 
     def solve_all(self, positions: Iterable[Position], *, threads: int = 1) -> List[Answer]:
-        """The answers of positions, in their order: of one thread over one table, of more over one for each part. Raises
-        what `solve` does, before anything is solved; the `index` of SharedSquare and TooManyEmpties is that of the first
-        position that is refused."""
+        """The answers for positions, in their order. One thread uses one table; several use one for each part of the
+        list. Raises the same as `solve`, before anything is solved. The `index` of SharedSquare and TooManyEmpties is that
+        of the first position that is refused."""
         if checked_threads(threads) > 1:
             return list(one_by_one(in_order(self._solve_part, list(parts_of(positions, self._refuse)), threads)))
         whole = next(parts_of(positions, self._refuse, math.inf, math.inf), Part(0, 0, []))
         return list(one_by_one([self._solve_part(whole)]))
 
     def solve_iter(self, positions: Iterable[Position], *, threads: int = 1) -> Iterator[Answer]:
-        """The answers of positions, in their order, as they come, by so many threads. It reads some parts ahead. A
-        position is refused, with its index, behind the answers of those before. Raises what `solve` does."""
+        """The answers for positions, in their order, as they come, on so many threads. It reads some positions ahead. A
+        refusal has the position's index, and comes after the answers for those before it. Raises the same as `solve`."""
         return one_by_one(in_order(self._solve_part, parts_of(positions), checked_threads(threads)))
 
     def move_scores_all(self, positions: Iterable[Position], *, threads: int = 1) -> List[Dict[str, int]]:
-        """The `move_scores` of positions, in their order, by so many threads. Raises as `solve_all` does."""
+        """The `move_scores` of positions, in their order, on so many threads. Raises the same as `solve_all`."""
         parts = list(parts_of(positions, self._refuse))
         return list(one_by_one(in_order(self._score_part, parts, checked_threads(threads))))
 
     def move_scores_iter(self, positions: Iterable[Position], *, threads: int = 1) -> Iterator[Dict[str, int]]:
-        """The `move_scores` of positions, in their order, as they come. Reads and raises as `solve_iter` does."""
+        """The `move_scores` of positions, in their order, as they come. Reads ahead and raises like `solve_iter`."""
         return one_by_one(in_order(self._score_part, parts_of(positions), checked_threads(threads)))
 
     def solve_arrays(self, own: Any, opp: Any, *, threads: int = 1) -> "Answers":
-        """The answers of positions whose masks are two arrays of uint64, as three arrays of their length: `score` and
-        `kind`, of int32, and `best`, of uint64. It needs NumPy. Raises as `solve_all` does, and TypeError and ValueError
+        """The answers for positions whose masks are two arrays of uint64: three arrays of the same length, `score` and
+        `kind` of int32 and `best` of uint64. It needs NumPy. Raises the same as `solve_all`, and TypeError and ValueError
         for other arrays."""
         from . import _arrays
 
@@ -145,20 +146,21 @@ class Solver:
 
     def move_scores_arrays(self, own: Any, opp: Any, *, threads: int = 1) -> Any:
         """The scores of all moves of positions whose masks are two arrays of uint64: an array of int8 with a row of 64
-        for each, by the squares' numbers, NO_SCORE where there is no move. Needs and raises as `solve_arrays` does."""
+        scores for each position, in the order of the squares, NO_SCORE where a move is not legal. Needs NumPy and raises
+        the same as `solve_arrays`."""
         from . import _arrays
 
         return _arrays.move_scores(self, own, opp, checked_threads(threads))
 
     def moves(self, position: Position) -> int:
-        """The mask of the mover's moves, 0 if there is none; `square_names` names them. Raises SharedSquare."""
+        """The mask of the legal moves, 0 if there is none; `square_names` names them. Raises SharedSquare."""
         moves = ctypes.c_uint64()
         accept(self._library.ffosolve_moves(given(position), moves))
         return moves.value
 
     def play(self, position: Position, square: Union[int, str]) -> Position:
-        """The position after the mover moved to a square, which is a number from 0 to 63 or a name as "H1": the other
-        side, in its own colour, is the mover then. Raises SharedSquare and NoMove."""
+        """The position after a move to a square, which is a number from 0 to 63 or a name such as "H1". Then the other
+        side is to move, in its own colour. Raises SharedSquare and NoMove."""
         after = CPosition()
         number = square_number(square) if isinstance(square, str) else operator.index(square)
         asked = given(position)
@@ -166,12 +168,12 @@ class Solver:
         return Position(after.own, after.opp, OTHER[getattr(position, "side", "X")])
 
     def positions(self, game: Union[Game, str]) -> List[Position]:
-        """The positions of a game, or of a transcript: the start, and that after each move, so that the one at index n
-        has 60 - n empty squares. A pass has none: where the mover has to pass, the position is that before it. Raises
-        GameRefused where a move is not legal, or no square."""
+        """The positions of a game or of a transcript: the start, and the one after each move. So the one at index n has
+        60 - n empty squares. A pass adds none: where a side has to pass, the position is the one before the pass. Raises
+        GameRefused if a move is not legal or not a square."""
         game = Game.of_text(game) if isinstance(game, str) else game
         if not isinstance(game, Game):
-            raise TypeError(f"a game is a Game or the text of a transcript, and not {reprlib.repr(game)}")
+            raise TypeError(f"a game is a Game or the text of a transcript, not {reprlib.repr(game)}")
         try:
             return Player(self._library).positions(game)
         except Fault as fault:
@@ -236,7 +238,7 @@ def one_by_one(parts: "Iterable[Results[A]]") -> Iterator[A]:
 
 
 def given(position: Sequence[int]) -> CPosition:
-    empties_of(position)  # refuses what is none
+    empties_of(position)  # refuses what is not a position
     found: CPosition = c_positions([position])[0]
     return found
 

@@ -5,14 +5,14 @@ NAMES = [column + row for row in "12345678" for column in "ABCDEFGH"]
 
 
 def square_name(number: int) -> str:
-    """The name of the square of a number from 0 to 63: "A1", "B1", .. "H8". Any other is a ValueError."""
+    """The name of the square with a number from 0 to 63: "A1", "B1", .. "H8". Raises ValueError for any other number."""
     if not 0 <= number < 64:
         raise ValueError(f"no square has the number {number}")
     return NAMES[number]
 
 
 def square_number(name: str) -> int:
-    """The number, 0 to 63, of the square with a name, in either case. What is no name is a ValueError."""
+    """The number, 0 to 63, of the square with a name, in either case. Raises ValueError if it is not a name."""
     try:
         return NAMES.index(name.upper())
     except ValueError:

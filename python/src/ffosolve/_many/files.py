@@ -13,7 +13,7 @@ MOST_BYTES = 1_048_576  # of a file that ffosolve reads
 
 
 def check_readable(path):
-    """Refuses what is no file that can be read."""
+    """Refuses what is not a file that can be read."""
     if path.is_dir() or not os.access(path, os.R_OK):
         why = ": it is a folder" if path.is_dir() else "" if path.exists() else ": it is not there"
         raise Refusal(UNREADABLE, f"cannot read {path}{why}")

@@ -1,4 +1,4 @@
-"""How the command ends, and what it tells on standard error."""
+"""How the command ends, and what it prints on standard error."""
 import contextlib
 import os
 import signal

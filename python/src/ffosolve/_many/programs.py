@@ -27,7 +27,7 @@ class Program:
         return subprocess.run([self.start, *words], **how)
 
     def tell(self, *words, **how):
-        """The status of a run, and what it tells on standard error, without its name."""
+        """The status of a run, and what it prints on standard error, without its name."""
         ran = self.run(*words, stderr=subprocess.PIPE, **how)
         return ran.returncode, ran.stderr.decode(errors="replace").strip().removeprefix("ffosolve: ")
 
