@@ -10,6 +10,7 @@ use job_board::{Client, Desk, JobId, SubmitFault};
 use othello_bits::Pos;
 use othello_rules::Scoring;
 use std::alloc::{AllocError, Global};
+use std::sync::atomic::{AtomicU32, Ordering};
 use std::sync::{Mutex, Wait};
 use std::test::Fail;
 use suite_runs::client::send_and_close;
@@ -112,11 +113,13 @@ fn gates_are_told_of_each_job(rt: HostRuntime) -> Result<(), Fail> {
     Ok(())
 }
 
-// Gives back the first job that it is told of, so that its finish is refused.
+// Gives back the first job that it is told of, so that its finish is refused. It counts the jobs
+// whose finish was accepted.
 #[derive(Drop)]
 struct MeddlingGate<'a> {
     desk: &'a Desk,
     told: CountingGate,
+    finished: AtomicU32,
 }
 
 impl Gate for MeddlingGate<'_> {
@@ -130,9 +133,13 @@ impl Gate for MeddlingGate<'_> {
     fn leave<R: Wait>(&self, rt: &R, sender: u32, number: u32) {
         self.told.leave(rt, sender, number);
     }
+
+    fn finished<R: Wait>(&self, _rt: &R, _sender: u32, _number: u32) {
+        self.finished.fetch_add(1, Ordering::SeqCst);
+    }
 }
 
-// The gate is told of the end of such a job too.
+// The gate is told of the end of such a job too, and not that it is finished.
 #[test]
 fn a_refused_finish_ends_the_part(rt: HostRuntime) -> Result<(), Fail> {
     let alloc = rt.alloc();
@@ -140,9 +147,11 @@ fn a_refused_finish_ends_the_part(rt: HostRuntime) -> Result<(), Fail> {
     let gate = MeddlingGate {
         desk: &desk,
         told: CountingGate::new(),
+        finished: AtomicU32::new(0),
     };
     let refused = is_mixed_part(&rt, alloc, &desk, &gate, TWO_JOBS, 0)?;
     assert!(rt; refused && gate.told.counts() == (1, 1));
+    assert!(rt; gate.finished.load(Ordering::SeqCst) == 0);
     Ok(())
 }
 
