@@ -108,10 +108,6 @@ class Threads(InFolder):
                 found, seen = self.run_of(SCORES, "--workers", workers, "list.obf")
                 self.assertEqual((found, statistics.mode(seen)), (wanted or found, threads))
                 wanted = found
-        self.write("many.obf", [HARD] * 80)
-        found, seen = self.run_of(SCORES, "--workers", "64", "many.obf")
-        self.assertEqual(found, wanted * 10)
-        self.assertGreaterEqual(max(seen), 66)
         found, seen = self.run_of(SCORES, "--workers", "4", "list.obf", prepare=refuse_threads)
         self.assertEqual((found, max(seen)), (wanted, 1))
 
