@@ -1,4 +1,4 @@
-# Proves and builds the programs and the library for C with rt, tests, installs and packs them. `make help` lists the targets.
+# Proves and builds the programs and the library for C with rt; tests, installs and packs them. `make help` lists the targets.
 MAKEFLAGS += -rR --no-print-directory
 .SHELLFLAGS = -euc
 .ONESHELL:
@@ -13,9 +13,9 @@ LIBDIR = $(PREFIX)/lib
 INCLUDEDIR = $(PREFIX)/include
 MANDIR = $(PREFIX)/share/man
 LIST =
-# The level of processors that the programs are for: by default the best that this machine is of.
+# The level of processors that the programs are for: by default the best level of this machine.
 CPU := $(shell /lib64/ld-linux-x86-64.so.2 --help 2>&1 | grep -q 'x86-64-v3 .supported' && echo x86-64-v3 || echo x86-64-v2)
-tell = 2# the descriptor on which a build tells how far it is
+tell = 2# the descriptor on which a build reports how far it is
 
 levels = x86-64-v2 x86-64-v3
 programs = ffosolve ffoscores
@@ -24,13 +24,13 @@ exported = ffosolve_*
 version := $(file <VERSION)
 major := $(firstword $(subst ., ,$(version)))
 
-$(if $(filter $(levels),$(CPU)),,$(error CPU is $(CPU), and has to be one of: $(levels)))
+$(if $(filter $(levels),$(CPU)),,$(error CPU is $(CPU), but has to be one of: $(levels)))
 
-all: $(programs:%=out/%) library ## proves and builds the programs, and the library for C
+all: $(programs:%=out/%) library ## proves and builds the programs and the library for C
 	echo "built: $(programs:%=out/%), which bin/ runs; out/library"
 
-# What rt makes. Make by itself sees no change that has an older time than before, and no file that is gone; find does, by the
-# times of status of files and folders.
+# What rt makes. Make itself does not see a change with an older time, or a file that is gone. find does, by the times of status of
+# files and folders.
 changed = $(if $(shell find crates crates.txt -name out -prune -o -name must-fail -prune -o -cnewer $1.sum -print -quit 2>&1),always)
 level = $(notdir $(@D))
 objects := $(foreach level,$(levels),$(programs:%=out/$(level)/%.o))
@@ -41,7 +41,7 @@ $(objects): $$(call changed,$$@)
 $(levels:%=out/%/libffosolve_c.a): $$(call changed,$$@)
 	exec scripts/prove $@ ffosolve_c lib $(level) $(tell)
 
-# What is linked of that, beside its place first, since another make can be at work.
+# What is linked from that: first next to its place, since another make can be at work.
 kit = $$(dirname "$$(rt doc)")
 new = $@.$$$$
 needs.x86-64-v2 = 2
@@ -54,7 +54,7 @@ $(objects:.o=): %: %.o packaging/level.s
 	rm $(new).o
 	mv -f $(new) $@
 
-# One object, with the toolchain's calls of malloc and free, that shows the calls of the header alone.
+# One object, with the toolchain's calls of malloc and free, that shows only the calls of the header.
 $(levels:%=out/%/libffosolve.o): out/%/libffosolve.o: out/%/libffosolve_c.a
 	ld -r -o $(new).o --whole-archive $< --no-whole-archive "$(kit)/c/liblibc_c.a"
 	objcopy --wildcard --keep-global-symbol='$(exported)' $(new).o $(new)
@@ -81,17 +81,17 @@ entries = $(shell awk '/const MOST_ENTRIES/ { gsub("[^0-9]", ""); print }' crate
 fill = sed -e 's/@VERSION@/$(version)/g; s/@NUMBER@/$(number)/g; s/@MAJOR@/$(major)/g; s/@ENTRIES@/$(entries)/g' \
     -e "s|@BINDIR@|$(BINDIR)|g; s|@INCLUDE@|$$(realpath -ms --relative-to='$(LIBDIR)' '$(INCLUDEDIR)')|g" $1 | install -D -m 644 /dev/stdin $2
 
-# The library as a program in the making takes it: two names of the shared one, and no link, which rt refuses in a checkout.
+# The library for programs under development. The shared one has two names; rt refuses a checkout in which one is a link.
 library: out/$(CPU)/libffosolve.a out/$(CPU)/libffosolve.so ## builds libffosolve.a, libffosolve.so and ffosolve.h in out/library
 	install -C -D -m 644 -t out/library $^
 	install -C -m 644 out/$(CPU)/libffosolve.so out/library/libffosolve.so.$(major)
 	$(call fill,include/ffosolve.h.in,out/library/ffosolve.h)
 
-# Both levels of all, as tests and packages take them.
+# Both levels of everything, for tests and packages.
 levels: $(programs:%=out/%) library $(objects:.o=) $(foreach level,$(levels),out/$(level)/libffosolve.so out/$(level)/libffosolve.a)
 
 look: export list = $(LIST)
-look: ## solves three positions in about a minute, with nothing proved; LIST=FILE: a small list of yours
+look: ## solves three positions in about a minute, with nothing proved; LIST=FILE solves a small list of yours
 	if [ -n "$$list" ]; then
 	    list=$$(realpath -e -- "$$list")
 	    set -- --data "list.obf=$$list" -- list.obf
@@ -105,23 +105,23 @@ look: ## solves three positions in about a minute, with nothing proved; LIST=FIL
 	esac
 	exit $$status
 
-check: levels ## tests all that ships; the last line counts what passed
+check: levels ## tests everything; the last line counts what passed
 	$(MAKE) -f tests/check.mk
 
-gate: ## what a change has to pass: rt ci, and then make check
+gate: ## runs what a change has to pass: rt ci, then make check
 	.ci/run
 
-# Installing. `install` puts a new file into the place of an old one, so that what runs meanwhile keeps the file that it is in.
+# Installing. `install` puts a new file into the place of an old one, so that a program that is running keeps its own file.
 lib = "$(DESTDIR)$(LIBDIR)
 share = "$(DESTDIR)$(PREFIX)/share
 doc = $(share)/doc/ffosolve
 documents = README.md LICENSE CHANGELOG.md VERSION \
     $(shell find docs examples python rust crates/*/specs \( -name __pycache__ -o -name target -o -name Cargo.lock \) -prune -o -type f -print)
-# What the scripts run. The documents have it too, but a system may leave those out.
+# What the scripts run. The documents have it too, but a system may leave those out, as images of Debian do.
 modules = VERSION $(shell find python/src -name __pycache__ -prune -o -type f -print)
-absolute = case "$(PREFIX)" in /*) ;; *) echo "PREFIX is $(PREFIX), and has to begin with a slash" >&2; exit 1 ;; esac
+absolute = case "$(PREFIX)" in /*) ;; *) echo "PREFIX is $(PREFIX), but has to begin with a slash" >&2; exit 1 ;; esac
 
-install: $(programs:%=out/$(CPU)/%) $(foreach level,$(levels),out/$(level)/libffosolve.a out/$(level)/libffosolve.so) ## lays programs, library, manual pages, completions and documents below PREFIX (/usr/local), in DESTDIR
+install: $(programs:%=out/$(CPU)/%) $(foreach level,$(levels),out/$(level)/libffosolve.a out/$(level)/libffosolve.so) ## installs programs, library, manual pages, completions and documents under PREFIX (/usr/local), in DESTDIR
 	$(absolute)
 	install -D -t "$(DESTDIR)$(BINDIR)" $(programs:%=out/$(CPU)/%)
 	place=$$(realpath -ms --relative-to='$(BINDIR)/..' '$(PREFIX)/share/ffosolve')
@@ -152,9 +152,9 @@ install: $(programs:%=out/$(CPU)/%) $(foreach level,$(levels),out/$(level)/libff
 	for file in ffosolve-config.cmake ffosolve-config-version.cmake; do
 	    $(call fill,packaging/$$file.in,$(lib)/cmake/ffosolve/$$file")
 	done
-	echo "installed below $(DESTDIR)$(PREFIX)"
+	echo "installed under $(DESTDIR)$(PREFIX)"
 
-uninstall: ## takes away what make install laid, and folders that are empty then
+uninstall: ## removes what make install installed, and folders that are then empty
 	$(absolute)
 	for name in $(programs) $(scripts); do
 	    rm -f "$(DESTDIR)$(BINDIR)/$$name" "$(DESTDIR)$(MANDIR)/man1/$$name.1" $(share)/bash-completion/completions/$$name" \

@@ -1,29 +1,29 @@
-# Packages, of what is committed, with programs and libraries for both levels of processors. What is packed is laid in a folder
-# among the temporary files, since rt refuses links in a checkout.
+# Packages of what is committed, with programs and libraries for both levels of processors. They are put together in a temporary
+# folder, since rt refuses links in a checkout.
 
 archive = ffosolve-$(version)-linux-x86-64
 clean = change=$$(git status --porcelain | head -n 1) || exit; [ -z "$$change" ] || { echo "not committed:$$change" >&2; exit 1; }
 room = room=$$(mktemp -d); trap 'rm -rf "$$room"' EXIT; umask 022
 seconds = $$(git log -1 --format=%ct)
 
-# Lays an installation below $$room: $(call lay,WORDS,PREFIX); in bin/ stands what picks the program of the best level.
+# Makes an installation under $$room: $(call lay,WORDS,PREFIX). What is in bin/ picks the program of the best level.
 lay = $(MAKE) -s install CPU=x86-64-v2 DESTDIR="$$room" PREFIX=$2 $1 >/dev/null; \
     for program in $(programs); do \
         for level in $(levels); do install -D "out/$$level/$$program" "$$room$2/libexec/ffosolve/$$level/$$program"; done; \
         install packaging/start "$$room$2/bin/$$program"; \
     done
 
-# Lays README.md and PROVED in a folder: $(call texts,KIND,OTHER KIND,BIN,DOC,FOLDER).
+# Writes README.md and PROVED into a folder: $(call texts,KIND,OTHER KIND,BIN,DOC,FOLDER).
 texts = sed -e '/^$2|/d; s/^$1|//; s|@BIN@|$3|g; s|@DOC@|$4|g' packaging/README.md | $(call fill,/dev/stdin,"$5/README.md"); \
     { \
         echo "ffosolve $(version), commit $$(git rev-parse HEAD), $$(rt version)"; \
         echo; \
-        echo 'Each function of these crates was proved against its contract; nothing else is built into:'; \
+        echo 'Each function of these crates was proved against its contract. Nothing else is built into:'; \
         for program in $(programs); do echo "bin/$$program:" $$(scripts/below $$program); done; \
         echo "lib/libffosolve.*:" $$(scripts/below ffosolve_c); \
     } | install -m 644 /dev/stdin "$5/PROVED"
 
-dist: levels ## makes out/ffosolve-VERSION-linux-x86-64.tar.gz, which runs where it is unpacked
+dist: levels ## makes out/ffosolve-VERSION-linux-x86-64.tar.gz, which runs wherever it is unpacked
 	$(clean)
 	$(room)
 	top="$$room/$(archive)"
@@ -38,7 +38,7 @@ dist: levels ## makes out/ffosolve-VERSION-linux-x86-64.tar.gz, which runs where
 	(cd out && sha256sum $(archive).tar.gz >$(archive).tar.gz.sha256)
 	echo "made: $$PWD/out/$(archive).tar.gz"
 
-# The package for Python lies where Debian's Python looks, as pip lays it, but pip can't take it away.
+# The package for Python is where Debian's Python looks, as if pip had put it there; but pip can't remove it.
 deb: levels ## makes out/ffosolve_VERSION_amd64.deb, a package for Debian
 	$(clean)
 	$(room)

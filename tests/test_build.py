@@ -246,7 +246,7 @@ class Failures(Case):
             self.write(self.source, f"{builds}\n")
             ran = self.use(KIT=kit)
             self.ran(ran, builds, builds=builds)
-            told = f"ffosolve: rt is {kit} logic 0123; this checkout was proved with rattle-kit-13b and 13f; trying\n"
+            told = f"ffosolve: rt is {kit} logic 0123; this checkout was proved with rattle-kit-13b and 13f; trying anyway\n"
             self.assertEqual(told in ran.stderr, builds > 2, ran.stderr)
 
     def test_a_build_that_fails(self):
@@ -275,7 +275,7 @@ class Failures(Case):
             self.write(self.root / "crates" / name, "")
         ran = self.use()
         self.ran(ran, 1, builds=2)
-        self.assertIn("dropped the kept work of ffosolve", ran.stderr)
+        self.assertIn("dropped the old work on ffosolve", ran.stderr)
         self.assertTrue((self.root / "crates/othello_rules/out/kept").exists())
         self.write(self.source, "2\n")
         self.refused(self.use(SPOILS="yes"), "cannot be used")
@@ -413,7 +413,7 @@ class Targets(Case):
         self.assertEqual(self.builds(), 6)
         ran = self.make("CPU=x86-64-v4")
         self.assertEqual(ran.returncode, 2)
-        self.assertIn("CPU is x86-64-v4, and has to be one of: x86-64-v2 x86-64-v3", ran.stderr)
+        self.assertIn("CPU is x86-64-v4, but has to be one of: x86-64-v2 x86-64-v3", ran.stderr)
         self.write(self.tools / "objcopy", "#!/bin/sh\necho 'objcopy: no room' >&2\nexit 1\n")
         (self.root / "out" / LEVEL / "libffosolve.o").unlink()
         self.assertIn("objcopy: no room", self.make("library").stderr)

@@ -68,7 +68,7 @@ class Case(InFolder):
 
 class Install(Case):
     def test_all_is_laid(self):
-        self.assertEqual(self.install().stdout, f"installed below {self.root}\n")
+        self.assertEqual(self.install().stdout, f"installed under {self.root}\n")
         libraries = [f"{at}/{name}" for at in ("lib", "lib/glibc-hwcaps/x86-64-v3")
                      for name in ("libffosolve.so", "libffosolve.so.1", f"libffosolve.so.{VERSION}")]
         wanted = {*libraries, "lib/libffosolve.a", "lib/libffosolve-x86-64-v3.a", "lib/pkgconfig/ffosolve.pc", "include/ffosolve.h",
@@ -87,7 +87,7 @@ class Install(Case):
 
     def test_default_is_usr_local(self):
         ran = run("make", "-s", "-C", CHECKOUT, "install", f"DESTDIR={self.stage}", text=True, env=self.places)
-        self.assertEqual((ran.stdout, ran.stderr), (f"installed below {self.stage}/usr/local\n", ""))
+        self.assertEqual((ran.stdout, ran.stderr), (f"installed under {self.stage}/usr/local\n", ""))
         self.assertEqual((os.listdir(self.stage), os.listdir(self.stage / "usr")), (["usr"], ["local"]))
 
     def test_places_by_their_names(self):
@@ -176,7 +176,7 @@ class Install(Case):
     def test_without_python(self):
         """All is laid; which page then tells less is said."""
         ran = self.make("install", env={**self.places, "PATH": path_without("python3", self.folder)})
-        self.assertEqual((ran.returncode, ran.stdout), (0, f"installed below {self.root}\n"))
+        self.assertEqual((ran.returncode, ran.stdout), (0, f"installed under {self.root}\n"))
         told = re.findall("^(.*): its manual page has no options, since --help can't be run$", ran.stderr, re.M)
         self.assertEqual(told, ["ffosolve-many", "ffosolve-games"])
         for name, has_options in (("ffosolve", True), *((name, False) for name in told)):
@@ -186,7 +186,7 @@ class Install(Case):
     def test_what_is_refused(self):
         for prefix in ("relative", "", "~/a"):
             for target in ("install", "uninstall"):
-                self.refused(self.make(target, prefix=prefix), f"PREFIX is {prefix}, and has to begin with a slash")
+                self.refused(self.make(target, prefix=prefix), f"PREFIX is {prefix}, but has to begin with a slash")
         self.refused(run("make", "-s", "-C", CHECKOUT, "instal", text=True), "No rule to make target 'instal'")
         self.root.mkdir(parents=True)
         (self.root / "bin").touch()

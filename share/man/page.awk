@@ -1,5 +1,5 @@
-# Makes the middle of a manual page of what a program prints for --help. A heading begins a section; of the lines that are set
-# in, one with two blanks behind a name begins an entry, and one that is set in far goes on with it.
+# Makes the middle of a manual page from what a program prints for --help. A heading begins a section. An indented line with two
+# blanks after a name begins an entry, and a line that is indented further continues it.
 BEGIN { title = "DESCRIPTION" }
 { gsub(/\\/, "\\e"); gsub(/-/, "\\-") }
 /^[Uu]sage: / { title = "SYNOPSIS"; sub(/^[^ ]* /, ".nf\n") }

@@ -35,10 +35,10 @@ class Fault(Exception):
 
 
 class Game(NamedTuple):
-    """A game as a file has it, right or wrong.
+    """A game as it is in a file, right or wrong.
 
-    `number` is the game's, from 1: its line in a text, or its place in a WTHOR file. The scores of a WTHOR file are
-    Black's discs, 0 to 64, with the empty squares to the winner: `score` is the theoretical score, under perfect play from
+    `number` counts from 1: it is the game's line in a text, or its place in a WTHOR file. The scores of a WTHOR file are
+    Black's discs, 0 to 64; the winner gets the empty squares. `score` is the theoretical score, under perfect play from
     the position with so many `empties` on (None where the file does not say that), and `real` that of the moves that were
     played.
     """
@@ -53,16 +53,16 @@ class Game(NamedTuple):
 
     @classmethod
     def of_text(cls, text: str, number: int = 1) -> "Game":
-        """The game of a transcript: its squares, as `f5d6c3` or `1. F5 2. D6`, with blanks, commas or hyphens between
-        them or none, and with the moves' numbers or without. A pass is left out, or written `pass`, `ps`, `pa` or `--`.
-        A result at the end, as `33-31`, is skipped, and so is all from `%` on."""
+        """The game of a transcript: its squares, such as `f5d6c3` or `1. F5 2. D6`, with blanks, commas, hyphens or nothing
+        between them, and with or without move numbers. A pass is left out, or written `pass`, `ps`, `pa` or `--`. A result
+        at the end, such as `33-31`, is skipped, and so is everything from `%` on."""
         words = words_of(text.partition("%")[0])
         return cls(number, [WORDS.get(word, NO_SQUARE) for word in words], words)
 
     @property
     def squares(self) -> List[str]:
-        """The names of the squares that were moved to, "F5", "D6", .., without passes; and what is written in the place
-        of one."""
+        """The names of the squares that were moved to, "F5", "D6", .., without passes. If something else is in the place
+        of a square, it is there as it is written."""
         names = zip(self.moves, self.words)
         return [str(word) if move == NO_SQUARE else square_name(move) for move, word in names if move != PASS]
 

@@ -31,11 +31,11 @@ class Masks(NamedTuple):
 
 
 class Position(Masks):
-    """The masks of the mover's discs (the mover is the side to move) and of the other side's, and the mover's colour.
+    """The masks of the discs of the side to move (`own`) and of the other side (`opp`), and the colour of the side to move.
 
     Square A1 is bit 0 of a mask and H8 bit 63. Any two numbers can be put in; a Solver refuses what is not a position.
-    `side` is the mover's colour, "X" (black) or "O" (white): positions are printed and shown in their colours, and no
-    answer depends on them, so positions with equal masks are equal. Raises ValueError for another side.
+    `side` is "X" (black) or "O" (white). Positions are printed and shown in their colours, but no answer depends on them:
+    positions with equal masks are equal. Raises ValueError for another side.
     """
 
     side: str = "X"
@@ -48,18 +48,18 @@ class Position(Masks):
 
     @classmethod
     def from_obf(cls, text: Union[str, bytes]) -> "Line":
-        """The position of a line of OBF text, with what the line lists: 64 squares from A1 on, the side to move, and
-        fields such as `H1:+62;`.
+        """The position of a line of OBF text, with the moves that it lists. The line has 64 squares from A1 on, the side
+        to move, and fields such as `H1:+62;`.
 
-        Black is one of `X x * B b`, white one of `O o W w`, and an empty square `-` or `.`. Blanks before the squares
-        and before the side are skipped. Raises NoPosition, ShortBoard, BadSquare and BadSide, which are ValueErrors, and
+        Black is one of `X x * B b`, white one of `O o W w`, and an empty square `-` or `.`. Blanks before the squares and
+        before the side are skipped. Raises NoPosition, ShortBoard, BadSquare and BadSide, which are ValueErrors, and
         NoMemory. No library is needed.
         """
         return read_line(text, None)
 
     def to_obf(self, side: Optional[str] = None) -> str:
-        """The position as an OBF line: 64 squares, and ` X;` or ` O;`. The mover has its own colour, or that of
-        `side`."""
+        """The position as an OBF line: 64 squares, and ` X;` or ` O;`. The side to move has its own colour, or the one
+        that `side` names."""
         board = self.show(side=side)
         return "".join(board.letters) + f" {board.side};"
 
@@ -69,10 +69,10 @@ class Position(Masks):
         return 64 - bin(self.own | self.opp).count("1")
 
     def show(self, scores: Union[Mapping[str, int], Answer, None] = None, side: Optional[str] = None) -> Board:
-        """The board, which a notebook shows as a picture and print() as a text. Of `scores`, as `Solver.move_scores` gives
-        them, each is written into its square, and the best ones are marked; of an Answer, its score at each best move.
-        The mover has its own colour, or that of `side`. Raises ValueError for another side, and for a score where no
-        square is empty, and TypeError for other scores."""
+        """The board, which a notebook shows as a picture and print() as text. `scores` from `Solver.move_scores` are
+        written into their squares, and the best ones are marked. An Answer writes its score into each best move. The side
+        to move has its own colour, or the one that `side` names. Raises ValueError for another side and for a score in a
+        square that is not empty, and TypeError for other scores."""
         if isinstance(scores, Answer):
             scores = dict.fromkeys(scores.squares, scores.score)
         elif scores is not None and not isinstance(scores, Mapping):
@@ -96,16 +96,16 @@ class Position(Masks):
         return self.show()._repr_svg_()
 
     def passed(self) -> "Position":
-        """The position after a pass: the other side is the mover."""
+        """The position after a pass, in which the other side is to move."""
         return Position(self.opp, self.own, OTHER[self.side])
 
 
 class Line(Position):
-    """A position that a line of OBF text holds, and what else the line says.
+    """The position of a line of OBF text, and what else the line says.
 
     `listed` has the moves that the line lists, in their order, each with its score from -64 to 64:
-    `(("H1", 62), ("A1", 52))`; "PS" is a pass, and "--" the end of the game. They are as the line has them, right or
-    wrong. `number` is that of the line, from 1, where many were read, else None.
+    `(("H1", 62), ("A1", 52))`. "PS" is a pass, and "--" the end of the game. They are as they are in the line, right or
+    wrong. `number` is the line's number, from 1, if many were read, else None.
     """
 
     listed: Tuple[Tuple[str, int], ...] = ()
@@ -157,9 +157,9 @@ def read_lines(
     lines: Union[str, bytes, Iterable[Union[str, bytes]]],
     refused: Optional[Callable[[LineRefused], object]] = None,
 ) -> Iterator[Line]:
-    """The positions of many lines of OBF text, in their order: of an iterable of lines, as an open file is one, or of
-    one text. Blank lines and comments hold none. Any other line raises ShortBoard, BadSquare or BadSide, whose `line`
-    is its number; or, where `refused` is given, that is called with the error, and reading goes on:
+    """The positions of many lines of OBF text, in their order. The lines come from an iterable, such as an open file, or
+    from one text. Blank lines and comments are skipped. A line that holds no position raises ShortBoard, BadSquare or
+    BadSide, whose `line` is its number. If `refused` is given, it is called with the error instead, and reading goes on:
 
         wrong = []
         with open("a.obf", "rb") as text:

@@ -9,8 +9,7 @@ from ._text import NotText
 
 
 class GameRefused(ValueError):
-    """A game can't be read, or not be played. `game` is its number, and `move` that of the move to blame, from 1, or
-    None."""
+    """A game can't be read or played. `game` is its number, and `move` the number of the wrong move, from 1, or None."""
 
     def __init__(self, reason: str, game: int, move: Optional[int] = None) -> None:
         super().__init__(f"game {game}" + ("" if move is None else f", move {move}") + f": {reason}")
@@ -28,12 +27,12 @@ def read_games(
     source: "Union[str, os.PathLike[str], io.BufferedIOBase, io.RawIOBase]",
     refused: Optional[Callable[[GameRefused], object]] = None,
 ) -> Iterator[Game]:
-    """The games of a file, in their order: of its path, or of the file, opened for bytes. It is a WTHOR file, or a text
-    with a game in each line, as `Game.of_text` reads it; lines without a move are skipped.
+    """The games of a file, in their order. `source` is its path, or the file itself, opened for bytes. It is a WTHOR file, or
+    a text with a game in each line, as `Game.of_text` reads it; lines without a move are skipped.
 
-    Where a WTHOR file is cut off, or goes on behind its last game, GameRefused is raised; or, where `refused` is given,
-    that is called with the error. Illegal moves are refused by `Solver.positions`. Raises OSError, and ValueError for a
-    file that is neither. The games whose theoretical scores are wrong:
+    GameRefused is raised if a WTHOR file is cut off, or goes on after its last game. If `refused` is given, it is called
+    with the error instead. Illegal moves are refused by `Solver.positions`. Raises OSError, and ValueError for a file that
+    is neither. These games have wrong theoretical scores:
 
         for game in read_games("WTH_2001.wtb"):
             position = solver.positions(game)[60 - game.empties]
