@@ -269,20 +269,20 @@ fn the_last_square_is_probed_before_and_after_a_pass(rt: HostRuntime) {
     assert!(rt; counter.seen[1].get());
 }
 
-// OOOO---- XXXXOX-- X-XOOOO- OXXXOOOO -OXOOXOO -XOOOXOO XOXXO-OX OOOOOOOX: its one best move, F7, is
-// searched fifth of six, and is worth -6.
-const ELEVEN_EMPTY_SQUARES: Discs = (0x808d_2224_0e05_2f00, 0x7f52_dcda_f178_100f);
+// XXXXXO-X XXOXOOX- XOXO-XOX OXOOOXX- -OOXXO-- OOXXX-O- OXXXXXXX -XX-X-X-: its one best move, A5, is
+// searched fourth of eight, and is worth 6.
+const THIRTEEN_EMPTY_SQUARES: Discs = (0x56fe_1c18_62a5_4b9f, 0x0001_4326_1d4a_3420);
 
-// Whether the stored value of the position after a move of six ends a search before any of the six is
-// searched: the position itself is probed, and at most those after its moves.
+// Whether the stored value of the position after a move of eight ends a search before any of the
+// eight is searched: the position itself is probed, and at most those after its moves.
 fn is_child_seen(counter: &ProbeCounter, position: Pos, child: Pos) -> bool {
     store_value(&counter.table, child);
-    value_in(counter, position, -7, -6) == -6 && counter.probes.get() <= 7
+    value_in(counter, position, 5, 6) == 6 && counter.probes.get() <= 9
 }
 
 #[test]
 fn children_are_probed_before_one_is_searched(rt: HostRuntime) {
-    let position = pos_of(&rt, ELEVEN_EMPTY_SQUARES, Side::Black);
+    let position = pos_of(&rt, THIRTEEN_EMPTY_SQUARES, Side::Black);
     let counter = count_probes(&rt, rt.alloc(), 1, [position, position]);
-    assert!(rt; is_child_seen(&counter, position, after(&rt, position, Square::at(53))));
+    assert!(rt; is_child_seen(&counter, position, after(&rt, position, Square::at(32))));
 }
