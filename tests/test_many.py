@@ -941,7 +941,7 @@ class Words(Case):
         by = install("another", ffosolve="#!/bin/sh\n:\n")
         self.refused(4, "is not the program ffosolve", "list.obf", by=by)
         (by.parent / "ffosolve").unlink()
-        self.refused(4, "ffosolve is not beside ffosolve-many", "list.obf", by=by)
+        self.refused(4, "ffosolve is missing: it has to be next to ffosolve-many", "list.obf", by=by)
 
     def test_missing_tools_are_told(self):
         Path("tools").mkdir()
