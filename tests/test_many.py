@@ -526,7 +526,7 @@ class Scores(Case):
         self.same("--scores", "work", "list.obf", told=", 1 of them solved before")
 
     def test_missing_program_is_told(self):
-        self.refused(4, "ffoscores is not beside ffosolve-many", "--scores", "list.obf", by=SLOWLY)
+        self.refused(4, "ffoscores is missing: it has to be next to ffosolve-many", "--scores", "list.obf", by=SLOWLY)
 
     def test_scores_of_the_program_itself(self):
         write(Path("list.obf"), SMALL + (ROOT / "examples/kinds.obf").read_bytes())
