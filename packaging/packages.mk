@@ -50,7 +50,7 @@ deb: levels ## makes out/ffosolve_VERSION_amd64.deb, a package for Debian
 	rm -r "$$room/$$wheel" "$$python"/*.dist-info/RECORD "$$doc/python"
 	echo debian >"$$python/ffosolve-$(version).dist-info/INSTALLER"
 	mv "$$doc/LICENSE" "$$doc/copyright"
-	printf '%s\n' 'ffosolve ($(version)) unstable; urgency=medium' '' '  * CHANGELOG.md, beside this file, has what is new.' '' \
+	printf '%s\n' 'ffosolve ($(version)) unstable; urgency=medium' '' '  * CHANGELOG.md, next to this file, says what is new.' '' \
 	    " -- Gimzolens <ffosolve@gimzolens.invalid>  $$(date -Rud "@$(seconds)")" >"$$doc/changelog"
 	gzip -9n "$$doc/changelog" "$$usr"/share/man/man1/*
 	strip --strip-unneeded -R .comment "$$usr"/libexec/ffosolve/*/* $$(find "$$usr/lib" -name 'libffosolve.so.$(version)')

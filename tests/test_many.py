@@ -158,7 +158,7 @@ class Case(InFolder):
         self.assertIn(told, lines[0])
         self.assertTrue(lines[0].startswith("ffosolve-many: "), lines)
         if status == 2:
-            self.assertRegex(lines[0], "Try 'ffosolve-many --help'|take |name |merged|no part can hold it")
+            self.assertRegex(lines[0], "Try 'ffosolve-many --help'|use |name |merged|no part can hold it")
         self.assertEqual(sorted(os.listdir(".")), before)
 
     def part(self, name, folder="work"):
@@ -337,7 +337,7 @@ class Results(Case):
         write(Path("list.obf"), (ROOT / "tests/rows/best.obf").read_bytes())
         self.one = (ROOT / "tests/rows/best.winner.complete").read_bytes()
         self.same("--complete", "--lines=4", "work", "list.obf")
-        self.refused(2, "work was begun with --complete: take another folder", "--lines=4", "work", "list.obf")
+        self.refused(2, "work was begun with --complete: use another folder", "--lines=4", "work", "list.obf")
 
     def test_read_book_changes_no_report_and_is_used_whole(self):
         self.same("--lines=20", "work", "list.obf", "--book-in=one.book", "--book-out", "joined.book",
@@ -517,16 +517,16 @@ class Scores(Case):
         """An earlier version, which did not know --complete, began its folders without it."""
         self.one = SMALL
         self.same("--scores", "work", "list.obf")
-        self.refused(2, "work was begun without --complete: take another folder", "--scores", "--complete", "work", "list.obf")
+        self.refused(2, "work was begun without --complete: use another folder", "--scores", "--complete", "work", "list.obf")
         self.same("--scores", "--complete", "work2", "list.obf")
-        self.refused(2, "work2 was begun with --complete: take another folder", "--scores", "work2", "list.obf")
+        self.refused(2, "work2 was begun with --complete: use another folder", "--scores", "work2", "list.obf")
         asked = Path("work/asked.json").read_text()
         Path("work/asked.json").write_text(asked.replace('  "--complete": false,\n', ""))
         self.assertNotEqual(Path("work/asked.json").read_text(), asked)
         self.same("--scores", "work", "list.obf", told=", 1 of them solved before")
 
     def test_missing_program_is_told(self):
-        self.refused(4, "ffoscores is not beside ffosolve-many", "--scores", "list.obf", by=SLOWLY)
+        self.refused(4, "ffoscores is missing: it has to be next to ffosolve-many", "--scores", "list.obf", by=SLOWLY)
 
     def test_scores_of_the_program_itself(self):
         write(Path("list.obf"), SMALL + (ROOT / "examples/kinds.obf").read_bytes())
@@ -625,7 +625,7 @@ class Resuming(Case):
 
     def test_book_wanted_later_is_told(self):
         self.same("--lines=20", "work", "list.obf")
-        self.refused(2, "work was begun without --book-out: take another folder, or the same options", *self.WORDS)
+        self.refused(2, "work was begun without --book-out: use another folder, or the same options", *self.WORDS)
         self.refused(2, "work was begun without --book-in and without --book-out: ", "--book-in=one.book", *self.WORDS)
         self.same("--lines=20", "work", "list.obf", told=", 3 of them solved before")
 
@@ -639,10 +639,10 @@ class Resuming(Case):
                                ("--max-empties=7", "--max-empties=8", "with --max-empties 7"),
                                ("--book-in=one.book", "--book-in=other.book", "with another book as --book-in"),
                                ("--book-in=one.book", "--quiet", "with --book-in")):
-            self.refused(2, f"begun {told}: take another folder, or the same options",
+            self.refused(2, f"begun {told}: use another folder, or the same options",
                          *(new if word == old else word for word in words))
         self.refused(2, "begun with --lines 20 and with --scoring discs and with --max-empties 7 and without --scores "
-                        "and with --book-in: take another folder", "--scores", "work", "list.obf")
+                        "and with --book-in: use another folder", "--scores", "work", "list.obf")
         self.same(*words, "--table=9", "--workers=1", "--jobs=3", told=", 3 of them solved before")
 
     def test_list_that_grew_at_its_end_goes_on(self):
@@ -662,7 +662,7 @@ class Resuming(Case):
         for text, line in ((b"".join(lines[:29] + [b"\n"] + lines[30:]), 30), (b"".join(lines[:-1]), 60),
                            (b"%\n" + SMALL, 1), (b"", 1)):
             write(Path("list.obf"), text)
-            self.refused(2, f"from line {line} on: take another folder, or the same list", *self.WORDS)
+            self.refused(2, f"from line {line} on: use another folder, or the same list", *self.WORDS)
         write(Path("list.obf"), SMALL)
         self.again(3)
 
@@ -868,7 +868,7 @@ class Words(Case):
                 (3, "cannot read none.book: it is not there", ("list.obf", "--book-in", "none.book")),
                 (3, "cannot read none: it is not there", ("list.obf", "--hosts", "none")),
                 (2, "empty.hosts names no machine", ("list.obf", "--hosts", "empty.hosts")),
-                (2, "part 0000000 (from line 1 of big.obf on) has more than 1048576 bytes: take fewer lines, "
+                (2, "part 0000000 (from line 1 of big.obf on) has more than 1048576 bytes: use fewer lines, "
                     "such as --lines 2", ("big.obf",)),
                 (2, "--merge-books names no book", ("--merge-books",)),
                 (2, "--lines is not an option of --merge-books", ("--merge-books", "--lines=5", "one.book"))):
@@ -941,7 +941,7 @@ class Words(Case):
         by = install("another", ffosolve="#!/bin/sh\n:\n")
         self.refused(4, "is not the program ffosolve", "list.obf", by=by)
         (by.parent / "ffosolve").unlink()
-        self.refused(4, "ffosolve is not beside ffosolve-many", "list.obf", by=by)
+        self.refused(4, "ffosolve is missing: it has to be next to ffosolve-many", "list.obf", by=by)
 
     def test_missing_tools_are_told(self):
         Path("tools").mkdir()

@@ -1,4 +1,4 @@
-"""Exact answers of Othello endgames, by a solver whose answers are proved.
+"""Exact answers for Othello endgames, by a solver whose answers are proved.
 
     >>> from ffosolve import Position, Solver
     >>> solver = Solver()

@@ -1,4 +1,4 @@
-"""A WTHOR file with exact theoretical scores, written beside the old one."""
+"""A WTHOR file with exact theoretical scores, written as a new file."""
 import contextlib
 import os
 from typing import BinaryIO, Dict, Iterable, Iterator, List

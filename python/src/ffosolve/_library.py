@@ -31,9 +31,9 @@ class CMoveScores(ctypes.Structure):
 
 
 def places() -> List[str]:
-    """Where the library is looked for, in this order, if no path is given: the path in the environment's
-    FFOSOLVE_LIBRARY, if it has one; in this package, if it was installed with the library, for the best level of processors
-    that loads; where the system's loader looks; beside this Python; /usr/local/lib."""
+    """Where the library is looked for, in this order, if no path is given: the path in the environment variable
+    FFOSOLVE_LIBRARY; in this package, if it was installed with the library, for the best level of processors that loads;
+    where the system's loader looks; in `lib` of this Python; in /usr/local/lib."""
     named = os.environ.get("FFOSOLVE_LIBRARY")
     if named:
         return [named]

@@ -50,7 +50,7 @@ OPTIONS = {
         ("--quiet", None, "report only what fails"),
         ("--version -V", None, "print the version"),
         ("--help -h", None, "print this help")),
-    "options of ffosolve, which mean the same as there": (
+    "options of ffosolve, with the same meaning": (
         ("--max-empties", "N", f"solve positions with at most N empty squares, 0 to 60 [default: {DEFAULT_EMPTIES}]"),
         ("--workers", "N", "threads for each part, besides one of its own, 0 to 64 [default: 0]"),
         ("--table", "N", "entries of the table for each part, 32 bytes each"),

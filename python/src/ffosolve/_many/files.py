@@ -62,7 +62,7 @@ def write_lines(path, lines):
 
 
 def write_whole(path, pieces, mode=None):
-    """Writes a file beside the path, and gives it the path's name when it is whole and on the disk."""
+    """Writes a file next to the path, and renames it to the path when it is whole and on the disk."""
     beside = path.with_name(f"{path.name}.{os.urandom(4).hex()}.new")
     try:
         with beside.open("xb") as file:

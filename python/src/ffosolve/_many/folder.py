@@ -76,14 +76,14 @@ def check_asked(before, options, listed, source, command):
                  if kept.get(name, False) != now]
     if differing:
         raise Refusal(REFUSED, f"{command.folder} was begun {' and '.join(differing)}: "
-                               "take another folder, or the same options")
+                               "use another folder, or the same options")
     if before["list"] != listed and before["list"]["digest"] != digest_of(source, before["list"]["bytes"]):
         paths = sorted((command.folder / before["run"] / "parts").glob("[0-9]" * 7))
         with source.open("rb") as new:
             pairs = itertools.zip_longest(new, (line for path in paths for line in path.open("rb")))
             line = next((at for at, (one, other) in enumerate(pairs, 1) if one != other), 1)
         raise Refusal(REFUSED, f"{command.list} is not the list that {command.folder} was begun with, from line {line} "
-                               "on: take another folder, or the same list (it may have grown at its end)")
+                               "on: use another folder, or the same list (it may have grown at its end)")
 
 
 def filled(name, run, command):

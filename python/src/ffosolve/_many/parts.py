@@ -39,7 +39,7 @@ def read_parts(file, lines, name):
                 raise Refusal(REFUSED, f"line {first} of {name} has more than {MOST_BYTES} bytes: no part can hold it")
             if size > MOST_BYTES:
                 raise Refusal(REFUSED, f"part {(first - 1) // lines:07d} (from line {first} of {name} on) has more "
-                                       f"than {MOST_BYTES} bytes: take fewer lines, such as --lines {len(part)}")
+                                       f"than {MOST_BYTES} bytes: use fewer lines, such as --lines {len(part)}")
             part.append(line)
         if not part:
             return

@@ -74,7 +74,7 @@ def sweep_alone(command):
     folder = Path((command.words or ["."])[0])
     asked = read_asked(folder)
     if len(command.words) != 1 or asked is None:
-        raise misused(f"--sweep takes a FOLDER that {NAME} began")
+        raise misused(f"--sweep needs a FOLDER that {NAME} began")
     run, lock = Run(folder, asked["run"], []), lock_folder(folder)
     with contextlib.ExitStack() as stack:
         sweep(run, command, Watch(run, command, []), stack, lock)

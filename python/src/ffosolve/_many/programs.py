@@ -1,4 +1,4 @@
-"""ffosolve and ffoscores beside this program, and the tools that the work needs."""
+"""ffosolve and ffoscores, which are next to this program, and the tools that the work needs."""
 import os
 import shutil
 import subprocess
@@ -19,7 +19,7 @@ class Program:
         self.start = folder / name
         self.itself = folder.parent / "out" / name if is_checkout else installed
         if not os.access(self.start, os.X_OK):
-            raise Refusal(UNBUILT, f"{name} is not beside {NAME}, in {folder}")
+            raise Refusal(UNBUILT, f"{name} is missing: it has to be next to {NAME}, in {folder}")
 
     def run(self, *words, **how):
         """A run to its end, with nothing on standard input; a signal that comes meanwhile ends it."""
