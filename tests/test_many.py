@@ -705,7 +705,7 @@ class Pipes(Case):
     TOOLS = ("parallel",)
 
     def test_piped_list_is_solved(self):
-        self.same("--lines=20", "work", "/dev/stdin", told="lines 60, parts 3", by=self.piped("list.obf"))
+        self.same("--lines=20", "work", "/dev/stdin", told="60 lines in 3 parts", by=self.piped("list.obf"))
         self.same("--lines=20", "work", "/dev/stdin", told=", 3 of them solved before", by=self.piped("list.obf"))
         names = [path.name for path in Path("work").iterdir() if not path.is_dir()]
         self.assertEqual(sorted(names), ["asked.json", "lock", "log"])
@@ -741,7 +741,7 @@ class Pipes(Case):
         self.assertEqual((ran.returncode, ran.stdout), (0, self.one))
 
     def test_dash_is_standard_input(self):
-        self.same("--lines=20", "work", "-", told="/dev/stdin: lines 60, parts 3", by=self.piped("list.obf"))
+        self.same("--lines=20", "work", "-", told="/dev/stdin: 60 lines in 3 parts", by=self.piped("list.obf"))
         ran = run("sh", "-c", f'cat one.book | "{MANY}" --merge-books -')
         self.assertEqual((ran.returncode, ran.stdout), (0, Path("one.book").read_bytes()))
 
