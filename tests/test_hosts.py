@@ -122,7 +122,7 @@ class Case(unittest.TestCase):
         """The lines that were told, but for the first, which tells what the list holds, and those of what takes its time."""
         lines = (BASE / "told").read_text().splitlines()
         return [line.removeprefix("ffosolve-many: ") for line in lines
-                if not re.search(": lines 60, parts |, parts [0-9]+ of |: waits for ", line)]
+                if not re.search(": 60 lines in [0-9]+ parts, |, parts [0-9]+ of |: waits for ", line)]
 
     def wait(self, ran, seconds=300):
         return ran.wait(timeout=seconds)
