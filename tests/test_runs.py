@@ -9,7 +9,7 @@ from tests.support import InFolder, built, limit, run, stored
 LARGE = limit("MOST_BYTES") + 1
 KINDS = stored("examples", "kinds.obf")
 HARD = b"-XXXXX----XOOX--XXXXOOOO-OXOOOO-OOXOOX--OOX-OOOOOXXXXXX-X----XXX O\n"  # 17 empty squares
-ADVISED = b"-X--OOOO-XXOOO-XOXOXOOO-OXOXOOOOOXXOXXOO-XOXOO--XXXOXO---X--X-O- X\n"  # a right book saves two thirds of its time
+ADVISED = b"-XOOOO-X-XOOOOX--OOXOOXX-OOXXOXO-OXOXXO-OOOXOOX-OOXOOO--OX--O--- X\n"  # a right book saves two thirds of its time
 LIMIT = 64 << 20  # bytes of memory: enough for the usual table, and too few for the greatest one
 WANTING = {"ffosolve": (1, b"", b"ffosolve: out of memory\n"), "ffoscores": (3, b"", b"ffoscores: out of memory\n")}
 
