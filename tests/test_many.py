@@ -1289,9 +1289,9 @@ class Progress(Case):
     LINE = re.compile(r"\d+%, (?:(?:\d+ h )?(?:\d+ min|\d+ s) left, )?(?:no|\d+) machines? at work, parts (\d+) of \d+, lines (\d+) of \d+")
 
     # Seconds that bench/peer.rs took for the parts of six lines of 264 positions of 8 to 18 empty squares.
-    TOOK = (0.016, 0.298, 0.023, 0.634, 0.064, 0.637, 0.269, 0.258, 0.363, 1.815, 0.594, 0.020, 0.406, 0.030, 0.799,
-            0.048, 0.880, 0.171, 0.605, 0.117, 0.548, 0.320, 0.016, 0.313, 0.034, 0.302, 0.032, 0.379, 0.076, 0.313,
-            0.521, 1.008, 0.520, 0.042, 0.425, 0.015, 1.645, 0.023, 0.535, 0.103, 0.582, 0.371, 0.176, 0.543)
+    TOOK = (0.010, 0.278, 0.010, 0.223, 0.028, 0.331, 0.060, 0.105, 0.138, 1.174, 0.240, 0.010, 0.173, 0.014, 0.264,
+            0.031, 0.364, 0.055, 0.342, 0.058, 0.181, 0.220, 0.007, 0.177, 0.009, 0.164, 0.016, 0.148, 0.026, 0.172,
+            0.156, 0.481, 0.305, 0.008, 0.222, 0.007, 0.472, 0.008, 0.220, 0.029, 0.158, 0.201, 0.105, 0.263)
 
     def test_count_rises_on_a_terminal(self):
         by = install("terminal", ffosolve=SLOW)
@@ -1345,7 +1345,7 @@ class Progress(Case):
 
     def test_work_grows_with_the_empty_squares(self):
         self.assertEqual(many.progress.weight_of(BOARD + b" X\n\n% -----\n" + b"-" * 30 + b"X" * 34 + b" X\n", 20), many.progress.GROWTH ** 2 + 1)
-        for growth, seconds in ((6, 0.34 / 0.002), (12, 138.4 / 0.002)):  # 16 and 22 empty squares, and 10
+        for growth, seconds in ((6, 0.666 / 0.0042), (8, 8.76 / 0.0042)):  # 20 and 22 empty squares, and 14
             self.assertTrue(0.5 < many.progress.GROWTH ** growth / seconds < 2)
 
     def test_times_in_words(self):
