@@ -1194,7 +1194,7 @@ class Hosts(Case):
         self.assertEqual([path.name for host in ("near", "far") for path in Path("hosts", host).iterdir()], [])
 
     def test_all_jobs_of_all_machines_work_at_a_time(self):
-        by = install("slow anywhere", ffosolve='#!/bin/sh\nsleep 0.3\nexec "@real@" "$@"\n')
+        by = install("slow anywhere", ffosolve='#!/bin/sh\nsleep 1.5\nexec "@real@" "$@"\n')
         self.same(*self.by("3/near", "2/far", lines=2), by=by, **self.how)
         running = most = 0
         for line in Path("work/log").read_text().splitlines():
