@@ -9,7 +9,7 @@ from pathlib import Path
 
 from tests.support import ROOT, InFolder, Refusals, lack, run
 
-NAMED = ("AllocError", "AllocFailed { .. }", "Memory")
+NAMED = ("AllocError", "AllocFailed { .. }", "Kind(OutOfMemory)", "Memory")
 PROGRAM = ROOT / "crates/crate_tests/out/crate_tests_tests"
 # The tests in which a refusal ends the test or changes nothing. The others tell of want of memory themselves, or want two
 # threads at work at once.
