@@ -437,7 +437,7 @@ class Swept(Case):
         """A run that is killed in the middle."""
         for host in hosts:
             self.write("slow", "40", host.home)
-        ran = self.start(by="slow")
+        ran = self.start(by="slow", hosts="".join(f"1/{host.name}\n" for host in hosts))  # no other solves all before
         for host in hosts:
             wait_until(lambda host=host: any("sleep 40" in line for line in self.at_work(host)))
         self.end(ran)
@@ -453,7 +453,8 @@ class Swept(Case):
     def test_machine_that_was_away_is_swept_by_the_next_run(self):
         self.lost_soon()
         self.write("slow", "20", self.h2.home)
-        ran = self.start(by="slow")
+        self.write("slow", "2", self.h1.home)  # otherwise h1 could solve all before h2 is asked
+        ran = self.start(by="slow", hosts="1/h1\n1/h2\n")
         wait_until(lambda: any("sleep 20" in line for line in self.at_work(self.h2)))
         self.h2.lose_power()
         self.whole(ran)
