@@ -133,7 +133,7 @@ fn table_arg<'a>(alloc: Global) -> Arg<'a>
         "table",
         MOST_ENTRIES,
         DEFAULT_ENTRIES_TEXT,
-        "Keep bounds of at most N positions, 32 bytes each",
+        "Keep bounds of at most N positions,\n32 bytes each",
     )
 }
 
