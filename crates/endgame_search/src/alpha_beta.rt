@@ -5,7 +5,7 @@
 ghost use Rattle.std.specs.Prelude.{◌≡◌, ◌≢◌, ◌≤◌, ◌≤ℤ◌, ◌<ℤ◌, ◌+ℤ◌, pos, negsuc, count_ones};
 ghost use Rattle.othello_bits.specs.Pos.{moves_of, value_of, HasNoMove};
 ghost use Rattle.othello_rules.specs.Answer.{IsScore};
-ghost use Rattle.endgame_search.specs.Windows.{IsBound, IsWindow, Places};
+ghost use Rattle.endgame_search.specs.Windows.{IsBound, IsWindow, IsFailSoft};
 ghost use Rattle.endgame_search.specs.Children.{AreOthersOf};
 
 use crate::hash_cutoff::{
@@ -43,7 +43,7 @@ pub fn value_in<T: Bounds>(table: &T, position: Pos, low: i8, high: i8) -> i8
 // search. Positions with few empty squares are not stored.
 pub(crate) fn search_scores<T: Bounds>(table: &T, position: Pos, guess: i8, low: i8, high: i8) -> i8
     requires { IsWindow low high }
-    ensures { Places low high (value_of (T.scoring table.now) position) result }
+    ensures { IsFailSoft low high (value_of (T.scoring table.now) position) result }
 {
     let most = score_limit(table.scoring());
     let moves = position.moves();
@@ -68,7 +68,7 @@ pub(crate) fn search_scores<T: Bounds>(table: &T, position: Pos, guess: i8, low:
 fn search<T: Bounds>(table: &T, position: Pos, moves: u64, bound: i8) -> i8
     requires moves { moves ≡ moves_of position }
     requires bound { IsBound bound }
-    ensures { Places bound (bound +ℤ pos 1) (value_of (T.scoring table.now) position) result }
+    ensures { IsFailSoft bound (bound +ℤ pos 1) (value_of (T.scoring table.now) position) result }
 {
     let empties = position.empties();
     if empties <= MOST_FEW_EMPTIES {
@@ -88,7 +88,7 @@ fn search<T: Bounds>(table: &T, position: Pos, moves: u64, bound: i8) -> i8
 fn search_pass<T: Bounds>(table: &T, position: Pos, bound: i8) -> i8
     requires none { HasNoMove position }
     requires bound { IsBound bound }
-    ensures { Places bound (bound +ℤ pos 1) (value_of (T.scoring table.now) position) result }
+    ensures { IsFailSoft bound (bound +ℤ pos 1) (value_of (T.scoring table.now) position) result }
 {
     let passed = position.pass();
     let replies = passed.moves();
@@ -109,7 +109,7 @@ fn search_moves<T: Bounds>(table: &T, position: Pos, moves: u64, bound: i8) -> i
     requires moves { moves ≡ moves_of position }
     requires some { moves ≢ 0 }
     requires bound { IsBound bound }
-    ensures { Places bound (bound +ℤ pos 1) (value_of (T.scoring table.now) position) result }
+    ensures { IsFailSoft bound (bound +ℤ pos 1) (value_of (T.scoring table.now) position) result }
 {
     if let Some(score) = decide(table, position, bound) {
         return score;
@@ -127,7 +127,7 @@ fn search_by_list<T: Bounds>(table: &T, position: Pos, moves: u64, bound: i8) ->
     requires moves { moves ≡ moves_of position }
     requires some { moves ≢ 0 }
     requires bound { IsBound bound }
-    ensures { Places bound (bound +ℤ pos 1) (value_of (T.scoring table.now) position) result }
+    ensures { IsFailSoft bound (bound +ℤ pos 1) (value_of (T.scoring table.now) position) result }
 {
     if moves.count_ones() <= 16 {
         search_up_to_16(table, position, moves, bound)
@@ -146,7 +146,7 @@ fn search_up_to_16<T: Bounds>(table: &T, position: Pos, moves: u64, bound: i8) -
     requires some { moves ≢ 0 }
     requires room { count_ones moves ≤ 16 }
     requires bound { IsBound bound }
-    ensures { Places bound (bound +ℤ pos 1) (value_of (T.scoring table.now) position) result }
+    ensures { IsFailSoft bound (bound +ℤ pos 1) (value_of (T.scoring table.now) position) result }
 {
     let mut children = ArrayVec::<Child, 16>::new();
     let Some(stuck) = add_until_stuck(position, moves, &mut children) else {
@@ -172,7 +172,7 @@ fn search_up_to_64<T: Bounds>(table: &T, position: Pos, moves: u64, bound: i8) -
     requires moves { moves ≡ moves_of position }
     requires some { moves ≢ 0 }
     requires bound { IsBound bound }
-    ensures { Places bound (bound +ℤ pos 1) (value_of (T.scoring table.now) position) result }
+    ensures { IsFailSoft bound (bound +ℤ pos 1) (value_of (T.scoring table.now) position) result }
 {
     let mut children = ArrayVec::<Child, 64>::new();
     let Some(stuck) = add_until_stuck(position, moves, &mut children) else {
@@ -206,7 +206,7 @@ fn search_children<T: Bounds>(
     requires open { searched ≤ℤ bound }
     requires some { moves_of position ≢ 0 }
     requires bound { IsBound bound }
-    ensures { Places bound (bound +ℤ pos 1) (value_of (T.scoring table.now) position) result }
+    ensures { IsFailSoft bound (bound +ℤ pos 1) (value_of (T.scoring table.now) position) result }
 {
     if let Some(score) = probe_children(table, position, children, bound) {
         return score;

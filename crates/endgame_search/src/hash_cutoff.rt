@@ -5,7 +5,7 @@ ghost use Rattle.othello_rules.specs.Answer.{IsScore};
 ghost use Rattle.othello_bits.specs.Pos.{PosView, value_of};
 ghost use Rattle.bound_table.specs.Range.{range_view};
 ghost use Rattle.endgame_search.specs.Children.{IsChildOf};
-ghost use Rattle.endgame_search.specs.Windows.{IsBound, IsWindow, IsWithin, Places};
+ghost use Rattle.endgame_search.specs.Windows.{IsBound, IsWindow, IsWithin, IsFailSoft};
 
 use crate::move_order::Child;
 use bound_table::{Bounds, Range};
@@ -39,7 +39,7 @@ pub(crate) fn score_limit(scoring: Scoring) -> i8
 pub(crate) fn decide<T: Bounds>(table: &T, position: Pos, bound: i8) -> Option<i8>
     requires { IsBound bound }
     ensures { IfSome result
-        (Places bound (bound +ℤ pos 1) (value_of (T.scoring table.now) position)) }
+        (IsFailSoft bound (bound +ℤ pos 1) (value_of (T.scoring table.now) position)) }
 {
     let range = table.probe(&position)?;
     let least = range.low();
@@ -81,7 +81,7 @@ const FEWEST_STORED: u8 = 10;
 #[inline(always)]
 pub(crate) fn store_if_deep<T: Bounds>(table: &T, position: Pos, low: i8, high: i8, score: i8) -> i8
     requires window { IsWindow low high }
-    requires places { Places low high (value_of (T.scoring table.now) position) score }
+    requires places { IsFailSoft low high (value_of (T.scoring table.now) position) score }
     ensures { result ≡ score }
 {
     if position.empties() >= FEWEST_STORED {
@@ -94,7 +94,7 @@ pub(crate) fn store_if_deep<T: Bounds>(table: &T, position: Pos, low: i8, high: 
 #[inline(never)]
 pub(crate) fn store_always<T: Bounds>(table: &T, position: Pos, low: i8, high: i8, score: i8)
     requires window { IsWindow low high }
-    requires places { Places low high (value_of (T.scoring table.now) position) score }
+    requires places { IsFailSoft low high (value_of (T.scoring table.now) position) score }
 {
     table.store(&position, proved_range(low, high, score));
 }
@@ -116,7 +116,7 @@ pub(crate) fn probe_children<T: Bounds>(
     requires children { All (IsChildOf position) children.now }
     requires bound { IsBound bound }
     ensures { IfSome result
-        (Places bound (bound +ℤ pos 1) (value_of (T.scoring table.now) position)) }
+        (IsFailSoft bound (bound +ℤ pos 1) (value_of (T.scoring table.now) position)) }
 {
     if position.empties() < FEWEST_LOOKED_AHEAD {
         return None;
@@ -131,7 +131,7 @@ fn look_ahead<T: Bounds>(table: &T, position: Pos, children: &[Child], bound: i8
     requires children { All (IsChildOf position) children.now }
     requires bound { IsBound bound }
     ensures { IfSome result
-        (Places bound (bound +ℤ pos 1) (value_of (T.scoring table.now) position)) }
+        (IsFailSoft bound (bound +ℤ pos 1) (value_of (T.scoring table.now) position)) }
 {
     for child in children {
         if let Some(range) = table.probe(&child.position) {

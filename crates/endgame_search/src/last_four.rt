@@ -5,7 +5,7 @@
 ghost use Rattle.std.specs.Prelude.{◌≡◌, ◌<◌, ◌↔◌, ◌+ℤ◌, ℕ, pos, true, count_ones, IsNone, IfSome};
 ghost use Rattle.othello_rules.specs.Masks.{in_mask};
 ghost use Rattle.othello_bits.specs.Pos.{flips_of, value_of, empties_of, IsMove, HasNoMove};
-ghost use Rattle.endgame_search.specs.Windows.{IsBound, Places};
+ghost use Rattle.endgame_search.specs.Windows.{IsBound, IsFailSoft};
 ghost use Rattle.endgame_search.specs.Tries.{IsMoveAmong, HasNoMoveAmong};
 ghost use Rattle.endgame_search.specs.Endings.{IsEnding};
 ghost use Rattle.endgame_search.specs.Lasts.{IsFree, IsLast};
@@ -70,7 +70,7 @@ fn search_last_move<T: Bounds>(table: &T, ending: Ending, bound: i8) -> i8
     requires ending { IsEnding ending }
     requires some { 0 < ending.turned }
     requires bound { IsBound bound }
-    ensures { Places bound (bound +ℤ pos 1)
+    ensures { IsFailSoft bound (bound +ℤ pos 1)
         (value_of (T.scoring table.now) ending.position) result }
 {
     if let Some(score) = decide(table, ending.position, bound) {
@@ -86,7 +86,7 @@ fn search_last_pass<T: Bounds>(table: &T, ending: Ending, bound: i8) -> i8
     requires ending { IsEnding ending }
     requires none { ending.turned ≡ 0 }
     requires bound { IsBound bound }
-    ensures { Places bound (bound +ℤ pos 1)
+    ensures { IsFailSoft bound (bound +ℤ pos 1)
         (value_of (T.scoring table.now) ending.position) result }
 {
     let passed = Ending::new(ending.position.pass(), ending.square);
@@ -105,7 +105,7 @@ fn search_last_pass<T: Bounds>(table: &T, ending: Ending, bound: i8) -> i8
 fn search_last<T: Bounds>(table: &T, ending: Ending, bound: i8) -> i8
     requires ending { IsEnding ending }
     requires bound { IsBound bound }
-    ensures { Places bound (bound +ℤ pos 1)
+    ensures { IsFailSoft bound (bound +ℤ pos 1)
         (value_of (T.scoring table.now) ending.position) result }
 {
     if ending.turned == 0 {
@@ -176,7 +176,7 @@ pub(crate) fn search_in_order<T: Bounds>(
     requires squares { (q : ℕ) → IsMove position q → in_mask squares q ≡ true }
     requires empties { empties ≡ empties_of position }
     requires bound { IsBound bound }
-    ensures { Places bound (bound +ℤ pos 1) (value_of (T.scoring table.now) position) result }
+    ensures { IsFailSoft bound (bound +ℤ pos 1) (value_of (T.scoring table.now) position) result }
 {
     let Some(first) = next_move(position, squares) else {
         return search_pass_in_order(table, position, empties, bound);
@@ -207,7 +207,7 @@ fn search_pass_in_order<T: Bounds>(table: &T, position: Pos, empties: u8, bound:
     requires none { HasNoMove position }
     requires empties { empties ≡ empties_of position }
     requires bound { IsBound bound }
-    ensures { Places bound (bound +ℤ pos 1) (value_of (T.scoring table.now) position) result }
+    ensures { IsFailSoft bound (bound +ℤ pos 1) (value_of (T.scoring table.now) position) result }
 {
     let passed = position.pass();
     let replies = passed.moves();
@@ -227,7 +227,7 @@ fn search_pass_in_order<T: Bounds>(table: &T, position: Pos, empties: u8, bound:
 fn search_after<T: Bounds>(table: &T, position: Pos, empties: u8, bound: i8) -> i8
     requires empties { empties ≡ empties_of position }
     requires bound { IsBound bound }
-    ensures { Places bound (bound +ℤ pos 1) (value_of (T.scoring table.now) position) result }
+    ensures { IsFailSoft bound (bound +ℤ pos 1) (value_of (T.scoring table.now) position) result }
 {
     if empties == 1 {
         search_last(table, Ending::new(position, last_square(position)), bound)

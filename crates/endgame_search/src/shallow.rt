@@ -5,7 +5,7 @@
 
 ghost use Rattle.std.specs.Prelude.{◌≡◌, ◌≢◌, ◌≤◌, ◌≤ℤ◌, ◌+ℤ◌, pos, negsuc, length};
 ghost use Rattle.othello_bits.specs.Pos.{moves_of, empties_of, value_of, HasNoMove};
-ghost use Rattle.endgame_search.specs.Windows.{IsBound, Places};
+ghost use Rattle.endgame_search.specs.Windows.{IsBound, IsFailSoft};
 ghost use Rattle.endgame_search.specs.Children.{AreOthersOf};
 
 use crate::hash_cutoff::{BELOW_ALL_SCORES, decide};
@@ -39,7 +39,7 @@ pub(crate) fn search_few<T: Bounds>(
     requires empties { empties ≡ empties_of position }
     requires few { empties ≤ 7 }
     requires bound { IsBound bound }
-    ensures { Places bound (bound +ℤ pos 1) (value_of (T.scoring table.now) position) result }
+    ensures { IsFailSoft bound (bound +ℤ pos 1) (value_of (T.scoring table.now) position) result }
 {
     if moves != 0 {
         search_few_moves(table, position, moves, empties, bound)
@@ -56,7 +56,7 @@ fn search_few_pass<T: Bounds>(table: &T, position: Pos, bound: i8) -> i8
     requires none { HasNoMove position }
     requires few { empties_of position ≤ 7 }
     requires bound { IsBound bound }
-    ensures { Places bound (bound +ℤ pos 1) (value_of (T.scoring table.now) position) result }
+    ensures { IsFailSoft bound (bound +ℤ pos 1) (value_of (T.scoring table.now) position) result }
 {
     let passed = position.pass();
     let replies = passed.moves();
@@ -79,7 +79,7 @@ fn search_few_moves<T: Bounds>(table: &T, position: Pos, moves: u64, empties: u8
     requires empties { empties ≡ empties_of position }
     requires few { empties ≤ 7 }
     requires bound { IsBound bound }
-    ensures { Places bound (bound +ℤ pos 1) (value_of (T.scoring table.now) position) result }
+    ensures { IsFailSoft bound (bound +ℤ pos 1) (value_of (T.scoring table.now) position) result }
 {
     if empties <= MOST_IN_ORDER {
         search_in_order(table, position, moves, empties, bound)
@@ -99,7 +99,7 @@ fn search_few_by_list<T: Bounds>(table: &T, position: Pos, moves: u64, bound: i8
     requires some { moves ≢ 0 }
     requires few { empties_of position ≤ 7 }
     requires bound { IsBound bound }
-    ensures { Places bound (bound +ℤ pos 1) (value_of (T.scoring table.now) position) result }
+    ensures { IsFailSoft bound (bound +ℤ pos 1) (value_of (T.scoring table.now) position) result }
 {
     let mut children = ArrayVec::<Child, FEW_ROOM>::new();
     if let Some(score) = decide(table, position, bound) {
@@ -136,7 +136,7 @@ fn search_few_children<T: Bounds>(
     requires few { empties_of position ≤ 7 }
     requires room { length children.now ≤ 7 }
     requires bound { IsBound bound }
-    ensures { Places bound (bound +ℤ pos 1) (value_of (T.scoring table.now) position) result }
+    ensures { IsFailSoft bound (bound +ℤ pos 1) (value_of (T.scoring table.now) position) result }
 {
     let empties = position.empties() - 1;
     let mut best = searched;

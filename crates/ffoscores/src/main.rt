@@ -1,7 +1,7 @@
-//! The program `ffoscores`: passes arguments, streams and allocator to `list_scorer`.
+//! The program `ffoscores`: passes arguments, streams and allocator to `ffoscores_program`.
 #![tactic(auto)]
 
-use list_scorer::{Ended, list_program_at};
+use ffoscores_program::{Ended, list_program_at};
 use std::env::Env;
 use std::{env, io};
 

@@ -9,7 +9,7 @@ use Rattle.othello_rules.specs.Masks.{in_mask}
 use Rattle.othello_bits.specs.Pos.{mem}
 use Rattle.othello_bits.specs.Shifts.{lines, is_turned}
 use Rattle.othello_bits.specs.Lasts.{turned_along, turned_by}
-use Rattle.othello_bits.specs.declared.mobility.Heading.TheVariants.{North, NorthEast, East, SouthEast, South, SouthWest, West, NorthWest}
+use Rattle.othello_bits.specs.declared.mobility.Direction.TheVariants.{North, NorthEast, East, SouthEast, South, SouthWest, West, NorthWest}
 use Rattle.othello_bits.proofs.Bits.{empty_meet}
 use Rattle.othello_bits.proofs.LineCounts.{distinct, distinct_parts}
 use Rattle.othello_bits.proofs.Numbers.{count_below, both_below}

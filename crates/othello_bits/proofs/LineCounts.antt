@@ -10,8 +10,8 @@ use Rattle.othello_rules.specs.Masks.{in_mask}
 use Rattle.othello_bits.specs.Pos.{mem}
 use Rattle.othello_bits.specs.Shifts.{line}
 use Rattle.othello_bits.specs.Lasts.{turned_along, turned_by}
-use Rattle.othello_bits.specs.declared.mobility.Heading.{Heading}
-use Rattle.othello_bits.specs.declared.mobility.Heading.TheVariants.{North, NorthEast, East, SouthEast, South, SouthWest, West, NorthWest}
+use Rattle.othello_bits.specs.declared.mobility.Direction.{Direction}
+use Rattle.othello_bits.specs.declared.mobility.Direction.TheVariants.{North, NorthEast, East, SouthEast, South, SouthWest, West, NorthWest}
 use Rattle.othello_bits.specs.declared.last_flip.TheConstants.{TURNED_IN_LINE, DIAGONALS}
 use Rattle.othello_bits.proofs.Bits.{in_mask-and, in_mask-zero, in_mask-pow}
 use Rattle.othello_bits.proofs.Numbers.{number_below, is_number, power_lt}
@@ -95,23 +95,23 @@ part-number own (x ∷ xs) d =
 abbrev on_line : List ℕ → ℕ → Bool
 on_line xs x = ltb x 64 && mem x xs
 
-abbrev squares_by : Heading → Heading → ℕ → List ℕ
+abbrev squares_by : Direction → Direction → ℕ → List ℕ
 squares_by h g q = line h q ++ line g q
 
-abbrev is_line : ℕ → Heading → Heading → ℕ → Bool
+abbrev is_line : ℕ → Direction → Direction → ℕ → Bool
 is_line m h g q = agree_below (λ i. in_mask m i && not (eqb i q)) (λ i. mem i (squares_by h g q)) 64
 
-abbrev counts : Heading → Heading → (ℕ → ℕ) → ℕ → Bool
+abbrev counts : Direction → Direction → (ℕ → ℕ) → ℕ → Bool
 counts h g count q = subsets (squares_by h g q) (λ d. eqb (count d) (turned_by d h g q))
 
-abbrev holds_line : Heading → Heading → ℕ → Bool
+abbrev holds_line : Direction → Direction → ℕ → Bool
 holds_line h g q = distinct (squares_by h g q) && (list_all (on_line (squares_by h g q)) (line h q) && list_all (on_line (squares_by h g q)) (line g q))
 
 both_true : (a b : Bool) → b ≡ true → (a && b) ≡ a
 both_true true b e = e
 both_true false b e = refl
 
-module _ (m : ℕ) (h g : Heading) (q own : ℕ) (fits : own < 2 ^ 64) (free : in_mask own q ≡ false) (s : is_line m h g q ≡ true) where
+module _ (m : ℕ) (h g : Direction) (q own : ℕ) (fits : own < 2 ^ 64) (free : in_mask own q ≡ false) (s : is_line m h g q ≡ true) where
   both : (i : ℕ) → i < 64 → (in_mask own i && in_mask m i) ≡ (in_mask own i && mem i (squares_by h g q))
   both i l =
       let e : (in_mask m i && not (eqb i q)) ≡ mem i (squares_by h g q) = agree_below_at (λ i. in_mask m i && not (eqb i q)) (λ i. mem i (squares_by h g q)) 64 i s l in

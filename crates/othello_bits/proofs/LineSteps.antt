@@ -5,8 +5,8 @@ use Rattle.std.proofs.lemmas.Bool.{agree_below_at}
 use Rattle.othello_rules.specs.Board.{directions, ray}
 use Rattle.othello_rules.proofs.Reorder.{same_list, same_list-true}
 use Rattle.othello_bits.specs.Shifts.{line}
-use Rattle.othello_bits.specs.declared.mobility.Heading.{Heading}
-use Rattle.othello_bits.specs.declared.mobility.Heading.TheVariants.{North, NorthEast, East, SouthEast, South, SouthWest, West, NorthWest}
+use Rattle.othello_bits.specs.declared.mobility.Direction.{Direction}
+use Rattle.othello_bits.specs.declared.mobility.Direction.TheVariants.{North, NorthEast, East, SouthEast, South, SouthWest, West, NorthWest}
 
 -- the first n squares met from q, where `next` gives the square beside another, if the board has one
 unfoldable pub walk : (ℕ → Option ℕ) → ℕ → ℕ → List ℕ
@@ -21,10 +21,10 @@ pub walk-some : (next : ℕ → Option ℕ) (n q p : ℕ) → next q ≡ Some p 
 unfolding walk
 walk-some next n q p e = rw (e, walk)
 
-unfoldable pub beside : Heading → ℕ → Option ℕ
+unfoldable pub beside : Direction → ℕ → Option ℕ
 beside h q = slice_get (line h q) 0
 
-same_lines : (h : Heading) (q : ℕ) → q < 64 → same_list (line h q) (walk (beside h) 7 q) ≡ true
+same_lines : (h : Direction) (q : ℕ) → q < 64 → same_list (line h q) (walk (beside h) 7 q) ≡ true
 unfolding same_list directions ray walk beside
 same_lines North q l = agree_below_at (λ q. same_list (line North q) (walk (beside North) 7 q)) (λ q. true) 64 q refl l
 same_lines NorthEast q l = agree_below_at (λ q. same_list (line NorthEast q) (walk (beside NorthEast) 7 q)) (λ q. true) 64 q refl l
@@ -35,5 +35,5 @@ same_lines SouthWest q l = agree_below_at (λ q. same_list (line SouthWest q) (w
 same_lines West q l = agree_below_at (λ q. same_list (line West q) (walk (beside West) 7 q)) (λ q. true) 64 q refl l
 same_lines NorthWest q l = agree_below_at (λ q. same_list (line NorthWest q) (walk (beside NorthWest) 7 q)) (λ q. true) 64 q refl l
 
-pub line-is_walk : (h : Heading) (q : ℕ) → q < 64 → line h q ≡ walk (beside h) 7 q
+pub line-is_walk : (h : Direction) (q : ℕ) → q < 64 → line h q ≡ walk (beside h) 7 q
 line-is_walk h q l = same_list-true (line h q) (walk (beside h) 7 q) (same_lines h q l)

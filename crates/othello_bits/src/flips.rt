@@ -5,7 +5,7 @@ ghost use Rattle.othello_rules.specs.Masks.{in_mask};
 ghost use Rattle.othello_bits.specs.Shifts.{IsRay, line, turns};
 ghost use Rattle.othello_bits.specs.Symmetries.{target};
 
-use crate::mobility::Heading;
+use crate::mobility::Direction;
 use crate::sym::{Sym, mirror_rows};
 
 // The masks of the rays from each square: to the south-west, south, south-east, east and west.
@@ -350,7 +350,7 @@ fn flips_back(own: u64, opp: u64, ray: u64) -> u64
 #[inline(always)]
 pub fn to_east(own: u64, opp: u64, square: u8) -> u64
     requires { square < 64 }
-    ensures { (i : ℕ) → in_mask result i ≡ turns own opp (line Heading.East square) i }
+    ensures { (i : ℕ) → in_mask result i ≡ turns own opp (line Direction.East square) i }
 {
     flips_ahead(own, opp, RAYS[square as usize][3])
 }
@@ -359,7 +359,7 @@ pub fn to_east(own: u64, opp: u64, square: u8) -> u64
 #[inline(always)]
 pub fn to_west(own: u64, opp: u64, square: u8) -> u64
     requires { square < 64 }
-    ensures { (i : ℕ) → in_mask result i ≡ turns own opp (line Heading.West square) i }
+    ensures { (i : ℕ) → in_mask result i ≡ turns own opp (line Direction.West square) i }
 {
     flips_back(own, opp, RAYS[square as usize][4])
 }
@@ -370,9 +370,9 @@ pub fn to_west(own: u64, opp: u64, square: u8) -> u64
 pub fn to_south(own: u64, opp: u64, square: u8) -> u64
     requires { square < 64 }
     ensures { (i : ℕ) → in_mask result i
-        ≡ (turns own opp (line Heading.SouthWest square) i
-        || (turns own opp (line Heading.South square) i
-        || turns own opp (line Heading.SouthEast square) i)) }
+        ≡ (turns own opp (line Direction.SouthWest square) i
+        || (turns own opp (line Direction.South square) i
+        || turns own opp (line Direction.SouthEast square) i)) }
 {
     let rays = RAYS[square as usize];
     flips_ahead(own, opp, rays[0]) | flips_ahead(own, opp, rays[1]) | flips_ahead(own, opp, rays[2])
@@ -404,9 +404,9 @@ fn mirror_square(square: u8) -> u8
 pub fn to_north(own: u64, opp: u64, square: u8) -> u64
     requires { square < 64 }
     ensures { (i : ℕ) → in_mask result i
-        ≡ (turns own opp (line Heading.NorthWest square) i
-        || (turns own opp (line Heading.North square) i
-        || turns own opp (line Heading.NorthEast square) i)) }
+        ≡ (turns own opp (line Direction.NorthWest square) i
+        || (turns own opp (line Direction.North square) i
+        || turns own opp (line Direction.NorthEast square) i)) }
 {
     let rays = RAYS[mirror_square(square) as usize];
     flips_turned_over(own, opp, rays[0])

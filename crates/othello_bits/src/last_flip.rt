@@ -9,7 +9,7 @@ ghost use Rattle.othello_rules.specs.Masks.{in_mask};
 ghost use Rattle.othello_bits.specs.Shifts.{is_turned};
 ghost use Rattle.othello_bits.specs.Lasts.{turned_by};
 
-use crate::mobility::Heading;
+use crate::mobility::Direction;
 
 // The number of discs that a move turns in a line of eight squares. The first index is the place of
 // the move, from 0 to 7. The second is the byte of the mover's discs on the line. All other squares
@@ -179,7 +179,7 @@ static DIAGONALS: [[u64; 2]; 64] = [
 fn in_row(own: u64, square: u8) -> u8
     requires on_board { square < 64 }
     requires free { in_mask own square ≡ false }
-    ensures { result ≡ turned_by own Heading.West Heading.East square }
+    ensures { result ≡ turned_by own Direction.West Direction.East square }
 {
     let start = square / 8 * 8;
     let discs = own & (0xffu64 << start);
@@ -192,7 +192,7 @@ fn in_row(own: u64, square: u8) -> u8
 fn in_column(own: u64, square: u8) -> u8
     requires on_board { square < 64 }
     requires free { in_mask own square ≡ false }
-    ensures { result ≡ turned_by own Heading.North Heading.South square }
+    ensures { result ≡ turned_by own Direction.North Direction.South square }
 {
     let discs = own & (0x0101_0101_0101_0101u64 << (square % 8));
     let gathered = discs.wrapping_mul(0x0102_0408_1020_4080u64 >> (square % 8)) >> 56;
@@ -205,7 +205,7 @@ fn in_column(own: u64, square: u8) -> u8
 fn in_falling(own: u64, square: u8) -> u8
     requires on_board { square < 64 }
     requires free { in_mask own square ≡ false }
-    ensures { result ≡ turned_by own Heading.NorthWest Heading.SouthEast square }
+    ensures { result ≡ turned_by own Direction.NorthWest Direction.SouthEast square }
 {
     let discs = own & DIAGONALS[square as usize][0];
     let gathered = discs.wrapping_mul(0x0101_0101_0101_0101) >> 56;
@@ -218,7 +218,7 @@ fn in_falling(own: u64, square: u8) -> u8
 fn in_rising(own: u64, square: u8) -> u8
     requires on_board { square < 64 }
     requires free { in_mask own square ≡ false }
-    ensures { result ≡ turned_by own Heading.SouthWest Heading.NorthEast square }
+    ensures { result ≡ turned_by own Direction.SouthWest Direction.NorthEast square }
 {
     let discs = own & DIAGONALS[square as usize][1];
     let gathered = discs.wrapping_mul(0x0101_0101_0101_0101) >> 56;

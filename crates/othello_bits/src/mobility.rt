@@ -7,7 +7,7 @@ ghost use Rattle.othello_bits.specs.Shifts.{back, can, chain, inside, line, oppo
 
 /// One of the eight directions. North leads to row 1, and west to column A.
 #[derive(Clone, Copy, PartialEq, Eq)]
-pub enum Heading {
+pub enum Direction {
     North,
     NorthEast,
     East,
@@ -18,7 +18,7 @@ pub enum Heading {
     NorthWest,
 }
 
-impl Heading {
+impl Direction {
     // The mask moved by one step. A square that leaves its row at the edge comes out in the next
     // row.
     #[inline(always)]
@@ -26,14 +26,14 @@ impl Heading {
         ensures { (i : ℕ) → in_mask result i ≡ (can self i && in_mask mask (back self i)) }
     {
         match self {
-            Heading::North => mask >> 8,
-            Heading::NorthEast => mask >> 7,
-            Heading::East => mask << 1,
-            Heading::SouthEast => mask << 9,
-            Heading::South => mask << 8,
-            Heading::SouthWest => mask << 7,
-            Heading::West => mask >> 1,
-            Heading::NorthWest => mask >> 9,
+            Direction::North => mask >> 8,
+            Direction::NorthEast => mask >> 7,
+            Direction::East => mask << 1,
+            Direction::SouthEast => mask << 9,
+            Direction::South => mask << 8,
+            Direction::SouthWest => mask << 7,
+            Direction::West => mask >> 1,
+            Direction::NorthWest => mask >> 9,
         }
     }
 
@@ -44,7 +44,7 @@ impl Heading {
         ensures { (i : ℕ) → in_mask result i ≡ (in_mask discs i && inside self i) }
     {
         match self {
-            Heading::North | Heading::South => discs,
+            Direction::North | Direction::South => discs,
             _ => discs & 0x7e7e_7e7e_7e7e_7e7e,
         }
     }
@@ -64,18 +64,18 @@ impl Heading {
     }
 
     #[inline(always)]
-    fn opposite(self) -> Heading
+    fn opposite(self) -> Direction
         ensures { result ≡ opposite self }
     {
         match self {
-            Heading::North => Heading::South,
-            Heading::NorthEast => Heading::SouthWest,
-            Heading::East => Heading::West,
-            Heading::SouthEast => Heading::NorthWest,
-            Heading::South => Heading::North,
-            Heading::SouthWest => Heading::NorthEast,
-            Heading::West => Heading::East,
-            Heading::NorthWest => Heading::SouthEast,
+            Direction::North => Direction::South,
+            Direction::NorthEast => Direction::SouthWest,
+            Direction::East => Direction::West,
+            Direction::SouthEast => Direction::NorthWest,
+            Direction::South => Direction::North,
+            Direction::SouthWest => Direction::NorthEast,
+            Direction::West => Direction::East,
+            Direction::NorthWest => Direction::SouthEast,
         }
     }
 

@@ -9,9 +9,9 @@ use Rattle.clap.specs.Words.{kind_of}
 use Rattle.clap.specs.declared.error.Error.{Error}
 use Rattle.suite_solver.specs.CommandLine.{Asks, AsksForText, HasFaultBy, IsFaultless, IsTextKind, Request, ffosolve}
 use Rattle.suite_solver.specs.Programs.{AreTextsOf}
-use Rattle.program_files.specs.Inputs.{AreFrontsOf}
-use Rattle.program_files.specs.ProgramErrors.{IsSilent, status_of}
-use Rattle.program_files.specs.declared.program_error.ProgramError.{ProgramError}
+use Rattle.book_files.specs.Inputs.{AreFrontsOf}
+use Rattle.book_files.specs.ProgramErrors.{IsSilent, status_of}
+use Rattle.book_files.specs.declared.program_error.ProgramError.{ProgramError}
 use Rattle.suite_runs.specs.Runs.{first_large, is_large}
 use Rattle.suite_reports.specs.declared.settings.TheConstants.{MOST_BYTES, MOST_FILES}
 use Rattle.suite_runs.specs.declared.run_fault.RunFault.{RunFault}

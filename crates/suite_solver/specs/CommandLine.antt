@@ -18,7 +18,7 @@ use Rattle.clap.specs.declared.error.kind.ErrorKind.{ErrorKind}
 use Rattle.clap.specs.declared.error.kind.ErrorKind.TheVariants.{DisplayHelp, DisplayVersion, OutOfMemory}
 use Rattle.othello_rules.specs.Scores.{all_scorings, scoring_name}
 use Rattle.othello_rules.specs.declared.scoring.Scoring.TheVariants.{Winner}
-use Rattle.program_files.specs.Inputs.{names_of}
+use Rattle.book_files.specs.Inputs.{names_of}
 use Rattle.suite_reports.specs.Settings.{SettingsView}
 use Rattle.suite_reports.specs.Limits.{most_empties, most_entries, most_workers}
 use Rattle.suite_reports.specs.Limits.{default_empties, default_entries, default_workers}

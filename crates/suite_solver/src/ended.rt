@@ -2,7 +2,7 @@
 
 ghost use Rattle.std.specs.Prelude.{◌≡◌, IfOk, IsErr};
 ghost use Rattle.std.specs.Process.{exit_status};
-ghost use Rattle.program_files.specs.Inputs.{names_of};
+ghost use Rattle.book_files.specs.Inputs.{names_of};
 ghost use Rattle.suite_solver.specs.Programs.{EndsFfosolve, EndsUnread};
 
 use crate::ffosolve::program_of;

@@ -3,10 +3,10 @@
 ghost use Rattle.std.specs.Prelude.{◌≡◌, ◌⊎◌, ◌↔◌, map, None, Some, OnOk, IfOk, IfErr, IfSome, IsErr, IsErrOf};
 ghost use Rattle.std.specs.List.{concat};
 ghost use Rattle.std.specs.Io.KnownBytes.{Appends};
-ghost use Rattle.program_files.specs.Inputs.{names_of};
-ghost use Rattle.program_files.specs.BookPlace.{IsFree};
-ghost use Rattle.program_files.specs.ProgramErrors.{IsSilent, status_of};
-ghost use Rattle.program_files.specs.declared.program_error.ProgramError.TheVariants.{Run};
+ghost use Rattle.book_files.specs.Inputs.{names_of};
+ghost use Rattle.book_files.specs.BookPlace.{IsFree};
+ghost use Rattle.book_files.specs.ProgramErrors.{IsSilent, status_of};
+ghost use Rattle.book_files.specs.declared.program_error.ProgramError.TheVariants.{Run};
 ghost use Rattle.suite_solver.specs.Programs.{EndsFfosolve, EndsUnread, Prints, PrintsReports};
 ghost use Rattle.obf_text.specs.LineText.{texts_of};
 ghost use Rattle.suite_runs.specs.Runs.{refusal_of};
@@ -16,7 +16,7 @@ use crate::command_line::options;
 use crate::option_fault::OptionFault;
 use crate::run_options::Options;
 use crate::streams::end_without_options;
-use program_files::{
+use book_files::{
     BookPlace, NewFile, ProgramError, borrow_words, check_place, read_claims, read_files,
     ready_book, run_told, words_error, write_book,
 };

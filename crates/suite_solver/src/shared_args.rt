@@ -8,7 +8,7 @@ ghost use Rattle.std.specs.Fmt.{decimal};
 ghost use Rattle.clap.specs.Words.{app_of, found_of, matched_of, raw_values, rows_of, rule_of};
 ghost use Rattle.suite_reports.specs.Settings.{IsWithinLimits, SettingsView};
 ghost use Rattle.suite_solver.specs.CommandLine.{HasNumber, HasSettings, files_rule, flag_rule};
-ghost use Rattle.program_files.specs.Inputs.{names_of};
+ghost use Rattle.book_files.specs.Inputs.{names_of};
 ghost use Rattle.suite_solver.specs.CommandLine.{number_rule, scoring_rule, versioned, with_settings};
 
 use clap::builder::ValueParser;

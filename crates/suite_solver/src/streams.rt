@@ -4,8 +4,8 @@ ghost use Rattle.std.specs.Prelude.{◌≡◌, ◌≢◌, ◌⊎◌, true, false
 ghost use Rattle.clap.specs.Words.{kind_of};
 ghost use Rattle.suite_solver.specs.CommandLine.{IsTextKind};
 
+use book_files::ProgramError;
 use clap::error::ErrorKind;
-use program_files::ProgramError;
 use std::io;
 use std::io::Write;
 

@@ -3,8 +3,8 @@
 use bound_table::TableFault;
 use endgame_search::TooMany;
 use job_board::{BoardFault, JobFault, Mixed, NoSender, SubmitFault};
+use list_printer::ListFault;
 use othello_rules::RuleFault;
-use score_lists::ListFault;
 use std::alloc::{AllocError, Global};
 
 fn texts(alloc: Global) -> Result<String, AllocError> {

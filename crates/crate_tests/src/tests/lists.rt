@@ -1,8 +1,8 @@
 //! Writers that fail, and when lines are sent on.
 
 use bound_table::BoundTable;
+use list_printer::{Demands, ListFault, Listing, write_lists};
 use othello_rules::Scoring;
-use score_lists::{Demands, ListFault, Listing, write_lists};
 use std::alloc::{AllocError, Global};
 use std::io;
 use std::io::Write;

@@ -1,6 +1,6 @@
 //! Lines that report the progress of a run.
 
-use program_files::ProgressGate;
+use book_files::ProgressGate;
 use std::alloc::Global;
 use std::io::Write;
 use std::rt::Clock;

@@ -2,7 +2,7 @@
 //! pass it on.
 
 use super::{TWO, words_of};
-use list_scorer::list_program;
+use ffoscores_program::list_program;
 use std::alloc::{AllocError, Global};
 use std::io::{Read, Write};
 use std::rt::{Clock, Files};

@@ -8,7 +8,7 @@ use Rattle.othello_bits.specs.Pos.{moves_of, pass_of, empties_of, final_of, valu
 use Rattle.othello_bits.proofs.GameLaws.{value_score, value-over}
 use Rattle.endgame_search.specs.declared.move_order.Child.{Child}
 use Rattle.endgame_search.specs.Children.{IsChildOf, AreOthersOf}
-use Rattle.endgame_search.specs.Windows.{Places}
+use Rattle.endgame_search.specs.Windows.{IsFailSoft}
 use Rattle.endgame_search.proofs.Bounds.{bound_same, shown_bound, other_bound, stored_window, stored_places, stored_back, same_places, turned_above, cut_above, score_open, score_covers, best_grows, best_covers, best_open, best_least, none_above, before_first, after_first}
 use Rattle.endgame_search.proofs.Moves.{child_worth, child_empties, passed_worth, passed_empties, at_index, searched_more, best_of_others, others_left, others_sorted, all_others}
 use Rattle.endgame_search.proofs.Windows.{shown, shown_same, exact, at_least_as, unshown}
@@ -63,14 +63,14 @@ pub search_pass-store_if_deep-requires-clause-places : goal.search_pass-store_if
 search_pass-store_if_deep-requires-clause-places g t c =
     let w = passed_worth (g.T.Bounds.scoring c.args.table.now) c.args.position c.pass-passed.result c.moves-replies.result c.requires.none c.pass-passed.ensures.value c.moves-replies.ensures.value c.if-replies-eq0.false in
     stored_places c.args.bound c.requires.bound _ _
-    (subst (λ z. Places c.args.bound (c.args.bound +ℤ pos 1) z (shown (pos 0 -ℤ shown c.search_moves-score.result))) (sym w)
+    (subst (λ z. IsFailSoft c.args.bound (c.args.bound +ℤ pos 1) z (shown (pos 0 -ℤ shown c.search_moves-score.result))) (sym w)
     (turned_above c.args.bound _ _ c.requires.bound c.search_moves-score.ensures))
 
 pub search_pass-returns : goal.search_pass-returns
 search_pass-returns g t c =
     let w = passed_worth (g.T.Bounds.scoring c.args.table.now) c.args.position c.pass-passed.result c.moves-replies.result c.requires.none c.pass-passed.ensures.value c.moves-replies.ensures.value c.if-replies-eq0.false in
     stored_back c.args.bound c.requires.bound _ _ _
-    (subst (λ z. Places c.args.bound (c.args.bound +ℤ pos 1) z (shown (pos 0 -ℤ shown c.search_moves-score.result))) (sym w)
+    (subst (λ z. IsFailSoft c.args.bound (c.args.bound +ℤ pos 1) z (shown (pos 0 -ℤ shown c.search_moves-score.result))) (sym w)
     (turned_above c.args.bound _ _ c.requires.bound c.search_moves-score.ensures))
     c.store_if_deep.ensures
 

@@ -4,7 +4,7 @@ use Rattle.std.proofs.lemmas.Int.{ints}
 use Rattle.othello_rules.specs.Masks.{in_mask}
 use Rattle.othello_bits.specs.Pos.{pass_of, empties_of, moves_of, final_of, value_of, HasNoMove}
 use Rattle.othello_bits.proofs.GameLaws.{empties_positive, empties-play, value-over, value_score, value_above}
-use Rattle.endgame_search.specs.Windows.{Places}
+use Rattle.endgame_search.specs.Windows.{IsFailSoft}
 use Rattle.endgame_search.proofs.Bounds.{other_bound, shown_bound, turned_above, cut_above, best_grows, best_covers, best_open, best_least, none_above, before_first}
 use Rattle.endgame_search.proofs.Lasts.{move_free, no_moves_from, last_some}
 use Rattle.endgame_search.proofs.Moves.{passed_empties, passed_worth}
@@ -125,5 +125,5 @@ search_pass_in_order-search_in_order-requires g t c κs within =
 pub search_pass_in_order-returns : goal.search_pass_in_order-returns
 search_pass_in_order-returns g t c =
     let w = passed_worth (g.T.Bounds.scoring c.args.table.now) c.args.position c.pass-passed.result c.moves-replies.result c.requires.none c.pass-passed.ensures.value c.moves-replies.ensures.value c.if-replies-eq0.false in
-    subst (λ z. Places c.args.bound (c.args.bound +ℤ pos 1) z (shown (pos 0 -ℤ shown c.search_in_order.result))) (sym w)
+    subst (λ z. IsFailSoft c.args.bound (c.args.bound +ℤ pos 1) z (shown (pos 0 -ℤ shown c.search_in_order.result))) (sym w)
     (turned_above c.args.bound _ _ c.requires.bound c.search_in_order.ensures)

@@ -5,7 +5,7 @@ use Rattle.othello_bits.specs.Pos.{final_of, moves_of, pass_of, HasNoMove}
 use Rattle.othello_bits.proofs.GameLaws.{value_score, value-over}
 use Rattle.endgame_search.specs.Lasts.{IsLast}
 use Rattle.endgame_search.specs.Endings.{IsEnding}
-use Rattle.endgame_search.specs.Windows.{Places}
+use Rattle.endgame_search.specs.Windows.{IsFailSoft}
 use Rattle.endgame_search.specs.declared.last_four.Ending.{Ending}
 use Rattle.endgame_search.proofs.Bounds.{turned_above, other_bound, shown_bound, same_places}
 use Rattle.endgame_search.proofs.Lasts.{last_moves, last_pass, last_some}
@@ -52,4 +52,4 @@ returns g c =
     let k = c.if-passed-eq0.false in
     let some : moves_of d ≢ 0 = last_some d e.square (c.new-passed.ensures.ending.legal.1 (omega (arith, k))) in
     let w = passed_worth r c.args.ending.position d (moves_of d) (no_move c.args.ending c.requires.ending c.requires.none) (c.new-passed.ensures.position ∙ c.pass.ensures.value) refl some in
-    subst (λ z. Places c.args.bound (c.args.bound +ℤ pos 1) z (shown (pos 0 -ℤ shown c.search_last_move.result))) (sym w) (turned_above c.args.bound _ _ c.requires.bound c.search_last_move.ensures)
+    subst (λ z. IsFailSoft c.args.bound (c.args.bound +ℤ pos 1) z (shown (pos 0 -ℤ shown c.search_last_move.result))) (sym w) (turned_above c.args.bound _ _ c.requires.bound c.search_last_move.ensures)

@@ -5,7 +5,7 @@ use Rattle.othello_rules.specs.Masks.{in_mask}
 use Rattle.othello_bits.specs.Pos.{moves_of, pass_of, empties_of, final_of, value_of, HasNoMove}
 use Rattle.othello_bits.proofs.GameLaws.{value_score, value-over}
 use Rattle.endgame_search.specs.Children.{IsChildOf, AreOthersOf}
-use Rattle.endgame_search.specs.Windows.{Places}
+use Rattle.endgame_search.specs.Windows.{IsFailSoft}
 use Rattle.endgame_search.proofs.Bounds.{bound_same, shown_bound, other_bound, same_places, turned_above, cut_above, score_open, score_covers, best_grows, best_covers, best_open, best_least, none_above, before_first, after_first}
 use Rattle.endgame_search.proofs.FreeSquares.{few_moves, some_empty}
 use Rattle.endgame_search.proofs.Moves.{child_worth, child_empties, passed_worth, passed_empties, best_of_others, others_left, all_others}
@@ -63,7 +63,7 @@ search_few_pass-search_few_moves-requires g t c κs within =
 pub search_few_pass-returns : goal.search_few_pass-returns
 search_few_pass-returns g t c =
     let w = passed_worth (g.T.Bounds.scoring c.args.table.now) c.args.position c.pass-passed.result c.moves-replies.result c.requires.none c.pass-passed.ensures.value c.moves-replies.ensures.value c.if-replies-eq0.false in
-    subst (λ z. Places c.args.bound (c.args.bound +ℤ pos 1) z (shown (pos 0 -ℤ shown c.search_few_moves.result))) (sym w)
+    subst (λ z. IsFailSoft c.args.bound (c.args.bound +ℤ pos 1) z (shown (pos 0 -ℤ shown c.search_few_moves.result))) (sym w)
     (turned_above c.args.bound _ _ c.requires.bound c.search_few_moves.ensures)
 
 pub search_few_moves-search_in_order-requires : goal.search_few_moves-search_in_order-requires

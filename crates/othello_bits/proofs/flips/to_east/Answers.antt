@@ -1,5 +1,5 @@
 use Rattle.othello_bits.specs.Shifts.{line}
-use Rattle.othello_bits.specs.declared.mobility.Heading.TheVariants.{East}
+use Rattle.othello_bits.specs.declared.mobility.Direction.TheVariants.{East}
 use Rattle.othello_bits.proofs.RayMasks.{east}
 use Rattle.othello_bits.proofs.flips.to_east.Goals as goal
 

@@ -1,6 +1,6 @@
 use Rattle.std.proofs.Common.{◌∙◌}
 use Rattle.othello_bits.specs.Shifts.{line}
-use Rattle.othello_bits.specs.declared.mobility.Heading.TheVariants.{SouthEast, South, SouthWest}
+use Rattle.othello_bits.specs.declared.mobility.Direction.TheVariants.{SouthEast, South, SouthWest}
 use Rattle.othello_bits.proofs.RayMasks.{south_east, south, south_west, three}
 use Rattle.othello_bits.proofs.flips.to_south.Goals as goal
 

@@ -1,5 +1,5 @@
 use Rattle.othello_bits.specs.Shifts.{line}
-use Rattle.othello_bits.specs.declared.mobility.Heading.TheVariants.{West}
+use Rattle.othello_bits.specs.declared.mobility.Direction.TheVariants.{West}
 use Rattle.othello_bits.proofs.RayMasks.{west}
 use Rattle.othello_bits.proofs.flips.to_west.Goals as goal
 

@@ -4,8 +4,8 @@ use Rattle.othello_rules.specs.Masks.{in_mask}
 use Rattle.othello_rules.specs.Rules.{turned_on}
 use Rattle.othello_bits.specs.Pos.{mem}
 use Rattle.othello_bits.specs.Shifts.{line}
-use Rattle.othello_bits.specs.declared.mobility.Heading.{Heading}
-use Rattle.othello_bits.specs.declared.mobility.Heading.TheVariants.{North, NorthEast, East, SouthEast, South, SouthWest, West, NorthWest}
+use Rattle.othello_bits.specs.declared.mobility.Direction.{Direction}
+use Rattle.othello_bits.specs.declared.mobility.Direction.TheVariants.{North, NorthEast, East, SouthEast, South, SouthWest, West, NorthWest}
 use Rattle.othello_bits.proofs.RayMasks.{four}
 use Rattle.othello_bits.proofs.Bits.{in_mask-or, in_mask-zero, hit, miss}
 use Rattle.othello_bits.proofs.moves.flips.Goals as goal
@@ -43,7 +43,7 @@ returns c = λ i.
     let q = c.args.square in
     let own = c.args.own in
     let opp = c.args.opp in
-    let at = λ (h : Heading). mem i (turned_on (in_mask own) (in_mask opp) (line h q)) in
+    let at = λ (h : Direction). mem i (turned_on (in_mask own) (in_mask opp) (line h q)) in
     let free : (in_mask own q || in_mask opp q) ≡ false = sym (in_mask-or own opp q) ∙ miss (bit_or own opp) q c.requires.on_board c.if-own-opp-ne0.false in
     four c.to_north.result c.to_east.result c.to_south.result c.to_west.result i
     ∙ rw (free, c.to_north.ensures i, c.to_east.ensures i, c.to_south.ensures i, c.to_west.ensures i)

@@ -1,7 +1,7 @@
 use Rattle.std.proofs.Common.{◌∙◌, bit_or}
 use Rattle.std.proofs.lemmas.Nat.{or_lt}
 use Rattle.othello_rules.specs.Board.{directions}
-use Rattle.othello_bits.proofs.AllHeadings.{all_eight}
+use Rattle.othello_bits.proofs.AllDirections.{all_eight}
 use Rattle.othello_bits.proofs.Bits.{in_mask-and, in_mask-or, in_mask-not}
 use Rattle.othello_bits.proofs.moves.moves.Goals as goal
 

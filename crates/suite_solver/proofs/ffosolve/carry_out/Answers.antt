@@ -1,5 +1,5 @@
 use Rattle.std.proofs.Common.{◌≡◌}
-use Rattle.program_files.specs.Inputs.{names_of}
+use Rattle.book_files.specs.Inputs.{names_of}
 use Rattle.obf_text.specs.LineText.{texts_of}
 use Rattle.suite_solver.specs.Programs.{Prints}
 use Rattle.suite_solver.proofs.ProgramLemmas.{not_refused, on_ok, told_late, whole_texts}

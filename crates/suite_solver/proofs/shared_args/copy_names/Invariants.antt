@@ -1,5 +1,5 @@
 use Rattle.std.proofs.Common.{◌≡◌, map, take}
-use Rattle.program_files.specs.Inputs.{names_of}
+use Rattle.book_files.specs.Inputs.{names_of}
 use Rattle.suite_solver.proofs.shared_args.copy_names.Given as goal
 
 abbrev pub invariant-loop-name : goal.invariant-loop-name

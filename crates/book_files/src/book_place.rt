@@ -1,0 +1,130 @@
+//! The place of a file that is to be written. It is tested before anything is solved.
+
+ghost use Rattle.std.specs.Prelude.{◌≡◌, ◌⊎◌, ◌↔◌, None, IfErr, IfOk, IfSome, IsOk};
+ghost use Rattle.book_files.specs.BookPlace.{IsFree, IsRefusalOf};
+ghost use Rattle.book_files.specs.ProgramErrors.{IsSilent, status_of};
+
+use crate::found::Found;
+use crate::program_error::{ProgramError, place_error, read_error};
+use std::alloc::{AllocError, Global};
+use std::fs::OpenOptions;
+use std::os::unix::fs::FileTypeExt;
+use std::rt::Files;
+use std::{fs, io};
+
+// A name for a file next to the file `name`: the first of `name.0.part` to `name.99.part` that
+// doesn't exist, or otherwise `name.part`.
+pub(crate) fn name_beside<T: Files>(
+    rt: &T,
+    alloc: Global,
+    name: &str,
+) -> Result<String, AllocError> {
+    for number in 0..100u32 {
+        let beside = format!(in alloc; "{name}.{number}.part")?;
+        if let Ok(false) = fs::exists(rt, beside.as_str()) {
+            return Ok(beside);
+        }
+    }
+    format!(in alloc; "{name}.part")
+}
+
+// Tests that a file can be made next to the file `name`, and removes it.
+fn try_beside<T: Files>(rt: &T, alloc: Global, name: &str) -> io::Result<()> {
+    let beside = name_beside(rt, alloc, name)?;
+    fs::File::create_new(rt, beside.as_str())?;
+    fs::remove_file(rt, beside.as_str())
+}
+
+// Tests that the file `name` can be opened for writing. Its content is left as it is. Where the
+// name is that of a link to no file, an empty file is made.
+fn try_open<T: Files>(rt: &T, name: &str) -> io::Result<()> {
+    OpenOptions::new().write(true).create(true).open(rt, name)?;
+    Ok(())
+}
+
+// Whether the name leads to a pipe.
+fn is_pipe<T: Files>(rt: &T, name: &str) -> bool {
+    match fs::metadata(rt, name) {
+        Ok(found) => found.file_type().is_fifo(),
+        Err(_) => false,
+    }
+}
+
+// Tests that a book can be written as the file `name`. A pipe is not opened, since that would wait
+// for the reader of the pipe, and the reader would see its end.
+fn try_place<T: Files>(rt: &T, alloc: Global, name: &str) -> io::Result<()> {
+    if name.is_empty() {
+        return Err(io::Error::from(io::ErrorKind::NotFound));
+    }
+    match fs::symlink_metadata(rt, name) {
+        Ok(found) => {
+            if is_pipe(rt, name) {
+                return Ok(());
+            }
+            try_open(rt, name)?;
+            if found.is_file() {
+                try_beside(rt, alloc, name)?;
+            }
+            Ok(())
+        }
+        Err(fault) => match fault.kind() {
+            io::ErrorKind::NotFound => try_beside(rt, alloc, name),
+            _ => Err(fault),
+        },
+    }
+}
+
+// Refuses a place where a book would destroy what was found.
+fn check_found<'a>(found: Found, name: &'a str) -> Result<(), ProgramError<'a>>
+    ensures free { IsOk result ↔ IsFree found }
+    ensures refused { IfErr result (IsRefusalOf found name.entry) }
+{
+    match found {
+        Found::NoFile | Found::Empty | Found::Book => Ok(()),
+        Found::Other => Err(ProgramError::NoBook(name)),
+        Found::List => Err(ProgramError::NoPlace(name)),
+        Found::ReadBook => Err(ProgramError::ReadBook(name)),
+    }
+}
+
+/// The place of a book that is to be written, and what was found there.
+#[derive(Clone, Copy, PartialEq, Eq, Debug)]
+pub struct BookPlace<'a> {
+    /// The name of the file, as the words have it.
+    pub name: &'a str,
+    pub found: Found,
+}
+
+/// Tests that the book to be written, if there is one, can be written under its name, and destroys
+/// nothing there, and gives its place; None where there is no name. A file of that name, unless it
+/// is a pipe, has to open for writing. It must be possible to make a file next to it, where it is a
+/// regular file or doesn't exist. The errors are `NoPlace` with the name, even where it is empty or
+/// the file is read as a list; `ReadBook` where the file is the book that is read, by whatever
+/// name; `NoBook` where it isn't empty and doesn't begin as a book; `CannotRead` where that can't
+/// be seen; and out of memory.
+pub fn check_place<'a, T: Files>(
+    rt: &T,
+    alloc: Global,
+    name: &'a Option<String>,
+    book_in: &Option<String>,
+    lists: &[String],
+) -> Result<Option<BookPlace<'a>>, ProgramError<'a>>
+    ensures named { IfOk result (λ place. place ≡ None ↔ name.now ≡ None) }
+    ensures free { IfOk result (λ place. IfSome place (λ p. IsFree p.found)) }
+    ensures silent { IfErr result IsSilent }
+    ensures status { IfErr result (λ error. (status_of error ≡ 1) ⊎ (status_of error ≡ 3)) }
+{
+    let Some(name) = name else {
+        return Ok(None);
+    };
+    let name = name.as_str();
+    let found = match Found::beside(rt, name, book_in, lists) {
+        Ok(found) => found,
+        Err(fault) => return Err(read_error(&fault, name)),
+    };
+    check_found(found, name)?;
+    match try_place(rt, alloc, name) {
+        Ok(()) => Ok(Some(BookPlace { name, found })),
+        Err(fault) => Err(place_error(&fault, name)),
+    }
+}

@@ -1,0 +1,113 @@
+//! What is found under the name of a book that is to be written.
+
+ghost use Rattle.std.specs.Prelude.{◌≡◌, ◌⊎◌, ◌↔◌, IsTrue};
+ghost use Rattle.obf_text.specs.LineText.{lines_of};
+ghost use Rattle.othello_rules.specs.declared.scoring.Scoring.{Scoring};
+ghost use Rattle.solved_book.specs.Books.{header};
+ghost use Rattle.book_files.specs.BookPlace.{GivesWay, IsFree};
+
+use obf_text::split_lines;
+use othello_rules::Scoring;
+use std::fs::Metadata;
+use std::io::Read;
+use std::os::unix::fs::MetadataExt;
+use std::rt::Files;
+use std::{fs, io};
+
+/// What is found under the name of a book that is to be written.
+#[derive(Clone, Copy, PartialEq, Eq, Debug)]
+pub enum Found {
+    /// Not a regular file: nothing, or a device, a pipe or a folder.
+    NoFile,
+    /// An empty regular file.
+    Empty,
+    /// A regular file that begins with the header of a book.
+    Book,
+    /// Any other regular file.
+    Other,
+    /// A regular file that is read as a list.
+    List,
+    /// The regular file of the book that is read.
+    ReadBook,
+}
+
+// Whether the line is the header of a book.
+#[tactic(auto, unfolding(solved_book::specs::Books::header))]
+fn is_header(line: &[u8]) -> bool
+    ensures { IsTrue result ↔ ((g : Scoring) × (line.now ≡ header g)) }
+{
+    match line.strip_prefix(b"% ffobook 2 ") {
+        Some(name) => Scoring::from_name(name).is_some(),
+        None => false,
+    }
+}
+
+// What a regular file that begins like this is.
+fn found_in(front: &[u8]) -> Found
+    ensures free { IsFree result ↔ GivesWay (lines_of front.now) }
+    ensures other { IsFree result ⊎ (result ≡ Found.Other) }
+{
+    match split_lines(front).next() {
+        Some(line) => {
+            if is_header(line) {
+                Found::Book
+            } else {
+                Found::Other
+            }
+        }
+        None => Found::Empty,
+    }
+}
+
+// Whether the name leads to this regular file.
+fn leads_to<T: Files>(rt: &T, name: &str, file: &Metadata) -> bool {
+    match fs::metadata(rt, name) {
+        Ok(found) => found.is_file() && found.dev() == file.dev() && found.ino() == file.ino(),
+        Err(_) => false,
+    }
+}
+
+impl Found {
+    /// What is found under this name, whatever the program reads. The error is that of a file that
+    /// can't be read.
+    pub(crate) fn under<T: Files>(rt: &T, name: &str) -> io::Result<Found> {
+        match fs::metadata(rt, name) {
+            Ok(found) => {
+                if !found.is_file() {
+                    return Ok(Found::NoFile);
+                }
+                let mut front = [0u8; 32];
+                let count = fs::open(rt, name)?.read(&mut front)?;
+                Ok(found_in(&front[..count]))
+            }
+            Err(_) => Ok(Found::NoFile),
+        }
+    }
+
+    /// What is found under this name, where the program reads this book and these lists. The error
+    /// is that of a file that can't be read.
+    pub(crate) fn beside<T: Files>(
+        rt: &T,
+        name: &str,
+        book_in: &Option<String>,
+        lists: &[String],
+    ) -> io::Result<Found> {
+        let Ok(file) = fs::metadata(rt, name) else {
+            return Ok(Found::NoFile);
+        };
+        if !file.is_file() {
+            return Ok(Found::NoFile);
+        }
+        for list in lists {
+            if leads_to(rt, list.as_str(), &file) {
+                return Ok(Found::List);
+            }
+        }
+        if let Some(read) = book_in {
+            if leads_to(rt, read.as_str(), &file) {
+                return Ok(Found::ReadBook);
+            }
+        }
+        Found::under(rt, name)
+    }
+}

@@ -1,0 +1,198 @@
+//! Runs that report their progress on standard error.
+
+ghost use Rattle.std.specs.Prelude.{◌≡◌, ◌+◌, ◌/◌, ◌<◌, ◌≤◌, ◌⊎◌, ◌↔◌, ℕ, false, length, None, Some, IfOk, IsErrOf, IsTrue, OnOk};
+ghost use Rattle.std.specs.Duration.{as_nanos};
+ghost use Rattle.std.specs.Io.KnownBytes.{Appends};
+ghost use Rattle.suite_reports.specs.Limits.{most_files};
+ghost use Rattle.suite_reports.specs.Settings.{criteria_of};
+ghost use Rattle.book_files.specs.ProgressText.{progress_text};
+ghost use Rattle.obf_text.specs.LineText.{texts_of};
+ghost use Rattle.suite_runs.specs.Outcome.{IsBookOf};
+ghost use Rattle.suite_reports.specs.Reports.{reports};
+ghost use Rattle.suite_runs.specs.Runs.{all_tasks, first_large};
+ghost use Rattle.suite_runs.specs.declared.run_fault.RunFault.TheVariants.{FileTooLarge, TooManyFiles};
+
+use solved_book::Claims;
+use std::alloc::Global;
+use std::io;
+use std::io::Write;
+use std::marker::{Send, Sync};
+use std::rt::Clock;
+use std::sync::atomic::{AtomicUsize, Ordering};
+use std::sync::{Mutex, Wait};
+use std::thread::Threads;
+use std::time::{Duration, Instant};
+use suite_runs::{Gate, NoGate, Outcome, RunFault, Settings, run};
+
+// The least time from one line to the next, in nanoseconds, except for the last line.
+const PAUSE: u128 = 5_000_000_000;
+
+// How far a run is: how many positions are solved, how many there are in all, where that is known,
+// and how long the run has taken.
+#[derive(Clone, Copy, Drop)]
+struct Progress {
+    solved: usize,
+    total: Option<usize>,
+    elapsed: Duration,
+}
+
+// Writes the line of the progress, with whole seconds. The error is that of the writer.
+#[tactic(auto, unfolding(crate::specs::ProgressText::progress_text, crate::specs::ProgressText::total_text))]
+fn write_progress<E: Write>(errors: &mut E, progress: Progress) -> io::Result<()>
+    ensures { OnOk result (Appends (E.contents errors.old) (E.contents errors.new)
+        (progress_text progress.solved progress.total
+        (as_nanos progress.elapsed / 1_000_000_000))) }
+{
+    let (solved, seconds) = (progress.solved, progress.elapsed.as_secs());
+    match progress.total {
+        Some(total) => write!(
+            errors,
+            "ffosolve: solved {solved} of {total} in {seconds} s\n"
+        ),
+        None => write!(errors, "ffosolve: solved {solved} in {seconds} s\n"),
+    }
+}
+
+// Whether five seconds have passed from the one time of a run to the other.
+fn is_due(last: Duration, elapsed: Duration) -> bool
+    ensures { IsTrue result ↔ (as_nanos last + 5_000_000_000 ≤ as_nanos elapsed) }
+{
+    elapsed.saturating_sub(last).as_nanos() >= PAUSE
+}
+
+// Writes a line where one is due, after the last one at `last`. Where all positions are
+// solved, it leaves that to the line at the end. Returns the time of what is now the last line. A
+// failure of the stream changes nothing.
+fn tell_if_due<E: Write>(errors: &mut E, last: Duration, progress: Progress) -> Duration
+    ensures paced { (as_nanos progress.elapsed < as_nanos last + 5_000_000_000)
+        → E.contents errors.new ≡ E.contents errors.old }
+    ensures noted { (result ≡ progress.elapsed)
+        ⊎ ((result ≡ last) × (E.contents errors.new ≡ E.contents errors.old)) }
+{
+    if !is_due(last, progress.elapsed) || progress.total == Some(progress.solved) {
+        return last;
+    }
+    let _ = write_progress(errors, progress);
+    progress.elapsed
+}
+
+// Where the lines go, and the time of the run at which the last one came.
+#[derive(Drop)]
+struct Lines<'a, E: Write> {
+    errors: &'a mut E,
+    last: Duration,
+}
+
+impl<E: Write> Lines<'_, E> {
+    fn tell_if_due(&mut self, progress: Progress) {
+        self.last = tell_if_due(self.errors, self.last, progress);
+    }
+}
+
+/// A gate that counts the jobs of a run and those that are finished. After such a job it writes a line
+/// where one is due. No thread waits for another that writes. Where the clock can't be read, no
+/// line is written.
+#[derive(Drop)]
+pub struct ProgressGate<'a, C: Clock, E: Write> {
+    clock: &'a C,
+    start: Option<Instant>,
+    // The files whose jobs are not all submitted.
+    unread: AtomicUsize,
+    submitted: AtomicUsize,
+    solved: AtomicUsize,
+    lines: Mutex<Lines<'a, E>>,
+}
+
+impl<'a, C: Clock, E: Write> ProgressGate<'a, C, E> {
+    /// A gate for a run over this many files, which begins now.
+    pub fn new(clock: &'a C, files: usize, errors: &'a mut E) -> ProgressGate<'a, C, E> {
+        ProgressGate {
+            clock,
+            start: Instant::now(clock).ok(),
+            unread: AtomicUsize::new(files),
+            submitted: AtomicUsize::new(0),
+            solved: AtomicUsize::new(0),
+            lines: Mutex::new(Lines {
+                errors,
+                last: Duration::from_secs(0),
+            }),
+        }
+    }
+
+    // How many jobs there are in all; None while that is not known.
+    fn total(&self) -> Option<usize> {
+        if self.unread.load(Ordering::SeqCst) == 0 {
+            Some(self.submitted.load(Ordering::SeqCst))
+        } else {
+            None
+        }
+    }
+
+    // How far the run is; None where the clock can't be read.
+    fn progress(&self) -> Option<Progress> {
+        let elapsed = self.start?.elapsed(self.clock).ok()?;
+        Some(Progress {
+            solved: self.solved.load(Ordering::SeqCst),
+            total: self.total(),
+            elapsed,
+        })
+    }
+
+    /// Writes the line at the end of the run. A failure of the stream changes nothing.
+    pub fn end(self) {
+        if let Some(progress) = self.progress() {
+            let _ = write_progress(self.lines.into_inner().errors, progress);
+        }
+    }
+}
+
+impl<C: Clock + Sync, E: Write + Send> Gate for ProgressGate<'_, C, E> {
+    fn submitted<R: Wait>(&self, _rt: &R, _sender: u32, count: usize) {
+        self.submitted.fetch_add(count, Ordering::SeqCst);
+        self.unread.fetch_sub(1, Ordering::SeqCst);
+    }
+
+    fn enter<R: Wait>(&self, _rt: &R, _sender: u32, _number: u32) {}
+
+    fn leave<R: Wait>(&self, _rt: &R, _sender: u32, _number: u32) {}
+
+    fn finished<R: Wait>(&self, _rt: &R, _sender: u32, _number: u32) {
+        self.solved.fetch_add(1, Ordering::SeqCst);
+        let Some(progress) = self.progress() else {
+            return;
+        };
+        if let Some(mut lines) = self.lines.try_lock() {
+            lines.tell_if_due(progress);
+        }
+    }
+}
+
+/// Does the work of `run`. With `tells`, lines on `errors` give the number of solved positions: at
+/// most one every five seconds, and one at the end.
+pub fn run_told<T: Clock + Threads + Wait + Sync, E: Write + Send>(
+    rt: &T,
+    alloc: Global,
+    texts: &[Vec<u8>],
+    settings: &Settings,
+    claims: Option<&Claims>,
+    tells: bool,
+    errors: &mut E,
+) -> Result<Outcome, RunFault>
+    ensures untold { tells ≡ false → E.contents errors.new ≡ E.contents errors.old }
+    ensures too_many { IsErrOf result TooManyFiles ↔ most_files < length texts.now }
+    ensures too_large { (sender : ℕ) → IsErrOf result (FileTooLarge sender) ↔
+        ((length texts.now ≤ most_files) × (first_large (texts_of texts.now) ≡ Some sender)) }
+    ensures reports { IfOk result (λ outcome. texts_of outcome.reports.items ≡ reports
+        settings.now.scoring (criteria_of settings.now) (texts_of texts.now)) }
+    ensures book { IfOk result (λ outcome. IsBookOf settings.now.scoring (all_tasks
+        settings.now.scoring settings.now.max_empties (texts_of texts.now))
+        outcome.book) }
+{
+    if !tells {
+        return run(rt, alloc, texts, settings, claims, &NoGate);
+    }
+    let gate = ProgressGate::new(rt, texts.len(), errors);
+    let outcome = run(rt, alloc, texts, settings, claims, &gate);
+    gate.end();
+    outcome
+}

@@ -1,0 +1,29 @@
+-- How the printing of lists ended.
+use Rattle.std.proofs.Common.{◌≡◌, ◌≤◌, ℕ, List, length, inr}
+use Rattle.std.specs.Prelude.{Bool, Option, None, Result, Ok, Err, IfOk, OnErr, OnOk}
+use Rattle.std.specs.Io.KnownBytes.{Appends}
+use Rattle.scored_lines.specs.Lines.{AppendsFront, lists_right, lists_text}
+use Rattle.suite_runs.specs.Runs.{first_large}
+use Rattle.suite_reports.specs.declared.settings.TheConstants.{MOST_FILES}
+use Rattle.ffoscores_program.specs.CommandLine.{ListRequest, demands_of}
+use Rattle.ffoscores_program.specs.Lists.{AreLists, PrintsLists, StopsLists}
+use Rattle.book_files.specs.Inputs.{AreFrontsOf}
+use Rattle.book_files.specs.declared.program_error.ProgramError.{ProgramError}
+use Rattle.suite_solver.proofs.ProgramLemmas.{whole_texts}
+
+-- what was read is lists, where no limit is passed
+pub lists_read : (names : List (List ℕ)) (given : Option (List ℕ)) (texts : List (List ℕ)) → AreFrontsOf names given texts
+    → length texts ≤ MOST_FILES → first_large texts ≡ None → AreLists names given texts
+lists_read names given texts fronts few small = record { read = whole_texts names given texts fronts small few; few = few; small = small }
+
+pub printed : (r : Result Bool ProgramError) (q : ListRequest) (given old new : Option (List ℕ)) (texts : List (List ℕ))
+    → AreLists q.files given texts → OnOk r (Appends old new (lists_text q.settings.scoring (demands_of q) texts))
+    → IfOk r (λ right. right ≡ lists_right q.settings.scoring (demands_of q) texts) → IfOk r (PrintsLists q given old new)
+printed (Ok right) q given old new texts lists written e = record { texts = texts; lists = lists; written = written; told = e }
+printed (Err error) q given old new texts lists written e = tt
+
+pub stopped : (r : Result Bool ProgramError) (q : ListRequest) (given old new : Option (List ℕ)) (texts : List (List ℕ))
+    → AreLists q.files given texts → OnErr r (AppendsFront old new (lists_text q.settings.scoring (demands_of q) texts))
+    → OnErr r (StopsLists q given old new)
+stopped (Ok right) q given old new texts lists front = tt
+stopped (Err error) q given old new texts lists front = inr (record { texts = texts; lists = lists; front = front })

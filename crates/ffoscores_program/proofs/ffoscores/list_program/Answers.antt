@@ -1,0 +1,32 @@
+use Rattle.std.proofs.Common.{arith, rules}
+use Rattle.suite_solver.proofs.ProgramLemmas.{in_range_of, not_one}
+use Rattle.ffoscores_program.specs.CommandLine.{list_request_of}
+use Rattle.ffoscores_program.proofs.ffoscores.list_program.Goals as goal
+
+pub returns : goal.returns
+returns g c = record {
+  ends = record {
+    in_range = in_range_of _ c.end_without_options.ensures.status;
+    done = search rules;
+    taken = search rules;
+    refused = search rules;
+  };
+  wrong = not_one _ _ c.end_without_options.ensures.status;
+  stopped = search rules;
+}
+
+pub returns-in-Ok-false : goal.returns-in-Ok-false
+returns-in-Ok-false g c = record {
+  ends = record {
+    in_range = omega arith;
+    done = λ e. absurd (omega arith);
+    taken = λ t e. absurd (omega arith);
+    refused = λ e. absurd (omega arith);
+  };
+  wrong = λ e. record {
+    request = list_request_of c.in-Ok.asked;
+    asked = c.in-Ok.ensures.asked;
+    printed = rw c.in-Ok-false.field-0-test at c.in-Ok-false.ensures.printed;
+  };
+  stopped = λ e. absurd (omega arith);
+}

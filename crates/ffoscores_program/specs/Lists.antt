@@ -1,0 +1,75 @@
+-- The lists that `ffoscores` reads, what it prints of them, and its exit statuses.
+use Rattle.std.specs.Prelude.{◌≡◌, ◌⊎◌, ℕ, ◌≤◌, Bool, true, false, List, codes, length}
+use Rattle.std.specs.Prelude.{Option, None}
+use Rattle.std.specs.Io.KnownBytes.{Appends}
+use Rattle.scored_lines.specs.Lines.{AppendsFront, lists_right, lists_text}
+use Rattle.list_printer.specs.declared.lists.ListFault.{ListFault}
+use Rattle.list_printer.specs.declared.lists.ListFault.TheVariants as list
+use Rattle.suite_runs.specs.Runs.{first_large}
+use Rattle.suite_reports.specs.Limits.{most_files}
+use Rattle.suite_runs.specs.declared.run_fault.RunFault.TheVariants as run
+use Rattle.suite_solver.specs.CommandLine.{AsksForText}
+use Rattle.suite_solver.specs.Programs.{AreTextsOf, EndsProgram}
+use Rattle.book_files.specs.declared.program_error.ProgramError.{ProgramError}
+use Rattle.book_files.specs.declared.program_error.ProgramError.TheVariants.{Run, BadWords, CannotWrite}
+use Rattle.ffoscores_program.specs.CommandLine.{AsksLists, ListRequest, demands_of, ffoscores}
+
+-- These are the texts of the files of these names, or of standard input, and they are within the
+-- limits: there are not too many, and none is too large.
+pub record AreLists (names : List (List ℕ)) (given : Option (List ℕ)) (texts : List (List ℕ))
+    : Type 0 where
+  pub read : AreTextsOf names given texts
+  pub few : length texts ≤ most_files
+  pub small : first_large texts ≡ None
+
+-- The lists were printed with every move's score, and `right` says whether nothing in them is
+-- wrong.
+pub record PrintsLists (r : ListRequest) (given old new : Option (List ℕ)) (right : Bool)
+    : Type 0 where
+  pub texts : List (List ℕ)
+  pub lists : AreLists r.files given texts
+  pub written : Appends old new (lists_text r.settings.scoring (demands_of r) texts)
+  pub told : right ≡ lists_right r.settings.scoring (demands_of r) texts
+
+-- a front of the lists was printed with every move's score
+pub record PrintsListsFront (r : ListRequest) (given old new : Option (List ℕ)) : Type 0 where
+  pub texts : List (List ℕ)
+  pub lists : AreLists r.files given texts
+  pub front : AppendsFront old new (lists_text r.settings.scoring (demands_of r) texts)
+
+-- nothing was printed, or a front of the lists was
+abbrev pub StopsLists : ListRequest → Option (List ℕ) → Option (List ℕ) → Option (List ℕ) → Type 0
+StopsLists r given old new = (new ≡ old) ⊎ PrintsListsFront r given old new
+
+-- the words ask for a request, and the lists of its files were printed
+pub record AreListsPrinted (words : List (List ℕ)) (given old new : Option (List ℕ)) (right : Bool)
+    : Type 0 where
+  pub request : ListRequest
+  pub asked : AsksLists words request
+  pub printed : PrintsLists request given old new right
+
+-- the words ask for a request, and nothing or a front of the lists of its files was printed
+pub record AreListsBegun (words : List (List ℕ)) (given old new : Option (List ℕ)) : Type 0 where
+  pub request : ListRequest
+  pub asked : AsksLists words request
+  pub stopped : StopsLists request given old new
+
+-- A call of `ffoscores` ended: with 0 or 1 after printing the lists that the words ask for, 1 where
+-- something in them is wrong; with 3 after printing nothing, help or the version, or a front.
+pub record EndsFfoscores (words : List (List ℕ)) (given old new : Option (List ℕ)) (status : ℕ)
+    : Type 0 where
+  pub ends : EndsProgram ffoscores words old new status (AreListsPrinted words given old new true)
+  pub wrong : status ≡ 1 → AreListsPrinted words given old new false
+  pub stopped : status ≡ 3
+      → AsksForText ffoscores words ⊎ ((new ≡ old) ⊎ AreListsBegun words given old new)
+
+-- the error of the program for a fault of printing
+abbrev pub IsListError : ListFault → ProgramError → Type 0
+IsListError list.Memory error = error ≡ Run run.Memory
+IsListError list.CannotWrite (CannotWrite name) = name.now ≡ codes "standard output"
+IsListError list.CannotWrite error = ⊥
+
+-- the exit status of `ffoscores` after an error
+abbrev pub list_status_of : ProgramError → ℕ
+list_status_of BadWords = 2
+list_status_of _ = 3

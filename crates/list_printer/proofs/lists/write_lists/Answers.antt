@@ -1,0 +1,32 @@
+use Rattle.obf_text.specs.LineText.{texts_of}
+use Rattle.scored_lines.proofs.Prints.{front_none}
+use Rattle.scored_lines.proofs.Results.{on_err}
+use Rattle.list_printer.specs.Started.{lists_due}
+use Rattle.list_printer.proofs.StartedSteps.{all_printed}
+use Rattle.list_printer.proofs.lists.write_lists.Goals as goal
+
+pub returns-clause-written : goal.returns-clause-written
+returns-clause-written g c =
+    (all_printed _ _ (lists_due c.args.table.scoring c.args.demands (texts_of c.args.texts.now))
+    c.print_all.new.window.right
+    (rw c.in_ok-scorer.ensures.ok at c.in_ok-print_all.ensures.settled)).0
+
+pub returns-clause-right : goal.returns-clause-right
+returns-clause-right g c =
+    (all_printed _ _ (lists_due c.args.table.scoring c.args.demands (texts_of c.args.texts.now))
+    c.print_all.new.window.right
+    (rw c.in_ok-scorer.ensures.ok at c.in_ok-print_all.ensures.settled)).1
+
+pub returns-in_err-scorer-clause-front : goal.returns-in_err-scorer-clause-front
+returns-in_err-scorer-clause-front g c = on_err c.from_residual.result _ (front_none _ _)
+
+pub returns-in_err-print_all-clause-front : goal.returns-in_err-print_all-clause-front
+returns-in_err-print_all-clause-front g c =
+    on_err c.from_residual-in_err-print_all.result _
+    (rw c.in_ok-scorer.ensures.ok at c.in_err-print_all.ensures.front)
+
+pub print_all-requires-clause-limit : goal.print_all-requires-clause-limit
+print_all-requires-clause-limit g c = rw c.in_ok-scorer.ensures.ok c.requires
+
+pub print_all-requires-clause-empty : goal.print_all-requires-clause-empty
+print_all-requires-clause-empty g c = c.new-3.ensures.items

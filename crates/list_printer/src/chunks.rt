@@ -1,0 +1,123 @@
+//! Texts cut into chunks: whole lines that are scored together.
+
+ghost use Rattle.std.specs.Prelude.{◌≡◌, ◌<◌, ◌++◌, IfSome, IfNone, [], length};
+ghost use Rattle.obf_text.specs.LineText.{lines_of};
+ghost use Rattle.list_printer.specs.Chunks.{EndsLine, left_lines, left_size};
+
+// Scoring a line with at most this many empty squares takes less time than starting a thread.
+const FEW_EMPTIES: usize = 7;
+
+// A line with this many empty squares or more is a chunk of its own.
+const MANY_EMPTIES: usize = 12;
+
+// The greatest number of lines of a chunk. A thread scores eight lines of 10 empty squares in about
+// 8 milliseconds.
+const MOST_LINES: u32 = 8;
+
+/// The first lines of a text, and the text after them.
+#[derive(Clone, Copy)]
+pub(crate) struct Chunk<'a> {
+    pub front: &'a [u8],
+    pub rest: &'a [u8],
+    /// Whether scoring the lines takes less time than starting a thread.
+    pub is_short: bool,
+}
+
+// The number of bytes of a text's first line, with its end.
+fn line_len(text: &[u8]) -> usize
+    requires { 0 < length text.now }
+    ensures ended { EndsLine text.now result }
+    ensures some { 0 < result }
+{
+    for (at, byte) in text.iter().enumerate() {
+        if *byte == b'\n' {
+            return at + 1;
+        }
+    }
+    text.len()
+}
+
+// The number of empty squares among the first 64 bytes of a text's first line; 0 where they are
+// more than the limit, since such a line is refused.
+fn empties_in(text: &[u8], limit: u8) -> usize {
+    let mut empties = 0usize;
+    for byte in &text[..text.len().min(64)] {
+        match byte {
+            b'-' | b'.' => empties = empties.saturating_add(1),
+            b'\n' => break,
+            _ => {}
+        }
+    }
+    if empties <= usize::from(limit) {
+        empties
+    } else {
+        0
+    }
+}
+
+// The number of bytes of a text's first chunk: of one line where it is short or has many empty
+// squares, otherwise of several, up to a line with many.
+fn chunk_len(text: &[u8], limit: u8, is_short: bool) -> usize
+    requires { 0 < length text.now }
+    ensures ended { EndsLine text.now result }
+    ensures some { 0 < result }
+{
+    let mut end = line_len(text);
+    if is_short || empties_in(text, limit) >= MANY_EMPTIES {
+        return end;
+    }
+    for _ in 1..MOST_LINES {
+        let rest = &text[end..];
+        if rest.is_empty() || empties_in(rest, limit) >= MANY_EMPTIES {
+            return end;
+        }
+        end += line_len(rest);
+    }
+    end
+}
+
+/// The first chunk of a text that is not empty: one line, or several where a thread is to score
+/// them and each takes little time.
+pub(crate) fn first_chunk(text: &[u8], limit: u8, is_alone: bool) -> Chunk<'_>
+    requires { 0 < length text.now }
+    ensures lines { lines_of text.now ≡ lines_of result.front.now ++ lines_of result.rest.now }
+    ensures less { length result.rest.now < length text.now }
+{
+    let is_short = is_alone || empties_in(text, limit) <= FEW_EMPTIES;
+    let end = chunk_len(text, limit, is_short);
+    Chunk {
+        front: &text[..end],
+        rest: &text[end..],
+        is_short,
+    }
+}
+
+/// What is left of some texts.
+#[derive(Clone, Copy)]
+pub(crate) struct Lists<'a> {
+    /// What is left of the text that was begun.
+    pub rest: &'a [u8],
+    /// The texts after it.
+    pub texts: &'a [Vec<u8>],
+}
+
+impl<'a> Lists<'a> {
+    /// Takes the first chunk of what is left.
+    pub fn next_chunk(&mut self, limit: u8, is_alone: bool) -> Option<Chunk<'a>>
+        ensures some { IfSome result (λ chunk. left_lines self.old
+            ≡ lines_of chunk.front.now ++ left_lines self.new) }
+        ensures less { IfSome result (λ _. left_size self.new < left_size self.old) }
+        ensures none { IfNone result (left_lines self.old ≡ []) }
+    {
+        while self.rest.is_empty() {
+            let [text, texts @ ..] = self.texts else {
+                return None;
+            };
+            self.rest = text;
+            self.texts = texts;
+        }
+        let chunk = first_chunk(self.rest, limit, is_alone);
+        self.rest = chunk.rest;
+        Some(chunk)
+    }
+}

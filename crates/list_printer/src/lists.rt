@@ -1,0 +1,265 @@
+//! Lists of positions, printed line by line with every move's score.
+
+ghost use Rattle.std.specs.Prelude.{◌≡◌, ◌≤◌, ◌<◌, IfOk, OnErr, OnOk, [], drop, false, length, true};
+ghost use Rattle.std.specs.Arc.{arc_value};
+ghost use Rattle.std.specs.Io.KnownBytes.{Appends};
+ghost use Rattle.endgame_search.specs.Limits.{most_empties};
+ghost use Rattle.obf_text.specs.LineText.{texts_of};
+ghost use Rattle.scored_lines.specs.Lines.{AppendsFront, Prints, lists_right, lists_text};
+ghost use Rattle.list_printer.specs.Started.{Settles, all_due, lists_due, window_due};
+ghost use Rattle.list_printer.specs.declared.lists.ListFault.TheVariants.{CannotWrite, Memory};
+
+use crate::chunks::Lists;
+use crate::started::{Scorer, StartedChunk, start};
+use bound_table::BoundTable;
+use scored_lines::Demands;
+use std::alloc::{AllocError, AllocFailed, Global};
+use std::collections::VecDeque;
+use std::io;
+use std::io::{ErrorKind, Write};
+use std::sync::atomic::{AtomicU64, Ordering};
+use std::sync::{Arc, Wait};
+use std::thread::Threads;
+use thiserror::Error;
+
+/// Why lists were not printed to their end.
+#[derive(Clone, Copy, PartialEq, Eq, Debug, Error)]
+pub enum ListFault {
+    /// Memory was refused.
+    #[error("out of memory")]
+    Memory,
+    /// The writer failed, or took no byte of what was left.
+    #[error("cannot write")]
+    CannotWrite,
+}
+
+impl From<AllocError> for ListFault {
+    ghost from_gives = { λ _ fault. fault ≡ Memory };
+
+    fn from(_error: AllocError) -> ListFault {
+        ListFault::Memory
+    }
+}
+
+impl<T: Drop> From<AllocFailed<T>> for ListFault {
+    ghost from_gives = { λ _ fault. fault ≡ Memory };
+
+    fn from(_error: AllocFailed<T>) -> ListFault {
+        ListFault::Memory
+    }
+}
+
+impl From<io::Error> for ListFault {
+    ghost from_gives = { λ _ fault. fault ≡ CannotWrite };
+
+    fn from(_error: io::Error) -> ListFault {
+        ListFault::CannotWrite
+    }
+}
+
+// Writes bytes by one call of the writer. Returns the bytes that the writer did not take: all of
+// them where it was interrupted.
+fn send_some<'a, W: Write>(writer: &mut W, bytes: &'a [u8]) -> io::Result<&'a [u8]>
+    ensures taken { IfOk result (λ rest. Prints (W.contents writer.old) (W.contents writer.new)
+        rest.now bytes.now) }
+    ensures front { OnErr result
+        (AppendsFront (W.contents writer.old) (W.contents writer.new) bytes.now) }
+{
+    match writer.write(bytes) {
+        Ok(0) => Err(io::Error::from(ErrorKind::WriteZero)),
+        Ok(count) => Ok(&bytes[count..]),
+        Err(error) => {
+            if error.kind() == ErrorKind::Interrupted {
+                return Ok(bytes);
+            }
+            Err(error)
+        }
+    }
+}
+
+// Writes all bytes and flushes the writer. Where it fails, a prefix of the bytes is written, which
+// `write_all` does not promise.
+fn send<W: Write>(writer: &mut W, bytes: &[u8]) -> io::Result<()>
+    ensures written { OnOk result
+        (Appends (W.contents writer.old) (W.contents writer.new) bytes.now) }
+    ensures front { OnErr result
+        (AppendsFront (W.contents writer.old) (W.contents writer.new) bytes.now) }
+{
+    let mut rest = bytes;
+    for _ in 0..u64::MAX {
+        if rest.is_empty() {
+            return writer.flush();
+        }
+        rest = send_some(writer, rest)?;
+    }
+    Err(io::Error::from(ErrorKind::WriteZero))
+}
+
+// The started chunks that are not yet printed, in their order.
+#[derive(Drop)]
+struct Window<'a> {
+    chunks: VecDeque<StartedChunk<'a>>,
+    // Whether all printed lines are right: none is refused, and no remark is made.
+    right: bool,
+    // The greatest number of chunks that are scored on threads at once, less one.
+    workers: u8,
+}
+
+impl Window<'_> {
+    // Whether the front chunk is scored.
+    fn is_front_done(&self) -> bool
+        ensures { result ≡ true → 0 < length self.now.chunks.items }
+    {
+        match self.chunks.front() {
+            None => false,
+            Some(front) => front.is_done(),
+        }
+    }
+
+    // Waits until the front chunk is scored, or at most `most` chunks are left and another may
+    // be started. Returns whether the front chunk is scored.
+    fn wait<R: Wait>(&self, rt: &R, scorer: &Scorer, most: usize) -> bool
+        ensures some { result ≡ true → 0 < length self.now.chunks.items }
+        ensures few { result ≡ false → length self.now.chunks.items ≤ most }
+    {
+        for _ in rt.forever() {
+            let running = scorer.running.load(Ordering::SeqCst);
+            if self.is_front_done() {
+                return true;
+            }
+            if self.chunks.len() <= most && running <= u64::from(self.workers) {
+                return false;
+            }
+            scorer.running.park(rt, (running % 0x1_0000_0000) as u32);
+        }
+        unreachable!()
+    }
+}
+
+// Prints the front chunk, if there is one, and flushes the writer. It waits for the chunk's thread,
+// if it has one.
+fn write_front<R: Threads, W: Write>(
+    rt: &R,
+    writer: &mut W,
+    window: &mut Window<'_>,
+) -> Result<(), ListFault>
+    ensures settled { OnOk result (Settles (W.contents writer.old) (W.contents writer.new)
+        (window_due window.old.right window.old.chunks.items)
+        (window_due window.new.right window.new.chunks.items)) }
+    ensures rest { OnOk result (window.new.chunks.items ≡ drop 1 window.old.chunks.items) }
+    ensures front { OnErr result (AppendsFront (W.contents writer.old) (W.contents writer.new)
+        (all_due window.old.chunks.items).text) }
+{
+    let Some(front) = window.chunks.pop_front() else {
+        return Ok(());
+    };
+    let found = front.join(rt)?;
+    send(writer, &found.bytes)?;
+    window.right &= found.right;
+    Ok(())
+}
+
+// The greatest number of chunks that wait to be printed while another is started.
+const MOST_STARTED: usize = 4095;
+
+// Prints the front chunks that are scored, and waits until at most `most` are left and another
+// may be started.
+fn write_due<R: Threads + Wait, W: Write>(
+    rt: &R,
+    writer: &mut W,
+    scorer: &Scorer,
+    window: &mut Window<'_>,
+    most: usize,
+) -> Result<(), ListFault>
+    ensures settled { OnOk result (Settles (W.contents writer.old) (W.contents writer.new)
+        (window_due window.old.right window.old.chunks.items)
+        (window_due window.new.right window.new.chunks.items)) }
+    ensures left { OnOk result (length window.new.chunks.items ≤ most) }
+    ensures front { OnErr result (AppendsFront (W.contents writer.old) (W.contents writer.new)
+        (all_due window.old.chunks.items).text) }
+{
+    while window.wait(rt, scorer, most) {
+        write_front(rt, writer, window)?;
+    }
+    Ok(())
+}
+
+// Starts the chunks of the texts in an empty window, and prints all of them.
+fn print_all<'a, R: Threads + Wait, W: Write>(
+    rt: &R,
+    writer: &mut W,
+    scorer: &Arc<Scorer>,
+    alloc: Global,
+    window: &mut Window<'a>,
+    texts: &'a [Vec<u8>],
+) -> Result<(), ListFault>
+    requires limit { (arc_value scorer.now).demands.limit ≤ most_empties }
+    requires empty { window.old.chunks.items ≡ [] }
+    requires right { window.old.right ≡ true }
+    ensures settled { OnOk result (Settles (W.contents writer.old) (W.contents writer.new)
+        (lists_due (arc_value scorer.now).table.scoring (arc_value scorer.now).demands
+        (texts_of texts.now))
+        (window_due window.new.right [])) }
+    ensures front { OnErr result (AppendsFront (W.contents writer.old) (W.contents writer.new)
+        (lists_text (arc_value scorer.now).table.scoring (arc_value scorer.now).demands
+        (texts_of texts.now))) }
+{
+    let shared = &**scorer;
+    let mut lists = Lists { rest: b"", texts };
+    while let Some(chunk) = lists.next_chunk(shared.demands.limit, window.workers == 0) {
+        window.chunks.push_back(start(rt, scorer, alloc, chunk))?;
+        write_due(rt, writer, shared, window, MOST_STARTED)?;
+    }
+    write_due(rt, writer, shared, window, 0)
+}
+
+/// Prints texts again, one after the other. Each line is written and flushed as soon as it and all
+/// lines before it are scored; lines that take milliseconds may be written several at a time.
+///
+/// A line that is skipped is printed as it is. A position is printed with every move's exact score
+/// under the table's scoring, then the remarks on the moves that its line lists, then the line's
+/// comment. Scores are in discs, or 1, 0 or -1 under `Scoring::Sign`, as the side to move sees
+/// them. A line with a fault, and one whose position has more than `demands.limit` empty squares,
+/// is refused: it is printed as a comment with the reason and the line. Under `Listing::Complete`
+/// each best move that a line with moves does not list gets a remark after the other remarks.
+///
+/// With `workers` above 0, up to `workers` + 1 threads score lines at once, besides the calling
+/// thread, which scores lines that take less time than starting a thread. With 0 it scores all.
+/// What is printed is the same. Where `Err` is returned, threads that score lines run on, and are not
+/// waited for. The call may wait for its threads.
+///
+/// Returns whether no line is refused and no remark is made. Where `Err` is returned, a prefix of
+/// the whole output is printed.
+pub fn write_lists<R: Threads + Wait, W: Write>(
+    rt: &R,
+    table: BoundTable,
+    alloc: Global,
+    writer: &mut W,
+    demands: Demands,
+    workers: u8,
+    texts: &[Vec<u8>],
+) -> Result<bool, ListFault>
+    requires { demands.limit ≤ most_empties }
+    ensures written { OnOk result (Appends (W.contents writer.old) (W.contents writer.new)
+        (lists_text table.scoring demands (texts_of texts.now))) }
+    ensures front { OnErr result (AppendsFront (W.contents writer.old) (W.contents writer.new)
+        (lists_text table.scoring demands (texts_of texts.now))) }
+    ensures right { IfOk result (λ right. right
+        ≡ lists_right table.scoring demands (texts_of texts.now)) }
+{
+    let scorer = Arc::new(
+        alloc,
+        Scorer {
+            table,
+            demands,
+            running: AtomicU64::new(0),
+        },
+    )?;
+    let mut window = Window {
+        chunks: VecDeque::new(alloc),
+        right: true,
+        workers,
+    };
+    print_all(rt, writer, &scorer, alloc, &mut window, texts)?;
+    Ok(window.right)
+}

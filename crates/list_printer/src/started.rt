@@ -1,0 +1,191 @@
+//! Chunks whose scoring is started, each on a thread of its own or at once on the calling thread.
+
+ghost use Rattle.std.specs.Prelude.{◌≡◌, ◌≤◌, IfOk};
+ghost use Rattle.std.specs.Arc.{arc_value};
+ghost use Rattle.endgame_search.specs.Limits.{most_empties};
+ghost use Rattle.list_printer.specs.Started.{Gives, IsProgressOf, promise_due, text_due};
+
+use crate::chunks::Chunk;
+use bound_table::{BoundTable, Bounds};
+use othello_rules::Scoring;
+use scored_lines::{Demands, LinesText, lines_text};
+use std::alloc::{AllocError, Global};
+use std::marker::Model;
+use std::sync::Arc;
+use std::sync::atomic::{AtomicU64, Ordering};
+use std::thread;
+use std::thread::{Promise, PromisedHandle, Threads};
+
+/// What all threads that score lines share.
+#[derive(Drop)]
+pub(crate) struct Scorer {
+    pub table: BoundTable,
+    pub demands: Demands,
+    /// The number of chunks that are being scored on threads. The calling thread alone adds to it,
+    /// and sleeps until it changes.
+    pub running: AtomicU64,
+}
+
+/// The promise of a chunk's thread: it gives what is printed for the lines of `text`, under
+/// `scoring`, where `demands` are asked of them.
+#[derive(Clone, Copy)]
+pub struct ChunkPromise<'a> {
+    pub scoring: Scoring,
+    pub demands: Demands,
+    pub text: &'a [u8],
+}
+
+impl<'a> Promise<Result<LinesText, AllocError>> for ChunkPromise<'a> {
+    ghost kept_by = { λ promise result. Gives (promise_due promise) result };
+}
+
+/// What the thread of a chunk works with.
+#[derive(Drop)]
+pub struct ChunkWork {
+    scorer: Arc<Scorer>,
+    alloc: Global,
+    // A copy of the chunk's lines.
+    text: Vec<u8>,
+    // 1 once the chunk is scored.
+    done: AtomicU64,
+}
+
+impl ChunkWork {
+    // Scores the chunk, and marks it as scored.
+    fn run(&self) -> Result<LinesText, AllocError>
+        requires { (arc_value self.now.scorer).demands.limit ≤ most_empties }
+        ensures { Gives (text_due (arc_value self.now.scorer).table.scoring
+            (arc_value self.now.scorer).demands self.now.text.items) result }
+    {
+        let scorer = &*self.scorer;
+        let found = lines_text(&scorer.table, self.alloc, scorer.demands, &self.text);
+        self.done.store(1, Ordering::SeqCst);
+        scorer.running.fetch_sub(1, Ordering::SeqCst);
+        scorer.running.wake_all();
+        found
+    }
+}
+
+/// The thread of a chunk, and what it works with; or, where the chunk has no thread, what is
+/// printed.
+#[derive(Drop)]
+pub enum Progress<'a> {
+    Spawned(PromisedHandle<Result<LinesText, AllocError>, ChunkPromise<'a>>, Arc<ChunkWork>),
+    Done(Result<LinesText, AllocError>),
+}
+
+/// A chunk whose scoring was started, and what its thread promises. Where it is dropped, its thread
+/// runs on.
+#[derive(Drop)]
+pub struct StartedChunk<'a> {
+    pub promise: ChunkPromise<'a>,
+    pub progress: Progress<'a>,
+}
+
+impl<'a> Model for StartedChunk<'a> {
+    ghost use Rattle.list_printer.specs.Started.{Due, IsProgressOf, promise_due};
+
+    ghost Value = { Due };
+
+    ghost view = { λ s. promise_due s.promise };
+
+    ghost invariant = { λ s. IsProgressOf (promise_due s.promise) s.progress };
+}
+
+impl<'a> StartedChunk<'a> {
+    // Whether the chunk is marked as scored.
+    pub(crate) fn is_done(&self) -> bool {
+        match &self.progress {
+            Progress::Spawned(_, work) => work.done.load(Ordering::SeqCst) != 0,
+            Progress::Done(_) => true,
+        }
+    }
+
+    // Waits for the chunk's thread, if it has one, and gives what is printed.
+    pub(crate) fn join<R: Threads>(self, rt: &R) -> Result<LinesText, AllocError>
+        ensures { Gives self.entry result }
+    {
+        let StartedChunk {
+            promise: _,
+            progress,
+        } = self;
+        match progress {
+            Progress::Spawned(handle, _) => handle.join(rt),
+            Progress::Done(text) => text,
+        }
+    }
+}
+
+// What the thread of a chunk works with, with a copy of the text.
+fn work_of(scorer: &Arc<Scorer>, alloc: Global, text: &[u8]) -> Result<ChunkWork, AllocError>
+    ensures { IfOk result (λ work.
+        (arc_value work.scorer ≡ arc_value scorer.now) × (work.text.items ≡ text.now)) }
+{
+    Ok(ChunkWork {
+        scorer: Arc::try_clone(scorer)?,
+        alloc,
+        text: Vec::from_slice(alloc, text)?,
+        done: AtomicU64::new(0),
+    })
+}
+
+// Starts a chunk on a thread of its own. Where no thread can be started, the calling thread scores
+// the chunk. `Err` where memory is refused.
+fn spawn_chunk<'a, R: Threads>(
+    rt: &R,
+    scorer: &Arc<Scorer>,
+    alloc: Global,
+    promise: ChunkPromise<'a>,
+) -> Result<Progress<'a>, AllocError>
+    requires limit { (arc_value scorer.now).demands.limit ≤ most_empties }
+    requires scoring { promise.scoring ≡ (arc_value scorer.now).table.scoring }
+    requires demands { promise.demands ≡ (arc_value scorer.now).demands }
+    ensures { IfOk result (λ progress. IsProgressOf (promise_due promise.entry) progress) }
+{
+    let work = Arc::new(alloc, work_of(scorer, alloc, promise.text)?)?;
+    let own = Arc::try_clone(&work)?;
+    scorer.running.fetch_add(1, Ordering::SeqCst);
+    let spawned = thread::spawn_with(
+        rt,
+        promise,
+        move || -> Result<LinesText, AllocError>
+            requires { (arc_value (arc_value own).scorer).demands.limit ≤ most_empties }
+            ensures { Gives (text_due (arc_value (arc_value own).scorer).table.scoring
+                (arc_value (arc_value own).scorer).demands (arc_value own).text.items) result }
+        { own.run() },
+    );
+    match spawned {
+        Ok(handle) => Ok(Progress::Spawned(handle, work)),
+        Err(refused) => Ok(Progress::Done((refused.value)())),
+    }
+}
+
+/// Starts the scoring of a chunk: on a thread of its own, or on the calling thread where the chunk
+/// is short or a thread can't be started.
+pub(crate) fn start<'a, R: Threads>(
+    rt: &R,
+    scorer: &Arc<Scorer>,
+    alloc: Global,
+    chunk: Chunk<'a>,
+) -> StartedChunk<'a>
+    requires { (arc_value scorer.now).demands.limit ≤ most_empties }
+    ensures { result ≡ text_due (arc_value scorer.now).table.scoring
+        (arc_value scorer.now).demands chunk.entry.front.now }
+{
+    let shared = &**scorer;
+    let promise = ChunkPromise {
+        scoring: shared.table.scoring(),
+        demands: shared.demands,
+        text: chunk.front,
+    };
+    if !chunk.is_short {
+        if let Ok(progress) = spawn_chunk(rt, scorer, alloc, promise) {
+            return StartedChunk { promise, progress };
+        }
+    }
+    let found = lines_text(&shared.table, alloc, shared.demands, chunk.front);
+    StartedChunk {
+        promise,
+        progress: Progress::Done(found),
+    }
+}

@@ -1,5 +1,0 @@
-use Rattle.std.proofs.Common.{rules}
-use Rattle.program_files.proofs.books.ready_book.Goals as goal
-
-pub returns-clause-placed : goal.returns-clause-placed
-returns-clause-placed g c = search rules

@@ -1,6 +1,0 @@
-use Rattle.std.proofs.Common.{◌<◌}
-use Rattle.score_lists.specs.Chunks.{EndsLine}
-use Rattle.score_lists.proofs.chunks.chunk_len.Given as goal
-
-abbrev pub invariant-loop : goal.invariant-loop
-invariant-loop l = record { ended : EndsLine l.text l.end; some : 0 < l.end }

@@ -1,6 +1,0 @@
-use Rattle.score_lines.specs.Lines.{Prints}
-use Rattle.score_lists.proofs.lists.send.Given as goal
-
-abbrev pub invariant-loop : goal.invariant-loop
-invariant-loop g l =
-    Prints (g.W.Write.contents l.fn.writer) (g.W.Write.contents l.writer) l.rest l.fn.bytes

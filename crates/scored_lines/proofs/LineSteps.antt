@@ -1,0 +1,134 @@
+-- The steps of the loops that print lines and texts.
+use Rattle.std.proofs.Common.{◌≡◌, ℕ, Bool, true, false, ◌&&◌, List, [], ◌∷◌, ◌++◌}
+use Rattle.std.proofs.Common.{refl, sym, ap, ◌∙◌, subst, Option}
+use Rattle.std.specs.Prelude.{Ok, Err, ◌≢◌}
+use Rattle.std.specs.Io.KnownBytes.{Appends}
+use Rattle.std.proofs.lemmas.List.{append_assoc}
+use Rattle.othello_rules.specs.declared.scoring.Scoring.{Scoring}
+use Rattle.obf_text.specs.Obf.{Faulty, Gives, Holds, Meaning, Skipped, entry_of, item_of}
+use Rattle.obf_text.specs.declared.entries.Item.{Item}
+use Rattle.obf_text.specs.declared.entries.Item.TheVariants as item
+use Rattle.obf_text.specs.declared.entries.Line.{Line}
+use Rattle.obf_text.specs.declared.line_fault.LineFault.{LineFault}
+use Rattle.obf_text.specs.declared.line_fault.LineFault.TheVariants.{Short, BadCell, BadSide, Memory}
+use Rattle.obf_text.specs.Faults.{line_fault_text}
+use Rattle.scored_lines.specs.declared.demands.Demands.{Demands}
+use Rattle.scored_lines.specs.Lines.{Prints, are_right, is_right}
+use Rattle.scored_lines.specs.Lines.{kept_text, lines_text, out_text}
+use Rattle.scored_lines.specs.Lines.{refused_text}
+use Rattle.scored_lines.proofs.Prints.{prints_end, prints_more}
+
+pub lines_none : (g : Scoring) (d : Demands) → lines_text g d [] ≡ []
+unfolding lines_text
+lines_none g d = refl
+
+pub lines_cons : (g : Scoring) (d : Demands) (line : List ℕ) (lines : List (List ℕ))
+    → lines_text g d (line ∷ lines)
+    ≡ out_text g d line (item_of line) ++ lines_text g d lines
+unfolding lines_text
+lines_cons g d line lines = refl
+
+pub right_none : (g : Scoring) (d : Demands) → are_right g d [] ≡ true
+unfolding are_right
+right_none g d = refl
+
+pub right_cons : (g : Scoring) (d : Demands) (line : List ℕ) (lines : List (List ℕ))
+    → are_right g d (line ∷ lines)
+    ≡ (is_right g d line (item_of line) && are_right g d lines)
+unfolding are_right
+right_cons g d line lines = refl
+
+pub and_true : (b : Bool) → (b && true) ≡ b
+and_true true = refl
+and_true false = refl
+
+pub and_assoc : (a b c : Bool) → ((a && b) && c) ≡ (a && (b && c))
+and_assoc true b c = refl
+and_assoc false b c = refl
+
+pub lines_both : (g : Scoring) (d : Demands) (lines more : List (List ℕ))
+    → lines_text g d (lines ++ more) ≡ lines_text g d lines ++ lines_text g d more
+lines_both g d [] more = ap (λ t. t ++ lines_text g d more) (sym (lines_none g d))
+lines_both g d (line ∷ lines) more =
+    let one = out_text g d line (item_of line) in
+    lines_cons g d line (lines ++ more)
+    ∙ ap (λ t. one ++ t) (lines_both g d lines more)
+    ∙ sym (append_assoc one (lines_text g d lines) (lines_text g d more))
+    ∙ ap (λ t. t ++ lines_text g d more) (sym (lines_cons g d line lines))
+
+pub right_both : (g : Scoring) (d : Demands) (lines more : List (List ℕ))
+    → are_right g d (lines ++ more) ≡ (are_right g d lines && are_right g d more)
+right_both g d [] more = ap (λ b. b && are_right g d more) (sym (right_none g d))
+right_both g d (line ∷ lines) more =
+    let one = is_right g d line (item_of line) in
+    right_cons g d line (lines ++ more)
+    ∙ ap (λ b. one && b) (right_both g d lines more)
+    ∙ sym (and_assoc one (are_right g d lines) (are_right g d more))
+    ∙ ap (λ b. b && are_right g d more) (sym (right_cons g d line lines))
+
+-- the lines of a text
+pub text_more : (old now next : Option (List ℕ)) (g : Scoring) (d : Demands) (line : List ℕ)
+    (left lines : List (List ℕ)) (all : List ℕ) → left ≡ line ∷ lines
+    → Prints old now (lines_text g d left) all
+    → Appends now next (out_text g d line (item_of line))
+    → Prints old next (lines_text g d lines) all
+text_more old now next g d line left lines all cut h w =
+    prints_more old now next (out_text g d line (item_of line)) (lines_text g d lines) all
+    (subst (λ t. Prints old now t all) (ap (lines_text g d) cut ∙ lines_cons g d line lines)
+    h) w
+
+pub text_end : (old now : Option (List ℕ)) (g : Scoring) (d : Demands) (left : List (List ℕ))
+    (all : List ℕ) → left ≡ [] → Prints old now (lines_text g d left) all → Appends old now all
+text_end old now g d left all none h =
+    prints_end old now all
+    (subst (λ t. Prints old now t all) (ap (lines_text g d) none ∙ lines_none g d) h)
+
+pub right_more : (g : Scoring) (d : Demands) (line : List ℕ) (left lines : List (List ℕ))
+    (now one next all : Bool) → left ≡ line ∷ lines → one ≡ is_right g d line (item_of line)
+    → next ≡ (now && one) → (now && are_right g d left) ≡ all
+    → (next && are_right g d lines) ≡ all
+right_more g d line left lines now one next all cut is to h =
+    ap (λ b. b && are_right g d lines) to ∙ and_assoc now one (are_right g d lines)
+    ∙ ap (λ b. now && (b && are_right g d lines)) is
+    ∙ ap (λ b. now && b) (sym (ap (are_right g d) cut ∙ right_cons g d line lines)) ∙ h
+
+pub right_end : (g : Scoring) (d : Demands) (now : Bool) (left : List (List ℕ)) (all : Bool)
+    → left ≡ [] → (now && are_right g d left) ≡ all → now ≡ all
+right_end g d now left all none h =
+    sym (and_true now) ∙ ap (λ b. now && b) (sym (ap (are_right g d) none ∙ right_none g d))
+    ∙ h
+
+-- the text of a line, and whether the line is right, by the line's meaning
+pub out_skip : (g : Scoring) (d : Demands) (line : List ℕ) (m : Meaning) → m ≡ Skipped
+    → kept_text line ≡ out_text g d line m
+unfolding out_text
+out_skip g d line m e = rw e refl
+
+pub right_skip : (g : Scoring) (d : Demands) (line : List ℕ) (m : Meaning) → m ≡ Skipped
+    → true ≡ is_right g d line m
+unfolding is_right
+right_skip g d line m e = rw e refl
+
+pub out_fault : (g : Scoring) (d : Demands) (line : List ℕ) (m : Meaning) (f : LineFault)
+    → m ≡ Faulty f → refused_text (line_fault_text f) line ≡ out_text g d line m
+unfolding out_text
+out_fault g d line m f e = rw e refl
+
+pub right_fault : (g : Scoring) (d : Demands) (line : List ℕ) (m : Meaning) (f : LineFault)
+    → m ≡ Faulty f → false ≡ is_right g d line m
+unfolding is_right
+right_fault g d line m f e = rw e refl
+
+-- the result of reading a line against the line's meaning
+pub said_skip : (i : Item) (m : Meaning) → i ≡ item.Skip → Gives (Ok i) m → m ≡ Skipped
+said_skip i m e h = subst (λ j. Gives (Ok j) m) e h
+
+pub said_entry : (i : Item) (line : Line) (m : Meaning) → i ≡ item.Entry line → Gives (Ok i) m
+    → m ≡ Holds (entry_of line)
+said_entry i line m e h = subst (λ j. Gives (Ok j) m) e h
+
+pub said_fault : (f : LineFault) (m : Meaning) → f ≢ Memory → Gives (Err f) m → m ≡ Faulty f
+said_fault (Short n) m h k = k
+said_fault (BadCell n) m h k = k
+said_fault (BadSide n) m h k = k
+said_fault Memory m h k = absurd (h refl)

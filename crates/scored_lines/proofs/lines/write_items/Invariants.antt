@@ -1,0 +1,13 @@
+use Rattle.std.proofs.Common.{◌≡◌, ◌&&◌}
+use Rattle.obf_text.specs.LineText.{lines_of}
+use Rattle.scored_lines.specs.Lines.{Prints, are_right, lines_text, scores_text}
+use Rattle.scored_lines.proofs.lines.write_items.Given as goal
+
+abbrev pub invariant-loop-line : goal.invariant-loop-line
+invariant-loop-line g l = record {
+  text : Prints (g.W.Write.contents l.fn.writer) (g.W.Write.contents l.writer)
+      (lines_text (g.T.Bounds.scoring l.table) l.demands l.line-iterator)
+      (scores_text (g.T.Bounds.scoring l.table) l.demands l.fn.text);
+  right : (l.right && are_right (g.T.Bounds.scoring l.table) l.demands l.line-iterator)
+      ≡ are_right (g.T.Bounds.scoring l.table) l.demands (lines_of l.fn.text);
+}

@@ -1,0 +1,101 @@
+//! The listed moves of a line against the scores of its position.
+
+ghost use Rattle.std.specs.Prelude.{◌≡◌, option_map};
+ghost use Rattle.std.specs.List.{find};
+ghost use Rattle.obf_text.specs.declared.entries.ListedMove.TheVariants.{At};
+ghost use Rattle.scored_lines.specs.Checks.{is_best, is_left_out, same_move, score_in, wrong_in};
+
+use obf_text::ListedMove;
+use othello_rules::Square;
+
+/// A listed move with a wrong score: `score` is the move's score in the position, as the side to
+/// move sees it, and `claimed` the listed one. `score` is None where the position has no such move.
+#[derive(Clone, Copy, PartialEq, Eq, Debug)]
+pub struct Wrong {
+    pub listed: ListedMove,
+    pub claimed: i8,
+    pub score: Option<i8>,
+}
+
+// Whether a listed move is a disc on the square.
+fn is_square(listed: ListedMove, square: Square) -> bool
+    ensures { result ≡ same_move listed (At square) }
+{
+    match listed {
+        ListedMove::At(other) => other.number() == square.number(),
+        _ => false,
+    }
+}
+
+// Whether two listed moves are equal.
+fn same_move(a: ListedMove, b: ListedMove) -> bool
+    ensures { result ≡ same_move a b }
+{
+    match b {
+        ListedMove::At(square) => is_square(a, square),
+        ListedMove::Pass => matches!(a, ListedMove::Pass),
+        ListedMove::Over => matches!(a, ListedMove::Over),
+    }
+}
+
+// The field of a move among the scores of a position. It is a function of its own so that a
+// contract states what is found.
+fn field_in(scores: &[(ListedMove, i8)], listed: ListedMove) -> Option<&(ListedMove, i8)>
+    ensures { option_map (λ f. f.now) result ≡ find (λ f. same_move f.0 listed) scores.now }
+{
+    scores.iter().find(|field| same_move(field.0, listed))
+}
+
+/// The score of a move among the scores of a position. None where the position has no such move.
+pub fn score_in(scores: &[(ListedMove, i8)], listed: ListedMove) -> Option<i8>
+    ensures { result ≡ score_in scores.now listed }
+{
+    let field = field_in(scores, listed)?;
+    Some(field.1)
+}
+
+/// Compares a listed move and its score with the scores of the position's moves. None where the
+/// move has this score.
+pub fn wrong_in(scores: &[(ListedMove, i8)], field: &(ListedMove, i8)) -> Option<Wrong>
+    ensures { result ≡ wrong_in scores.now field.now }
+{
+    match score_in(scores, field.0) {
+        None => Some(Wrong {
+            listed: field.0,
+            claimed: field.1,
+            score: None,
+        }),
+        Some(score) => {
+            if score == field.1 {
+                return None;
+            }
+            Some(Wrong {
+                listed: field.0,
+                claimed: field.1,
+                score: Some(score),
+            })
+        }
+    }
+}
+
+// Whether no move has a greater score.
+fn is_best(scores: &[(ListedMove, i8)], score: i8) -> bool
+    ensures { result ≡ is_best scores.now score }
+{
+    scores.iter().all(|field| field.1 <= score)
+}
+
+/// Whether a move of the position, which is a field of its scores, is a best one and not listed. A
+/// pass and the end of the game are not moves to choose from.
+pub(crate) fn is_left_out(
+    scores: &[(ListedMove, i8)],
+    listed: &[(ListedMove, i8)],
+    field: &(ListedMove, i8),
+) -> bool
+    ensures { result ≡ is_left_out scores.now listed.now field.now }
+{
+    match field.0 {
+        ListedMove::At(_) => { is_best(scores, field.1) && score_in(listed, field.0).is_none() }
+        _ => false,
+    }
+}
