@@ -7,8 +7,8 @@ ghost use Rattle.suite_solver.specs.declared.option_fault.OptionFault.TheVariant
 ghost use Rattle.ffoscores_program.specs.CommandLine.{AsksLists, ffoscores, is_complete, list_request_of};
 
 use clap::Command;
-use list_printer::Listing;
 use othello_rules::Scoring;
+use scored_lines::Listing;
 use std::alloc::{AllocError, Global};
 use suite_runs::Settings;
 use suite_solver::OptionFault;

@@ -1,2 +1,2 @@
 pub mod Chunks
-pub mod Started
+pub mod Output

@@ -2,9 +2,8 @@
 //! the moves that they list. The text of a line is that of `scored_lines`.
 #![tactic(auto)]
 
+mod chunk_threads;
 mod chunks;
 mod lists;
-mod started;
 
 pub use lists::{ListFault, write_lists};
-pub use scored_lines::{Demands, Listing};

@@ -6,11 +6,11 @@ ghost use Rattle.std.specs.Io.KnownBytes.{Appends};
 ghost use Rattle.endgame_search.specs.Limits.{most_empties};
 ghost use Rattle.obf_text.specs.LineText.{texts_of};
 ghost use Rattle.scored_lines.specs.Lines.{AppendsFront, Prints, lists_right, lists_text};
-ghost use Rattle.list_printer.specs.Started.{Settles, all_due, lists_due, window_due};
+ghost use Rattle.list_printer.specs.Output.{PrintsPart, chunks_output, lists_output, queue_output};
 ghost use Rattle.list_printer.specs.declared.lists.ListFault.TheVariants.{CannotWrite, Memory};
 
 use crate::chunks::Lists;
-use crate::started::{Scorer, StartedChunk, start};
+use crate::chunk_threads::{Scorer, StartedChunk, start};
 use bound_table::BoundTable;
 use scored_lines::Demands;
 use std::alloc::{AllocError, AllocFailed, Global};
@@ -97,7 +97,7 @@ fn send<W: Write>(writer: &mut W, bytes: &[u8]) -> io::Result<()>
 
 // The started chunks that are not yet printed, in their order.
 #[derive(Drop)]
-struct Window<'a> {
+struct ChunkQueue<'a> {
     chunks: VecDeque<StartedChunk<'a>>,
     // Whether all printed lines are right: none is refused, and no remark is made.
     right: bool,
@@ -105,14 +105,14 @@ struct Window<'a> {
     workers: u8,
 }
 
-impl Window<'_> {
+impl ChunkQueue<'_> {
     // Whether the front chunk is scored.
-    fn is_front_done(&self) -> bool
+    fn is_front_ready(&self) -> bool
         ensures { result ≡ true → 0 < length self.now.chunks.items }
     {
         match self.chunks.front() {
             None => false,
-            Some(front) => front.is_done(),
+            Some(front) => front.is_ready(),
         }
     }
 
@@ -124,7 +124,7 @@ impl Window<'_> {
     {
         for _ in rt.forever() {
             let running = scorer.running.load(Ordering::SeqCst);
-            if self.is_front_done() {
+            if self.is_front_ready() {
                 return true;
             }
             if self.chunks.len() <= most && running <= u64::from(self.workers) {
@@ -141,21 +141,21 @@ impl Window<'_> {
 fn write_front<R: Threads, W: Write>(
     rt: &R,
     writer: &mut W,
-    window: &mut Window<'_>,
+    queue: &mut ChunkQueue<'_>,
 ) -> Result<(), ListFault>
-    ensures settled { OnOk result (Settles (W.contents writer.old) (W.contents writer.new)
-        (window_due window.old.right window.old.chunks.items)
-        (window_due window.new.right window.new.chunks.items)) }
-    ensures rest { OnOk result (window.new.chunks.items ≡ drop 1 window.old.chunks.items) }
+    ensures printed { OnOk result (PrintsPart (W.contents writer.old) (W.contents writer.new)
+        (queue_output queue.old.right queue.old.chunks.items)
+        (queue_output queue.new.right queue.new.chunks.items)) }
+    ensures rest { OnOk result (queue.new.chunks.items ≡ drop 1 queue.old.chunks.items) }
     ensures front { OnErr result (AppendsFront (W.contents writer.old) (W.contents writer.new)
-        (all_due window.old.chunks.items).text) }
+        (chunks_output queue.old.chunks.items).text) }
 {
-    let Some(front) = window.chunks.pop_front() else {
+    let Some(front) = queue.chunks.pop_front() else {
         return Ok(());
     };
     let found = front.join(rt)?;
     send(writer, &found.bytes)?;
-    window.right &= found.right;
+    queue.right &= found.right;
     Ok(())
 }
 
@@ -164,53 +164,53 @@ const MOST_STARTED: usize = 4095;
 
 // Prints the front chunks that are scored, and waits until at most `most` are left and another
 // may be started.
-fn write_due<R: Threads + Wait, W: Write>(
+fn write_ready<R: Threads + Wait, W: Write>(
     rt: &R,
     writer: &mut W,
     scorer: &Scorer,
-    window: &mut Window<'_>,
+    queue: &mut ChunkQueue<'_>,
     most: usize,
 ) -> Result<(), ListFault>
-    ensures settled { OnOk result (Settles (W.contents writer.old) (W.contents writer.new)
-        (window_due window.old.right window.old.chunks.items)
-        (window_due window.new.right window.new.chunks.items)) }
-    ensures left { OnOk result (length window.new.chunks.items ≤ most) }
+    ensures printed { OnOk result (PrintsPart (W.contents writer.old) (W.contents writer.new)
+        (queue_output queue.old.right queue.old.chunks.items)
+        (queue_output queue.new.right queue.new.chunks.items)) }
+    ensures left { OnOk result (length queue.new.chunks.items ≤ most) }
     ensures front { OnErr result (AppendsFront (W.contents writer.old) (W.contents writer.new)
-        (all_due window.old.chunks.items).text) }
+        (chunks_output queue.old.chunks.items).text) }
 {
-    while window.wait(rt, scorer, most) {
-        write_front(rt, writer, window)?;
+    while queue.wait(rt, scorer, most) {
+        write_front(rt, writer, queue)?;
     }
     Ok(())
 }
 
-// Starts the chunks of the texts in an empty window, and prints all of them.
+// Starts the chunks of the texts in an empty queue, and prints all of them.
 fn print_all<'a, R: Threads + Wait, W: Write>(
     rt: &R,
     writer: &mut W,
     scorer: &Arc<Scorer>,
     alloc: Global,
-    window: &mut Window<'a>,
+    queue: &mut ChunkQueue<'a>,
     texts: &'a [Vec<u8>],
 ) -> Result<(), ListFault>
     requires limit { (arc_value scorer.now).demands.limit ≤ most_empties }
-    requires empty { window.old.chunks.items ≡ [] }
-    requires right { window.old.right ≡ true }
-    ensures settled { OnOk result (Settles (W.contents writer.old) (W.contents writer.new)
-        (lists_due (arc_value scorer.now).table.scoring (arc_value scorer.now).demands
+    requires empty { queue.old.chunks.items ≡ [] }
+    requires right { queue.old.right ≡ true }
+    ensures printed { OnOk result (PrintsPart (W.contents writer.old) (W.contents writer.new)
+        (lists_output (arc_value scorer.now).table.scoring (arc_value scorer.now).demands
         (texts_of texts.now))
-        (window_due window.new.right [])) }
+        (queue_output queue.new.right [])) }
     ensures front { OnErr result (AppendsFront (W.contents writer.old) (W.contents writer.new)
         (lists_text (arc_value scorer.now).table.scoring (arc_value scorer.now).demands
         (texts_of texts.now))) }
 {
     let shared = &**scorer;
     let mut lists = Lists { rest: b"", texts };
-    while let Some(chunk) = lists.next_chunk(shared.demands.limit, window.workers == 0) {
-        window.chunks.push_back(start(rt, scorer, alloc, chunk))?;
-        write_due(rt, writer, shared, window, MOST_STARTED)?;
+    while let Some(chunk) = lists.next_chunk(shared.demands.limit, queue.workers == 0) {
+        queue.chunks.push_back(start(rt, scorer, alloc, chunk))?;
+        write_ready(rt, writer, shared, queue, MOST_STARTED)?;
     }
-    write_due(rt, writer, shared, window, 0)
+    write_ready(rt, writer, shared, queue, 0)
 }
 
 /// Prints texts again, one after the other. Each line is written and flushed as soon as it and all
@@ -255,11 +255,11 @@ pub fn write_lists<R: Threads + Wait, W: Write>(
             running: AtomicU64::new(0),
         },
     )?;
-    let mut window = Window {
+    let mut queue = ChunkQueue {
         chunks: VecDeque::new(alloc),
         right: true,
         workers,
     };
-    print_all(rt, writer, &scorer, alloc, &mut window, texts)?;
-    Ok(window.right)
+    print_all(rt, writer, &scorer, alloc, &mut queue, texts)?;
+    Ok(queue.right)
 }

@@ -1,8 +1,9 @@
 //! Writers that fail, and when lines are sent on.
 
 use bound_table::BoundTable;
-use list_printer::{Demands, ListFault, Listing, write_lists};
+use list_printer::{ListFault, write_lists};
 use othello_rules::Scoring;
+use scored_lines::{Demands, Listing};
 use std::alloc::{AllocError, Global};
 use std::io;
 use std::io::Write;

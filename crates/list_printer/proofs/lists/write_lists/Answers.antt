@@ -1,21 +1,21 @@
 use Rattle.obf_text.specs.LineText.{texts_of}
 use Rattle.scored_lines.proofs.Prints.{front_none}
 use Rattle.scored_lines.proofs.Results.{on_err}
-use Rattle.list_printer.specs.Started.{lists_due}
-use Rattle.list_printer.proofs.StartedSteps.{all_printed}
+use Rattle.list_printer.specs.Output.{lists_output}
+use Rattle.list_printer.proofs.OutputSteps.{all_printed}
 use Rattle.list_printer.proofs.lists.write_lists.Goals as goal
 
 pub returns-clause-written : goal.returns-clause-written
 returns-clause-written g c =
-    (all_printed _ _ (lists_due c.args.table.scoring c.args.demands (texts_of c.args.texts.now))
-    c.print_all.new.window.right
-    (rw c.in_ok-scorer.ensures.ok at c.in_ok-print_all.ensures.settled)).0
+    (all_printed _ _ (lists_output c.args.table.scoring c.args.demands (texts_of c.args.texts.now))
+    c.print_all.new.queue.right
+    (rw c.in_ok-scorer.ensures.ok at c.in_ok-print_all.ensures.printed)).0
 
 pub returns-clause-right : goal.returns-clause-right
 returns-clause-right g c =
-    (all_printed _ _ (lists_due c.args.table.scoring c.args.demands (texts_of c.args.texts.now))
-    c.print_all.new.window.right
-    (rw c.in_ok-scorer.ensures.ok at c.in_ok-print_all.ensures.settled)).1
+    (all_printed _ _ (lists_output c.args.table.scoring c.args.demands (texts_of c.args.texts.now))
+    c.print_all.new.queue.right
+    (rw c.in_ok-scorer.ensures.ok at c.in_ok-print_all.ensures.printed)).1
 
 pub returns-in_err-scorer-clause-front : goal.returns-in_err-scorer-clause-front
 returns-in_err-scorer-clause-front g c = on_err c.from_residual.result _ (front_none _ _)

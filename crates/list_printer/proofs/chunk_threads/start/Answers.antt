@@ -1,5 +1,5 @@
 use Rattle.std.proofs.Common.{rules}
-use Rattle.list_printer.proofs.started.start.Goals as goal
+use Rattle.list_printer.proofs.chunk_threads.start.Goals as goal
 
 pub returns-in-Ok : goal.returns-in-Ok
 returns-in-Ok g c = search rules

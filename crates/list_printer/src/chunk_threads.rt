@@ -3,7 +3,7 @@
 ghost use Rattle.std.specs.Prelude.{◌≡◌, ◌≤◌, IfOk};
 ghost use Rattle.std.specs.Arc.{arc_value};
 ghost use Rattle.endgame_search.specs.Limits.{most_empties};
-ghost use Rattle.list_printer.specs.Started.{Gives, IsProgressOf, promise_due, text_due};
+ghost use Rattle.list_printer.specs.Output.{Gives, IsOutputOf, promised_output, text_output};
 
 use crate::chunks::Chunk;
 use bound_table::{BoundTable, Bounds};
@@ -36,7 +36,7 @@ pub struct ChunkPromise<'a> {
 }
 
 impl<'a> Promise<Result<LinesText, AllocError>> for ChunkPromise<'a> {
-    ghost kept_by = { λ promise result. Gives (promise_due promise) result };
+    ghost kept_by = { λ promise result. Gives (promised_output promise) result };
 }
 
 /// What the thread of a chunk works with.
@@ -54,7 +54,7 @@ impl ChunkWork {
     // Scores the chunk, and marks it as scored.
     fn run(&self) -> Result<LinesText, AllocError>
         requires { (arc_value self.now.scorer).demands.limit ≤ most_empties }
-        ensures { Gives (text_due (arc_value self.now.scorer).table.scoring
+        ensures { Gives (text_output (arc_value self.now.scorer).table.scoring
             (arc_value self.now.scorer).demands self.now.text.items) result }
     {
         let scorer = &*self.scorer;
@@ -66,12 +66,12 @@ impl ChunkWork {
     }
 }
 
-/// The thread of a chunk, and what it works with; or, where the chunk has no thread, what is
-/// printed.
+/// What is printed for a chunk: pending on its thread, which works with this, or ready where the
+/// chunk has no thread.
 #[derive(Drop)]
-pub enum Progress<'a> {
-    Spawned(PromisedHandle<Result<LinesText, AllocError>, ChunkPromise<'a>>, Arc<ChunkWork>),
-    Done(Result<LinesText, AllocError>),
+pub enum ChunkOutput<'a> {
+    Pending(PromisedHandle<Result<LinesText, AllocError>, ChunkPromise<'a>>, Arc<ChunkWork>),
+    Ready(Result<LinesText, AllocError>),
 }
 
 /// A chunk whose scoring was started, and what its thread promises. Where it is dropped, its thread
@@ -79,25 +79,25 @@ pub enum Progress<'a> {
 #[derive(Drop)]
 pub struct StartedChunk<'a> {
     pub promise: ChunkPromise<'a>,
-    pub progress: Progress<'a>,
+    pub output: ChunkOutput<'a>,
 }
 
 impl<'a> Model for StartedChunk<'a> {
-    ghost use Rattle.list_printer.specs.Started.{Due, IsProgressOf, promise_due};
+    ghost use Rattle.list_printer.specs.Output.{Output, IsOutputOf, promised_output};
 
-    ghost Value = { Due };
+    ghost Value = { Output };
 
-    ghost view = { λ s. promise_due s.promise };
+    ghost view = { λ s. promised_output s.promise };
 
-    ghost invariant = { λ s. IsProgressOf (promise_due s.promise) s.progress };
+    ghost invariant = { λ s. IsOutputOf (promised_output s.promise) s.output };
 }
 
 impl<'a> StartedChunk<'a> {
-    // Whether the chunk is marked as scored.
-    pub(crate) fn is_done(&self) -> bool {
-        match &self.progress {
-            Progress::Spawned(_, work) => work.done.load(Ordering::SeqCst) != 0,
-            Progress::Done(_) => true,
+    // Whether the chunk is scored.
+    pub(crate) fn is_ready(&self) -> bool {
+        match &self.output {
+            ChunkOutput::Pending(_, work) => work.done.load(Ordering::SeqCst) != 0,
+            ChunkOutput::Ready(_) => true,
         }
     }
 
@@ -107,11 +107,11 @@ impl<'a> StartedChunk<'a> {
     {
         let StartedChunk {
             promise: _,
-            progress,
+            output,
         } = self;
-        match progress {
-            Progress::Spawned(handle, _) => handle.join(rt),
-            Progress::Done(text) => text,
+        match output {
+            ChunkOutput::Pending(handle, _) => handle.join(rt),
+            ChunkOutput::Ready(text) => text,
         }
     }
 }
@@ -136,11 +136,11 @@ fn spawn_chunk<'a, R: Threads>(
     scorer: &Arc<Scorer>,
     alloc: Global,
     promise: ChunkPromise<'a>,
-) -> Result<Progress<'a>, AllocError>
+) -> Result<ChunkOutput<'a>, AllocError>
     requires limit { (arc_value scorer.now).demands.limit ≤ most_empties }
     requires scoring { promise.scoring ≡ (arc_value scorer.now).table.scoring }
     requires demands { promise.demands ≡ (arc_value scorer.now).demands }
-    ensures { IfOk result (λ progress. IsProgressOf (promise_due promise.entry) progress) }
+    ensures { IfOk result (λ output. IsOutputOf (promised_output promise.entry) output) }
 {
     let work = Arc::new(alloc, work_of(scorer, alloc, promise.text)?)?;
     let own = Arc::try_clone(&work)?;
@@ -150,13 +150,13 @@ fn spawn_chunk<'a, R: Threads>(
         promise,
         move || -> Result<LinesText, AllocError>
             requires { (arc_value (arc_value own).scorer).demands.limit ≤ most_empties }
-            ensures { Gives (text_due (arc_value (arc_value own).scorer).table.scoring
+            ensures { Gives (text_output (arc_value (arc_value own).scorer).table.scoring
                 (arc_value (arc_value own).scorer).demands (arc_value own).text.items) result }
         { own.run() },
     );
     match spawned {
-        Ok(handle) => Ok(Progress::Spawned(handle, work)),
-        Err(refused) => Ok(Progress::Done((refused.value)())),
+        Ok(handle) => Ok(ChunkOutput::Pending(handle, work)),
+        Err(refused) => Ok(ChunkOutput::Ready((refused.value)())),
     }
 }
 
@@ -169,7 +169,7 @@ pub(crate) fn start<'a, R: Threads>(
     chunk: Chunk<'a>,
 ) -> StartedChunk<'a>
     requires { (arc_value scorer.now).demands.limit ≤ most_empties }
-    ensures { result ≡ text_due (arc_value scorer.now).table.scoring
+    ensures { result ≡ text_output (arc_value scorer.now).table.scoring
         (arc_value scorer.now).demands chunk.entry.front.now }
 {
     let shared = &**scorer;
@@ -179,13 +179,13 @@ pub(crate) fn start<'a, R: Threads>(
         text: chunk.front,
     };
     if !chunk.is_short {
-        if let Ok(progress) = spawn_chunk(rt, scorer, alloc, promise) {
-            return StartedChunk { promise, progress };
+        if let Ok(output) = spawn_chunk(rt, scorer, alloc, promise) {
+            return StartedChunk { promise, output };
         }
     }
     let found = lines_text(&shared.table, alloc, shared.demands, chunk.front);
     StartedChunk {
         promise,
-        progress: Progress::Done(found),
+        output: ChunkOutput::Ready(found),
     }
 }

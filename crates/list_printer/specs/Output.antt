@@ -1,0 +1,59 @@
+-- The output for lines, which the threads of chunks give, and how much of it is printed.
+use Rattle.std.specs.Prelude.{◌≡◌, ◌&&◌, ◌++◌, ◌∷◌, [], ℕ, List, Bool, true, Option, Result, IfOk}
+use Rattle.std.specs.declared.alloc.AllocError.{AllocError}
+use Rattle.othello_rules.specs.declared.scoring.Scoring.{Scoring}
+use Rattle.obf_text.specs.LineText.{lines_of}
+use Rattle.scored_lines.specs.Lines.{Prints, are_right, lines_text, lists_right, lists_text}
+use Rattle.scored_lines.specs.declared.demands.Demands.{Demands}
+use Rattle.scored_lines.specs.declared.lines.LinesText.{LinesText}
+use Rattle.list_printer.specs.declared.chunk_threads.ChunkPromise.{ChunkPromise}
+use Rattle.list_printer.specs.declared.chunk_threads.ChunkOutput.{ChunkOutput}
+use Rattle.list_printer.specs.declared.chunk_threads.ChunkOutput.TheVariants.{Pending, Ready}
+
+-- the text that is printed for some lines, and whether these lines are right
+pub record Output : Type 0 where
+  pub text : List ℕ
+  pub right : Bool
+
+-- one output, and another after it
+abbrev pub both : Output → Output → Output
+both a b = record { text = a.text ++ b.text; right = a.right && b.right }
+
+-- the outputs of chunks, one after the other
+unfoldable pub chunks_output : List Output → Output
+chunks_output [] = record { text = []; right = true }
+chunks_output (chunk ∷ chunks) = both chunk (chunks_output chunks)
+
+-- what is left to print of queued chunks, where `right` says whether the printed lines are right
+abbrev pub queue_output : Bool → List Output → Output
+queue_output right chunks = both (record { text = []; right = right }) (chunks_output chunks)
+
+-- the output for lines
+abbrev pub lines_output : Scoring → Demands → List (List ℕ) → Output
+lines_output g d lines = record { text = lines_text g d lines; right = are_right g d lines }
+
+-- the output for the lines of a text
+abbrev pub text_output : Scoring → Demands → List ℕ → Output
+text_output g d text = lines_output g d (lines_of text)
+
+-- the output for the lines of texts, one after the other
+abbrev pub lists_output : Scoring → Demands → List (List ℕ) → Output
+lists_output g d texts = record { text = lists_text g d texts; right = lists_right g d texts }
+
+-- the result is this output; or memory was refused
+abbrev pub Gives : Output → Result LinesText AllocError → Type 0
+Gives output r = IfOk r (λ found. (found.bytes.items ≡ output.text) × (found.right ≡ output.right))
+
+-- the output that a chunk's thread promises
+abbrev pub promised_output : ChunkPromise → Output
+promised_output promise = text_output promise.scoring promise.demands promise.text.now
+
+-- the chunk's thread promises this output, or the calling thread made it
+abbrev pub IsOutputOf : Output → ChunkOutput → Type 0
+IsOutputOf output (Pending handle work) = promised_output handle.promise ≡ output
+IsOutputOf output (Ready text) = Gives output text
+
+-- Of the output `before`, a front is printed, and `after` is left to print.
+pub record PrintsPart (old new : Option (List ℕ)) (before after : Output) : Type 0 where
+  pub written : Prints old new after.text before.text
+  pub told : after.right ≡ before.right
