@@ -7,10 +7,11 @@ import signal
 import subprocess
 import sys
 import threading
+import time
 from pathlib import Path
 
-from tests.support import ROOT, SECONDS, InFolder, as_at_a_login, built, processes_with, run, stored, wait_until
-from tests.test_threads import refuse_threads
+from tests.support import ROOT, SECONDS, InFolder, as_at_a_login, built, processes_with, refuse_threads, run, stored, wait_until
+from tests.test_threads import threads_of
 
 WORKERS = ("0", "1", "3", "64")
 RUNS = int(os.environ.get("RUNS", 75))
@@ -107,6 +108,17 @@ class Streams(InFolder):
                 self.assertEqual([line[:66] for line in printed], [line[:66] for line in (SHORT, *deep, b"% next\n")])
                 program.send_signal(signal.SIGINT)
                 self.assertEqual((program.stdout.read(), program.wait(SECONDS)), (b"", -signal.SIGINT))
+
+    def test_lines_at_once(self):
+        """As many as there are workers, and one more, of more that take hours; with 0 workers the program has one thread."""
+        for workers in WORKERS:
+            with self.subTest(workers=workers):
+                threads = 1 if workers == "0" else int(workers) + 2
+                program = self.begin(HOURS * 70, "--workers", workers)
+                wait_until(lambda: threads_of(program) >= threads)
+                time.sleep(1)  # more would start by then
+                self.assertEqual(threads_of(program), threads)
+                program.kill()
 
     def test_a_reader_that_leaves(self):
         """As `| head -1`: the program ends, though its threads are at positions that take hours."""

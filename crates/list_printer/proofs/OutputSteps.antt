@@ -72,7 +72,7 @@ part old now before after more h = record {
   told = ap (λ r. r && more.right) h.told;
 }
 
-pub front_part : (old now : Option (List ℕ)) (before more : List ℕ) → AppendsFront old now before
+front_part : (old now : Option (List ℕ)) (before more : List ℕ) → AppendsFront old now before
     → AppendsFront old now (before ++ more)
 front_part old now before more h =
     prints_stop old old now before more (before ++ more) (prints_start old (before ++ more)) h

@@ -105,10 +105,7 @@ impl<'a> StartedChunk<'a> {
     pub(crate) fn join<R: Threads>(self, rt: &R) -> Result<LinesText, AllocError>
         ensures { Gives self.entry result }
     {
-        let StartedChunk {
-            promise: _,
-            output,
-        } = self;
+        let StartedChunk { promise: _, output } = self;
         match output {
             ChunkOutput::Pending(handle, _) => handle.join(rt),
             ChunkOutput::Ready(text) => text,

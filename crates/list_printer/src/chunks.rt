@@ -76,9 +76,9 @@ fn chunk_len(text: &[u8], limit: u8, is_short: bool) -> usize
     end
 }
 
-/// The first chunk of a text that is not empty: one line, or several where a thread is to score
-/// them and each takes little time.
-pub(crate) fn first_chunk(text: &[u8], limit: u8, is_alone: bool) -> Chunk<'_>
+// The first chunk of a text that is not empty: one line, or several where a thread is to score
+// them and each takes little time.
+fn first_chunk(text: &[u8], limit: u8, is_alone: bool) -> Chunk<'_>
     requires { 0 < length text.now }
     ensures lines { lines_of text.now ≡ lines_of result.front.now ++ lines_of result.rest.now }
     ensures less { length result.rest.now < length text.now }

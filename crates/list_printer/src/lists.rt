@@ -9,8 +9,8 @@ ghost use Rattle.scored_lines.specs.Lines.{AppendsFront, Prints, lists_right, li
 ghost use Rattle.list_printer.specs.Output.{PrintsPart, chunks_output, lists_output, queue_output};
 ghost use Rattle.list_printer.specs.declared.lists.ListFault.TheVariants.{CannotWrite, Memory};
 
-use crate::chunks::Lists;
 use crate::chunk_threads::{Scorer, StartedChunk, start};
+use crate::chunks::Lists;
 use bound_table::BoundTable;
 use scored_lines::Demands;
 use std::alloc::{AllocError, AllocFailed, Global};

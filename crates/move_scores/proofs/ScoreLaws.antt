@@ -27,7 +27,7 @@ squares_are p = filter_again (rules.is_move (position_of Black p))
 abbrev pub scored_of : Scoring → PosView → ℕ → Field
 scored_of g p q = (At q, neg_ℤ (value_of g (play_of p q)))
 
-scored_is : (g : Scoring) (p : PosView) (q : ℕ) → scored_of g p q ≡ scored g (position_of Black p) q
+pub scored_is : (g : Scoring) (p : PosView) (q : ℕ) → scored_of g p q ≡ scored g (position_of Black p) q
 scored_is g p q = λ k. (At q, neg_ℤ (value_play g p q k))
 
 pub of_moves : (g : Scoring) (p : PosView) → moves_of p ≢ 0

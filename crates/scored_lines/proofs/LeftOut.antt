@@ -1,18 +1,18 @@
 -- Exactly the best moves that a line does not list get a remark.
 use Rattle.std.proofs.Common.{◌≡◌, ◌≢◌, ℕ, ℤ, ◌≤ℤ◌, Bool, true, false, List, [], ◌∷◌, Option, Some, None}
-use Rattle.std.proofs.Common.{map, refl, sym, ap, subst, ◌∙◌, inl, inr, ◌⊎◌, arith}
+use Rattle.std.proofs.Common.{get_or, refl, sym, ap, subst, ◌∙◌, inl, inr, ◌⊎◌, arith}
 use Rattle.std.specs.Prelude.{◌&&◌, if◌then◌else◌, int_lt, is_none, not}
 use Rattle.std.specs.List.{Contains, cons_option, filter_map, list_all}
 use Rattle.std.specs.Ordering.{int_eq}
 use Rattle.std.proofs.lemmas.Bool.{both_ways, cases_Bool}
 use Rattle.std.proofs.lemmas.Bool.Decides.{Decides-eqb, Decides-int_eq}
 use Rattle.std.proofs.lemmas.Int.{ints}
-use Rattle.std.proofs.lemmas.List.Sorted.{Contains-permutation, IsPermutation-sym}
+use Rattle.std.proofs.lemmas.List.Elements.{Contains-get_or}
+use Rattle.std.proofs.lemmas.List.Sums.{list_all-from_AllPass}
 use Rattle.othello_rules.specs.declared.scoring.Scoring.{Scoring}
 use Rattle.othello_rules.specs.Rules.{GridView, moves, pass}
 use Rattle.othello_rules.specs.Value.{best_moves, can_move, value, worth}
-use Rattle.othello_rules.proofs.BoundLaws.{Contains-from_map, Contains-map, can_move_with}
-use Rattle.othello_rules.proofs.BoundLaws.{value_reached, worth-le-value}
+use Rattle.othello_rules.proofs.BoundLaws.{can_move_with, value_reached, worth-le-value}
 use Rattle.othello_rules.proofs.ListLaws.{Contains-cons, Contains-cons_cases, Contains-filter}
 use Rattle.othello_rules.proofs.ListLaws.{Contains-from_filter, Contains-head, Contains-nil}
 use Rattle.othello_rules.proofs.ListLaws.{passes_in_filter}
@@ -20,9 +20,9 @@ use Rattle.othello_rules.proofs.Reorder.{list_all-member}
 use Rattle.obf_text.specs.Fields.{Field}
 use Rattle.obf_text.specs.declared.entries.ListedMove.{ListedMove}
 use Rattle.obf_text.specs.declared.entries.ListedMove.TheVariants.{At, Pass, Over}
-use Rattle.move_scores.specs.Scores.{move_scores, score_fields, scored}
-use Rattle.move_scores.proofs.EitherSide.{of_move, of_over, of_pass}
-use Rattle.move_scores.proofs.Orders.{scores_permute}
+use Rattle.move_scores.specs.Scores.{score_fields, scored}
+use Rattle.move_scores.proofs.EitherSide.{of_over, of_pass}
+use Rattle.move_scores.proofs.GreatestScores.{has_move, is_move_in}
 use Rattle.scored_lines.specs.Checks.{is_best, same_move, score_in}
 use Rattle.scored_lines.specs.Remarks.{IsLeftOut, left_out_remark, left_out_remarks, left_out_text}
 use Rattle.scored_lines.specs.declared.demands.Listing.TheVariants.{Complete}
@@ -63,9 +63,8 @@ giver {X = X} r (x ∷ xs) y h =
 
 all_pass : {X : Type 0} (p : X → Bool) (xs : List X)
     → ((x : X) → Contains xs x → p x ≡ true) → list_all p xs ≡ true
-all_pass p [] h = refl
-all_pass p (x ∷ xs) h =
-    rw (h x (Contains-head x xs)) (all_pass p xs (λ y t. h y (Contains-cons x xs y t)))
+all_pass p xs h =
+    list_all-from_AllPass p xs (λ k d l. h (get_or xs k d) (Contains-get_or xs k d l))
 
 -- a move is listed with a score, or with none
 same_is : (move : ListedMove) (q : ℕ) → same_move move (At q) ≡ true → move ≡ At q
@@ -117,24 +116,10 @@ no_greater v w h =
     ]
 
 module _ (g : Scoring) (P : GridView) (can : can_move P ≡ true) where
-  has_move : (q : ℕ) → Contains (moves P) q → Contains (score_fields g P) (scored g P q)
-  has_move q m =
-      subst (λ l. Contains l (scored g P q)) (sym (of_move g P can))
-      (Contains-permutation (map (scored g P) (moves P)) (move_scores g P) (scored g P q)
-      (scores_permute g P) (Contains-map (scored g P) (moves P) q m))
-
-  is_move_in : (f : Field) → Contains (score_fields g P) f
-      → (q : ℕ) × Contains (moves P) q × (scored g P q ≡ f)
-  is_move_in f h =
-      Contains-from_map (scored g P) (moves P) f
-      (Contains-permutation (move_scores g P) (map (scored g P) (moves P)) f
-      (IsPermutation-sym (map (scored g P) (moves P)) (move_scores g P) (scores_permute g P))
-      (subst (λ l. Contains l f) (of_move g P can) h))
-
   best_is_greatest : (z : ℤ) → z ≡ value g P → is_best (score_fields g P) z ≡ true
   best_is_greatest z e =
       all_pass (λ f. not (int_lt z f.1)) (score_fields g P) (λ f h.
-      let from = is_move_in f h in
+      let from = is_move_in g P can f h in
       no_less z f.1
       (subst (λ w. w ≤ℤ z) (ap (λ x. x.1) from.2)
       (subst (λ v. worth (value g) P from.0 ≤ℤ v) (sym e) (worth-le-value g P from.0 from.1))))
@@ -147,7 +132,7 @@ module _ (g : Scoring) (P : GridView) (can : can_move P ≡ true) where
       subst (λ v. v ≤ℤ worth (value g) P q) top.2
       (no_greater (worth (value g) P q) (worth (value g) P top.0)
       (list_all-member (λ (f : Field). not (int_lt (worth (value g) P q) f.1)) (score_fields g P)
-      (scored g P top.0) b (has_move top.0 top.1))) in
+      (scored g P top.0) b (has_move g P can top.0 top.1))) in
       let most : worth (value g) P q ≤ℤ value g P = worth-le-value g P q m in omega (arith, ints)
 
 module _ (g : Scoring) (P : GridView) (q : ℕ) (best : Contains (best_moves g P) q) where

@@ -5,10 +5,9 @@ use Rattle.std.specs.Prelude.{Ok, Err, ◌≢◌}
 use Rattle.std.specs.Io.KnownBytes.{Appends}
 use Rattle.std.proofs.lemmas.List.{append_assoc}
 use Rattle.othello_rules.specs.declared.scoring.Scoring.{Scoring}
-use Rattle.obf_text.specs.Obf.{Faulty, Gives, Holds, Meaning, Skipped, entry_of, item_of}
+use Rattle.obf_text.specs.Obf.{Faulty, Gives, Meaning, Skipped, item_of}
 use Rattle.obf_text.specs.declared.entries.Item.{Item}
 use Rattle.obf_text.specs.declared.entries.Item.TheVariants as item
-use Rattle.obf_text.specs.declared.entries.Line.{Line}
 use Rattle.obf_text.specs.declared.line_fault.LineFault.{LineFault}
 use Rattle.obf_text.specs.declared.line_fault.LineFault.TheVariants.{Short, BadCell, BadSide, Memory}
 use Rattle.obf_text.specs.Faults.{line_fault_text}
@@ -122,10 +121,6 @@ right_fault g d line m f e = rw e refl
 -- the result of reading a line against the line's meaning
 pub said_skip : (i : Item) (m : Meaning) → i ≡ item.Skip → Gives (Ok i) m → m ≡ Skipped
 said_skip i m e h = subst (λ j. Gives (Ok j) m) e h
-
-pub said_entry : (i : Item) (line : Line) (m : Meaning) → i ≡ item.Entry line → Gives (Ok i) m
-    → m ≡ Holds (entry_of line)
-said_entry i line m e h = subst (λ j. Gives (Ok j) m) e h
 
 pub said_fault : (f : LineFault) (m : Meaning) → f ≢ Memory → Gives (Err f) m → m ≡ Faulty f
 said_fault (Short n) m h k = k

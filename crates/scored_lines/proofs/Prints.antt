@@ -1,8 +1,7 @@
 -- Bytes written by several writes, one after another: after a fault a front of them is written.
-use Rattle.std.proofs.Common.{ℕ, List, [], ◌++◌, Option, Some, None, refl, sym, ap}
-use Rattle.std.proofs.Common.{◌∙◌, subst, take, drop}
-use Rattle.std.proofs.lemmas.List.{append_assoc, append-nil, take-append-drop}
-use Rattle.std.specs.Io.KnownBytes.{Appends, Keeps}
+use Rattle.std.proofs.Common.{ℕ, List, [], ◌++◌, Option, refl, sym, ap, ◌∙◌, subst}
+use Rattle.std.proofs.lemmas.List.{append_assoc, append-nil}
+use Rattle.std.specs.Io.KnownBytes.{Appends}
 use Rattle.obf_text.proofs.WriterLemmas.{appends_both, appends_none}
 use Rattle.scored_lines.specs.Lines.{AppendsFront, Prints}
 
@@ -37,16 +36,6 @@ prints_stop old now next piece rest all h w = record {
 pub front_none : (old : Option (List ℕ)) (all : List ℕ) → AppendsFront old old all
 front_none old all = record { front = []; rest = all; whole = refl; written = appends_none old }
 
-pub front_all : (old now : Option (List ℕ)) (all : List ℕ) → Appends old now all
-    → AppendsFront old now all
-front_all old now all h =
-    record { front = all; rest = []; whole = sym (append-nil all); written = h }
-
-pub front_now : (old now : Option (List ℕ)) (rest all : List ℕ) → Prints old now rest all
-    → AppendsFront old now all
-front_now old now rest all h =
-    record { front = h.done; rest = rest; whole = h.whole; written = h.written }
-
 pub prints_both : (old now next : Option (List ℕ)) (rest left all : List ℕ)
     → Prints old now rest all → Prints now next left rest → Prints old next left all
 prints_both old now next rest left all h k =
@@ -67,24 +56,3 @@ prints_part old now next before after more all h k =
     (subst (λ t. Prints old now t all)
     (ap (λ t. t ++ more) k.whole ∙ append_assoc k.done after more) h)
     k.written
-
--- a write that took `count` bytes
-pub prints_some : (old now : Option (List ℕ)) (all : List ℕ) (count : ℕ)
-    → Appends old now (take count all) → Prints old now (drop count all) all
-prints_some old now all count h =
-    record { done = take count all; whole = sym (take-append-drop count all); written = h }
-
--- a write that failed wrote nothing
-keeps_none : (old now : Option (List ℕ)) → Keeps old now → Appends old now []
-keeps_none None now h = search
-keeps_none (Some xs) None h = absurd h
-keeps_none (Some xs) (Some ys) h = h ∙ sym (append-nil xs)
-
-pub prints_kept : (old now : Option (List ℕ)) (all : List ℕ) → Keeps old now
-    → Prints old now all all
-prints_kept old now all k = record { done = []; whole = refl; written = keeps_none old now k }
-
-pub front_kept : (old now : Option (List ℕ)) (all : List ℕ) → Keeps old now
-    → AppendsFront old now all
-front_kept old now all k =
-    record { front = []; rest = all; whole = refl; written = keeps_none old now k }

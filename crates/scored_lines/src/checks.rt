@@ -46,8 +46,8 @@ fn field_in(scores: &[(ListedMove, i8)], listed: ListedMove) -> Option<&(ListedM
     scores.iter().find(|field| same_move(field.0, listed))
 }
 
-/// The score of a move among the scores of a position. None where the position has no such move.
-pub fn score_in(scores: &[(ListedMove, i8)], listed: ListedMove) -> Option<i8>
+// The score of a move among the scores of a position. None where the position has no such move.
+fn score_in(scores: &[(ListedMove, i8)], listed: ListedMove) -> Option<i8>
     ensures { result ≡ score_in scores.now listed }
 {
     let field = field_in(scores, listed)?;
