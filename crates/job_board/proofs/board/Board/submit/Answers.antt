@@ -1,4 +1,4 @@
-use Rattle.std.proofs.Common.{◌≤◌, ◌+◌, ◌∷◌, length, Ok, Err, vec_len, ap, sym, ◌∙◌, arith, refl, inl, inr}
+use Rattle.std.proofs.Common.{◌≤◌, ◌+◌, ◌∷◌, length, Ok, Err, vec_len, ap, sym, arith, refl, inl, inr}
 use Rattle.std.specs.List.Sorted.{IsPermutation}
 use Rattle.std.proofs.lemmas.Option.{slice_get_read}
 use Rattle.std.proofs.lemmas.Result.{err_from_is_err_and}
