@@ -85,16 +85,10 @@ impl Board {
         let Some(jobs) = self.senders.get_mut(sender as usize) else {
             return Err(SubmitFault::NoSender);
         };
-        if let Some(fault) = jobs.refusal() {
-            return Err(fault);
-        }
+        jobs.check_submit()?;
         let number = jobs.len() as u32;
-        let Ok(()) = self.waiting.reserve(self.taken + 1) else {
-            return Err(SubmitFault::Memory);
-        };
-        let Ok(()) = jobs.push(task) else {
-            return Err(SubmitFault::Memory);
-        };
+        self.waiting.reserve(self.taken + 1)?;
+        jobs.push(task)?;
         self.waiting.push(JobId { sender, number }, task);
         Ok(number)
     }

@@ -1,6 +1,6 @@
 //! One sender at a desk: which tasks it sent, and how many of their answers came back.
 
-ghost use Rattle.std.specs.Prelude.{◌≡◌, ◌≢◌, ◌<◌, ◌+◌, length, IfOk, IfErr, IfSome, IfNone, OnOk};
+ghost use Rattle.std.specs.Prelude.{◌≡◌, ◌≢◌, ◌<◌, ◌+◌, length, IfOk, IfSome, IfNone, OnOk};
 ghost use Rattle.std.specs.Prelude.{OnErr, Err, slice_get};
 ghost use Rattle.job_board.specs.Limits.{most_jobs};
 ghost use Rattle.job_board.specs.declared.faults.SubmitFault.TheVariants as fault;
@@ -82,17 +82,6 @@ impl Client {
         self.sender
     }
 
-    /// Makes room for one more task, so that `send` needs no memory for the client's list.
-    pub(crate) fn make_room(&mut self) -> Result<(), SubmitFault>
-        ensures client { self.new ≡ self.old }
-        ensures fault { IfErr result (λ e. e ≡ fault.Memory) }
-    {
-        match self.sent.reserve(1) {
-            Ok(()) => Ok(()),
-            Err(_) => Err(SubmitFault::Memory),
-        }
-    }
-
     /// Submits a task to the board, and adds an accepted task to the client's list. `Memory` where
     /// memory for that list is refused, before the board is asked.
     pub(crate) fn send(&mut self, board: &mut Board, task: Task) -> Result<u32, SubmitFault>
@@ -101,9 +90,8 @@ impl Client {
         ensures lawful { result ≢ Err fault.Memory → Submits board.old self.old.sender result }
         ensures content { board.new ≡ after_submit board.old self.old.sender task result }
     {
-        let Ok(()) = self.sent.reserve(1) else {
-            return Err(SubmitFault::Memory);
-        };
+        // The room comes first, since the board can't take an accepted task back.
+        self.sent.reserve(1)?;
         let number = board.submit(self.sender, task)?;
         self.sent.push_reserved(task);
         Ok(number)

@@ -54,7 +54,6 @@ impl Desk {
         ensures ok { OnOk result (client.new ≡ with_sent task client.old) }
         ensures err { OnErr result (client.new ≡ client.old) }
     {
-        client.make_room()?;
         let number = {
             let mut board = self.board.lock(rt);
             client.send(&mut board, task)?

@@ -1,5 +1,9 @@
 //! Why a call of a board, a desk or a client is refused.
 
+ghost use Rattle.std.specs.Prelude.{◌≡◌};
+ghost use Rattle.job_board.specs.declared.faults.SubmitFault.TheVariants.{Memory};
+
+use std::alloc::AllocError;
 use thiserror::Error;
 
 /// Why a board can't be made.
@@ -29,6 +33,14 @@ pub enum SubmitFault {
     /// Memory for one more job was refused.
     #[error("out of memory")]
     Memory,
+}
+
+impl From<AllocError> for SubmitFault {
+    ghost from_gives = { λ _ fault. fault ≡ Memory };
+
+    fn from(_error: AllocError) -> SubmitFault {
+        SubmitFault::Memory
+    }
 }
 
 /// Why a job is not finished or given back.

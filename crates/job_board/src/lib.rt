@@ -30,5 +30,5 @@ pub use board::Board;
 pub use client::{Client, Turn};
 pub use desk::Desk;
 pub use faults::{BoardFault, JobFault, Mixed, NoSender, SubmitFault};
-pub use jobs::{Delivery, Handed, Job, JobId, Stage};
+pub use jobs::{Delivery, Handed, Job, JobId};
 pub use steps::{Reply, Step, run_steps};

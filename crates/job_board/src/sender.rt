@@ -1,6 +1,7 @@
 //! The jobs of one sender at a board.
 
 ghost use Rattle.std.specs.Prelude.{◌≡◌, ◌<◌, ◌≤◌, Some, length, slice_get, not, OnOk, OnErr};
+ghost use Rattle.std.specs.Result.{result_err};
 ghost use Rattle.job_board.specs.Limits.{most_jobs};
 ghost use Rattle.job_board.specs.declared.jobs.Stage.TheVariants.{Waiting, Taken, Finished};
 
@@ -79,18 +80,18 @@ impl Sender {
         self.closed
     }
 
-    /// Why the sender accepts no task: `Closed`, otherwise `Full`. None where it accepts one, if
-    /// there is memory.
-    pub(crate) fn refusal(&self) -> Option<SubmitFault>
-        ensures { result ≡ submit_refusal (Some self.now) }
+    /// Whether the sender accepts one more task, if there is memory. `Err` is `Closed`, otherwise
+    /// `Full`.
+    pub(crate) fn check_submit(&self) -> Result<(), SubmitFault>
+        ensures { result_err result ≡ submit_refusal (Some self.now) }
     {
         if self.closed {
-            return Some(SubmitFault::Closed);
+            return Err(SubmitFault::Closed);
         }
         if self.tasks.len() >= MOST_JOBS {
-            return Some(SubmitFault::Full);
+            return Err(SubmitFault::Full);
         }
-        None
+        Ok(())
     }
 
     /// Adds a job, which waits. `Err` leaves the sender as it was.
@@ -98,9 +99,8 @@ impl Sender {
         ensures ok { OnOk result (self.new ≡ with_task task self.old) }
         ensures err { OnErr result (self.new ≡ self.old) }
     {
-        self.tasks.reserve(1)?;
         self.stages.reserve(1)?;
-        self.tasks.push_reserved(task);
+        self.tasks.push(task)?;
         self.stages.push_reserved(Stage::Waiting);
         Ok(())
     }

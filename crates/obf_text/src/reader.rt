@@ -62,18 +62,6 @@ fn read_board(alloc: Global, start: usize, rest: &[u8]) -> Result<Item, LineFaul
     read_side(alloc, start + 64, board_of(board), rest)
 }
 
-// Reads a line. A blank line and a comment are skipped, any other line is read as a position.
-fn read_item(alloc: Global, line: &[u8]) -> Result<Item, LineFault>
-    ensures { Gives result (item_of line.now) }
-{
-    let start = blank_count(line);
-    let rest = &line[start..];
-    match rest {
-        [] | [b'%', ..] => Ok(Item::Skip),
-        _ => read_board(alloc, start, rest),
-    }
-}
-
 /// Reads the bytes of one line, without the line's end.
 ///
 /// A line is skipped where it is blank, or where its first byte after blanks is `%`. Any other line
@@ -93,5 +81,10 @@ pub fn read_line(alloc: Global, line: &[u8]) -> Result<Item, LineFault>
     // before its side.
     ensures place { IfErr result (λ fault. place_of fault ≤ length line.now + 1) }
 {
-    read_item(alloc, line)
+    let start = blank_count(line);
+    let rest = &line[start..];
+    match rest {
+        [] | [b'%', ..] => Ok(Item::Skip),
+        _ => read_board(alloc, start, rest),
+    }
 }

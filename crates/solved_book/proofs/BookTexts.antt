@@ -15,9 +15,9 @@ use Rattle.othello_bits.specs.Pos.{PosView, discs_of}
 use Rattle.othello_bits.specs.Symmetries.{canonical_of}
 use Rattle.obf_text.specs.LineText.{lines_of}
 use Rattle.obf_text.specs.Obf.{Entry, Meaning, Skipped, Holds, Faulty, item_of}
-use Rattle.solved_book.specs.Claims.{ClaimsView, PositionClaim, advice, advice_under, claim_or_fault, claims_after, claims_from, claims_of, claim_in_line, entry_claim, is_behind, is_black_side, is_canonical_entry, lists_nothing, same_discs, scoring_of_lines}
+use Rattle.solved_book.specs.Claims.{ClaimsView, PositionClaim, advice, advice_under, claim_or_fault, claims_after, claims_from, claims_of, claim_in_line, entry_claim, is_black_side, is_canonical_entry, lists_nothing, same_discs, scoring_of_lines}
+use Rattle.solved_book.specs.Order.{is_behind, by_masks}
 use Rattle.solved_book.specs.Listing.{claim_of}
-use Rattle.solved_book.specs.Order.{by_masks}
 use Rattle.solved_book.specs.Reading.{claimed_positions}
 use Rattle.solved_book.specs.Texts.{IsBookEntry, IsBookText, Passes, entry_claims}
 use Rattle.solved_book.specs.declared.book_fault.BookFault.{BookFault}

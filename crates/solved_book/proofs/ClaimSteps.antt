@@ -17,8 +17,8 @@ use Rattle.othello_bits.specs.declared.sym.Sym.{Sym}
 use Rattle.obf_text.specs.LineText.{room_of}
 use Rattle.obf_text.specs.Obf.{Meaning, Skipped, Holds, Faulty, item_of}
 use Rattle.endgame_search.specs.declared.solved.Claim.{Claim}
-use Rattle.solved_book.specs.Claims.{ClaimsView, PositionClaim, GivesAdvice, advice, claim_or_fault, claim_at, claims_from, claim_for, image_claim, is_behind, is_canonical_entry, claim_in_line, lists_nothing, claims_after, claims_with}
-use Rattle.solved_book.specs.Books.{Masks, position_at, positions_in}
+use Rattle.solved_book.specs.Claims.{ClaimsView, PositionClaim, GivesAdvice, advice, claim_or_fault, claim_at, claims_from, claim_for, image_claim, is_canonical_entry, claim_in_line, lists_nothing, claims_after, claims_with}
+use Rattle.solved_book.specs.Order.{is_behind, Masks, position_at, positions_in}
 use Rattle.solved_book.specs.Listing.{claim_of}
 use Rattle.solved_book.specs.Reading.{GivesLine, GivesMap, position_claim, claimed_positions}
 use Rattle.solved_book.specs.declared.book_fault.BookFault.{BookFault}

@@ -19,8 +19,8 @@ use Rattle.othello_rules.specs.declared.scoring.Scoring.{Scoring}
 use Rattle.othello_rules.specs.Answer.{AnswerView}
 use Rattle.othello_rules.proofs.BoundLaws.{Contains-map, Contains-from_map}
 use Rattle.othello_bits.specs.Pos.{PosView}
-use Rattle.solved_book.specs.Books.{AreSolved, IsBook, IsSolvedEntry, Masks, position_at, positions_in}
-use Rattle.solved_book.specs.Order.{AreRising, IsCanonical, AreBookPositions, by_masks}
+use Rattle.solved_book.specs.Books.{AreSolved, IsBook, IsSolvedEntry}
+use Rattle.solved_book.specs.Order.{Masks, position_at, positions_in, AreRising, IsCanonical, AreBookPositions, by_masks}
 
 -- the order of the pairs of masks
 abbrev pub masks_cmp : Masks → Masks → Ordering

@@ -6,7 +6,8 @@ use Rattle.othello_rules.specs.declared.scoring.Scoring.{Scoring}
 use Rattle.othello_bits.specs.Pos.{PosView, discs_of}
 use Rattle.obf_text.specs.LineText.{lines_of}
 use Rattle.obf_text.specs.Obf.{Meaning, Skipped, Holds, Faulty, item_of}
-use Rattle.solved_book.specs.Claims.{ClaimsView, PositionClaim, advice, advice_under, claim_or_fault, claims_from, claims_of, entry_claim, is_behind, is_canonical_entry, last_position, claim_in_line, lists_nothing, claims_after, scoring_of_lines}
+use Rattle.solved_book.specs.Claims.{ClaimsView, PositionClaim, advice, advice_under, claim_or_fault, claims_from, claims_of, entry_claim, is_canonical_entry, last_position, claim_in_line, lists_nothing, claims_after, scoring_of_lines}
+use Rattle.solved_book.specs.Order.{is_behind}
 use Rattle.solved_book.specs.Listing.{claim_of}
 use Rattle.solved_book.specs.declared.book_fault.BookFault.{BookFault}
 use Rattle.solved_book.proofs.ClaimSteps.{from_end, from_err, from_none, from_some}

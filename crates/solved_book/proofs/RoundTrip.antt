@@ -32,9 +32,9 @@ use Rattle.obf_text.proofs.LineLemmas.{has_first_part, keeps_first}
 use Rattle.obf_text.proofs.OnlyMeaning.{says_only}
 use Rattle.obf_text.proofs.WrittenLines.{written_line, written_says}
 use Rattle.endgame_search.specs.declared.solved.Claim.{Claim}
-use Rattle.solved_book.specs.Claims.{ClaimsView, advice, advice_under, answer_claim, claim_or_fault, claim_at, claim_by, claims_from, claims_of, claim_for, image_claim, is_behind, is_canonical_entry, claim_in_line, claims_after, same_discs, scoring_in, scoring_of_lines}
-use Rattle.solved_book.specs.Books.{book_text, entry_text, header, position_at}
-use Rattle.solved_book.specs.Order.{IsCanonical, AreBookPositions, by_masks}
+use Rattle.solved_book.specs.Claims.{ClaimsView, advice, advice_under, answer_claim, claim_or_fault, claim_at, claim_by, claims_from, claims_of, claim_for, image_claim, is_canonical_entry, claim_in_line, claims_after, same_discs, scoring_in, scoring_of_lines}
+use Rattle.solved_book.specs.Order.{is_behind, position_at, IsCanonical, AreBookPositions, by_masks}
+use Rattle.solved_book.specs.Books.{book_text, book_line, header}
 use Rattle.solved_book.proofs.Answers.{answer_best, answer_score, canonical_apart}
 use Rattle.solved_book.proofs.ClaimSteps.{from_end, from_none, from_some}
 use Rattle.solved_book.proofs.KeptEntries.{masks_at, masks_cmp, masks_exact, masks_total}
@@ -96,16 +96,16 @@ next_behind p (q ∷ ps) h =
     let turned : masks_cmp (masks_at q) (masks_at p) ≡ Greater = masks_total.antisymm (masks_at q) (masks_at p) ∙ ap ordering_reverse h.0 in
     ap is_gt turned
 
-entry_line : (g : Scoring) (p : PosView) (rest : List ℕ) → lines_of (entry_text g p ++ rest) ≡ line_text (position_of Black p) (answer_of g p) ∷ lines_of rest
-unfolding entry_text
+entry_line : (g : Scoring) (p : PosView) (rest : List ℕ) → lines_of (book_line g p ++ rest) ≡ line_text (position_of Black p) (answer_of g p) ∷ lines_of rest
+unfolding book_line
 entry_line g p rest = written_line (position_of Black p) (answer_of g p) rest (answer_score g p)
 
 lines_back : (g : Scoring) (n : ℕ) (before : Option PosView) (ps : List PosView) → IsStrictlySortedBy by_masks ps → AllByRecursion IsCanonical ps → IsNext before ps
-    → claims_from n before (lines_of (flat_map (entry_text g) ps)) ≡ Ok (map (answer_claim g) ps)
+    → claims_from n before (lines_of (flat_map (book_line g) ps)) ≡ Ok (map (answer_claim g) ps)
 unfolding IsStrictlySortedBy
 lines_back g n before [] sorted own next = from_end n before
 lines_back g n before (p ∷ ps) sorted own next =
-    let rest = flat_map (entry_text g) ps in
+    let rest = flat_map (book_line g) ps in
     ap (claims_from n before) (entry_line g p rest)
     ∙ from_some n before (line_text (position_of Black p) (answer_of g p)) (lines_of rest) (answer_claim g p) (line_back g n before p own.0 next)
     ∙ ap (claims_after (answer_claim g p ∷ [])) (lines_back g (n + 1) (Some p) ps sorted.1 own.1 (next_behind p ps sorted.0))
@@ -141,7 +141,7 @@ header_scoring scoring.Sign = refl
 pub claims_back : (g : Scoring) (ps : List PosView) → AreBookPositions ps → claims_of (book_text g ps) ≡ Ok (record { scoring = g; claims = map (answer_claim g) ps })
 unfolding book_text
 claims_back g ps h =
-    let rest = flat_map (entry_text g) ps in
+    let rest = flat_map (book_line g) ps in
     let skipped : claim_in_line 1 None (item_of (header g)) ≡ Ok None = ap (claim_in_line 1 None) (header_skipped g) in
     ap (λ lines. advice_under (scoring_of_lines lines) lines) (header_line g rest)
     ∙ ap (λ o. advice_under o (header g ∷ lines_of rest)) (header_scoring g)

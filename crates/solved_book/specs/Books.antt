@@ -1,14 +1,14 @@
 -- A book of positions, and its text (this project's own format, in lines of OBF text).
-use Rattle.std.specs.Prelude.{◌≡◌, ℕ, List, [], ◌∷◌, ◌++◌, map, codes, All}
+use Rattle.std.specs.Prelude.{◌≡◌, ℕ, List, [], ◌∷◌, ◌++◌, codes, All}
 use Rattle.std.specs.List.{flat_map}
 use Rattle.othello_rules.specs.declared.discs.Side.TheVariants.{Black}
 use Rattle.othello_rules.specs.declared.scoring.Scoring.{Scoring}
 use Rattle.othello_rules.specs.Scores.{scoring_name}
 use Rattle.othello_rules.specs.Answer.{AnswerView}
 use Rattle.othello_bits.specs.Pos as bits
-use Rattle.othello_bits.specs.Pos.{discs, position_of, answer_of}
+use Rattle.othello_bits.specs.Pos.{position_of, answer_of}
 use Rattle.obf_text.specs.Written.{line_with_end}
-use Rattle.solved_book.specs.Order.{AreRising, IsCanonical}
+use Rattle.solved_book.specs.Order.{AreRising, IsCanonical, Masks, position_at, positions_in}
 
 -- what contracts see of a book: the scoring of its answers, and its positions
 pub record BookView : Type 0 where
@@ -20,25 +20,14 @@ unfoldable pub header : Scoring → List ℕ
 header g = codes "% ffobook 2 " ++ scoring_name g
 
 -- the line of a position, with Black as the mover
-unfoldable pub entry_text : Scoring → bits.PosView → List ℕ
-entry_text g p = line_with_end (position_of Black p) (answer_of g p)
+unfoldable pub book_line : Scoring → bits.PosView → List ℕ
+book_line g p = line_with_end (position_of Black p) (answer_of g p)
 
 -- the header, and a line for each position
 unfoldable pub book_text : Scoring → List bits.PosView → List ℕ
-book_text g positions = (header g ++ 10 ∷ []) ++ flat_map (entry_text g) positions
+book_text g positions = (header g ++ 10 ∷ []) ++ flat_map (book_line g) positions
 
 -- ---- how a book keeps its positions
-
--- a pair of masks, and the position of these masks
-abbrev pub Masks : Type 0
-Masks = ℕ × ℕ
-
-abbrev pub position_at : Masks → bits.PosView
-position_at masks = discs masks.0 masks.1
-
--- the positions of the masks of some entries
-abbrev pub positions_in : {X : Type 0} → List (Masks × X) → List bits.PosView
-positions_in {X} kept = map (λ (e : Masks × X). position_at e.0) kept
 
 -- an entry of a book: a canonical position with its answer
 pub record IsSolvedEntry (g : Scoring) (e : Masks × AnswerView) : Type 0 where

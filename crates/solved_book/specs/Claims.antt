@@ -3,7 +3,7 @@ use Rattle.std.specs.Prelude.{◌≡◌, ◌≢◌, ℕ, ◌+◌, ◌&&◌, Bool
 use Rattle.std.specs.Prelude.{Option, Some, None, option_map, Result, Ok, Err, if◌then◌else◌}
 use Rattle.std.specs.List.{starts_with}
 use Rattle.std.specs.Map.{lookup}
-use Rattle.std.specs.Ordering.{is_gt, is_eq}
+use Rattle.std.specs.Ordering.{is_eq}
 use Rattle.othello_rules.specs.declared.discs.Side.{Side}
 use Rattle.othello_rules.specs.declared.discs.Side.TheVariants.{Black, White}
 use Rattle.othello_rules.specs.declared.scoring.Scoring.{Scoring}
@@ -18,7 +18,7 @@ use Rattle.othello_bits.specs.declared.sym.Sym.{Sym}
 use Rattle.obf_text.specs.LineText.{lines_of}
 use Rattle.obf_text.specs.Obf.{Entry, Meaning, Skipped, Holds, Faulty, item_of}
 use Rattle.endgame_search.specs.declared.solved.Claim.{Claim}
-use Rattle.solved_book.specs.Order.{by_masks}
+use Rattle.solved_book.specs.Order.{by_masks, is_behind}
 use Rattle.solved_book.specs.Listing.{claim_of}
 use Rattle.solved_book.specs.declared.book_fault.BookFault.{BookFault}
 use Rattle.solved_book.specs.declared.book_fault.BookFault.TheVariants as fault
@@ -46,11 +46,6 @@ scoring_of_lines [] = Some Winner
 scoring_of_lines (line ∷ lines) = scoring_in line
 
 -- ---- one line
-
--- a position is greater than the one before it, if there is one
-abbrev pub is_behind : Option bits.PosView → bits.PosView → Bool
-is_behind None p = true
-is_behind (Some q) p = is_gt (by_masks p q)
 
 abbrev pub is_black_side : Side → Bool
 is_black_side Black = true

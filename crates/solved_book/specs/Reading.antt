@@ -3,7 +3,7 @@ use Rattle.std.specs.Prelude.{◌≡◌, List, map, Option, option_map, Result, 
 use Rattle.std.specs.BTreeMap.{BTreeMap}
 use Rattle.othello_bits.specs.Pos.{PosView}
 use Rattle.endgame_search.specs.declared.solved.Claim.{Claim}
-use Rattle.solved_book.specs.Books.{Masks, position_at}
+use Rattle.solved_book.specs.Order.{Masks, position_at}
 use Rattle.solved_book.specs.Claims.{PositionClaim}
 use Rattle.solved_book.specs.declared.book_fault.BookFault.{BookFault}
 use Rattle.solved_book.specs.declared.book_fault.BookFault.TheVariants.{Memory}

@@ -6,12 +6,14 @@ ghost use Rattle.std.specs.Io.KnownBytes.{Appends};
 ghost use Rattle.othello_rules.specs.declared.discs.Side.TheVariants.{Black};
 ghost use Rattle.othello_bits.specs.Pos.{PosView, answer_of, position_of};
 ghost use Rattle.othello_bits.specs.Symmetries.{canonical_of, first_symmetry};
-ghost use Rattle.solved_book.specs.Books.{book_text, entry_text, header, position_at};
+ghost use Rattle.solved_book.specs.Books.{book_text, book_line, header};
+ghost use Rattle.solved_book.specs.Order.{position_at};
 ghost use Rattle.solved_book.specs.Books.{IsSolvedEntry};
 ghost use Rattle.solved_book.specs.Order.{AreBookPositions};
 
 use crate::header::write_header;
-use crate::images::{Masks, best_on_image, masks_of};
+use crate::images::best_on_image;
+use crate::order::{Masks, masks_of};
 use endgame_search::Solved;
 use obf_text::write_line;
 use othello_bits::{Pos, Sym};
@@ -32,7 +34,8 @@ pub struct Book {
 }
 
 impl Model for Book {
-    ghost use Rattle.solved_book.specs.Books.{BookView, IsBook, positions_in};
+    ghost use Rattle.solved_book.specs.Books.{BookView, IsBook};
+    ghost use Rattle.solved_book.specs.Order.{positions_in};
 
     ghost Value = { BookView };
 
@@ -55,8 +58,8 @@ fn canonical_answer(solved: Solved, sym: Sym) -> Answer
 }
 
 // Writes the line of a position of a book, with Black as the mover.
-#[tactic(auto, unfolding(crate::specs::Books::entry_text))]
-fn write_entry<W: Write>(
+#[tactic(auto, unfolding(crate::specs::Books::book_line))]
+fn write_book_line<W: Write>(
     writer: &mut W,
     scoring: Scoring,
     masks: Masks,
@@ -65,22 +68,13 @@ fn write_entry<W: Write>(
     requires { IsSolvedEntry scoring (masks, answer.now) }
     ensures { OnOk result
         (Appends (W.contents writer.old) (W.contents writer.new)
-        (entry_text scoring (position_at masks))) }
+        (book_line scoring (position_at masks))) }
 {
     let (own, opp) = masks;
     let Some(position) = Pos::new(own, opp) else {
         unreachable!()
     };
     write_line(writer, &position.to_grid(Side::Black), answer)
-}
-
-// Writes the header and a line feed.
-fn write_first_line<W: Write>(writer: &mut W, scoring: Scoring) -> io::Result<()>
-    ensures { OnOk result
-        (Appends (W.contents writer.old) (W.contents writer.new) (header scoring ++ 10 ∷ [])) }
-{
-    write_header(writer, scoring)?;
-    writer.write_all(b"\n")
 }
 
 impl Book {
@@ -107,13 +101,6 @@ impl Book {
         ensures positions { AreBookPositions self.now.positions }
     {
         self.answers.len()
-    }
-
-    /// Whether the book holds no position.
-    pub fn is_empty(&self) -> bool
-        ensures { IsTrue result ↔ length self.now.positions ≡ 0 }
-    {
-        self.len() == 0
     }
 
     /// Adds the canonical position of a solved position, with its answer. True where the book did
@@ -145,9 +132,9 @@ impl Book {
             (book_text self.now.scoring self.now.positions)) }
         ensures positions { OnOk result (AreBookPositions self.now.positions) }
     {
-        write_first_line(writer, self.scoring)?;
+        write_header(writer, self.scoring)?;
         for (masks, answer) in &self.answers {
-            write_entry(writer, self.scoring, *masks, answer)?;
+            write_book_line(writer, self.scoring, *masks, answer)?;
         }
         Ok(())
     }

@@ -3,14 +3,15 @@
 ghost use Rattle.std.specs.Prelude.{◌≡◌, ◌↔◌, [], IfOk, IsTrue, None, length};
 ghost use Rattle.obf_text.specs.LineText.{lines_of};
 ghost use Rattle.solved_book.specs.Claims.{GivesAdvice, claims_from, claims_of, claim_for};
-ghost use Rattle.solved_book.specs.Books.{positions_in};
+ghost use Rattle.solved_book.specs.Order.{positions_in};
 ghost use Rattle.solved_book.specs.Order.{AreRising};
 ghost use Rattle.solved_book.specs.Reading.{GivesMap, claimed_positions};
 
 use crate::book_fault::BookFault;
-use crate::entries::read_claim;
+use crate::entries::claim_in_line;
 use crate::header::read_first_line;
-use crate::images::{Masks, best_on_image, masks_of};
+use crate::images::best_on_image;
+use crate::order::{Masks, masks_of};
 use endgame_search::Claim;
 use obf_text::split_lines;
 use othello_bits::Pos;
@@ -31,7 +32,7 @@ pub struct Claims {
 impl Model for Claims {
     ghost use Rattle.std.specs.Prelude.{map};
     ghost use Rattle.solved_book.specs.Claims.{ClaimsView};
-    ghost use Rattle.solved_book.specs.Books.{positions_in};
+    ghost use Rattle.solved_book.specs.Order.{positions_in};
     ghost use Rattle.solved_book.specs.Order.{AreRising};
     ghost use Rattle.solved_book.specs.Reading.{position_claim};
 
@@ -44,7 +45,7 @@ impl Model for Claims {
 }
 
 // The claims of the lines of a text.
-fn read_claims(alloc: Global, text: &[u8]) -> Result<BTreeMap<Masks, Claim>, BookFault>
+fn claims_in(alloc: Global, text: &[u8]) -> Result<BTreeMap<Masks, Claim>, BookFault>
     ensures gives { GivesMap result (claims_from 1 None (lines_of text.now)) }
     ensures rising { IfOk result (λ claims. AreRising (positions_in claims.entries)) }
 {
@@ -52,12 +53,9 @@ fn read_claims(alloc: Global, text: &[u8]) -> Result<BTreeMap<Masks, Claim>, Boo
     let mut before = None;
     let mut number: usize = 1;
     for line in split_lines(text) {
-        match read_claim(alloc, number, before, line)? {
-            Some((masks, claim)) => {
-                claims.insert(masks, claim)?;
-                before = Some(masks);
-            }
-            None => {}
+        if let Some((masks, claim)) = claim_in_line(alloc, number, before, line)? {
+            claims.insert(masks, claim)?;
+            before = Some(masks);
         }
         number += 1;
     }
@@ -94,7 +92,7 @@ impl Claims {
         let Some(scoring) = read_first_line(text) else {
             return Err(BookFault::Header);
         };
-        let claims = read_claims(alloc, text)?;
+        let claims = claims_in(alloc, text)?;
         Ok(Claims { scoring, claims })
     }
 
@@ -111,13 +109,6 @@ impl Claims {
         ensures rising { AreRising (claimed_positions self.now.claims) }
     {
         self.claims.len()
-    }
-
-    /// Whether no position has a claim.
-    pub fn is_empty(&self) -> bool
-        ensures { IsTrue result ↔ length self.now.claims ≡ 0 }
-    {
-        self.len() == 0
     }
 
     /// The claim of a position: the claim of its canonical position, with the best moves mapped

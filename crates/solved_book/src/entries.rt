@@ -3,29 +3,19 @@
 ghost use Rattle.std.specs.Prelude.{◌≡◌, option_map, IfOk, IfErr};
 ghost use Rattle.obf_text.specs.Obf.{entry_of, item_of};
 ghost use Rattle.othello_bits.specs.Pos.{discs_of};
-ghost use Rattle.solved_book.specs.Claims.{claim_in_entry, is_behind, is_canonical_entry};
+ghost use Rattle.solved_book.specs.Claims.{claim_in_entry, is_canonical_entry};
 ghost use Rattle.solved_book.specs.Claims.{claim_in_line};
-ghost use Rattle.solved_book.specs.Books.{position_at};
+ghost use Rattle.solved_book.specs.Order.{position_at};
 ghost use Rattle.solved_book.specs.Reading.{GivesLine};
 
 use crate::book_fault::BookFault;
-use crate::images::{Masks, masks_of};
 use crate::listing::claim_of;
+use crate::order::{Masks, is_behind, masks_of};
 use endgame_search::Claim;
 use obf_text::{Item, Line, LineFault, read_line};
 use othello_bits::Pos;
 use othello_rules::{Grid, Side};
 use std::alloc::Global;
-
-// Whether a position is greater than the one before it. True where there is none before it.
-fn is_behind(before: Option<Masks>, masks: Masks) -> bool
-    ensures { result ≡ is_behind (option_map position_at before) (position_at masks) }
-{
-    match before {
-        None => true,
-        Some(last) => masks > last,
-    }
-}
 
 // Whether Black is to move, and the position is the least of its eight images.
 fn is_canonical(grid: &Grid, position: Pos) -> bool
@@ -37,7 +27,7 @@ fn is_canonical(grid: &Grid, position: Pos) -> bool
 
 // The claim of an entry in line `number`, with the masks of its position. `before` has the masks of
 // the last claim's position.
-fn read_entry(
+fn claim_in_entry(
     number: usize,
     before: Option<Masks>,
     entry: &Line,
@@ -62,7 +52,7 @@ fn read_entry(
 
 /// The claim of line `number`, from 1, with the masks of its position. None where the line is
 /// skipped. `before` has the masks of the last claim's position.
-pub(crate) fn read_claim(
+pub(crate) fn claim_in_line(
     alloc: Global,
     number: usize,
     before: Option<Masks>,
@@ -73,7 +63,7 @@ pub(crate) fn read_claim(
 {
     match read_line(alloc, line) {
         Ok(Item::Skip) => Ok(None),
-        Ok(Item::Entry(entry)) => read_entry(number, before, &entry),
+        Ok(Item::Entry(entry)) => claim_in_entry(number, before, &entry),
         Err(LineFault::Memory) => Err(BookFault::Memory),
         Err(fault) => Err(BookFault::Line(number, fault)),
     }

@@ -1,6 +1,6 @@
 //! The first line of a book.
 
-ghost use Rattle.std.specs.Prelude.{◌≡◌, OnOk, codes};
+ghost use Rattle.std.specs.Prelude.{◌≡◌, [], ◌∷◌, ◌++◌, OnOk, codes};
 ghost use Rattle.std.specs.Io.KnownBytes.{Appends};
 ghost use Rattle.solved_book.specs.Claims.{scoring_in, scoring_of_lines};
 ghost use Rattle.solved_book.specs.Books.{header};
@@ -11,14 +11,14 @@ use othello_rules::Scoring;
 use std::io;
 use std::io::Write;
 
-/// Writes the line that names a scoring, without its end.
+/// Writes the line that names a scoring, and its end.
 #[tactic(auto, unfolding(crate::specs::Books::header))]
 pub(crate) fn write_header<W: Write>(writer: &mut W, scoring: Scoring) -> io::Result<()>
     ensures { OnOk result
-        (Appends (W.contents writer.old) (W.contents writer.new) (header scoring)) }
+        (Appends (W.contents writer.old) (W.contents writer.new) (header scoring ++ 10 ∷ [])) }
 {
     let name = scoring.name();
-    write!(writer, "% ffobook 2 {name}")
+    write!(writer, "% ffobook 2 {name}\n")
 }
 
 // The scoring that a first line names: `Winner` where it is not a header, None where it is an

@@ -21,6 +21,7 @@ mod header;
 mod images;
 pub mod laws;
 mod listing;
+mod order;
 
 pub use book::Book;
 pub use book_fault::BookFault;

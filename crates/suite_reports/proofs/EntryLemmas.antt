@@ -10,7 +10,7 @@ use Rattle.othello_bits.specs.Pos.{PosView, discs_of, empties_of, answer_of}
 use Rattle.othello_bits.proofs.GameLaws.{answer-discs_of, empties-discs_of}
 use Rattle.obf_text.specs.Obf.{Entry, Holds}
 use Rattle.suite_reports.specs.Check.{check_by}
-use Rattle.suite_reports.specs.declared.criteria.Criteria.{Criteria}
+use Rattle.program_settings.specs.declared.criteria.Criteria.{Criteria}
 use Rattle.endgame_search.specs.Task.{TaskView}
 use Rattle.suite_reports.specs.Rows.{entry_result, task_of}
 use Rattle.suite_reports.specs.declared.report_row.Refusal.TheVariants.{Empties}

@@ -10,7 +10,7 @@ use Rattle.suite_reports.specs.declared.report_row.ReportRow.{ReportRow}
 use Rattle.suite_reports.specs.ParsedLine.{parsed_result, row_in}
 use Rattle.suite_reports.specs.declared.parsed_line.ParsedLine.{ParsedLine}
 use Rattle.suite_reports.specs.declared.numbered_line.NumberedLine.{NumberedLine}
-use Rattle.suite_reports.specs.declared.criteria.Criteria.{Criteria}
+use Rattle.program_settings.specs.declared.criteria.Criteria.{Criteria}
 use Rattle.suite_reports.specs.Rows.{report_row, line_result, rows, rows_from}
 
 pub rows_start : (g : Scoring) (by : Criteria) (text : List ℕ) → rows g by text ≡ rows_from g by 1 (lines_of text)

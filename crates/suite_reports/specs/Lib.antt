@@ -1,5 +1,3 @@
-pub mod Limits
-pub mod Settings
 pub mod Check
 pub mod ReportText
 pub mod Rows

@@ -3,7 +3,7 @@ use Rattle.std.specs.Prelude.{ℕ, List, map}
 use Rattle.std.specs.List.{enumerate_from}
 use Rattle.othello_rules.specs.declared.scoring.Scoring.{Scoring}
 use Rattle.suite_reports.specs.Rows.{rows}
-use Rattle.suite_reports.specs.declared.criteria.Criteria.{Criteria}
+use Rattle.program_settings.specs.declared.criteria.Criteria.{Criteria}
 use Rattle.suite_reports.specs.ReportText.{report_text}
 
 -- the report of a sender's text

@@ -10,7 +10,7 @@ use Rattle.obf_text.specs.Obf.{Entry, Faulty, Holds, Meaning, Skipped, item_of}
 use Rattle.obf_text.specs.declared.line_fault.LineFault.{LineFault}
 use Rattle.obf_text.specs.declared.line_fault.LineFault.TheVariants as fault
 use Rattle.suite_reports.specs.Check.{check_by}
-use Rattle.suite_reports.specs.declared.criteria.Criteria.{Criteria}
+use Rattle.program_settings.specs.declared.criteria.Criteria.{Criteria}
 use Rattle.suite_reports.specs.declared.report_row.Refusal.TheVariants as refusal
 use Rattle.suite_reports.specs.declared.report_row.RowResult.{RowResult}
 use Rattle.suite_reports.specs.declared.report_row.RowResult.TheVariants.{Solved, Refused}

@@ -2,16 +2,16 @@
 
 ghost use Rattle.std.specs.Prelude.{◌≡◌, ◌≤◌, length, map, IfOk};
 ghost use Rattle.endgame_search.specs.Limits.{most_empties};
-ghost use Rattle.suite_reports.specs.Limits.{most_bytes};
+ghost use Rattle.program_settings.specs.Limits.{most_bytes};
 ghost use Rattle.suite_reports.specs.ParsedLine.{row_in, task_in, tasks_in};
 ghost use Rattle.suite_reports.specs.Rows.{rows, tasks};
 
-use crate::criteria::Criteria;
 use crate::parsed_line::{ParsedLine, parse_line};
 use crate::report_row::ReportRow;
 use endgame_search::{Solved, Task};
 use obf_text::split_lines;
 use othello_rules::Scoring;
+use program_settings::Criteria;
 use std::alloc::{AllocError, Global};
 
 /// A line that is not skipped, after it was read: its number in its file, counted from 1 over all

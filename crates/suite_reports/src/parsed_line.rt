@@ -5,19 +5,19 @@ ghost use Rattle.std.specs.List.{cons_option};
 ghost use Rattle.std.specs.Option.{option_and_then};
 ghost use Rattle.std.specs.Slice.Iter.{iter_rest};
 ghost use Rattle.endgame_search.specs.Limits.{most_empties};
-ghost use Rattle.suite_reports.specs.Limits.{most_bytes};
+ghost use Rattle.program_settings.specs.Limits.{most_bytes};
 ghost use Rattle.endgame_search.specs.Task.{TaskView};
 ghost use Rattle.obf_text.specs.Obf.{Holds, entry_of, item_of};
 ghost use Rattle.suite_reports.specs.ParsedLine.{parsed_result, task_in};
 ghost use Rattle.suite_reports.specs.Rows.{entry_result, line_result, task_of};
 
 use crate::check::check_by;
-use crate::criteria::Criteria;
 use crate::report_row::{Refusal, RowResult};
 use endgame_search::{Solved, Task, TooMany};
 use obf_text::{Item, Line, LineFault, ListedMove, read_line};
 use othello_bits::Pos;
 use othello_rules::Scoring;
+use program_settings::Criteria;
 use std::alloc::{AllocError, Global};
 use std::slice::Iter;
 

@@ -4,12 +4,12 @@ ghost use Rattle.std.specs.Prelude.{◌≡◌, ◌<◌, ◌≤◌, length, OnOk}
 ghost use Rattle.std.specs.Io.KnownBytes.{Appends};
 ghost use Rattle.othello_rules.specs.Masks.{squares_of};
 ghost use Rattle.suite_reports.specs.ReportText.{answer_text, best_text, check_text, comma_name, head_text, last_text};
-ghost use Rattle.suite_reports.specs.ReportText.{names_text, refusal_text, report_text, result_text};
+ghost use Rattle.suite_reports.specs.ReportText.{names_text, report_text, result_text};
 ghost use Rattle.suite_reports.specs.ReportText.{row_text, solved_count};
 
 use crate::check::Check;
-use crate::report_row::{Refusal, ReportRow, RowResult};
-use obf_text::{LineFault, score_bytes, write_fault, write_too_many};
+use crate::report_row::{ReportRow, RowResult};
+use obf_text::score_bytes;
 use othello_rules::{Answer, Best, Square, squares_in};
 use std::io;
 use std::io::Write;
@@ -62,19 +62,6 @@ fn write_check<W: Write>(writer: &mut W, check: Check) -> io::Result<()>
     }
 }
 
-#[tactic(auto, unfolding(crate::specs::ReportText::refusal_text))]
-fn write_refusal<W: Write>(writer: &mut W, refusal: Refusal) -> io::Result<()>
-    ensures { OnOk result
-        (Appends (W.contents writer.old) (W.contents writer.new) (refusal_text refusal)) }
-{
-    match refusal {
-        Refusal::Short(found) => write_fault(writer, LineFault::Short(found as usize)),
-        Refusal::BadCell(column) => write_fault(writer, LineFault::BadCell(column as usize)),
-        Refusal::BadSide(column) => write_fault(writer, LineFault::BadSide(column as usize)),
-        Refusal::Empties(found, limit) => write_too_many(writer, found, limit),
-    }
-}
-
 #[tactic(auto, unfolding(crate::specs::ReportText::answer_text))]
 fn write_answer<W: Write>(writer: &mut W, answer: &Answer) -> io::Result<()>
     ensures { OnOk result
@@ -102,10 +89,7 @@ fn write_result<W: Write>(writer: &mut W, row_result: &RowResult) -> io::Result<
 {
     match row_result {
         RowResult::Solved(answer, check) => write_solved(writer, answer, *check),
-        RowResult::Refused(refusal) => {
-            writer.write_all(b"refused: ")?;
-            write_refusal(writer, *refusal)
-        }
+        RowResult::Refused(refusal) => write!(writer, "refused: {refusal}"),
     }
 }
 

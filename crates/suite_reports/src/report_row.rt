@@ -1,9 +1,13 @@
 //! The rows of a report.
 
+ghost use Rattle.std.specs.Prelude.{Some};
+ghost use Rattle.suite_reports.specs.ReportText.{refusal_text};
+
 use crate::check::Check;
 use othello_rules::Answer;
+use std::fmt;
 
-/// Why a line was not solved.
+/// Why a line was not solved. A report prints the text of a refusal as its reason.
 #[derive(Clone, Copy, PartialEq, Eq, Debug)]
 pub enum Refusal {
     /// The line ends after this number of squares, fewer than 64.
@@ -14,6 +18,20 @@ pub enum Refusal {
     BadSide(u32),
     /// The number of empty squares, and the limit, which is below it.
     Empties(u8, u8),
+}
+
+impl fmt::Display for Refusal {
+    ghost output = { λ refusal. Some (refusal_text refusal) };
+
+    #[tactic(auto, unfolding(crate::specs::ReportText::refusal_text, obf_text::specs::Faults::line_fault_text, obf_text::specs::Faults::too_many_text))]
+    fn fmt<W: fmt::Write>(&self, f: &mut fmt::Formatter<W>) -> fmt::Result {
+        match self {
+            Refusal::Short(found) => write!(f, "board has {found} of 64 squares"),
+            Refusal::BadCell(column) => write!(f, "bad square at column {column}"),
+            Refusal::BadSide(column) => write!(f, "bad side at column {column}"),
+            Refusal::Empties(found, limit) => write!(f, "{found} empties, limit {limit}"),
+        }
+    }
 }
 
 /// The result of a line that is not skipped.

@@ -4,7 +4,7 @@ use Rattle.std.specs.Prelude.{Option, Some, None, Result, Ok, Err, IfOk, IfErr, 
 use Rattle.std.specs.declared.alloc.Global.{Global}
 use Rattle.std.proofs.lemmas.List.{append-nil, map-append}
 use Rattle.othello_rules.specs.declared.scoring.Scoring.{Scoring}
-use Rattle.suite_reports.specs.declared.criteria.Criteria.{Criteria}
+use Rattle.program_settings.specs.declared.criteria.Criteria.{Criteria}
 use Rattle.suite_runs.specs.Part.{GivesPart, GivesParts, IsPartFault, part_view, part_view_of}
 use Rattle.suite_runs.specs.RunFault.{worse_fault}
 use Rattle.suite_runs.specs.Threads.{AreJoined, StartedClientView, started_view, part_view_at}

@@ -12,7 +12,7 @@ use Rattle.endgame_search.specs.Task.{TaskView}
 use Rattle.solved_book.specs.Books.{BookView}
 use Rattle.solved_book.specs.Order.{AreBookPositions}
 use Rattle.solved_book.proofs.OneOrder.{same_order}
-use Rattle.suite_reports.specs.declared.criteria.Criteria.{Criteria}
+use Rattle.program_settings.specs.declared.criteria.Criteria.{Criteria}
 use Rattle.suite_runs.specs.Outcome.{IsBookOf, canonicals, report_of_view, reports_of_views, tasks_of_views}
 use Rattle.suite_runs.specs.Part.{PartView, part_view, part_view_of}
 use Rattle.suite_reports.specs.Reports.{report, reports_from}

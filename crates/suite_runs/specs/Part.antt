@@ -3,7 +3,7 @@ use Rattle.std.specs.Prelude.{◌≡◌, ◌⊎◌, ℕ, List, map, Result, Ok, 
 use Rattle.std.specs.declared.alloc.Global.{Global}
 use Rattle.othello_rules.specs.declared.scoring.Scoring.{Scoring}
 use Rattle.endgame_search.specs.Task.{TaskView}
-use Rattle.suite_reports.specs.declared.criteria.Criteria.{Criteria}
+use Rattle.program_settings.specs.declared.criteria.Criteria.{Criteria}
 use Rattle.suite_reports.specs.Rows.{rows, tasks}
 use Rattle.suite_runs.specs.declared.part.Part.{Part}
 use Rattle.suite_reports.specs.declared.report_row.ReportRow.{ReportRow}

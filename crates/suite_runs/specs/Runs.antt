@@ -1,10 +1,10 @@
--- The refusal and the result of a run on files.
-use Rattle.std.specs.Prelude.{◌≡◌, ℕ, nat_lt, Bool, List, length, map, option_map, Option, Some, None, Result, Ok, Err, if◌then◌else◌}
-use Rattle.std.specs.List.{flat_map, position}
+-- The result of a run on files.
+use Rattle.std.specs.Prelude.{◌≡◌, ℕ, List, map, Some, None, Result, Ok, Err}
+use Rattle.std.specs.List.{flat_map}
 use Rattle.othello_rules.specs.declared.scoring.Scoring.{Scoring}
 use Rattle.obf_text.specs.LineText.{texts_of}
 use Rattle.endgame_search.specs.Task.{TaskView}
-use Rattle.suite_reports.specs.Settings.{SettingsView, criteria_of}
+use Rattle.program_settings.specs.Settings.{SettingsView, criteria_of}
 use Rattle.suite_runs.specs.Outcome.{IsBookOf}
 use Rattle.suite_runs.specs.Part.{part_view, part_view_of}
 use Rattle.suite_reports.specs.Reports.{reports}
@@ -13,27 +13,8 @@ use Rattle.suite_runs.specs.declared.run_fault.RunFault.{RunFault}
 use Rattle.suite_runs.specs.declared.run_fault.RunFault.TheVariants.{Memory, Mixed, TooManyFiles, FileTooLarge}
 use Rattle.suite_runs.specs.declared.outcome.Outcome.{Outcome}
 use Rattle.suite_runs.specs.declared.part.Part.{Part}
-use Rattle.suite_reports.specs.Limits.{most_bytes, most_files}
-
--- the text has more than most_bytes bytes
-abbrev pub is_large : List ℕ → Bool
-is_large text = nat_lt most_bytes (length text)
-
--- the sender of the first text of more than most_bytes bytes
-abbrev pub first_large : List (List ℕ) → Option ℕ
-first_large texts = position is_large texts
-
--- the refusal of a run, before anything is solved: more than most_files files, otherwise the
--- first file of more than most_bytes bytes
-unfoldable pub refusal_of : List (List ℕ) → Option RunFault
-refusal_of texts =
-    if nat_lt most_files (length texts) then Some TooManyFiles
-    else option_map FileTooLarge (first_large texts)
-
--- the result is the refusal of the texts, or Ok where there is none
-abbrev pub Refuses : Result (Unit {0}) RunFault → List (List ℕ) → Type 0
-Refuses (Ok nothing) texts = refusal_of texts ≡ None
-Refuses (Err fault) texts = refusal_of texts ≡ Some fault
+use Rattle.program_settings.specs.InputFault.{refusal_of}
+use Rattle.program_settings.specs.declared.input_fault.InputFault.TheVariants as input
 
 -- each part is the part of its text
 abbrev pub ArePartsOf : SettingsView → List (List ℕ) → List Part → Type 0
@@ -55,4 +36,5 @@ Answers (Ok outcome) c texts =
     (refusal_of texts ≡ None) × Solves c texts outcome
 Answers (Err Memory) c texts = refusal_of texts ≡ None
 Answers (Err Mixed) c texts = refusal_of texts ≡ None
-Answers (Err fault) c texts = refusal_of texts ≡ Some fault
+Answers (Err TooManyFiles) c texts = refusal_of texts ≡ Some input.TooManyFiles
+Answers (Err (FileTooLarge sender)) c texts = refusal_of texts ≡ Some (input.FileTooLarge sender)

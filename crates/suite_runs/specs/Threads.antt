@@ -1,7 +1,7 @@
 -- The clients of a run that were started, and the parts that they give.
 use Rattle.std.specs.Prelude.{◌≡◌, ℕ, List, map, Option, Some, None}
 use Rattle.othello_rules.specs.declared.scoring.Scoring.{Scoring}
-use Rattle.suite_reports.specs.declared.criteria.Criteria.{Criteria}
+use Rattle.program_settings.specs.declared.criteria.Criteria.{Criteria}
 use Rattle.suite_runs.specs.Part.{GivesPart, IsPartFault, PartView, part_view, part_view_of}
 use Rattle.suite_runs.specs.declared.run_fault.RunFault.{RunFault}
 use Rattle.suite_runs.specs.declared.part.Part.{Part}

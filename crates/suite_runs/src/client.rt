@@ -2,7 +2,7 @@
 
 ghost use Rattle.std.specs.Prelude.{◌≡◌, ◌≤◌, ◌++◌, length, false, Ok, IfOk, IfErr, OnOk, IsErr, IsErrOf};
 ghost use Rattle.endgame_search.specs.Limits.{most_empties};
-ghost use Rattle.suite_reports.specs.Limits.{most_bytes};
+ghost use Rattle.program_settings.specs.Limits.{most_bytes};
 ghost use Rattle.suite_reports.specs.ParsedLine.{tasks_in};
 ghost use Rattle.suite_runs.specs.Part.{IsPartFault};
 ghost use Rattle.suite_reports.specs.Rows.{rows, tasks};
@@ -16,10 +16,11 @@ use crate::worker::Worker;
 use bound_table::Bounds;
 use endgame_search::Solved;
 use job_board::{Client, Desk, Turn};
+use program_settings::Criteria;
 use solved_book::Claims;
 use std::alloc::{AllocError, Global};
 use std::sync::Wait;
-use suite_reports::{Criteria, NumberedLine, parse_lines, rows_of};
+use suite_reports::{NumberedLine, parse_lines, rows_of};
 
 // Submits the task of each line that has one, in the order of the lines.
 fn send_all<R: Wait>(

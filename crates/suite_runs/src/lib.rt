@@ -2,16 +2,16 @@
 //! thread or on several. A run makes a report for each file, and one book of all solved positions.
 //!
 //! ```rust
-//! use suite_runs::{NoGate, Settings, run};
+//! use program_settings::Settings;
+//! use suite_runs::{NoGate, run};
 //!
 //! let outcome = run(&rt, alloc, &files, &Settings::default(), None, &NoGate)?;
 //! assert!(rt; outcome.reports.len() == files.len());
 //! outcome.book.write(&mut text)?;
 //! ```
 //!
-//! `run` solves on threads, `run_serial` on the calling thread. Reports, checks and settings are
-//! those of `suite_reports`. The crate `suite_solver` re-exports the public names. The modules
-//! `client` and `threads` are public for the tests, which are in `crate_tests`.
+//! `run` solves on threads, `run_serial` on the calling thread. The modules `client` and `threads`
+//! are public for the tests, which are in `crate_tests`.
 #![tactic(auto)]
 
 pub mod client;
@@ -30,10 +30,4 @@ pub use gate::{Gate, NoGate};
 pub use outcome::Outcome;
 pub use part::Part;
 pub use run_fault::RunFault;
-pub use runs::{check_files, run, run_serial};
-pub use suite_reports::{
-    Check, Criteria, DEFAULT_EMPTIES, DEFAULT_EMPTIES_TEXT, DEFAULT_ENTRIES, DEFAULT_ENTRIES_TEXT,
-    DEFAULT_WORKERS, DEFAULT_WORKERS_TEXT, MOST_BYTES, MOST_EMPTIES, MOST_ENTRIES, MOST_FILES,
-    MOST_WORKERS, Refusal, ReportRow, RowResult, Settings, VERSION, check_of, complete_check_of,
-    write_report,
-};
+pub use runs::{run, run_serial};

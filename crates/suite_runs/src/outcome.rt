@@ -1,7 +1,7 @@
 //! The outcome of a run: the reports of its files, and the book of its positions.
 
 ghost use Rattle.std.specs.Prelude.{◌≡◌, ◌⊎◌, ◌↔◌, ◌++◌, ◌≤◌, ℕ, List, length, map, All, Contains, IfOk, OnOk};
-ghost use Rattle.suite_reports.specs.Limits.{most_files};
+ghost use Rattle.program_settings.specs.Limits.{most_files};
 ghost use Rattle.othello_bits.specs.Pos.{PosView};
 ghost use Rattle.endgame_search.specs.Task.{TaskView};
 ghost use Rattle.suite_runs.specs.Outcome.{IsBookOf, canonicals, report_of_view, reports_of_views, tasks_of_views};
@@ -12,9 +12,10 @@ ghost use Rattle.suite_runs.specs.Runs.{ArePartsOf, Solves};
 use crate::part::Part;
 use endgame_search::Solved;
 use othello_rules::Scoring;
+use program_settings::Settings;
 use solved_book::Book;
 use std::alloc::{AllocError, Global};
-use suite_reports::{ReportRow, Settings, write_report};
+use suite_reports::{ReportRow, write_report};
 
 /// The reports and the book of a run.
 #[derive(Debug, Drop)]

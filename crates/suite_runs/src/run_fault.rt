@@ -1,15 +1,14 @@
 //! Why a run gives no reports.
 
 ghost use Rattle.std.specs.Prelude.{◌≡◌, Some};
-ghost use Rattle.suite_runs.specs.RunFault.{run_fault_text};
-ghost use Rattle.suite_runs.specs.RunFault.{fault_of_submit, worse_fault};
+ghost use Rattle.suite_runs.specs.RunFault.{fault_of_submit, run_fault_of, run_fault_text, worse_fault};
 ghost use Rattle.suite_runs.specs.declared.run_fault.RunFault.TheVariants.{Memory};
 
 use job_board::SubmitFault;
+use program_settings::InputFault;
 use std::alloc::{AllocError, AllocFailed};
 use std::error::Error;
 use std::fmt;
-use suite_reports::{MOST_BYTES, MOST_FILES};
 
 /// Why a run gives no reports. A sender is the number of a file, counted from 0.
 #[derive(Clone, Copy, PartialEq, Eq, Debug, Drop)]
@@ -33,11 +32,8 @@ impl fmt::Display for RunFault {
         match self {
             RunFault::Memory => f.write_str("out of memory"),
             RunFault::Mixed => f.write_str("answers mixed"),
-            RunFault::TooManyFiles => write!(f, "more than {MOST_FILES} files"),
-            RunFault::FileTooLarge(sender) => {
-                let number = u64::from(*sender) + 1;
-                write!(f, "file {number} is larger than {MOST_BYTES} bytes")
-            }
+            RunFault::TooManyFiles => InputFault::TooManyFiles.fmt(f),
+            RunFault::FileTooLarge(sender) => InputFault::FileTooLarge(*sender).fmt(f),
         }
     }
 }
@@ -57,6 +53,17 @@ impl<T: Drop> From<AllocFailed<T>> for RunFault {
 
     fn from(_error: AllocFailed<T>) -> RunFault {
         RunFault::Memory
+    }
+}
+
+impl From<InputFault> for RunFault {
+    ghost from_gives = { λ refused fault. fault ≡ run_fault_of refused };
+
+    fn from(refused: InputFault) -> RunFault {
+        match refused {
+            InputFault::TooManyFiles => RunFault::TooManyFiles,
+            InputFault::FileTooLarge(sender) => RunFault::FileTooLarge(sender),
+        }
     }
 }
 

@@ -1,13 +1,13 @@
 //! Runs over files, on the calling thread or on several threads.
 
-ghost use Rattle.std.specs.Prelude.{◌≡◌, ◌≢◌, ◌<◌, ◌≤◌, ◌↔◌, ℕ, length, Some, None, Err, IfOk, IfSome, IsErrOf, IsOk};
-ghost use Rattle.std.specs.List.{position};
-ghost use Rattle.suite_reports.specs.Limits.{most_files};
-ghost use Rattle.suite_reports.specs.Settings.{criteria_of};
+ghost use Rattle.std.specs.Prelude.{◌≡◌, ◌≢◌, ◌<◌, ◌≤◌, ◌↔◌, ℕ, length, Some, Err, IfOk, IsErrOf};
+ghost use Rattle.program_settings.specs.InputFault.{first_large};
+ghost use Rattle.program_settings.specs.Limits.{most_files};
+ghost use Rattle.program_settings.specs.Settings.{criteria_of};
 ghost use Rattle.suite_runs.specs.Outcome.{IsBookOf};
 ghost use Rattle.suite_reports.specs.Reports.{reports};
 ghost use Rattle.obf_text.specs.LineText.{texts_of};
-ghost use Rattle.suite_runs.specs.Runs.{Answers, Refuses, all_tasks, first_large, is_large, refusal_of};
+ghost use Rattle.suite_runs.specs.Runs.{Answers, all_tasks};
 ghost use Rattle.suite_runs.specs.declared.run_fault.RunFault.TheVariants.{Mixed, TooManyFiles, FileTooLarge};
 
 use crate::gate::Gate;
@@ -15,44 +15,11 @@ use crate::outcome::{Outcome, outcome_of};
 use crate::run_fault::RunFault;
 use crate::serial::solve_texts;
 use crate::threads::solve_texts_on_threads;
+use program_settings::{Settings, check_files};
 use solved_book::Claims;
 use std::alloc::Global;
 use std::sync::Wait;
 use std::thread::Threads;
-use suite_reports::{MOST_BYTES, MOST_FILES, Settings};
-
-// The number, from 0, of the first file of more than `MOST_BYTES` bytes. `first_large` has the same
-// result, with a contract about the bytes of the files.
-fn large_file(files: &[Vec<u8>]) -> Option<usize>
-    ensures { result ≡ position (λ file. is_large file.items) files.now }
-{
-    files.iter().position(|file| file.len() > MOST_BYTES)
-}
-
-// The sender of the first file of more than `MOST_BYTES` bytes.
-fn first_large(files: &[Vec<u8>]) -> Option<usize>
-    ensures first { result ≡ first_large (texts_of files.now) }
-    ensures within { IfSome result (λ sender. sender < length files.now) }
-{
-    large_file(files)
-}
-
-/// Refuses more than `MOST_FILES` files, by `TooManyFiles`, and otherwise the first file of more
-/// than `MOST_BYTES` bytes, by `FileTooLarge` with its sender. A run refuses the same files.
-#[tactic(auto, unfolding(crate::specs::Runs::refusal_of), using(crate::proofs::RunLemmas::many_refused))]
-pub fn check_files(files: &[Vec<u8>]) -> Result<(), RunFault>
-    ensures refuses { Refuses result (texts_of files.now) }
-    ensures few { IsOk result → length files.now ≤ most_files }
-    ensures small { IsOk result → first_large (texts_of files.now) ≡ None }
-{
-    if files.len() > MOST_FILES {
-        return Err(RunFault::TooManyFiles);
-    }
-    if let Some(sender) = first_large(files) {
-        return Err(RunFault::FileTooLarge(sender as u32));
-    }
-    Ok(())
-}
 
 // Does the work of `run_serial`. One clause of the contract covers all of its results.
 fn run_files(
@@ -64,9 +31,7 @@ fn run_files(
     ensures answers { Answers result settings.now (texts_of files.now) }
     ensures unmixed { result ≢ Err Mixed }
 {
-    if let Err(fault) = check_files(files) {
-        return Err(fault);
-    }
+    check_files(files)?;
     let parts = solve_texts(alloc, files, settings, claims)?;
     let outcome = outcome_of(alloc, settings, &parts)?;
     Ok(outcome)
@@ -112,9 +77,7 @@ fn run_threads<R: Threads + Wait + Sync, G: Gate>(
 ) -> Result<Outcome, RunFault>
     ensures { Answers result settings.now (texts_of files.now) }
 {
-    if let Err(fault) = check_files(files) {
-        return Err(fault);
-    }
+    check_files(files)?;
     let parts = solve_texts_on_threads(rt, alloc, files, settings, claims, gate)?;
     let outcome = outcome_of(alloc, settings, &parts)?;
     Ok(outcome)

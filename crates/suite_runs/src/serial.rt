@@ -2,20 +2,22 @@
 
 ghost use Rattle.std.specs.Prelude.{◌≡◌, ◌≤◌, length, All, IfOk, None};
 ghost use Rattle.endgame_search.specs.Limits.{most_empties};
-ghost use Rattle.suite_reports.specs.Limits.{most_bytes};
+ghost use Rattle.program_settings.specs.Limits.{most_bytes};
 ghost use Rattle.endgame_search.specs.Task.{TaskView};
 ghost use Rattle.suite_runs.specs.Part.{part_view, part_view_of};
 ghost use Rattle.suite_reports.specs.ParsedLine.{tasks_in};
 ghost use Rattle.obf_text.specs.LineText.{texts_of};
-ghost use Rattle.suite_runs.specs.Runs.{ArePartsOf, first_large};
+ghost use Rattle.program_settings.specs.InputFault.{first_large};
+ghost use Rattle.suite_runs.specs.Runs.{ArePartsOf};
 
 use crate::part::Part;
 use crate::solver::{Solver, new_table};
 use bound_table::Bounds;
 use endgame_search::Solved;
+use program_settings::{Criteria, Settings};
 use solved_book::Claims;
 use std::alloc::{AllocError, Global};
-use suite_reports::{Criteria, NumberedLine, Settings, parse_lines, rows_of};
+use suite_reports::{NumberedLine, parse_lines, rows_of};
 
 // Solves the tasks of the lines, in the order of the lines.
 fn solve_all<T: Bounds>(

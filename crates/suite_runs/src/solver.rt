@@ -6,9 +6,9 @@ ghost use Rattle.suite_runs.specs.Solver.{Advises};
 use bound_table::{BoundTable, Bounds, TableFault};
 use endgame_search::{Claim, Solved, Task, confirm, solve};
 use othello_rules::Scoring;
+use program_settings::Settings;
 use solved_book::Claims;
 use std::alloc::{AllocError, Global};
-use suite_reports::Settings;
 
 /// A table of bounds, and the claims of a book where one was read. Tasks are solved by it.
 #[derive(Drop)]

@@ -1,12 +1,12 @@
 //! The threads of a run: a client for each file, and the workers.
 
 ghost use Rattle.std.specs.Prelude.{◌≡◌, ◌<◌, ◌≤◌, ◌+◌, ◌++◌, ◌∷◌, length, map, IfOk, IfErr, Some, None, [], vec_len, vec_capacity};
-ghost use Rattle.suite_reports.specs.Limits.{most_bytes, most_files};
-ghost use Rattle.suite_reports.specs.Settings.{criteria_of};
+ghost use Rattle.program_settings.specs.Limits.{most_bytes, most_files};
+ghost use Rattle.program_settings.specs.Settings.{criteria_of};
 ghost use Rattle.suite_runs.specs.Part.{GivesPart, GivesParts};
 ghost use Rattle.suite_runs.specs.RunFault.{worse_fault};
 ghost use Rattle.obf_text.specs.LineText.{texts_of};
-ghost use Rattle.suite_runs.specs.Runs.{first_large};
+ghost use Rattle.program_settings.specs.InputFault.{first_large};
 ghost use Rattle.suite_runs.specs.Threads.{AreJoined, started_view};
 
 use crate::client::client_part_by;
@@ -18,13 +18,13 @@ use crate::worker::Worker;
 use bound_table::{BoundTable, Bounds};
 use job_board::{BoardFault, Desk};
 use othello_rules::Scoring;
+use program_settings::{Criteria, Settings};
 use solved_book::Claims;
 use std::alloc::{AllocError, Global};
 use std::marker::Model;
 use std::sync::Wait;
 use std::thread;
 use std::thread::{Promise, PromisedHandle, Scope, Threads};
-use suite_reports::{Criteria, Settings};
 
 /// The values that are made for a run, which its threads share.
 #[derive(Drop)]

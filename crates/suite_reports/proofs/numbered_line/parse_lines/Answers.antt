@@ -3,7 +3,7 @@ use Rattle.std.specs.Prelude.{None}
 use Rattle.std.specs.Option.{option_and_then, option_map}
 use Rattle.suite_reports.specs.ParsedLine.{parsed_result, task_in}
 use Rattle.suite_reports.specs.Rows.{rows, tasks}
-use Rattle.suite_reports.specs.declared.settings.TheConstants.{MOST_BYTES}
+use Rattle.program_settings.specs.declared.limits.TheConstants.{MOST_BYTES}
 use Rattle.suite_reports.proofs.RowLemmas.{room_more, rows_all, rows_more, rows_skip, rows_start}
 use Rattle.suite_reports.proofs.TaskLemmas.{tasks_all, tasks_more, tasks_skip}
 use Rattle.suite_reports.proofs.numbered_line.parse_lines.Goals as goal

@@ -2,7 +2,7 @@ use Rattle.std.proofs.Common.{◌≡◌, ◌++◌, ◌+◌, ◌≤◌, map}
 use Rattle.obf_text.specs.LineText.{room_of}
 use Rattle.suite_reports.specs.ParsedLine.{row_in, tasks_in}
 use Rattle.suite_reports.specs.Rows.{rows, rows_from, tasks, tasks_from}
-use Rattle.suite_reports.specs.declared.settings.TheConstants.{MOST_BYTES}
+use Rattle.program_settings.specs.declared.limits.TheConstants.{MOST_BYTES}
 use Rattle.suite_reports.proofs.numbered_line.parse_lines.Given as goal
 
 -- the rows and tasks so far, and those of the lines that are left, are all of them

@@ -1,7 +1,7 @@
 use Rattle.std.proofs.Common.{◌∙◌, map, sym, subst, ap, length, arith}
 use Rattle.std.proofs.lemmas.List.{length-map}
 use Rattle.suite_runs.specs.Outcome.{IsBookOf, tasks_of_views}
-use Rattle.suite_reports.specs.Settings.{criteria_of}
+use Rattle.program_settings.specs.Settings.{criteria_of}
 use Rattle.suite_runs.specs.Part.{part_view, part_view_of}
 use Rattle.suite_runs.proofs.PartLemmas.{outcome_reports, outcome_tasks, parts_scored}
 use Rattle.suite_runs.proofs.outcome.outcome_of.Goals as goal

@@ -1,12 +1,16 @@
-use Rattle.std.proofs.Common.{◌≡◌}
+use Rattle.std.proofs.Common.{◌≡◌, ◌∙◌, sym}
+use Rattle.std.proofs.lemmas.Result.{err_from_is_err_and}
 use Rattle.obf_text.specs.LineText.{texts_of}
 use Rattle.suite_runs.specs.declared.run_fault.RunFault.TheVariants.{Mixed}
 use Rattle.suite_runs.proofs.RunLemmas.{refused_answers, refused_unmixed}
 use Rattle.suite_runs.proofs.runs.run_files.Goals as goal
 
-pub returns-in-Err-clause-answers : goal.returns-in-Err-clause-answers
-returns-in-Err-clause-answers c = refused_answers c.in-Err.fault c.args.settings.now (texts_of c.args.files.now) c.in-Err.ensures.refuses
+pub returns-in_err-check_files-clause-answers : goal.returns-in_err-check_files-clause-answers
+returns-in_err-check_files-clause-answers c =
+    let p = err_from_is_err_and c.from_residual.result c.from_residual.ensures.1 in
+    rw p.1 (refused_answers c.in_err-check_files.field-0.0 p.0 c.args.settings.now (texts_of c.args.files.now) c.in_err-check_files.ensures.refuses p.2)
 
-pub returns-in-Err-clause-unmixed : goal.returns-in-Err-clause-unmixed
-returns-in-Err-clause-unmixed c =
-    λ h. let same : c.in-Err.fault ≡ Mixed = cc in refused_unmixed c.in-Err.fault (texts_of c.args.files.now) c.in-Err.ensures.refuses same
+pub returns-in_err-check_files-clause-unmixed : goal.returns-in_err-check_files-clause-unmixed
+returns-in_err-check_files-clause-unmixed c =
+    let p = err_from_is_err_and c.from_residual.result c.from_residual.ensures.1 in
+    λ h. let same : p.0 ≡ Mixed = (let both = sym p.1 ∙ h in cc) in refused_unmixed c.in_err-check_files.field-0.0 p.0 p.2 same

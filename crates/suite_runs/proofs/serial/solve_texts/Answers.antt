@@ -1,9 +1,9 @@
 use Rattle.std.proofs.Common.{◌∷◌, [], ◌∙◌, length, map, ap, ap₂, arith}
 use Rattle.std.proofs.lemmas.List.{map-append}
-use Rattle.suite_reports.specs.Settings.{criteria_of}
+use Rattle.program_settings.specs.Settings.{criteria_of}
 use Rattle.suite_runs.specs.Part.{part_view, part_view_of}
 use Rattle.suite_runs.proofs.PartLemmas.{views_step}
-use Rattle.suite_runs.proofs.RunLemmas.{small_at}
+use Rattle.program_settings.proofs.InputFaultLemmas.{small_at}
 use Rattle.suite_runs.proofs.serial.solve_texts.Goals as goal
 
 pub solve_text-requires-clause-short : goal.solve_text-requires-clause-short

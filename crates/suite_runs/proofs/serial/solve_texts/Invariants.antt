@@ -1,5 +1,5 @@
 use Rattle.std.proofs.Common.{◌≡◌, map, take}
-use Rattle.suite_reports.specs.Settings.{criteria_of}
+use Rattle.program_settings.specs.Settings.{criteria_of}
 use Rattle.suite_runs.specs.Part.{part_view, part_view_of}
 use Rattle.obf_text.specs.LineText.{texts_of}
 use Rattle.suite_runs.proofs.serial.solve_texts.Given as goal

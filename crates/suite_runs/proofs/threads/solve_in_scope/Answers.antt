@@ -1,5 +1,5 @@
 use Rattle.obf_text.specs.LineText.{texts_of}
-use Rattle.suite_reports.specs.Settings.{criteria_of}
+use Rattle.program_settings.specs.Settings.{criteria_of}
 use Rattle.suite_runs.proofs.JoinLemmas.{parts_given}
 use Rattle.suite_runs.proofs.threads.solve_in_scope.Goals as goal
 

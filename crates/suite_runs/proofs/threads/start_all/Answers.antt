@@ -1,6 +1,6 @@
 use Rattle.std.proofs.Common.{length, ap, arith}
 use Rattle.std.proofs.lemmas.Grind.{common_steps}
-use Rattle.suite_runs.proofs.RunLemmas.{small_at}
+use Rattle.program_settings.proofs.InputFaultLemmas.{small_at}
 use Rattle.suite_runs.proofs.threads.start_all.Goals as goal
 
 pub start-requires-after_bounds : goal.start-requires-after_bounds

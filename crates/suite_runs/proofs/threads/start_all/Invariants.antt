@@ -1,5 +1,5 @@
 use Rattle.std.proofs.Common.{◌≡◌, ◌≤◌, length, map, take, vec_len, vec_capacity}
-use Rattle.suite_reports.specs.Settings.{criteria_of}
+use Rattle.program_settings.specs.Settings.{criteria_of}
 use Rattle.suite_runs.specs.Threads.{started_view}
 use Rattle.obf_text.specs.LineText.{texts_of}
 use Rattle.suite_runs.proofs.threads.start_all.Given as goal

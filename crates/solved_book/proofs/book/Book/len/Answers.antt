@@ -1,8 +1,8 @@
 use Rattle.std.proofs.Common.{ap, sym, ◌∙◌, length, subst}
 use Rattle.std.proofs.lemmas.List.{length-map}
 use Rattle.othello_rules.specs.Answer.{AnswerView}
-use Rattle.solved_book.specs.Books.{BookView, Masks, position_at}
-use Rattle.solved_book.specs.Order.{AreBookPositions}
+use Rattle.solved_book.specs.Books.{BookView}
+use Rattle.solved_book.specs.Order.{Masks, position_at, AreBookPositions}
 use Rattle.solved_book.proofs.KeptEntries.{book_positions_from}
 use Rattle.solved_book.proofs.book.Book.len.Goals as goal
 

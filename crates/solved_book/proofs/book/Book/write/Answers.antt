@@ -3,8 +3,8 @@ use Rattle.std.specs.Io.KnownBytes.{Appends}
 use Rattle.std.specs.List.{flat_map}
 use Rattle.std.proofs.lemmas.List.Elements.{recursion_from_All}
 use Rattle.obf_text.proofs.WriterLemmas.{completes_end, completes_more, completes_start}
-use Rattle.solved_book.specs.Books.{BookView, IsSolvedEntry, book_text, entry_text, header, position_at, positions_in}
-use Rattle.solved_book.specs.Order.{AreBookPositions}
+use Rattle.solved_book.specs.Books.{BookView, IsSolvedEntry, book_text, book_line, header}
+use Rattle.solved_book.specs.Order.{position_at, positions_in, AreBookPositions}
 use Rattle.solved_book.proofs.KeptEntries.{book_positions_from}
 use Rattle.solved_book.proofs.book.Book.write.Goals as goal
 
@@ -15,21 +15,21 @@ loop-masks-init g c =
     let kept = c.self.inside.answers.entries in
     let same : c.into_iter-masks-iterator.result ≡ kept = search rules in
     record {
-      text = rw same (completes_more _ _ _ (header r ++ 10 ∷ []) (flat_map (entry_text r) (positions_in kept)) _
-          (completes_start _ _) c.in_ok-write_first_line.ensures);
+      text = rw same (completes_more _ _ _ (header r ++ 10 ∷ []) (flat_map (book_line r) (positions_in kept)) _
+          (completes_start _ _) c.in_ok-write_header.ensures);
       solved = rw same (recursion_from_All (IsSolvedEntry r) kept c.self.invariant.solved);
     }
 
-pub write_entry-requires : goal.write_entry-requires
-write_entry-requires g c = (rw c.in-Some.ensures.steps at c.loop-masks.invariant.solved).0
+pub write_book_line-requires : goal.write_book_line-requires
+write_book_line-requires g c = (rw c.in-Some.ensures.steps at c.loop-masks.invariant.solved).0
 
 pub loop-masks-preserved : goal.loop-masks-preserved
 loop-masks-preserved g c =
     let r = c.self.inside.scoring in
     let cut = c.in-Some.ensures.steps in
     record {
-      text = completes_more _ _ _ (entry_text r (position_at c.in-Some.masks.now)) (flat_map (entry_text r) (positions_in c.next.new.self)) _
-          (rw cut at c.loop-masks.invariant.text) c.in_ok-write_entry.ensures;
+      text = completes_more _ _ _ (book_line r (position_at c.in-Some.masks.now)) (flat_map (book_line r) (positions_in c.next.new.self)) _
+          (rw cut at c.loop-masks.invariant.text) c.in_ok-write_book_line.ensures;
       solved = (rw cut at c.loop-masks.invariant.solved).1;
     }
 

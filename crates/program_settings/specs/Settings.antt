@@ -4,8 +4,8 @@ use Rattle.othello_rules.specs.declared.scoring.Scoring.{Scoring}
 use Rattle.othello_rules.specs.declared.scoring.Scoring.TheVariants.{Winner}
 use Rattle.bound_table.specs.Limits.{most_entries}
 use Rattle.endgame_search.specs.Limits.{most_empties}
-use Rattle.suite_reports.specs.declared.criteria.Criteria.{Criteria}
-use Rattle.suite_reports.specs.Limits.{default_empties, default_entries, default_workers, most_workers}
+use Rattle.program_settings.specs.declared.criteria.Criteria.{Criteria}
+use Rattle.program_settings.specs.Limits.{default_empties, default_entries, default_workers, most_workers}
 
 -- the most empty squares that are solved, the number of workers, of table entries, the scoring, and
 -- whether a line that lists moves has to list every best one

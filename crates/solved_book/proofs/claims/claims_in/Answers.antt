@@ -3,13 +3,13 @@ use Rattle.std.specs.Prelude.{Ok, option_map}
 use Rattle.std.proofs.lemmas.Result.{err_from_is_err_and}
 use Rattle.obf_text.specs.LineText.{lines_of}
 use Rattle.obf_text.specs.Obf.{item_of}
-use Rattle.solved_book.specs.Books.{position_at}
+use Rattle.solved_book.specs.Order.{position_at}
 use Rattle.solved_book.specs.Claims.{claims_from, claim_in_line}
 use Rattle.solved_book.specs.Reading.{position_claim}
 use Rattle.solved_book.proofs.ClaimSteps.{ahead_more, ahead_none, reads_end, reads_err, reads_none, reads_some, reads_start, room_more, stands_behind}
 use Rattle.solved_book.proofs.KeptEntries.{rising_empty, rising_insert}
-use Rattle.solved_book.proofs.claims.read_claims.Goals as goal
-use Rattle.solved_book.proofs.claims.read_claims.Goals.{in-Some-2+in_ok-insert-in-Some-2, in-None-2}
+use Rattle.solved_book.proofs.claims.claims_in.Goals as goal
+use Rattle.solved_book.proofs.claims.claims_in.Goals.{in-Some-2+in_ok-insert, in_default}
 
 pub loop-line-init : goal.loop-line-init
 loop-line-init c =
@@ -35,21 +35,21 @@ loop-line-preserved c =
     let room = room_more number _ line left lines cut c.loop-line.invariant.room in
     let held = c.loop-line.invariant in
     elim c.match-branch-2.branch [
-      | in-Some-2+in_ok-insert-in-Some-2 w ↦
+      | in-Some-2+in_ok-insert w ↦
           let m = w.in-Some-2.masks in
           let v = w.in-Some-2.claim in
           let given : claim_in_line number (option_map position_at before) (item_of line) ≡ Ok (Some (position_at m, v)) =
           c.in_ok-masks.ensures ∙ ap (λ o. Ok (option_map position_claim o)) w.in-Some-2.is in
-          let entries = ap (λ t. t.entries) w.claims-is ∙ w.in_ok-insert-in-Some-2.ensures.entries in
+          let entries = ap (λ t. t.entries) w.claims-is ∙ w.in_ok-insert.ensures.entries in
           record {
             reads = rw w.before-is (reads_some number before kept _ m v line left lines all cut given entries held.ahead held.reads);
             ahead = rw w.before-is (ahead_more before m v kept _ (stands_behind number before line m v given) entries held.ahead);
             rising = rw entries (rising_insert m v kept held.rising);
             room = room.1;
           }
-      | in-None-2 w ↦
+      | in_default w ↦
           let given : claim_in_line number (option_map position_at before) (item_of line) ≡ Ok None =
-          c.in_ok-masks.ensures ∙ ap (λ o. Ok (option_map position_claim o)) w.in-None-2.is in
+          c.in_ok-masks.ensures ∙ ap (λ o. Ok (option_map position_claim o)) w.in_default.is in
           record {
             reads = rw (w.before-is, w.claims-is) (reads_none number before kept line left lines all cut given held.reads);
             ahead = rw (w.before-is, w.claims-is) held.ahead;

@@ -3,15 +3,14 @@
 use Rattle.std.specs.Prelude.{ℕ}
 pub use Rattle.bound_table.specs.Limits.{most_entries}
 pub use Rattle.endgame_search.specs.Limits.{most_empties}
-use Rattle.job_board.specs.Limits.{most_senders}
 
 -- the most worker threads
 abbrev pub most_workers : ℕ
 most_workers = 64
 
--- the most files, each of which is a sender
+-- the most files
 abbrev pub most_files : ℕ
-most_files = most_senders
+most_files = 64
 
 -- the most bytes of a file
 abbrev pub most_bytes : ℕ

@@ -1,5 +1,5 @@
 use Rattle.std.proofs.Common.{rules}
-use Rattle.job_board.proofs.sender.Sender.refusal.Goals as goal
+use Rattle.job_board.proofs.sender.Sender.check_submit.Goals as goal
 
 pub returns-then-len-ge-MOST_JOBS : goal.returns-then-len-ge-MOST_JOBS
 returns-then-len-ge-MOST_JOBS c = search rules

@@ -1,10 +1,9 @@
 use Rattle.std.proofs.Common.{◌+◌, ◌≤◌, None, length}
 use Rattle.obf_text.specs.LineText.{lines_of, room_of}
 use Rattle.solved_book.specs.Claims.{claims_from}
-use Rattle.solved_book.specs.Books.{positions_in}
-use Rattle.solved_book.specs.Order.{AreRising}
+use Rattle.solved_book.specs.Order.{positions_in, AreRising}
 use Rattle.solved_book.proofs.ClaimSteps.{IsAhead, ReadsOn}
-use Rattle.solved_book.proofs.claims.read_claims.Given as goal
+use Rattle.solved_book.proofs.claims.claims_in.Given as goal
 
 -- the claims so far, and then those of the lines that are left, are those of all lines
 abbrev pub invariant-loop-line : goal.invariant-loop-line

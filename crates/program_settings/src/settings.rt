@@ -1,41 +1,16 @@
-//! The limits of a run, its settings, and the version.
+//! The settings of a run.
 
 ghost use Rattle.std.specs.Prelude.{◌≡◌, ◌≤◌, ◌↔◌, IsSome, IfSome, false};
 ghost use Rattle.bound_table.specs.Limits.{most_entries};
 ghost use Rattle.endgame_search.specs.Limits.{most_empties};
-ghost use Rattle.suite_reports.specs.Settings.{SettingsView, IsWithinLimits, criteria_of, defaults};
+ghost use Rattle.program_settings.specs.Settings.{SettingsView, IsWithinLimits, criteria_of, defaults};
 
 use crate::criteria::Criteria;
-use bound_table::BoundTable;
-use endgame_search::Task;
-use job_board::Board;
+use crate::limits::{
+    DEFAULT_EMPTIES, DEFAULT_ENTRIES, DEFAULT_WORKERS, MOST_EMPTIES, MOST_ENTRIES, MOST_WORKERS,
+};
 use othello_rules::Scoring;
 use std::marker::Model;
-
-/// The version of the programs, as `--version` prints it.
-pub const VERSION: &str = "1.1.0";
-/// The greatest limit of empty squares that settings may have.
-pub const MOST_EMPTIES: u8 = Task::MOST_EMPTIES;
-/// The most worker threads.
-pub const MOST_WORKERS: u8 = 64;
-/// The most entries of a table of bounds.
-pub const MOST_ENTRIES: u32 = BoundTable::MOST_ENTRIES as u32;
-/// The most files of a run, each of which is a sender of the board.
-pub const MOST_FILES: usize = Board::MOST_SENDERS as usize;
-/// The most bytes of a file.
-pub const MOST_BYTES: usize = 1_048_576;
-/// The limit of empty squares where none is given.
-pub const DEFAULT_EMPTIES: u8 = 20;
-/// The number of worker threads where none is given.
-pub const DEFAULT_WORKERS: u8 = 2;
-/// The entries of the table of bounds where no number is given.
-pub const DEFAULT_ENTRIES: u32 = 65_536;
-/// `DEFAULT_EMPTIES` as the words of a command line have it.
-pub const DEFAULT_EMPTIES_TEXT: &str = "20";
-/// `DEFAULT_WORKERS` as the words of a command line have it.
-pub const DEFAULT_WORKERS_TEXT: &str = "2";
-/// `DEFAULT_ENTRIES` as the words of a command line have it.
-pub const DEFAULT_ENTRIES_TEXT: &str = "65536";
 
 /// The settings of a run: three numbers, none above its limit, the scoring, and whether a line that
 /// lists moves has to list every best one.
@@ -49,7 +24,7 @@ pub struct Settings {
 }
 
 impl Model for Settings {
-    ghost use Rattle.suite_reports.specs.Settings.{SettingsView, IsWithinLimits};
+    ghost use Rattle.program_settings.specs.Settings.{SettingsView, IsWithinLimits};
 
     ghost Value = { SettingsView };
 

@@ -1,0 +1,25 @@
+//! What is set for a run and for every program: limits, settings, and which files are refused.
+//!
+//! ```rust
+//! use program_settings::{MOST_FILES, Settings, check_files};
+//! use othello_rules::Scoring;
+//!
+//! let settings = Settings::new(20, 2, 65_536, Scoring::Winner).expect(&rt, "no number is too great");
+//! assert!(rt; settings == Settings::default());
+//! assert!(rt; check_files(&files).is_err() || files.len() <= MOST_FILES);
+//! ```
+#![tactic(auto)]
+
+mod criteria;
+mod input_fault;
+mod limits;
+mod settings;
+
+pub use criteria::Criteria;
+pub use input_fault::{InputFault, check_files};
+pub use limits::{
+    DEFAULT_EMPTIES, DEFAULT_EMPTIES_TEXT, DEFAULT_ENTRIES, DEFAULT_ENTRIES_TEXT, DEFAULT_WORKERS,
+    DEFAULT_WORKERS_TEXT, MOST_BYTES, MOST_EMPTIES, MOST_ENTRIES, MOST_FILES, MOST_WORKERS,
+    VERSION,
+};
+pub use settings::Settings;
