@@ -5,8 +5,8 @@ use Rattle.othello_rules.specs.declared.scoring.Scoring.{Scoring}
 use Rattle.solved_book.specs.Books.{header}
 use Rattle.book_files.specs.declared.found.Found.{Found}
 use Rattle.book_files.specs.declared.found.Found.TheVariants as found
-use Rattle.book_files.specs.declared.program_error.ProgramError.{ProgramError}
-use Rattle.book_files.specs.declared.program_error.ProgramError.TheVariants.{NoBook, NoPlace, ReadBook}
+use Rattle.book_files.specs.declared.solve_error.SolveError.{SolveError}
+use Rattle.book_files.specs.declared.solve_error.SolveError.TheVariants.{NoBook, NoPlace, ReadBook}
 
 -- a file of these lines is empty, or its first line is the header of a book
 abbrev pub GivesWay : List (List ℕ) → Type 0
@@ -22,7 +22,7 @@ IsFree found.Book = Unit {0}
 IsFree _ = ⊥
 
 -- the error of a place where this was found, by its name; a place that is free has none
-abbrev pub IsRefusalOf : Found → Bor (List ℕ) → ProgramError → Type 0
+abbrev pub IsRefusalOf : Found → Bor (List ℕ) → SolveError → Type 0
 IsRefusalOf found.Other name error = error ≡ NoBook name
 IsRefusalOf found.List name error = error ≡ NoPlace name
 IsRefusalOf found.ReadBook name error = error ≡ ReadBook name

@@ -1,4 +1,3 @@
-pub mod Inputs
 pub mod BookPlace
-pub mod ProgramErrors
+pub mod SolveError
 pub mod ProgressText

@@ -2,10 +2,11 @@
 
 ghost use Rattle.std.specs.Prelude.{◌≡◌, ◌⊎◌, ◌↔◌, None, IfErr, IfOk, IfSome, IsOk};
 ghost use Rattle.book_files.specs.BookPlace.{IsFree, IsRefusalOf};
-ghost use Rattle.book_files.specs.ProgramErrors.{IsSilent, status_of};
+ghost use Rattle.book_files.specs.SolveError.{IsSilent, status_of};
 
 use crate::found::Found;
-use crate::program_error::{ProgramError, place_error, read_error};
+use crate::solve_error::{SolveError, place_error};
+use program_parts::read_error;
 use std::alloc::{AllocError, Global};
 use std::fs::OpenOptions;
 use std::os::unix::fs::FileTypeExt;
@@ -75,15 +76,15 @@ fn try_place<T: Files>(rt: &T, alloc: Global, name: &str) -> io::Result<()> {
 }
 
 // Refuses a place where a book would destroy what was found.
-fn check_found<'a>(found: Found, name: &'a str) -> Result<(), ProgramError<'a>>
+fn check_found<'a>(found: Found, name: &'a str) -> Result<(), SolveError<'a>>
     ensures free { IsOk result ↔ IsFree found }
     ensures refused { IfErr result (IsRefusalOf found name.entry) }
 {
     match found {
         Found::NoFile | Found::Empty | Found::Book => Ok(()),
-        Found::Other => Err(ProgramError::NoBook(name)),
-        Found::List => Err(ProgramError::NoPlace(name)),
-        Found::ReadBook => Err(ProgramError::ReadBook(name)),
+        Found::Other => Err(SolveError::NoBook(name)),
+        Found::List => Err(SolveError::NoPlace(name)),
+        Found::ReadBook => Err(SolveError::ReadBook(name)),
     }
 }
 
@@ -108,7 +109,7 @@ pub fn check_place<'a, T: Files>(
     name: &'a Option<String>,
     book_in: &Option<String>,
     lists: &[String],
-) -> Result<Option<BookPlace<'a>>, ProgramError<'a>>
+) -> Result<Option<BookPlace<'a>>, SolveError<'a>>
     ensures named { IfOk result (λ place. place ≡ None ↔ name.now ≡ None) }
     ensures free { IfOk result (λ place. IfSome place (λ p. IsFree p.found)) }
     ensures silent { IfErr result IsSilent }
@@ -120,7 +121,7 @@ pub fn check_place<'a, T: Files>(
     let name = name.as_str();
     let found = match Found::beside(rt, name, book_in, lists) {
         Ok(found) => found,
-        Err(fault) => return Err(read_error(&fault, name)),
+        Err(fault) => return Err(SolveError::Program(read_error(&fault, name))),
     };
     check_found(found, name)?;
     match try_place(rt, alloc, name) {

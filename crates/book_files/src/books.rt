@@ -3,12 +3,13 @@
 ghost use Rattle.std.specs.Prelude.{◌≡◌, ◌⊎◌, ◌↔◌, None, IfOk, IfErr, IfSome};
 ghost use Rattle.solved_book.specs.Books.{book_text};
 ghost use Rattle.book_files.specs.BookPlace.{IsFree};
-ghost use Rattle.book_files.specs.ProgramErrors.{IsSilent, status_of};
+ghost use Rattle.book_files.specs.SolveError.{IsSilent, status_of};
 
 use crate::book_place::BookPlace;
 use crate::new_file::NewFile;
-use crate::program_error::{ProgramError, read_error};
+use crate::solve_error::SolveError;
 use obf_text::LineFault;
+use program_parts::{ProgramError, read_error};
 use solved_book::{Book, BookFault, Claims};
 use std::alloc::{AllocError, Global};
 use std::io::Read;
@@ -60,19 +61,22 @@ fn open_book<T: Files>(rt: &T, name: &str) -> io::Result<T::File> {
     fs::open(rt, name)
 }
 
+// The claims of the book in the file of this name, or the fault of the book. The error is that of a
+// file that can't be read.
+fn claims_of<T: Files>(rt: &T, alloc: Global, name: &str) -> io::Result<Result<Claims, BookFault>> {
+    let mut file = open_book(rt, name)?;
+    claims_in(alloc, &mut file)
+}
+
 // Reads the claims of the book in the file of this name.
-fn read_book<'a, T: Files>(rt: &T, alloc: Global, name: &'a str) -> Result<Claims, ProgramError<'a>>
+fn read_book<'a, T: Files>(rt: &T, alloc: Global, name: &'a str) -> Result<Claims, SolveError<'a>>
     ensures silent { IfErr result IsSilent }
     ensures status { IfErr result (λ error. (status_of error ≡ 1) ⊎ (status_of error ≡ 3)) }
 {
-    let read = match open_book(rt, name) {
-        Ok(mut file) => claims_in(alloc, &mut file),
-        Err(fault) => Err(fault),
-    };
-    match read {
+    match claims_of(rt, alloc, name) {
         Ok(Ok(claims)) => Ok(claims),
-        Ok(Err(fault)) => Err(ProgramError::from(fault)),
-        Err(fault) => Err(read_error(&fault, name)),
+        Ok(Err(fault)) => Err(SolveError::from(fault)),
+        Err(fault) => Err(SolveError::Program(read_error(&fault, name))),
     }
 }
 
@@ -83,17 +87,14 @@ pub fn read_claims<'a, T: Files>(
     rt: &T,
     alloc: Global,
     name: &'a Option<String>,
-) -> Result<Option<Claims>, ProgramError<'a>>
+) -> Result<Option<Claims>, SolveError<'a>>
     ensures silent { IfErr result IsSilent }
     ensures status { IfErr result (λ error. (status_of error ≡ 1) ⊎ (status_of error ≡ 3)) }
 {
-    match name {
-        Some(name) => match read_book(rt, alloc, name.as_str()) {
-            Ok(claims) => Ok(Some(claims)),
-            Err(error) => Err(error),
-        },
-        None => Ok(None),
-    }
+    let Some(name) = name else {
+        return Ok(None);
+    };
+    Ok(Some(read_book(rt, alloc, name.as_str())?))
 }
 
 // Makes the text of the book.
@@ -129,7 +130,7 @@ pub fn ready_book<'a, T: Files>(
 }
 
 /// Writes the book, where one is to be written. The error is `CannotWrite` with the book's name.
-pub fn write_book<'a, T: Files>(rt: &T, book: &Option<NewFile<'a>>) -> Result<(), ProgramError<'a>>
+pub fn write_book<'a, T: Files>(rt: &T, book: &Option<NewFile<'a>>) -> Result<(), SolveError<'a>>
     ensures told { IfErr result (λ error. IsSilent error → ⊥) }
     ensures status { IfErr result (λ error. status_of error ≡ 3) }
 {
@@ -138,6 +139,6 @@ pub fn write_book<'a, T: Files>(rt: &T, book: &Option<NewFile<'a>>) -> Result<()
     };
     match file.write(rt) {
         Ok(()) => Ok(()),
-        Err(_) => Err(ProgramError::CannotWrite(file.name)),
+        Err(_) => Err(SolveError::Program(ProgramError::CannotWrite(file.name))),
     }
 }

@@ -64,19 +64,17 @@ impl<'a> NewFile<'a> {
             OpenOptions::new().write(true).open(rt, self.name)?;
         }
         let mut beside = fs::File::create_new(rt, self.beside.as_str())?;
-        let placed = match self.fill::<T>(&mut beside, permissions) {
-            Ok(()) => fs::rename(rt, self.beside.as_str(), self.name),
-            Err(fault) => Err(fault),
-        };
+        let placed = self.fill_and_rename(rt, &mut beside, permissions);
         if placed.is_err() {
             let _ = fs::remove_file(rt, self.beside.as_str());
         }
         placed
     }
 
-    // Writes the text into the file, sets the permissions, and synchronizes the file.
-    fn fill<T: Files>(
+    // Writes the text into the file, sets the permissions, synchronizes the file, and renames it.
+    fn fill_and_rename<T: Files>(
         &self,
+        rt: &T,
         file: &mut T::File,
         permissions: Option<fs::Permissions>,
     ) -> io::Result<()> {
@@ -84,7 +82,8 @@ impl<'a> NewFile<'a> {
         if let Some(permissions) = permissions {
             file.set_permissions(permissions)?;
         }
-        file.sync_all()
+        file.sync_all()?;
+        fs::rename(rt, self.beside.as_str(), self.name)
     }
 }
 

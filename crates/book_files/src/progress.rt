@@ -3,15 +3,17 @@
 ghost use Rattle.std.specs.Prelude.{◌≡◌, ◌+◌, ◌/◌, ◌<◌, ◌≤◌, ◌⊎◌, ◌↔◌, ℕ, false, length, None, Some, IfOk, IsErrOf, IsTrue, OnOk};
 ghost use Rattle.std.specs.Duration.{as_nanos};
 ghost use Rattle.std.specs.Io.KnownBytes.{Appends};
-ghost use Rattle.suite_reports.specs.Limits.{most_files};
-ghost use Rattle.suite_reports.specs.Settings.{criteria_of};
+ghost use Rattle.program_settings.specs.Limits.{most_files};
+ghost use Rattle.program_settings.specs.Settings.{criteria_of};
 ghost use Rattle.book_files.specs.ProgressText.{progress_text};
 ghost use Rattle.obf_text.specs.LineText.{texts_of};
 ghost use Rattle.suite_runs.specs.Outcome.{IsBookOf};
 ghost use Rattle.suite_reports.specs.Reports.{reports};
-ghost use Rattle.suite_runs.specs.Runs.{all_tasks, first_large};
+ghost use Rattle.suite_runs.specs.Runs.{all_tasks};
+ghost use Rattle.program_settings.specs.InputFault.{first_large};
 ghost use Rattle.suite_runs.specs.declared.run_fault.RunFault.TheVariants.{FileTooLarge, TooManyFiles};
 
+use program_settings::Settings;
 use solved_book::Claims;
 use std::alloc::Global;
 use std::io;
@@ -22,7 +24,7 @@ use std::sync::atomic::{AtomicUsize, Ordering};
 use std::sync::{Mutex, Wait};
 use std::thread::Threads;
 use std::time::{Duration, Instant};
-use suite_runs::{Gate, NoGate, Outcome, RunFault, Settings, run};
+use suite_runs::{Gate, NoGate, Outcome, RunFault, run};
 
 // The least time from one line to the next, in nanoseconds, except for the last line.
 const PAUSE: u128 = 5_000_000_000;

@@ -1,7 +1,7 @@
 //! The program `ffoscores`: passes arguments, streams and allocator to `ffoscores_program`.
 #![tactic(auto)]
 
-use ffoscores_program::{Ended, list_program_at};
+use ffoscores_program::{ExitStatus, list_program_of};
 use std::env::Env;
 use std::{env, io};
 
@@ -11,8 +11,8 @@ fn words_of(rt: &(impl Env + AllocGlobal)) -> io::Result<Vec<String>> {
     Ok(words)
 }
 
-fn main(rt: HostRuntime) -> Ended {
+fn main(rt: HostRuntime) -> ExitStatus {
     let (mut input, mut output, mut errors) = (rt.stdin(), rt.stdout(), rt.stderr());
     let words = words_of(&rt);
-    list_program_at(&rt, rt.alloc(), words, &mut input, &mut output, &mut errors)
+    list_program_of(&rt, rt.alloc(), words, &mut input, &mut output, &mut errors)
 }

@@ -3,13 +3,13 @@ use Rattle.std.proofs.Common.{◌≡◌, ◌≤◌, ℕ, List, length, inr}
 use Rattle.std.specs.Prelude.{Bool, Option, None, Result, Ok, Err, IfOk, OnErr, OnOk}
 use Rattle.std.specs.Io.KnownBytes.{Appends}
 use Rattle.scored_lines.specs.Lines.{AppendsFront, lists_right, lists_text}
-use Rattle.suite_runs.specs.Runs.{first_large}
-use Rattle.suite_reports.specs.declared.settings.TheConstants.{MOST_FILES}
-use Rattle.ffoscores_program.specs.CommandLine.{ListRequest, demands_of}
+use Rattle.program_settings.specs.InputFault.{first_large}
+use Rattle.program_settings.specs.declared.limits.TheConstants.{MOST_FILES}
+use Rattle.ffoscores_program.specs.Options.{ListRequest, demands_of}
 use Rattle.ffoscores_program.specs.Lists.{AreLists, PrintsLists, StopsLists}
-use Rattle.book_files.specs.Inputs.{AreFrontsOf}
-use Rattle.book_files.specs.declared.program_error.ProgramError.{ProgramError}
-use Rattle.suite_solver.proofs.ProgramLemmas.{whole_texts}
+use Rattle.program_parts.specs.Inputs.{AreFrontsOf}
+use Rattle.program_parts.specs.declared.program_error.ProgramError.{ProgramError}
+use Rattle.program_parts.proofs.EndingLemmas.{whole_texts}
 
 -- what was read is lists, where no limit is passed
 pub lists_read : (names : List (List ℕ)) (given : Option (List ℕ)) (texts : List (List ℕ)) → AreFrontsOf names given texts

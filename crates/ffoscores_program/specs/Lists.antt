@@ -5,14 +5,14 @@ use Rattle.std.specs.Io.KnownBytes.{Appends}
 use Rattle.scored_lines.specs.Lines.{AppendsFront, lists_right, lists_text}
 use Rattle.list_printer.specs.declared.lists.ListFault.{ListFault}
 use Rattle.list_printer.specs.declared.lists.ListFault.TheVariants as list
-use Rattle.suite_runs.specs.Runs.{first_large}
-use Rattle.suite_reports.specs.Limits.{most_files}
-use Rattle.suite_runs.specs.declared.run_fault.RunFault.TheVariants as run
-use Rattle.suite_solver.specs.CommandLine.{AsksForText}
-use Rattle.suite_solver.specs.Programs.{AreTextsOf, EndsProgram}
-use Rattle.book_files.specs.declared.program_error.ProgramError.{ProgramError}
-use Rattle.book_files.specs.declared.program_error.ProgramError.TheVariants.{Run, BadWords, CannotWrite}
-use Rattle.ffoscores_program.specs.CommandLine.{AsksLists, ListRequest, demands_of, ffoscores}
+use Rattle.program_settings.specs.InputFault.{first_large}
+use Rattle.program_settings.specs.Limits.{most_files}
+use Rattle.program_parts.specs.CommandLine.{AsksForText}
+use Rattle.program_parts.specs.Endings.{EndsProgram}
+use Rattle.program_parts.specs.Inputs.{AreTextsOf}
+use Rattle.program_parts.specs.declared.program_error.ProgramError.{ProgramError}
+use Rattle.program_parts.specs.declared.program_error.ProgramError.TheVariants.{BadWords, CannotWrite, Memory}
+use Rattle.ffoscores_program.specs.Options.{AsksLists, ListRequest, demands_of, ffoscores}
 
 -- These are the texts of the files of these names, or of standard input, and they are within the
 -- limits: there are not too many, and none is too large.
@@ -65,7 +65,7 @@ pub record EndsFfoscores (words : List (List ℕ)) (given old new : Option (List
 
 -- the error of the program for a fault of printing
 abbrev pub IsListError : ListFault → ProgramError → Type 0
-IsListError list.Memory error = error ≡ Run run.Memory
+IsListError list.Memory error = error ≡ Memory
 IsListError list.CannotWrite (CannotWrite name) = name.now ≡ codes "standard output"
 IsListError list.CannotWrite error = ⊥
 

@@ -1,29 +1,24 @@
 //! The program `ffoscores`.
 
-ghost use Rattle.std.specs.Prelude.{◌≡◌, map, IfErr, IfOk, IsErr, OnErr, OnOk};
+ghost use Rattle.std.specs.Prelude.{◌≡◌, map, IfErr, IfOk, OnErr, OnOk};
 ghost use Rattle.std.specs.Io.KnownBytes.{Appends};
 ghost use Rattle.obf_text.specs.LineText.{texts_of};
 ghost use Rattle.scored_lines.specs.Lines.{AppendsFront, lists_right, lists_text};
-ghost use Rattle.book_files.specs.Inputs.{names_of};
-ghost use Rattle.suite_solver.specs.Programs.{EndsUnread};
-ghost use Rattle.ffoscores_program.specs.CommandLine.{demands_of, list_request_of};
-ghost use Rattle.ffoscores_program.specs.Lists.{EndsFfoscores, IsListError, PrintsLists, StopsLists};
-ghost use Rattle.ffoscores_program.specs.Lists.{list_status_of};
+ghost use Rattle.ffoscores_program.specs.Options.{demands_of, list_request_of};
+ghost use Rattle.ffoscores_program.specs.Lists.{EndsFfoscores, IsListError, PrintsLists, StopsLists, list_status_of};
 
-use crate::command_line::{ListOptions, list_options};
-use book_files::{ProgramError, borrow_words, read_files, words_error};
+use crate::exit_status::print_error;
+use crate::options::{ListOptions, list_options};
 use bound_table::BoundTable;
 use list_printer::{ListFault, write_lists};
+use program_parts::{OptionFault, ProgramError, end_without_options, read_files};
+use program_settings::check_files;
 use scored_lines::Demands;
 use std::alloc::Global;
-use std::io;
 use std::io::{Read, Write};
 use std::rt::Files;
 use std::sync::Wait;
 use std::thread::Threads;
-use suite_runs::{RunFault, check_files};
-use suite_solver::OptionFault;
-use suite_solver::streams::end_without_options;
 
 // The error of the program for a fault of printing: out of memory, or standard output can't
 // be written.
@@ -32,7 +27,7 @@ fn list_error(fault: ListFault) -> ProgramError<'static>
     ensures status { list_status_of result ≡ 3 }
 {
     match fault {
-        ListFault::Memory => ProgramError::Run(RunFault::Memory),
+        ListFault::Memory => ProgramError::Memory,
         ListFault::CannotWrite => ProgramError::CannotWrite("standard output"),
     }
 }
@@ -61,7 +56,7 @@ fn print_lists<T: Threads + Wait, W: Write>(
     let settings = &asked.settings;
     let entries = settings.table() as usize;
     let Ok(table) = BoundTable::new(alloc, entries, settings.scoring()) else {
-        return Err(ProgramError::Run(RunFault::Memory));
+        return Err(ProgramError::Memory);
     };
     let workers = settings.workers();
     let demands = Demands {
@@ -96,25 +91,6 @@ fn carry_out<'a, T: Files + Threads + Wait, R: Read, W: Write>(
     print_lists(rt, alloc, asked, &texts, output)
 }
 
-// The exit status of `ffoscores` after this error.
-fn list_status(error: &ProgramError<'_>) -> u8
-    ensures { result ≡ list_status_of error.now }
-{
-    match error {
-        ProgramError::BadWords => 2,
-        _ => 3,
-    }
-}
-
-// Prints the error that ends the program, and gives the exit status. A failure of standard error
-// changes nothing.
-fn print_error<E: Write>(error: &ProgramError<'_>, errors: &mut E) -> u8
-    ensures { result ≡ list_status_of error.now }
-{
-    let _ = error.print("ffoscores", errors);
-    list_status(error)
-}
-
 /// The whole program `ffoscores`, for the words of its command line, the program's name first. It
 /// reads the lists that the words name, or standard input. It prints them again on standard output
 /// with every move's score, each line as soon as it is solved.
@@ -142,34 +118,9 @@ pub fn list_program<T: Files + Threads + Wait, R: Read, W: Write, E: Write>(
             Ok(false) => 1,
             Err(error) => print_error(&error, errors),
         },
-        Err(OptionFault::Memory) => print_error(&ProgramError::Run(RunFault::Memory), errors),
+        Err(OptionFault::Memory) => print_error(&ProgramError::Memory, errors),
         Err(OptionFault::Refused(error)) => {
             end_without_options("ffoscores", &error, output, errors)
         }
-    }
-}
-
-/// The whole program, like `list_program`, for the words that `env::args` gives. The status is 2
-/// where a word is not text, and 3 where memory for the words was refused.
-pub fn list_program_of<T: Files + Threads + Wait, R: Read, W: Write, E: Write>(
-    rt: &T,
-    alloc: Global,
-    words: io::Result<Vec<String>>,
-    input: &mut R,
-    output: &mut W,
-    errors: &mut E,
-) -> u8
-    ensures read { IfOk words (λ all. EndsFfoscores (names_of all.items)
-        (R.remaining input.old) (W.contents output.old) (W.contents output.new) result) }
-    ensures unread { IsErr words
-        → EndsUnread 3 (W.contents output.old) (W.contents output.new) result }
-{
-    let words = match words {
-        Ok(words) => words,
-        Err(fault) => return print_error(&words_error(&fault), errors),
-    };
-    match borrow_words(alloc, &words) {
-        Ok(borrowed) => list_program(rt, alloc, &borrowed, input, output, errors),
-        Err(_) => print_error(&ProgramError::Run(RunFault::Memory), errors),
     }
 }

@@ -1,4 +1,4 @@
-//! The program `ffoscores`: its command line, files and streams, on top of `list_printer`.
+//! The program `ffoscores`: its options, files and streams, on top of `list_printer`.
 //!
 //! ```rust
 //! use ffoscores_program::list_program;
@@ -8,10 +8,10 @@
 //! ```
 #![tactic(auto)]
 
-mod command_line;
-mod ended;
+mod exit_status;
 mod ffoscores;
+mod options;
 
-pub use command_line::{ListOptions, list_options};
-pub use ended::{Ended, list_program_at};
-pub use ffoscores::{list_program, list_program_of};
+pub use exit_status::{ExitStatus, list_program_of};
+pub use ffoscores::list_program;
+pub use options::{ListOptions, list_options};

@@ -3,7 +3,7 @@
 
 use std::env::Env;
 use std::{env, io};
-use suite_solver::{Ended, program_at};
+use suite_solver::{ExitStatus, program_of};
 
 // The words of the command line, the program's name first.
 fn words_of(rt: &(impl Env + AllocGlobal)) -> io::Result<Vec<String>> {
@@ -11,8 +11,8 @@ fn words_of(rt: &(impl Env + AllocGlobal)) -> io::Result<Vec<String>> {
     Ok(words)
 }
 
-fn main(rt: HostRuntime) -> Ended {
+fn main(rt: HostRuntime) -> ExitStatus {
     let (mut input, mut output, mut errors) = (rt.stdin(), rt.stdout(), rt.stderr());
     let words = words_of(&rt);
-    program_at(&rt, rt.alloc(), words, &mut input, &mut output, &mut errors)
+    program_of(&rt, rt.alloc(), words, &mut input, &mut output, &mut errors)
 }

@@ -3,23 +3,23 @@
 ghost use Rattle.std.specs.Prelude.{◌≡◌, ◌⊎◌, ◌↔◌, map, None, Some, OnOk, IfOk, IfErr, IfSome, IsErr, IsErrOf};
 ghost use Rattle.std.specs.List.{concat};
 ghost use Rattle.std.specs.Io.KnownBytes.{Appends};
-ghost use Rattle.book_files.specs.Inputs.{names_of};
+ghost use Rattle.program_parts.specs.Inputs.{names_of};
 ghost use Rattle.book_files.specs.BookPlace.{IsFree};
-ghost use Rattle.book_files.specs.ProgramErrors.{IsSilent, status_of};
-ghost use Rattle.book_files.specs.declared.program_error.ProgramError.TheVariants.{Run};
-ghost use Rattle.suite_solver.specs.Programs.{EndsFfosolve, EndsUnread, Prints, PrintsReports};
+ghost use Rattle.book_files.specs.SolveError.{IsSilent, status_of};
+ghost use Rattle.program_parts.specs.declared.program_error.ProgramError.TheVariants.{BadInput};
+ghost use Rattle.book_files.specs.declared.solve_error.SolveError.TheVariants.{Program};
+ghost use Rattle.suite_solver.specs.Programs.{EndsFfosolve, Prints, PrintsReports};
 ghost use Rattle.obf_text.specs.LineText.{texts_of};
-ghost use Rattle.suite_runs.specs.Runs.{refusal_of};
-ghost use Rattle.suite_runs.specs.declared.run_fault.RunFault.{RunFault};
+ghost use Rattle.program_settings.specs.InputFault.{refusal_of};
+ghost use Rattle.program_settings.specs.declared.input_fault.InputFault.{InputFault};
 
-use crate::command_line::options;
-use crate::option_fault::OptionFault;
-use crate::run_options::Options;
-use crate::streams::end_without_options;
+use crate::exit_status::print_error;
+use crate::ffosolve_options::{Options, read_options};
 use book_files::{
-    BookPlace, NewFile, ProgramError, borrow_words, check_place, read_claims, read_files,
-    ready_book, run_told, words_error, write_book,
+    BookPlace, NewFile, SolveError, check_place, read_claims, ready_book, run_told, write_book,
 };
+use program_parts::{OptionFault, ProgramError, end_without_options, read_files};
+use program_settings::check_files;
 use solved_book::Claims;
 use std::alloc::Global;
 use std::io;
@@ -28,7 +28,6 @@ use std::marker::{Send, Sync};
 use std::rt::{Clock, Files};
 use std::sync::Wait;
 use std::thread::Threads;
-use suite_runs::{RunFault, check_files};
 
 // Writes the reports one after the other.
 fn write_reports<W: Write>(output: &mut W, reports: &[Vec<u8>]) -> io::Result<()>
@@ -53,7 +52,7 @@ fn solve_files<'a, T: Files + Clock + Threads + Wait + Sync, W: Write, E: Write 
     place: &Option<BookPlace<'a>>,
     output: &mut W,
     errors: &mut E,
-) -> Result<Option<NewFile<'a>>, ProgramError<'a>>
+) -> Result<Option<NewFile<'a>>, SolveError<'a>>
     requires { IfSome place.now (λ p. IsFree p.found) }
     ensures reported { OnOk result (PrintsReports asked.now.settings (texts_of texts.now)
         (W.contents output.old) (W.contents output.new)) }
@@ -75,22 +74,23 @@ fn solve_files<'a, T: Files + Clock + Threads + Wait + Sync, W: Write, E: Write 
     let book = ready_book(rt, alloc, place, &outcome.book)?;
     match write_reports(output, &outcome.reports) {
         Ok(()) => Ok(book),
-        Err(_) => Err(ProgramError::CannotWrite("standard output")),
+        Err(_) => Err(SolveError::Program(ProgramError::CannotWrite("standard output"))),
     }
 }
 
-// Refuses files that are too many or too large, as the run does, and then a place where the book
-// that is to be written can't be put or would destroy what is there; otherwise gives that place.
+// Refuses files that are too many or too large, and then a place where the book that is to be
+// written can't be put or would destroy what is there; otherwise gives that place. The run measures
+// the files again, since it takes any.
 fn check_run<'a, T: Files>(
     rt: &T,
     alloc: Global,
     asked: &'a Options,
     texts: &[Vec<u8>],
-) -> Result<Option<BookPlace<'a>>, ProgramError<'a>>
+) -> Result<Option<BookPlace<'a>>, SolveError<'a>>
     ensures named { IfOk result (λ place. place ≡ None ↔ asked.now.book_out ≡ None) }
     ensures free { IfOk result (λ place. IfSome place (λ p. IsFree p.found)) }
-    ensures files { (fault : RunFault) → refusal_of (texts_of texts.now) ≡ Some fault
-        → IsErrOf result (Run fault) }
+    ensures files { (fault : InputFault) → refusal_of (texts_of texts.now) ≡ Some fault
+        → IsErrOf result (Program (BadInput fault)) }
     ensures silent { IfErr result IsSilent }
     ensures status { IfErr result (λ error. (status_of error ≡ 1) ⊎ (status_of error ≡ 3)) }
 {
@@ -107,7 +107,7 @@ fn carry_out<'a, T: Files + Clock + Threads + Wait + Sync, R: Read, W: Write, E:
     input: &mut R,
     output: &mut W,
     errors: &mut E,
-) -> Result<(), ProgramError<'a>>
+) -> Result<(), SolveError<'a>>
     ensures reported { OnOk result (Prints asked.now.settings (names_of asked.now.files.items)
         (R.remaining input.old) (W.contents output.old) (W.contents output.new)) }
     ensures silent { IfErr result
@@ -119,7 +119,7 @@ fn carry_out<'a, T: Files + Clock + Threads + Wait + Sync, R: Read, W: Write, E:
     let claims = read_claims(rt, alloc, &asked.book_in)?;
     let texts = read_files(rt, alloc, &asked.files, input)?;
     let place = check_run(rt, alloc, asked, &texts)?;
-    match solve_files(
+    let book = solve_files(
         rt,
         alloc,
         asked,
@@ -128,19 +128,8 @@ fn carry_out<'a, T: Files + Clock + Threads + Wait + Sync, R: Read, W: Write, E:
         &place,
         output,
         errors,
-    ) {
-        Ok(book) => write_book(rt, &book),
-        Err(error) => Err(error),
-    }
-}
-
-// Prints the error that ends the program, and gives the exit status. A failure of standard error
-// changes nothing.
-fn print_error<E: Write>(error: &ProgramError<'_>, errors: &mut E) -> u8
-    ensures { result ≡ status_of error.now }
-{
-    let _ = error.print("ffosolve", errors);
-    error.status()
+    )?;
+    write_book(rt, &book)
 }
 
 /// The whole program `ffosolve`, for the words of its command line, the program's name first. It
@@ -166,37 +155,14 @@ pub fn program<T: Files + Clock + Threads + Wait + Sync, R: Read, W: Write, E: W
     ensures { EndsFfosolve (map (λ word. word.now) words.now)
         (R.remaining input.old) (W.contents output.old) (W.contents output.new) result }
 {
-    match options(alloc, words) {
+    match read_options(alloc, words) {
         Ok(asked) => match carry_out(rt, alloc, &asked, input, output, errors) {
             Ok(()) => 0,
             Err(error) => print_error(&error, errors),
         },
-        Err(OptionFault::Memory) => print_error(&ProgramError::Run(RunFault::Memory), errors),
+        Err(OptionFault::Memory) => {
+            print_error(&SolveError::Program(ProgramError::Memory), errors)
+        }
         Err(OptionFault::Refused(error)) => end_without_options("ffosolve", &error, output, errors),
-    }
-}
-
-/// The whole program, like `program`, for the words that `env::args` gives. The status is 2 where
-/// a word is not text, and 1 where memory for the words was refused.
-pub fn program_of<T: Files + Clock + Threads + Wait + Sync, R: Read, W: Write, E: Write + Send>(
-    rt: &T,
-    alloc: Global,
-    words: io::Result<Vec<String>>,
-    input: &mut R,
-    output: &mut W,
-    errors: &mut E,
-) -> u8
-    ensures read { IfOk words (λ all. EndsFfosolve (names_of all.items)
-        (R.remaining input.old) (W.contents output.old) (W.contents output.new) result) }
-    ensures unread { IsErr words
-        → EndsUnread 1 (W.contents output.old) (W.contents output.new) result }
-{
-    let words = match words {
-        Ok(words) => words,
-        Err(fault) => return print_error(&words_error(&fault), errors),
-    };
-    match borrow_words(alloc, &words) {
-        Ok(borrowed) => program(rt, alloc, &borrowed, input, output, errors),
-        Err(_) => print_error(&ProgramError::Run(RunFault::Memory), errors),
     }
 }

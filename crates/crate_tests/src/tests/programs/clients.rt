@@ -9,13 +9,14 @@ use endgame_search::Task;
 use job_board::{Client, Desk, JobId, SubmitFault};
 use othello_bits::Pos;
 use othello_rules::Scoring;
+use program_settings::MOST_BYTES;
 use std::alloc::{AllocError, Global};
 use std::sync::atomic::{AtomicU32, Ordering};
 use std::sync::{Mutex, Wait};
 use std::test::Fail;
 use suite_runs::client::send_and_close;
 use suite_solver::laws::client_part;
-use suite_solver::{Gate, MOST_BYTES, NoGate, RunFault};
+use suite_solver::{Gate, NoGate, RunFault};
 
 // Whether a client's part ends for a reason other than memory.
 fn is_mixed_part<R: Wait, G: Gate>(

@@ -4,10 +4,10 @@ ghost use Rattle.std.specs.Prelude.{◌≡◌, ◌≤◌, [], ◌⊎◌, IfOk, v
 ghost use Rattle.suite_runs.specs.declared.run_fault.RunFault.TheVariants.{Memory, Mixed};
 
 use othello_rules::Scoring;
+use program_settings::Criteria;
 use std::alloc::{AllocError, Global};
 use std::test::Fail;
 use std::thread::Threads;
-use suite_runs::Criteria;
 use suite_runs::threads::{Joined, PartPromise, Progress, StartedClient, join_all};
 use suite_solver::RunFault;
 

@@ -7,6 +7,7 @@ use super::{BOOK, BOTH, BOTH_BOOK, ONE, TWO};
 use bound_table::NoTable;
 use job_board::Desk;
 use othello_rules::Scoring;
+use program_settings::MOST_BYTES;
 use solved_book::Claims;
 use std::alloc::{AllocError, Global};
 use std::sync::Wait;
@@ -14,7 +15,7 @@ use std::test::Fail;
 use std::thread::Threads;
 use suite_solver::laws::client_part;
 use suite_solver::{
-    MOST_BYTES, NoGate, Outcome, Part, RunFault, Settings, run, run_serial, write_report,
+    NoGate, Outcome, Part, RunFault, Settings, run, run_serial, write_report,
 };
 
 // Texts, the limit of empty squares, their reports and their book.

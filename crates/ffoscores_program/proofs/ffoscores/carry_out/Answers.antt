@@ -2,10 +2,10 @@ use Rattle.std.proofs.Common.{◌≡◌, ◌≤◌, length, refl}
 use Rattle.std.specs.Prelude.{None}
 use Rattle.std.proofs.lemmas.List.{length-map}
 use Rattle.obf_text.specs.LineText.{texts_of}
-use Rattle.suite_runs.specs.Runs.{first_large}
-use Rattle.suite_reports.specs.declared.settings.TheConstants.{MOST_FILES}
-use Rattle.book_files.specs.Inputs.{names_of}
-use Rattle.ffoscores_program.specs.CommandLine.{list_request_of}
+use Rattle.program_settings.specs.InputFault.{first_large}
+use Rattle.program_settings.specs.declared.limits.TheConstants.{MOST_FILES}
+use Rattle.program_parts.specs.Inputs.{names_of}
+use Rattle.ffoscores_program.specs.Options.{list_request_of}
 use Rattle.ffoscores_program.proofs.ListEndings.{lists_read, printed, stopped}
 use Rattle.ffoscores_program.proofs.ffoscores.carry_out.Goals as goal
 

@@ -1,6 +1,6 @@
 use Rattle.std.proofs.Common.{arith, rules}
-use Rattle.suite_solver.proofs.ProgramLemmas.{in_range_of, not_one}
-use Rattle.ffoscores_program.specs.CommandLine.{list_request_of}
+use Rattle.program_parts.proofs.EndingLemmas.{in_range_of, not_one}
+use Rattle.ffoscores_program.specs.Options.{list_request_of}
 use Rattle.ffoscores_program.proofs.ffoscores.list_program.Goals as goal
 
 pub returns : goal.returns

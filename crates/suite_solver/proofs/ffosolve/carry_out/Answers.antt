@@ -1,27 +1,28 @@
 use Rattle.std.proofs.Common.{◌≡◌}
-use Rattle.book_files.specs.Inputs.{names_of}
+use Rattle.program_parts.specs.Inputs.{names_of}
 use Rattle.obf_text.specs.LineText.{texts_of}
 use Rattle.suite_solver.specs.Programs.{Prints}
-use Rattle.suite_solver.proofs.ProgramLemmas.{not_refused, on_ok, told_late, whole_texts}
+use Rattle.suite_solver.proofs.ProgramLemmas.{not_refused, on_ok, told_late}
+use Rattle.program_parts.proofs.EndingLemmas.{whole_texts}
 use Rattle.suite_solver.proofs.ffosolve.carry_out.Goals as goal
 
-pub returns-in-Ok-clause-reported : goal.returns-in-Ok-clause-reported
-returns-in-Ok-clause-reported g c =
+pub returns-clause-reported : goal.returns-clause-reported
+returns-clause-reported g c =
     let names = names_of c.args.asked.now.files.items in
     let given = g.R.Read.remaining c.args.input.now in
     let texts = texts_of c.in_ok-texts.texts.items in
     let fronts = rw c.deref.ensures.value at c.in_ok-texts.ensures.ok in
-    let p = rw c.deref-3.ensures.value at c.in-Ok.ensures.reported in
+    let p = rw c.deref-3.ensures.value at c.in_ok-book.ensures.reported in
     on_ok c.write_book.result (Prints c.args.asked.now.settings names given (g.W.Write.contents c.args.output.now) (g.W.Write.contents c.solve_files.new.output)) (record {
       texts = texts;
       read = whole_texts names given texts fronts p.small p.few;
       printed = p;
     })
 
-pub returns-in-Ok-clause-silent : goal.returns-in-Ok-clause-silent
-returns-in-Ok-clause-silent g c =
+pub returns-clause-silent : goal.returns-clause-silent
+returns-clause-silent g c =
     told_late c.write_book.result (g.W.Write.contents c.solve_files.new.output ≡ g.W.Write.contents c.args.output.now) c.write_book.ensures.told
 
-pub returns-in-Ok-clause-unwritten : goal.returns-in-Ok-clause-unwritten
-returns-in-Ok-clause-unwritten g c =
+pub returns-clause-unwritten : goal.returns-clause-unwritten
+returns-clause-unwritten g c =
     not_refused c.write_book.result (g.W.Write.contents c.solve_files.new.output ≡ g.W.Write.contents c.args.output.now) c.write_book.ensures.status

@@ -1,5 +1,5 @@
 use Rattle.std.proofs.Common.{rules}
-use Rattle.suite_solver.proofs.ProgramLemmas.{in_range_of, not_one}
+use Rattle.program_parts.proofs.EndingLemmas.{in_range_of, not_one}
 use Rattle.suite_solver.proofs.ffosolve.program.Goals as goal
 
 pub returns : goal.returns

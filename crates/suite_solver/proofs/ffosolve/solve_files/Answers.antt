@@ -1,7 +1,7 @@
 use Rattle.std.proofs.Common.{length, refl}
 use Rattle.std.proofs.lemmas.List.{length-map}
 use Rattle.obf_text.specs.LineText.{texts_of}
-use Rattle.suite_runs.specs.Runs.{first_large}
+use Rattle.program_settings.specs.InputFault.{first_large}
 use Rattle.suite_solver.proofs.ProgramLemmas.{given_few, given_small}
 use Rattle.suite_solver.proofs.ffosolve.solve_files.Goals as goal
 

@@ -1,6 +1,0 @@
-use Rattle.std.proofs.Common.{◌≡◌, map, take}
-use Rattle.book_files.specs.Inputs.{names_of}
-use Rattle.book_files.proofs.words.borrow_words.Given as goal
-
-abbrev pub invariant-loop-word : goal.invariant-loop-word
-invariant-loop-word l = map (λ word. word.now) l.borrowed.items ≡ names_of (take l.word-index l.words)

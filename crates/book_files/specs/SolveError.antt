@@ -1,0 +1,58 @@
+-- The errors that end `ffosolve` early: their reasons, their lines and their statuses.
+use Rattle.std.specs.Prelude.{ℕ, List, [], ◌∷◌, ◌++◌, codes}
+use Rattle.solved_book.specs.Faults.{book_fault_text}
+use Rattle.solved_book.specs.declared.book_fault.BookFault.{BookFault}
+use Rattle.solved_book.specs.declared.book_fault.BookFault.TheVariants as book
+use Rattle.program_settings.specs.declared.input_fault.InputFault.TheVariants as input
+use Rattle.suite_runs.specs.declared.run_fault.RunFault.{RunFault}
+use Rattle.suite_runs.specs.declared.run_fault.RunFault.TheVariants as run
+use Rattle.program_parts.specs.ProgramError.{error_reason}
+use Rattle.program_parts.specs.declared.program_error.ProgramError.{ProgramError}
+use Rattle.program_parts.specs.declared.program_error.ProgramError.TheVariants.{Memory, BadInput, BadWords, CannotRead, CannotWrite}
+use Rattle.book_files.specs.declared.solve_error.SolveError.{SolveError}
+use Rattle.book_files.specs.declared.solve_error.SolveError.TheVariants.{Program, Mixed, BadBook, NoPlace, NoBook, ReadBook}
+
+-- the error for a fault of the run
+abbrev pub run_error : RunFault → SolveError
+run_error run.Memory = Program Memory
+run_error run.Mixed = Mixed
+run_error run.TooManyFiles = Program (BadInput input.TooManyFiles)
+run_error (run.FileTooLarge sender) = Program (BadInput (input.FileTooLarge sender))
+
+-- the error for a fault of the book that is read
+abbrev pub book_error : BookFault → SolveError
+book_error book.Memory = Program Memory
+book_error fault = BadBook fault
+
+-- the reason of an error, as its line has it
+unfoldable pub solve_error_reason : SolveError → List ℕ
+solve_error_reason (Program error) = error_reason error
+solve_error_reason Mixed = codes "answers mixed"
+solve_error_reason (BadBook fault) = book_fault_text fault
+solve_error_reason (NoPlace name) = codes "cannot write " ++ name.now
+solve_error_reason (NoBook name) = name.now ++ codes " is no book and would be overwritten"
+solve_error_reason (ReadBook name) =
+    name.now ++ (codes " is read and would be overwritten: write --book-out NEW, then "
+    ++ (codes "ffosolve-many --merge-books " ++ (name.now ++ codes " NEW")))
+
+-- the line of an error on standard error
+unfoldable pub solve_error_text : SolveError → List ℕ
+solve_error_text error = codes "ffosolve: " ++ (solve_error_reason error ++ 10 ∷ [])
+
+-- the exit status of `ffosolve` after an error
+abbrev pub status_of : SolveError → ℕ
+status_of (Program Memory) = 1
+status_of (Program (BadInput fault)) = 1
+status_of (Program BadWords) = 2
+status_of (Program (CannotRead name)) = 3
+status_of (Program (CannotWrite name)) = 3
+status_of Mixed = 1
+status_of (BadBook fault) = 3
+status_of (NoPlace name) = 3
+status_of (NoBook name) = 3
+status_of (ReadBook name) = 3
+
+-- the error comes before anything is printed; each does except `CannotWrite`
+abbrev pub IsSilent : SolveError → Type 0
+IsSilent (Program (CannotWrite name)) = ⊥
+IsSilent _ = Unit {0}

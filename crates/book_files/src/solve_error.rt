@@ -1,0 +1,148 @@
+//! The errors that end `ffosolve` early.
+
+ghost use Rattle.std.specs.Prelude.{◌≡◌, ◌⊎◌, OnOk, Some};
+ghost use Rattle.std.specs.IoError.{error_kind};
+ghost use Rattle.std.specs.Io.KnownBytes.{Appends};
+ghost use Rattle.book_files.specs.SolveError.{IsSilent, book_error, run_error, solve_error_reason, solve_error_text, status_of};
+ghost use Rattle.program_parts.specs.declared.program_error.ProgramError.TheVariants.{BadInput, Memory};
+ghost use Rattle.book_files.specs.declared.solve_error.SolveError.TheVariants.{NoPlace, Program};
+
+use program_parts::ProgramError;
+use program_settings::InputFault;
+use solved_book::BookFault;
+use std::alloc::AllocError;
+use std::io::{ErrorKind, Write};
+use std::{fmt, io};
+use suite_runs::RunFault;
+
+/// An error that ends `ffosolve` early. A name is that of a file, as the command line has it.
+#[derive(Drop)]
+pub enum SolveError<'a> {
+    /// An error that may end `ffoscores`, too.
+    Program(ProgramError<'a>),
+    /// The job board refused a step, or a job under another scoring was taken.
+    Mixed,
+    /// The file of the book to be read is not a book. Out of memory is `Program(Memory)`.
+    BadBook(BookFault),
+    /// A book can't be written under this name, as a test showed before anything was solved.
+    NoPlace(&'a str),
+    /// The file of this name, where a book is to be written, is neither empty nor a book.
+    NoBook(&'a str),
+    /// The file of this name, where a book is to be written, is the book that is read.
+    ReadBook(&'a str),
+}
+
+impl<'a> From<ProgramError<'a>> for SolveError<'a> {
+    ghost from_gives = { λ error made. made ≡ Program error };
+
+    fn from(error: ProgramError<'a>) -> Self {
+        SolveError::Program(error)
+    }
+}
+
+impl From<InputFault> for SolveError<'_> {
+    ghost from_gives = { λ fault error. error ≡ Program (BadInput fault) };
+
+    fn from(fault: InputFault) -> Self {
+        SolveError::Program(ProgramError::BadInput(fault))
+    }
+}
+
+impl From<RunFault> for SolveError<'_> {
+    ghost from_gives = { λ fault error. error ≡ run_error fault };
+
+    fn from(fault: RunFault) -> Self {
+        match fault {
+            RunFault::Memory => SolveError::Program(ProgramError::Memory),
+            RunFault::Mixed => SolveError::Mixed,
+            RunFault::TooManyFiles => {
+                SolveError::Program(ProgramError::BadInput(InputFault::TooManyFiles))
+            }
+            RunFault::FileTooLarge(sender) => {
+                SolveError::Program(ProgramError::BadInput(InputFault::FileTooLarge(sender)))
+            }
+        }
+    }
+}
+
+impl From<BookFault> for SolveError<'_> {
+    ghost from_gives = { λ fault error. error ≡ book_error fault };
+
+    fn from(fault: BookFault) -> Self {
+        match fault {
+            BookFault::Memory => SolveError::Program(ProgramError::Memory),
+            _ => SolveError::BadBook(fault),
+        }
+    }
+}
+
+impl From<AllocError> for SolveError<'_> {
+    ghost from_gives = { λ _ error. error ≡ Program Memory };
+
+    fn from(_error: AllocError) -> Self {
+        SolveError::Program(ProgramError::Memory)
+    }
+}
+
+impl fmt::Display for SolveError<'_> {
+    ghost output = { λ error. Some (solve_error_reason error) };
+
+    #[tactic(auto, unfolding(crate::specs::SolveError::solve_error_reason))]
+    fn fmt<W: fmt::Write>(&self, f: &mut fmt::Formatter<W>) -> fmt::Result {
+        match self {
+            SolveError::Program(error) => write!(f, "{error}"),
+            SolveError::Mixed => f.write_str("answers mixed"),
+            SolveError::BadBook(fault) => write!(f, "{fault}"),
+            SolveError::NoPlace(name) => write!(f, "cannot write {name}"),
+            SolveError::NoBook(name) => write!(f, "{name} is no book and would be overwritten"),
+            SolveError::ReadBook(name) => write!(
+                f,
+                "{name} is read and would be overwritten: write --book-out NEW, then ffosolve-many --merge-books {name} NEW"
+            ),
+        }
+    }
+}
+
+// The error for a failed test of a book's place: `Program(Memory)` where memory was refused,
+// otherwise `NoPlace` with the name.
+pub(crate) fn place_error<'a>(fault: &io::Error, name: &'a str) -> SolveError<'a>
+    ensures memory { error_kind fault.now ≡ ErrorKind.OutOfMemory → result ≡ Program Memory }
+    ensures name { (error_kind fault.now ≡ ErrorKind.OutOfMemory → ⊥)
+        → result ≡ NoPlace name.entry }
+    ensures status { (status_of result ≡ 1) ⊎ (status_of result ≡ 3) }
+    ensures silent { IsSilent result }
+{
+    match fault.kind() {
+        ErrorKind::OutOfMemory => SolveError::Program(ProgramError::Memory),
+        _ => SolveError::NoPlace(name),
+    }
+}
+
+impl SolveError<'_> {
+    /// Writes the error as one line: `ffosolve: `, the reason, and LF. The error of the call is
+    /// that of the writer.
+    #[tactic(auto, unfolding(crate::specs::SolveError::solve_error_text))]
+    pub fn print<E: Write>(&self, errors: &mut E) -> io::Result<()>
+        ensures { OnOk result (Appends
+            (E.contents errors.old) (E.contents errors.new) (solve_error_text self.now)) }
+    {
+        let error = self;
+        write!(errors, "ffosolve: {error}\n")
+    }
+
+    /// The exit status of `ffosolve` after this error: 1, 2 or 3.
+    pub fn status(&self) -> u8
+        ensures { result ≡ status_of self.now }
+    {
+        match self {
+            SolveError::Program(ProgramError::Memory | ProgramError::BadInput(_))
+            | SolveError::Mixed => 1,
+            SolveError::Program(ProgramError::BadWords) => 2,
+            SolveError::Program(ProgramError::CannotRead(_) | ProgramError::CannotWrite(_))
+            | SolveError::BadBook(_)
+            | SolveError::NoPlace(_)
+            | SolveError::NoBook(_)
+            | SolveError::ReadBook(_) => 3,
+        }
+    }
+}

@@ -1,4 +1,0 @@
-use Rattle.ffoscores_program.proofs.ffoscores.print_error.Goals as goal
-
-pub returns : goal.returns
-returns g c = c.list_status.ensures

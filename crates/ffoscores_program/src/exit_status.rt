@@ -1,0 +1,86 @@
+//! The exit status of `ffoscores`.
+
+ghost use Rattle.std.specs.Prelude.{◌≡◌, IfOk, IsErr};
+ghost use Rattle.std.specs.Process.{exit_status};
+ghost use Rattle.program_parts.specs.Inputs.{names_of};
+ghost use Rattle.program_parts.specs.Endings.{EndsUnread};
+ghost use Rattle.ffoscores_program.specs.Lists.{EndsFfoscores, list_status_of};
+
+use crate::ffoscores::list_program;
+use program_parts::{ErrorStream, ProgramError, borrow_words, words_error};
+use std::alloc::Global;
+use std::io;
+use std::io::{Eprint, Read, Write};
+use std::process::{ExitCode, Termination};
+use std::rt::Files;
+use std::sync::Wait;
+use std::thread::Threads;
+
+/// The exit status of the program. Only `list_program_of` makes one, and it may not be dropped. So
+/// a `main` that calls it returns it, and ends with the status of the program. It is not a type of
+/// `program_parts`: if this crate could make one with any status, a `main` could, too.
+pub struct ExitStatus {
+    status: u8,
+}
+
+impl Termination for ExitStatus {
+    fn report<R: Eprint>(self, _rt: &R) -> ExitCode
+        ensures { exit_status result ≡ self.status }
+    {
+        let ExitStatus { status } = self;
+        ExitCode::from(status)
+    }
+}
+
+// The exit status of `ffoscores` after this error.
+fn list_status(error: &ProgramError<'_>) -> u8
+    ensures { result ≡ list_status_of error.now }
+{
+    match error {
+        ProgramError::BadWords => 2,
+        _ => 3,
+    }
+}
+
+/// Prints the error that ends the program, and gives the exit status. A failure of standard error
+/// changes nothing.
+pub(crate) fn print_error<E: Write>(error: &ProgramError<'_>, errors: &mut E) -> u8
+    ensures { result ≡ list_status_of error.now }
+{
+    let _ = error.print("ffoscores", errors);
+    list_status(error)
+}
+
+/// The whole program, like `list_program`, for the words that `env::args` gives. The result ends the
+/// process with the status, 0 to 3: with 2 where a word is not text, and with 3 where memory for
+/// the words was refused.
+pub fn list_program_of<T: Files + Threads + Wait, R: Read, W: Write, E: ErrorStream>(
+    rt: &T,
+    alloc: Global,
+    words: io::Result<Vec<String>>,
+    input: &mut R,
+    output: &mut W,
+    errors: &mut E,
+) -> ExitStatus
+    ensures read { IfOk words (λ all. EndsFfoscores (names_of all.items)
+        (R.remaining input.old) (W.contents output.old) (W.contents output.new) result.status) }
+    ensures unread { IsErr words
+        → EndsUnread 3 (W.contents output.old) (W.contents output.new) result.status }
+{
+    let words = match words {
+        Ok(words) => words,
+        Err(fault) => {
+            return ExitStatus {
+                status: print_error(&words_error(&fault), errors),
+            };
+        }
+    };
+    match borrow_words(alloc, &words) {
+        Ok(borrowed) => ExitStatus {
+            status: list_program(rt, alloc, &borrowed, input, output, errors),
+        },
+        Err(_) => ExitStatus {
+            status: print_error(&ProgramError::Memory, errors),
+        },
+    }
+}

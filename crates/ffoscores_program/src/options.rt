@@ -1,0 +1,104 @@
+//! The options of `ffoscores`, which `clap` reads from the words of a command line.
+
+ghost use Rattle.std.specs.Prelude.{◌≡◌, IfOk, IfErr, map};
+ghost use Rattle.clap.specs.Words.{app_of};
+ghost use Rattle.program_parts.specs.CommandLine.{IsFaultFor, IsTakenBy};
+ghost use Rattle.program_parts.specs.declared.option_fault.OptionFault.TheVariants.{Memory};
+ghost use Rattle.ffoscores_program.specs.Options.{AsksLists, ffoscores, is_complete, list_request_of};
+
+use clap::Command;
+use othello_rules::Scoring;
+use program_parts::OptionFault;
+use program_parts::settings_args::{
+    bare_command, files_arg, files_of, flag_arg, settings_of, with_settings,
+};
+use program_settings::Settings;
+use scored_lines::Listing;
+use std::alloc::{AllocError, Global};
+
+const ABOUT: &str = "\
+Prints OBF files again, line by line: each position with every legal move and
+its exact score in discs for the side to move, and a remark wherever a line
+lists something else.";
+
+const AFTER_HELP: &str = "\
+In place of moves:
+  PS  the side to move has to pass
+  --  the game is over
+
+Exit status:
+  0  no line is refused and nothing is remarked, or this help, or the version
+  1  a line is refused, or something is remarked
+  2  the command line is refused
+  3  more than 64 files, a file that can't be read or is larger than 1 MiB,
+     standard output that can't be written, or out of memory
+
+Examples:
+  # show what is wrong in a file of positions with all their moves
+  ffoscores scored.obf | diff scored.obf -
+  # score every move, four positions at once
+  ffoscores --workers 3 list.obf > scored.obf";
+
+/// The options of a command line of `ffoscores`.
+#[derive(Debug, Drop)]
+pub struct ListOptions {
+    /// The limit of empty squares, the workers, the table and the scoring.
+    pub settings: Settings,
+    /// Which moves a line that lists moves has to list.
+    pub listing: Listing,
+    /// The names of the files as given, in their order. Without any, standard input is the one
+    /// file.
+    pub files: Vec<String>,
+}
+
+// The whole command `ffoscores`.
+fn ffoscores_command<'a>(alloc: Global, names: &'a [&'a str]) -> Result<Command<'a>, AllocError>
+    ensures { IfOk result (λ c. app_of c ≡ ffoscores names.entry) }
+{
+    let bare = bare_command(alloc, "ffoscores", ABOUT, AFTER_HELP);
+    let workers = "Score up to N + 1 positions at once, 0 to 64; what is\nprinted stays the same";
+    let with_settings = with_settings(alloc, bare, workers, names)?;
+    let complete = flag_arg(
+        alloc,
+        "complete",
+        "Remark each best move that a line with listed moves\nleaves out",
+    );
+    let with_complete = with_settings.arg(complete)?;
+    with_complete.arg(files_arg(alloc))
+}
+
+// Which moves a line has to list, by the flag `--complete`.
+fn listing_of(flag: bool) -> Listing
+    ensures { is_complete result ≡ flag }
+{
+    if flag {
+        Listing::Complete
+    } else {
+        Listing::Any
+    }
+}
+
+/// Reads the words of a command line of `ffoscores`, the program's name first. The errors are those
+/// of `options`.
+pub fn list_options(alloc: Global, words: &[&str]) -> Result<ListOptions, OptionFault>
+    // For words that clap takes, the only error is `Memory`.
+    ensures taken { IsTakenBy ffoscores (map (λ word. word.now) words.now)
+        → IfErr result (λ fault. fault ≡ Memory) }
+    // Any other error has a fault that clap defines for the words.
+    ensures refused { IfErr result (IsFaultFor ffoscores (map (λ word. word.now) words.now)) }
+    // Clap takes the words, and the settings and names are those of the matches that it defines.
+    ensures asked { IfOk result
+        (λ found. AsksLists (map (λ word. word.now) words.now) (list_request_of found)) }
+{
+    let names = Scoring::names();
+    let command = ffoscores_command(alloc, names.as_slice())?;
+    let matches = command.try_get_matches_from(words)?;
+    // Each option has a default, and clap keeps each number in its range.
+    let settings = settings_of(&matches).unwrap();
+    let files = files_of(alloc, &matches)?;
+    Ok(ListOptions {
+        settings,
+        listing: listing_of(matches.get_flag("complete")),
+        files,
+    })
+}

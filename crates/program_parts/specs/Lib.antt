@@ -1,0 +1,4 @@
+pub mod Inputs
+pub mod CommandLine
+pub mod ProgramError
+pub mod Endings

@@ -1,0 +1,95 @@
+//! Reads the files of a program, or standard input.
+
+ghost use Rattle.std.specs.Prelude.{◌≡◌, ◌+◌, ◌≤◌, [], ◌∷◌, IfOk, IfErr, IfSome, length, min, take, vec_len};
+ghost use Rattle.program_settings.specs.Limits.{most_bytes, most_files};
+ghost use Rattle.program_parts.specs.Inputs.{AreFrontsOf, names_of};
+ghost use Rattle.program_parts.specs.ProgramError.{IsReadError};
+ghost use Rattle.obf_text.specs.LineText.{texts_of};
+
+use crate::program_error::{ProgramError, read_error};
+use program_settings::{MOST_BYTES, MOST_FILES};
+use std::alloc::Global;
+use std::io::Read;
+use std::rt::Files;
+use std::{fs, io};
+
+// Reads the first bytes of a reader: one more than a file may have, or all bytes where there are
+// fewer. That one byte shows that a file is too large. The error is that of the reader, or out of
+// memory.
+fn read_front<R: Read>(alloc: Global, reader: &mut R) -> io::Result<Vec<u8>>
+    ensures most { IfOk result (λ bytes. vec_len bytes ≤ most_bytes + 1) }
+    ensures front { IfOk result (λ bytes. IfSome (R.remaining reader.old)
+        (λ all. bytes.items ≡ take (most_bytes + 1) all)) }
+{
+    let mut bytes = Vec::new(alloc);
+    reader.take(MOST_BYTES as u64 + 1).read_to_end(&mut bytes)?;
+    // The bytes are cut once more, since no contract limits how many a reader gives whose bytes
+    // aren't known.
+    bytes.truncate(MOST_BYTES + 1);
+    Ok(bytes)
+}
+
+// Reads standard input as the one file, up to one byte more than a file may have.
+fn read_input<R: Read>(alloc: Global, input: &mut R) -> Result<Vec<Vec<u8>>, ProgramError<'static>>
+    ensures ok { IfOk result (λ files. IfSome
+        (R.remaining input.old) (λ all. texts_of files.items ≡ take (most_bytes + 1) all ∷ [])) }
+    ensures err { IfErr result IsReadError }
+{
+    match read_front(alloc, input) {
+        Ok(text) => {
+            let mut files = Vec::new(alloc);
+            files.push(text)?;
+            Ok(files)
+        }
+        Err(fault) => Err(read_error(&fault, "standard input")),
+    }
+}
+
+// Reads the file of this name, up to one byte more than a file may have.
+fn read_file<T: Files>(rt: &T, alloc: Global, name: &str) -> io::Result<Vec<u8>> {
+    let mut file = fs::open(rt, name)?;
+    read_front(alloc, &mut file)
+}
+
+// Reads the files of these names, in their order: at most one more than a run may have, so that the
+// run refuses them. Any file after those is opened, but not read.
+fn read_named<'a, T: Files>(
+    rt: &T,
+    alloc: Global,
+    names: &'a [String],
+) -> Result<Vec<Vec<u8>>, ProgramError<'a>>
+    ensures ok { IfOk result
+        (λ files. length files.items ≡ min (most_files + 1) (length names.now)) }
+    ensures err { IfErr result IsReadError }
+{
+    let mut files = Vec::new(alloc);
+    for name in names {
+        let name = name.as_str();
+        if files.len() <= MOST_FILES {
+            match read_file(rt, alloc, name) {
+                Ok(text) => files.push(text)?,
+                Err(fault) => return Err(read_error(&fault, name)),
+            }
+        } else if let Err(fault) = fs::open(rt, name) {
+            return Err(read_error(&fault, name));
+        }
+    }
+    Ok(files)
+}
+
+/// Reads the files of these names, in their order, or standard input where there is no name.
+pub fn read_files<'a, T: Files, R: Read>(
+    rt: &T,
+    alloc: Global,
+    names: &'a [String],
+    input: &mut R,
+) -> Result<Vec<Vec<u8>>, ProgramError<'a>>
+    ensures ok { IfOk result
+        (λ files. AreFrontsOf (names_of names.now) (R.remaining input.old) (texts_of files.items)) }
+    ensures err { IfErr result IsReadError }
+{
+    if names.is_empty() {
+        return read_input(alloc, input);
+    }
+    read_named(rt, alloc, names)
+}

@@ -1,4 +1,0 @@
-use Rattle.suite_solver.proofs.ended.EndedTermination.report.Goals as goal
-
-pub returns : goal.returns
-returns g c = c.from.ensures

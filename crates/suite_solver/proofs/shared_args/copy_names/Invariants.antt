@@ -1,6 +1,0 @@
-use Rattle.std.proofs.Common.{◌≡◌, map, take}
-use Rattle.book_files.specs.Inputs.{names_of}
-use Rattle.suite_solver.proofs.shared_args.copy_names.Given as goal
-
-abbrev pub invariant-loop-name : goal.invariant-loop-name
-invariant-loop-name l = names_of l.all.items ≡ map (λ name. name.now) (take l.name-index l.names)

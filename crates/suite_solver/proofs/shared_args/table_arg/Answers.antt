@@ -1,8 +1,0 @@
-use Rattle.std.proofs.Common.{refl}
-use Rattle.std.specs.Fmt.{digits}
-use Rattle.suite_reports.specs.Limits.{default_entries}
-use Rattle.suite_solver.proofs.shared_args.table_arg.Goals as goal
-
-pub returns-clause-rule : goal.returns-clause-rule
-unfolding digits
-returns-clause-rule c = c.number_arg.ensures.rule default_entries refl

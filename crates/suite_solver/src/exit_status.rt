@@ -1,0 +1,79 @@
+//! The exit status of `ffosolve`.
+
+ghost use Rattle.std.specs.Prelude.{◌≡◌, IfOk, IsErr};
+ghost use Rattle.std.specs.Process.{exit_status};
+ghost use Rattle.program_parts.specs.Inputs.{names_of};
+ghost use Rattle.program_parts.specs.Endings.{EndsUnread};
+ghost use Rattle.book_files.specs.SolveError.{status_of};
+ghost use Rattle.suite_solver.specs.Programs.{EndsFfosolve};
+
+use crate::ffosolve::program;
+use book_files::SolveError;
+use program_parts::{ErrorStream, ProgramError, borrow_words, words_error};
+use std::alloc::Global;
+use std::io;
+use std::io::{Eprint, Read, Write};
+use std::marker::Sync;
+use std::process::{ExitCode, Termination};
+use std::rt::{Clock, Files};
+use std::sync::Wait;
+use std::thread::Threads;
+
+/// The exit status of the program. Only `program_of` makes one, and it may not be dropped. So a
+/// `main` that calls it returns it, and ends with the status of the program.
+pub struct ExitStatus {
+    status: u8,
+}
+
+impl Termination for ExitStatus {
+    fn report<R: Eprint>(self, _rt: &R) -> ExitCode
+        ensures { exit_status result ≡ self.status }
+    {
+        let ExitStatus { status } = self;
+        ExitCode::from(status)
+    }
+}
+
+/// Prints the error that ends the program, and gives the exit status. A failure of standard error
+/// changes nothing.
+pub(crate) fn print_error<E: Write>(error: &SolveError<'_>, errors: &mut E) -> u8
+    ensures { result ≡ status_of error.now }
+{
+    let _ = error.print(errors);
+    error.status()
+}
+
+/// The whole program, like `program`, for the words that `env::args` gives. The result ends the
+/// process with the status, 0 to 3: with 2 where a word is not text, and with 1 where memory for
+/// the words was refused.
+pub fn program_of<T: Files + Clock + Threads + Wait + Sync, R: Read, W: Write, E: ErrorStream>(
+    rt: &T,
+    alloc: Global,
+    words: io::Result<Vec<String>>,
+    input: &mut R,
+    output: &mut W,
+    errors: &mut E,
+) -> ExitStatus
+    ensures read { IfOk words (λ all. EndsFfosolve (names_of all.items)
+        (R.remaining input.old) (W.contents output.old) (W.contents output.new) result.status) }
+    ensures unread { IsErr words
+        → EndsUnread 1 (W.contents output.old) (W.contents output.new) result.status }
+{
+    let words = match words {
+        Ok(words) => words,
+        Err(fault) => {
+            let error = SolveError::Program(words_error(&fault));
+            return ExitStatus {
+                status: print_error(&error, errors),
+            };
+        }
+    };
+    match borrow_words(alloc, &words) {
+        Ok(borrowed) => ExitStatus {
+            status: program(rt, alloc, &borrowed, input, output, errors),
+        },
+        Err(_) => ExitStatus {
+            status: print_error(&SolveError::Program(ProgramError::Memory), errors),
+        },
+    }
+}
