@@ -5,9 +5,9 @@ use Rattle.program_settings.specs.declared.criteria.Criteria.{Criteria}
 use Rattle.suite_runs.specs.Part.{GivesPart, IsPartFault, PartView, part_view, part_view_of}
 use Rattle.suite_runs.specs.declared.run_fault.RunFault.{RunFault}
 use Rattle.suite_runs.specs.declared.part.Part.{Part}
-use Rattle.suite_runs.specs.declared.threads.PartPromise.{PartPromise}
-use Rattle.suite_runs.specs.declared.threads.Progress.{Progress}
-use Rattle.suite_runs.specs.declared.threads.Progress.TheVariants.{Spawned, Done}
+use Rattle.suite_runs.specs.declared.started_client.PartPromise.{PartPromise}
+use Rattle.suite_runs.specs.declared.started_client.ClientThread.{ClientThread}
+use Rattle.suite_runs.specs.declared.started_client.ClientThread.TheVariants.{Spawned, Done}
 
 -- the text of a client, with the scoring under which it is solved, and the criteria of its lines
 pub record StartedClientView : Type 0 where
@@ -22,9 +22,9 @@ abbrev pub started_view_of : PartPromise → StartedClientView
 started_view_of promise = started_view promise.scoring promise.criteria promise.text.now
 
 -- the client's thread gives the part of its text, or the calling thread made it
-abbrev pub IsProgressOf : StartedClientView → Progress → Type 0
-IsProgressOf a (Spawned handle) = started_view_of handle.promise ≡ a
-IsProgressOf a (Done part) = GivesPart a.scoring a.criteria a.text part
+abbrev pub IsThreadOf : StartedClientView → ClientThread → Type 0
+IsThreadOf a (Spawned handle) = started_view_of handle.promise ≡ a
+IsThreadOf a (Done part) = GivesPart a.scoring a.criteria a.text part
 
 -- the part of a client's text
 abbrev pub part_view_at : StartedClientView → PartView

@@ -58,14 +58,10 @@ fn receive_all<R: Wait, T: Bounds, G: Gate>(
     for _ in rt.forever() {
         match worker.desk.turn(rt, client) {
             Ok(Turn::Next(delivery)) => {
-                let Ok(()) = solved.push(delivery.solved) else {
-                    return Err(RunFault::Memory);
-                };
+                solved.push(delivery.solved)?;
             }
             Ok(Turn::Work(job)) => {
-                let Ok(()) = worker.solve_job(rt, job) else {
-                    return Err(RunFault::Mixed);
-                };
+                worker.solve_job(rt, job)?;
             }
             Ok(Turn::Drained) => return Ok(solved),
             Err(_) => return Err(RunFault::Mixed),
@@ -89,17 +85,15 @@ pub fn send_and_close<R: Wait>(
     ensures wanting { IsErr read → IsErrOf result Memory }
     ensures faults { IfErr result IsPartFault }
 {
-    let sent = match read {
-        Ok(lines) => match send_all(rt, desk, client, &lines) {
-            Ok(()) => Ok(lines),
-            Err(fault) => Err(fault),
-        },
+    let sent = match &read {
+        Ok(lines) => send_all(rt, desk, client, lines),
         Err(_) => Err(RunFault::Memory),
     };
-    match desk.close(rt, client) {
-        Ok(_) => sent,
-        Err(_) => Err(worse_fault(sent.err(), RunFault::Mixed)),
-    }
+    let Ok(_) = desk.close(rt, client) else {
+        return Err(worse_fault(sent.err(), RunFault::Mixed));
+    };
+    sent?;
+    Ok(read?)
 }
 
 /// Does the work of `client_part`, where the lines are refused and checked by the criteria.

@@ -10,20 +10,23 @@
 //! outcome.book.write(&mut text)?;
 //! ```
 //!
-//! `run` solves on threads, `run_serial` on the calling thread. The modules `client` and `threads`
-//! are public for the tests, which are in `crate_tests`.
+//! `run` solves on threads, `run_serial` on the calling thread. The modules `client`, `joined`
+//! and `started_client` are public for the tests, which are in `crate_tests`.
 #![tactic(auto)]
 
 pub mod client;
 mod gate;
+pub mod joined;
 pub mod laws;
 mod outcome;
 mod part;
 mod run_fault;
 mod runs;
 mod serial;
+mod shared;
 mod solver;
-pub mod threads;
+pub mod started_client;
+mod threads;
 mod worker;
 
 pub use gate::{Gate, NoGate};

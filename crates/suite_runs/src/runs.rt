@@ -21,7 +21,8 @@ use std::alloc::Global;
 use std::sync::Wait;
 use std::thread::Threads;
 
-// Does the work of `run_serial`. One clause of the contract covers all of its results.
+// Does the work of `run_serial`. Its one clause is proved at each return, where the checker would ask
+// for all clauses of `run_serial`.
 fn run_files(
     alloc: Global,
     files: &[Vec<u8>],
@@ -33,8 +34,7 @@ fn run_files(
 {
     check_files(files)?;
     let parts = solve_texts(alloc, files, settings, claims)?;
-    let outcome = outcome_of(alloc, settings, &parts)?;
-    Ok(outcome)
+    Ok(outcome_of(alloc, settings, &parts)?)
 }
 
 /// Solves the positions of files on the calling thread, over one table of bounds. The workers of
@@ -66,7 +66,7 @@ pub fn run_serial(
     run_files(alloc, files, settings, claims)
 }
 
-// Does the work of `run`. One clause of the contract covers all of its results.
+// Does the work of `run`, with one clause, as `run_files` does that of `run_serial`.
 fn run_threads<R: Threads + Wait + Sync, G: Gate>(
     rt: &R,
     alloc: Global,
@@ -79,8 +79,7 @@ fn run_threads<R: Threads + Wait + Sync, G: Gate>(
 {
     check_files(files)?;
     let parts = solve_texts_on_threads(rt, alloc, files, settings, claims, gate)?;
-    let outcome = outcome_of(alloc, settings, &parts)?;
-    Ok(outcome)
+    Ok(outcome_of(alloc, settings, &parts)?)
 }
 
 /// Solves the positions of files on threads: a client for each file and the workers of the

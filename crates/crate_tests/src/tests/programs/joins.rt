@@ -8,7 +8,8 @@ use program_settings::Criteria;
 use std::alloc::{AllocError, Global};
 use std::test::Fail;
 use std::thread::Threads;
-use suite_runs::threads::{Joined, PartPromise, Progress, StartedClient, join_all};
+use suite_runs::joined::{Joined, join_all};
+use suite_runs::started_client::{ClientThread, PartPromise, StartedClient};
 use suite_solver::RunFault;
 
 // A client that has ended with a fault.
@@ -24,7 +25,7 @@ fn ended_with(fault: RunFault) -> StartedClient<'static>
             },
             text: b"",
         },
-        progress: Progress::Done(Err(fault)),
+        thread: ClientThread::Done(Err(fault)),
     }
 }
 

@@ -2,7 +2,7 @@ use Rattle.std.proofs.Common.{◌≡◌, ◌+◌, ◌++◌, ◌∷◌, [], rules
 use Rattle.std.specs.Vec.Iter.{into_iter_items, into_iter_len}
 use Rattle.std.proofs.lemmas.List.{append_assoc}
 use Rattle.suite_runs.proofs.JoinLemmas.{join_step}
-use Rattle.suite_runs.proofs.threads.join_all.Goals as goal
+use Rattle.suite_runs.proofs.joined.join_all.Goals as goal
 
 pub loop-client-preserved : goal.loop-client-preserved
 loop-client-preserved g c =

@@ -1,7 +1,7 @@
 use Rattle.std.proofs.Common.{◌≡◌, ◌≤◌, ◌+◌, ◌++◌, List, vec_len, vec_capacity}
 use Rattle.std.specs.Vec.Iter.{into_iter_items, into_iter_len}
 use Rattle.suite_runs.specs.Threads.{AreJoined, StartedClientView}
-use Rattle.suite_runs.proofs.threads.join_all.Given as goal
+use Rattle.suite_runs.proofs.joined.join_all.Given as goal
 
 -- the clients so far are joined, and there is room for those that are left
 abbrev pub invariant-loop-client : goal.invariant-loop-client
