@@ -25,7 +25,7 @@ typedef struct values {
     int of[SCORINGS];
 } values;
 
-/* Turns the mover's disc on a square, and the discs between; their number, 0 where that is no move. */
+/* Turns the mover's disc on a square, and the discs between; their number, 0 where that is not a move. */
 static int moved(const board *from, int square, board *to) {
     static const int steps[8][2] = {{1, 0}, {1, 1}, {0, 1}, {-1, 1}, {-1, 0}, {-1, -1}, {0, -1}, {1, -1}};
     int turned = 0;

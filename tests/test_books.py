@@ -1,5 +1,5 @@
 """How the built program tries the place of a book, and puts the book there, what it opens and does not read; and that a book
-destroys no other file: not what is no book, and not the book that is read.
+destroys no other file: not what is not a book, and not the book that is read.
 
 Run as root, it gives up its rights for the files that may not be written.
 """
@@ -19,12 +19,12 @@ from tests.support import ROOT, SECONDS, InFolder, built, lay_many, limit, prelo
 TEXT = stored("examples", "first.obf")
 BOOK = stored("examples", "first.book")
 OLD = BOOK + b"% an old book, longer than the new one\n" * 99
-NOTES = b"notes, and no book\n"
+NOTES = b"notes, not a book\n"
 NOBODY = 65534
 # The status, whether anything is printed, and what is told: before anything is solved, and behind the reports.
 REFUSED = (3, False, b"ffosolve: cannot write it.book\n")
 UNWRITTEN = (3, True, b"ffosolve: cannot write it.book\n")
-NO_BOOK = (3, False, b"ffosolve: it.book is no book and would be overwritten\n")
+NO_BOOK = (3, False, b"ffosolve: it.book is not a book and would be overwritten\n")
 DONE = (0, True, b"")
 
 
@@ -127,7 +127,7 @@ class Files(Books):
                 self.has(it=OLD)
 
     def test_file_that_may_be_written_and_not_read(self):
-        """It may be no book."""
+        """It may not be a book."""
         put("it.book", OLD, 0o222)
         os.chmod(".", 0o777)
         self.solves((3, False, b"ffosolve: cannot read it.book\n"), prepare=give_up_rights)
@@ -330,7 +330,7 @@ class Lists(Books):
         self.addCleanup(os.close, os.open("pipe", os.O_RDWR))
         too_large = b"ffosolve: file 2 is larger than %d bytes\n" % limit("MOST_BYTES")
         for place, told in (("", b"cannot write "), ("no/it.book", b"cannot write no/it.book"),
-                            ("notes/it.book", b"cannot write notes/it.book"), ("notes", b"notes is no book and would be overwritten")):
+                            ("notes/it.book", b"cannot write notes/it.book"), ("notes", b"notes is not a book and would be overwritten")):
             with self.subTest(place=place):
                 self.solves((1, False, b"ffosolve: more than 64 files\n"), place, *["list"] * 65, "pipe")
                 self.solves((1, False, too_large), place, "list", "large")
@@ -356,7 +356,7 @@ class Overwrites(Books):
 
     def test_log_that_is_written_on(self):
         """/dev/stdout, where a log of earlier runs is; and where nothing is but the report that the run puts there."""
-        for old, told in ((NOTES, b"/dev/stdout is no book and would be overwritten"), (b"", b"cannot write /dev/stdout")):
+        for old, told in ((NOTES, b"/dev/stdout is not a book and would be overwritten"), (b"", b"cannot write /dev/stdout")):
             put("log", old)
             with self.subTest(old=old), open("log", "ab") as log:
                 ran = run(PROGRAM, "--book-out", "/dev/stdout", input=TEXT, capture_output=False, stdout=log, stderr=subprocess.PIPE)

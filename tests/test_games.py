@@ -31,7 +31,7 @@ def other(side):
 
 
 def turned(board, side, square):
-    """The squares whose discs a move turns; none where it is no move."""
+    """The squares whose discs a move turns; none where it is not a move."""
     found = []
     if board[square] != EMPTY:
         return found
@@ -78,7 +78,7 @@ def random_game(rng):
 
 
 def positions_of(squares):
-    """The first position, and the side to move, at each number of empty squares, up to the first square that is no move."""
+    """The first position, and the side to move, at each number of empty squares, up to the first square that is not a move."""
     board, side = beginning(), BLACK
     found = {60: (board, side)}
     for square in squares:

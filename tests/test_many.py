@@ -870,7 +870,7 @@ class Words(Case):
                 (2, "empty.hosts names no machine", ("list.obf", "--hosts", "empty.hosts")),
                 (2, "part 0000000 (from line 1 of big.obf on) has more than 1048576 bytes: use fewer lines, "
                     "such as --lines 2", ("big.obf",)),
-                (2, "--merge-books names no book", ("--merge-books",)),
+                (2, "--merge-books needs the name of a book", ("--merge-books",)),
                 (2, "--lines is not an option of --merge-books", ("--merge-books", "--lines=5", "one.book"))):
             if "big.obf" in words:
                 write(Path("big.obf"), (b"%" * 400_000 + b"\n") * 3)
@@ -882,7 +882,7 @@ class Words(Case):
         for text, name in ((SMALL, "kept"), (b"\n", "link"), (b"% ffobook 3 winner\n", "kept")):
             write(Path("kept"), text)
             for words in (("list.obf",), ("--merge-books", "one.book")):
-                self.refused(3, f"{name} is no book and would be overwritten", *words, "--book-out", name)
+                self.refused(3, f"{name} is not a book and would be overwritten", *words, "--book-out", name)
             self.assertEqual(Path("kept").read_bytes(), text)
         for text in (b"", b"% ffobook 2 sign\r\nX"):
             write(Path("taken"), text)

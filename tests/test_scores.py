@@ -91,13 +91,13 @@ class Lines(Scores):
             (equal, equal + both, b"", b""),
             (equal + b"; A1:+64;", equal + both, b"", b" % " + h1),
             (equal + b"; H1:+60; ?", equal + both, b" % H1:+60 is +64, not read: ?", b", " + a1),
-            (equal + b"; D4:+02; PS:+64", equal + both, b" % D4:+02 is no move, PS:+64 is no move", b", " + a1 + b", " + h1),
+            (equal + b"; D4:+02; PS:+64", equal + both, b" % D4:+02 is not a move, PS:+64 is not a move", b", " + a1 + b", " + h1),
             (equal + b"; ?", equal + both, b" % not read: ?", b""),
             (BOARD + b"; H1:+62", BOARD + b"; H1:+62; A1:+52;", b"", b""),
             (BOARD + b"; A1:+52", BOARD + b"; H1:+62; A1:+52;", b"", b" % " + h1),
             (passes + b"; PS:-64", passes + b"; PS:-64;", b"", b""),
-            (passes + b"; A1:-64", passes + b"; PS:-64;", b" % A1:-64 is no move", b""),
-            (b"X" * 64 + b" O; PS:-64", b"X" * 64 + b" O; --:-64;", b" % PS:-64 is no move", b""),
+            (passes + b"; A1:-64", passes + b"; PS:-64;", b" % A1:-64 is not a move", b""),
+            (b"X" * 64 + b" O; PS:-64", b"X" * 64 + b" O; --:-64;", b" % PS:-64 is not a move", b""),
         )
         for line, scored, remarks, more in rows:
             with self.subTest(line=line):

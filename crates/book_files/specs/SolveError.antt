@@ -30,7 +30,7 @@ solve_error_reason (Program error) = error_reason error
 solve_error_reason Mixed = codes "answers mixed"
 solve_error_reason (BadBook fault) = book_fault_text fault
 solve_error_reason (NoPlace name) = codes "cannot write " ++ name.now
-solve_error_reason (NoBook name) = name.now ++ codes " is no book and would be overwritten"
+solve_error_reason (NoBook name) = name.now ++ codes " is not a book and would be overwritten"
 solve_error_reason (ReadBook name) =
     name.now ++ (codes " is read and would be overwritten: write --book-out NEW, then "
     ++ (codes "ffosolve-many --merge-books " ++ (name.now ++ codes " NEW")))

@@ -94,7 +94,7 @@ impl fmt::Display for SolveError<'_> {
             SolveError::Mixed => f.write_str("answers mixed"),
             SolveError::BadBook(fault) => write!(f, "{fault}"),
             SolveError::NoPlace(name) => write!(f, "cannot write {name}"),
-            SolveError::NoBook(name) => write!(f, "{name} is no book and would be overwritten"),
+            SolveError::NoBook(name) => write!(f, "{name} is not a book and would be overwritten"),
             SolveError::ReadBook(name) => write!(
                 f,
                 "{name} is read and would be overwritten: write --book-out NEW, then ffosolve-many --merge-books {name} NEW"

@@ -79,7 +79,7 @@ fn search_last_move<T: Bounds>(table: &T, ending: Ending, bound: i8) -> i8
     ending.score(table.scoring())
 }
 
-// Searches a position whose one empty square is no move of the mover: a pass, or the end of the
+// Searches a position whose one empty square is not a move of the mover: a pass, or the end of the
 // game. Returns a score that places its value in the window from the bound to one above it.
 #[inline(always)]
 fn search_last_pass<T: Bounds>(table: &T, ending: Ending, bound: i8) -> i8

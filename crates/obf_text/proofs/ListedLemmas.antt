@@ -4,7 +4,7 @@ use Rattle.std.specs.List.{cons_option, filter_map}
 use Rattle.obf_text.specs.Fields.{Field, IsNoField, Lists, field_of}
 use Rattle.obf_text.proofs.FieldLemmas.{field_from, field_is, none_from, none_is}
 
--- the empty piece is no field
+-- the empty piece is not a field
 pub empty_is_none : IsNoField []
 empty_is_none = none_from [] refl
 

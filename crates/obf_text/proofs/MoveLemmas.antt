@@ -50,7 +50,7 @@ at_is a b q h letter digit =
     let over : ((a == 45) && (b == 45)) ≡ false = grind (arith, nat_tests) in
     rw (pass, over) (square_bytes a b q h letter digit)
 
--- two bytes, the first of which is no blank, that the reader takes for the move
+-- two bytes, the first of which is not a blank, that the reader takes for the move
 pub record IsRead (text : List ℕ) (m : ListedMove) : Type 0 where
   pub first : ℕ
   pub second : ℕ

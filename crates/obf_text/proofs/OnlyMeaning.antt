@@ -25,7 +25,7 @@ gap_start : (place : ℕ) (cells : List Cell) (gap rest : List ℕ) → AllPass 
     → gap_item place cells (gap ++ rest) ≡ side_item (place + length gap) cells rest
 gap_start place cells gap rest h s = rw (blanks_len gap rest h s, drop-append_seam gap rest) refl
 
--- a cell's byte is no blank and no `%`
+-- a cell's byte is neither a blank nor `%`
 cell_starts : (b : ℕ) → is_cell b ≡ true → (is_content b ≡ true) × ((b == 37) ≡ false)
 cell_starts b h = (grind (arith, nat_tests), grind (arith, nat_tests))
 

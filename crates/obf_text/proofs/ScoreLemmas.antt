@@ -87,7 +87,7 @@ score_from (sign ∷ digits) z e = score_at sign digits z (sign == 43) (sign == 
 digit_content : (b d : ℕ) → IsDigit b d → is_blank b ≡ false
 digit_content b d h = let e : b ≡ 48 + d = h.0 in grind (arith, nat_tests)
 
--- a number is not empty, and its last byte is no blank
+-- a number is not empty, and its last byte is not a blank
 pub number_last : (digits : List ℕ) (n : ℕ) → IsNumber digits n → (0 < length digits) × (is_blank (get_or digits (length digits - 1) 0) ≡ false)
 number_last [] n h = absurd h
 number_last (a ∷ []) n h = (omega arith, digit_content a n h)

@@ -21,7 +21,7 @@ lacks_nil c = record { each = λ k d lt. absurd (omega arith) }
 abbrev pub IsMark : ℕ → Type 0
 IsMark c = (c ≡ 10) ⊎ ((c ≡ 37) ⊎ (c ≡ 59))
 
--- a byte that is no mark
+-- a byte that is not a mark
 abbrev IsPlain : ℕ → Type 0
 IsPlain b = (b ≢ 10) × (b ≢ 37) × (b ≢ 59)
 

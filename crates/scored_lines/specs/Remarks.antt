@@ -15,10 +15,10 @@ use Rattle.scored_lines.specs.declared.demands.Listing.{Listing}
 
 -- the score of a move, or that the position has no such move
 unfoldable pub verdict_text : Option ℤ → List ℕ
-verdict_text None = codes "no move"
+verdict_text None = codes "not a move"
 verdict_text (Some score) = score_text score
 
--- `A1:+62 is +52`, or `D4:+02 is no move`
+-- `A1:+62 is +52`, or `D4:+02 is not a move`
 unfoldable pub wrong_text : Wrong → List ℕ
 wrong_text w =
     move_text w.listed ++ (codes ":" ++ (score_text w.claimed

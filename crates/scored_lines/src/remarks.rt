@@ -17,7 +17,7 @@ use obf_text::{ListedMove, field_of, line_pieces, move_bytes, score_bytes, witho
 use std::io;
 use std::io::Write;
 
-// Writes the score of a move, or `no move`.
+// Writes the score of a move, or `not a move`.
 #[tactic(auto, unfolding(crate::specs::Remarks::verdict_text))]
 fn write_verdict<W: Write>(writer: &mut W, score: Option<i8>) -> io::Result<()>
     requires { IfSome score (λ z. nat_abs z < 100) }
@@ -25,7 +25,7 @@ fn write_verdict<W: Write>(writer: &mut W, score: Option<i8>) -> io::Result<()>
         (Appends (W.contents writer.old) (W.contents writer.new) (verdict_text score)) }
 {
     match score {
-        None => writer.write_all(b"no move"),
+        None => writer.write_all(b"not a move"),
         Some(score) => writer.write_all(&score_bytes(score)),
     }
 }

@@ -101,7 +101,7 @@ def merge_books(command, programs):
     """Merges books of one scoring into one, on standard output or in a file."""
     refuse_others(command, "merge_books", "book_out")
     if not command.words:
-        raise misused("--merge-books names no book")
+        raise misused("--merge-books needs the name of a book")
     for name in command.words:
         check_readable(Path(name))
     program = Program(programs, "ffosolve")
