@@ -68,18 +68,6 @@ fn claims_of<T: Files>(rt: &T, alloc: Global, name: &str) -> io::Result<Result<C
     claims_in(alloc, &mut file)
 }
 
-// Reads the claims of the book in the file of this name.
-fn read_book<'a, T: Files>(rt: &T, alloc: Global, name: &'a str) -> Result<Claims, SolveError<'a>>
-    ensures silent { IfErr result IsSilent }
-    ensures status { IfErr result (λ error. (status_of error ≡ 1) ⊎ (status_of error ≡ 3)) }
-{
-    match claims_of(rt, alloc, name) {
-        Ok(Ok(claims)) => Ok(claims),
-        Ok(Err(fault)) => Err(SolveError::from(fault)),
-        Err(fault) => Err(SolveError::Program(read_error(&fault, name))),
-    }
-}
-
 /// Reads the claims of the book in the file of this name; None where there is no name. The errors
 /// are a file that can't be read, or is neither a regular file nor a pipe; a text that is not a
 /// book; and out of memory.
@@ -94,7 +82,12 @@ pub fn read_claims<'a, T: Files>(
     let Some(name) = name else {
         return Ok(None);
     };
-    Ok(Some(read_book(rt, alloc, name.as_str())?))
+    let name = name.as_str();
+    match claims_of(rt, alloc, name) {
+        Ok(Ok(claims)) => Ok(Some(claims)),
+        Ok(Err(fault)) => Err(SolveError::from(fault)),
+        Err(fault) => Err(SolveError::Program(read_error(&fault, name))),
+    }
 }
 
 // Makes the text of the book.
