@@ -54,8 +54,7 @@ OPTIONS = {
         ("--max-empties", "N", f"solve positions with at most N empty squares, 0 to 60 [default: {DEFAULT_EMPTIES}]"),
         ("--workers", "N", "threads for each part, besides one of its own, 0 to 64 [default: 0]"),
         ("--table", "N", "entries of the table for each part, 32 bytes each"),
-        ("--scoring", "NAME",
-         "how a finished game is scored [default: winner] [possible values: winner, discs, sign]"),
+        ("--scoring", "NAME", "how a finished game is scored [default: winner] [possible values: winner, discs, sign]"),
         ("--book-in", "FILE", "a book of claimed answers, which are tested before they are used"),
         ("--book-out", "FILE", "write all solved positions to FILE as a book"))}
 

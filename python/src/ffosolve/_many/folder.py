@@ -43,8 +43,7 @@ def lock_folder(folder):
     found, mark = sorted(os.listdir(folder)), read_or_nothing(folder / LOCK)
     others = [name for name in found if name != LOCK and not (mark and name.endswith(".new"))]
     if (others or mark not in (b"", MARK.encode())) and read_asked(folder) is None:
-        raise Refusal(REFUSED, f"{folder} has files that are not {NAME}'s, as {found[0]}: "
-                               "name a new or an empty folder")
+        raise Refusal(REFUSED, f"{folder} has files that are not {NAME}'s, as {found[0]}: name a new or an empty folder")
     lock, end = os.open(folder / LOCK, os.O_RDWR | os.O_CREAT, 0o666), time.monotonic() + LOCK_SECONDS
     while time.monotonic() < end:
         with contextlib.suppress(BlockingIOError):
@@ -65,7 +64,7 @@ def difference(name, before, now):
 
 def check_asked(before, options, listed, source, command):
     """Refuses other options and another list than those the folder was begun with; a longer list goes on."""
-    kept = {"--complete": False, **before["options"]}  # which an earlier version did not know
+    kept = {**dict.fromkeys(options, False), **before["options"]}  # an earlier version did not know --complete
     if differing := [difference(name, kept[name], now) for name, now in options.items() if kept[name] != now]:
         raise Refusal(REFUSED, f"{command.folder} was begun {' and '.join(differing)}: "
                                "use another folder, or the same options")

@@ -38,8 +38,7 @@ def run_options(command):
     # The parts keep all processors busy: by itself each needs no more than one thread.
     options = {"max-empties": command.max_empties, "scoring": command.scoring, "workers": command.workers or 0,
                "table": command.table}
-    words = [f"--{name}={value}" for name, value in options.items() if value is not None]
-    return words + ["--complete"] * command.complete
+    return [f"--{name}={value}" for name, value in options.items() if value is not None] + ["--complete"] * command.complete
 
 
 def check_tools(has_far=False):
