@@ -45,10 +45,8 @@ def processes_beside(process, kind):
 class Room:
     """What the machines lie in: the caller's network, whose bridge joins them, and the caller's home folder."""
 
-    def __init__(self, folder, count=3):
-        self.folder = Path(folder)
-        self.home = self.folder / "me"
-        self.names = [f"h{number + 1}" for number in range(count)]
+    def __init__(self, folder):
+        self.folder, self.home, self.names = folder, folder / "me", ("h1", "h2", "h3")
         self.lay_keys()
         words = ["unshare", "--mount", "--net", "--pid", "--fork", "--kill-child", "--mount-proc", "sh", "-c", "echo; exec cat"]
         self.keeper = subprocess.Popen(words, stdin=subprocess.PIPE, stdout=subprocess.PIPE)  # ends when this process does

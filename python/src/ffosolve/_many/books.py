@@ -2,10 +2,11 @@
 import contextlib
 import heapq
 import os
+import re
 import tempfile
 from pathlib import Path
 
-from .._positions import read_lines
+from .._positions import NoPosition, Position
 from .._squares import NAMES
 from .arguments import refuse_others
 from .files import is_same, regular, write_whole
@@ -14,18 +15,22 @@ from .parts import header_of
 from .programs import Program
 
 OPEN_BOOKS = 200  # that are merged at once
+ENTRY = re.compile(rb"[XO-]{64} X;(?: (?:[A-H][1-8]|PS|--):[+-]\d\d;)+\n")  # as ffosolve writes it
 
 
 def entries_of(path, name=None):
     """The entries of a book, rising: each as its position, its place, and between them the line that ffosolve writes, with the
     greatest listed score and the moves listed with it."""
     with path.open("rb") as file:
-        for line in read_lines(file):
-            greatest = max(score for _, score in line.listed)
-            moves = {move for move, score in line.listed if score == greatest}
-            best = sorted(moves & {*NAMES}, key=NAMES.index) or [max(moves)]  # a pass rather than the end of the game
-            claims = "".join(f" {move}:{greatest:+03d};" for move in best)
-            yield line, f"{line.to_obf('X')}{claims}\n".encode(), (name or str(path), line.number)
+        for number, text in enumerate(file, 1):
+            with contextlib.suppress(NoPosition):
+                line = Position.from_obf(text)
+                if not ENTRY.fullmatch(text):
+                    greatest = max(score for _, score in line.listed)
+                    moves = {move for move, score in line.listed if score == greatest}
+                    best = [name for name in NAMES if name in moves] or [max(moves)]  # a pass rather than the end of the game
+                    text = f"{line.to_obf('X')}{''.join(f' {move}:{greatest:+03d};' for move in best)}\n".encode()
+                yield line, text, (name or str(path), number)
 
 
 def merged(books):

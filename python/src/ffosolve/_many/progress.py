@@ -1,7 +1,7 @@
 """How far the work is, and how long the rest of it will take."""
 import time
 
-from .._positions import read_lines
+from .parts import asked_lines
 
 LONG_SECONDS = 600  # after which a part is named
 GROWTH = 2.5  # of the work, with each empty square
@@ -9,8 +9,9 @@ GROWTH = 2.5  # of the work, with each empty square
 
 def weight_of(text, most):
     """How much work the lines of a part are, by their empty squares, against one without any."""
-    lines = read_lines(text, refused=lambda _: None)
-    return sum(GROWTH ** line.empties if line.empties <= most else 1 for line in lines)
+    fronts = [line.lstrip()[:64] for line in asked_lines(text).values()]
+    empties = [front.count(b"-") + front.count(b".") for front in fronts]
+    return sum(GROWTH ** count if count <= most else 1 for count in empties)
 
 
 def span_of(seconds):
