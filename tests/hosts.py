@@ -117,13 +117,10 @@ class Host:
         self.key = room.folder / f"{name}.key"
         self.home = room.folder / name
         self.relay = self.process = None
+        self.is_up = False
 
     def clear(self):
         """Boots it with an empty home folder, and with nothing changed."""
-        if self.relay is not None:
-            self.relay.kill()
-            self.relay.wait()
-            self.relay = None
         self.end()
         shutil.rmtree(self.home, ignore_errors=True)
         (self.home / ".ssh").mkdir(parents=True)
@@ -153,6 +150,7 @@ class Host:
         self.room.do("sh", "-c", f"""ip link del {self.link} 2>/dev/null
             ip link add {self.link} type veth peer name eth0 netns {self.first}""")
         self.plug()
+        self.is_up = True
         wait_until(lambda: ":0016 00000000:0000 0A" in Path(f"/proc/{self.first}/net/tcp").read_text())  # it listens
 
     def plug(self):
@@ -171,6 +169,10 @@ class Host:
 
     def end(self):
         """Ends it: sshd and all its processes at once."""
+        self.is_up = False
+        if self.relay is not None:
+            self.relay.kill()
+            self.relay.wait()
         if self.process is not None and self.process.poll() is None:
             with contextlib.suppress(ProcessLookupError):
                 os.kill(self.first, signal.SIGKILL)
@@ -178,13 +180,14 @@ class Host:
 
     def lose_link(self, more=""):
         """Has all packets vanish, so that connections hang; then more is done."""
-        mac = self.do("cat", "/sys/class/net/eth0/address").strip()
-        self.room.do("sh", "-ec", f"""ip neigh replace {self.address} lladdr {mac} dev br0 nud permanent
+        self.is_up = False
+        self.room.do("sh", "-ec", f"""ip neigh replace {self.address} lladdr 02:00:00:00:00:02 dev br0 nud permanent
             ip link set {self.link} down{more}""")
 
     def cut(self, seconds):
         """Has all packets vanish for so long, however busy this machine is."""
         self.lose_link(f"; sleep {seconds}; {self.forget}; ip link set {self.link} up")
+        self.is_up = True
 
     def lose_power(self):
         """Ends it while no packet says so."""

@@ -56,7 +56,8 @@ def setUpModule():
         shutil.copy(built(), program)
         if name != "plain":
             program.write_text(PROGRAM.replace("@real@", str(BASE / "plain/bin/ffosolve")))
-    change_many(BASE / "hasty/bin/ffosolve-many", "watch", "LOST_SECONDS = 60", "LOST_SECONDS = 3")
+    for module, old, new in (("watch", "LOST_SECONDS = 60", "LOST_SECONDS = 3"), ("folder", "HOST_SECONDS = 30", "HOST_SECONDS = 10")):
+        change_many(BASE / "hasty/bin/ffosolve-many", module, old, new)
     LIST = run(ROOT / "bench/positions", 60, 1, 5).stdout.decode()
     (BASE / "list.obf").write_text(LIST)
     ONE = run(BASE / "plain/bin/ffosolve", "--book-out", BASE / "one.book", BASE / "list.obf").stdout.decode()
@@ -123,11 +124,6 @@ class Case(unittest.TestCase):
         path.chmod(mode)
         self.room.give(path)
 
-    def words(self, *words, hosts="2/h1\n2/h2\n2/h3\n", by="slow", **environment):
-        self.write("hosts", hosts)
-        words = ("--hosts", "hosts", f"--lines={self.LINES}", "--book-out", "joined.book", *words, "work", "list.obf")
-        return self.room.words(BASE / by / "bin/ffosolve-many", *words, **environment)
-
     def slow(self, seconds, *hosts):
         """Has parts take so long on machines, so that all is not solved before the others were asked."""
         for host in hosts:
@@ -149,27 +145,27 @@ class Case(unittest.TestCase):
         """A machine that is lost is known in ten seconds, and not in 25."""
         self.configured("ServerAliveInterval 2", "ConnectTimeout 4")
 
-    def start(self, *words, **how):
+    def start(self, *words, hosts="2/h1\n2/h2\n2/h3\n", by="slow", **environment):
         """The command, which goes on meanwhile; what it tells is written to a file."""
+        self.write("hosts", hosts)
+        words = ("--hosts", "hosts", f"--lines={self.LINES}", "--book-out", "joined.book", *words, "work", "list.obf")
+        words = self.room.words(BASE / by / "bin/ffosolve-many", *words, **environment)
         with open(self.room.folder / "out", "wb") as output, open(self.room.folder / "told", "wb") as told:
-            ran = subprocess.Popen(self.words(*words, **how), stdin=subprocess.DEVNULL, stdout=output, stderr=told)
+            ran = subprocess.Popen(words, stdin=subprocess.DEVNULL, stdout=output, stderr=told)
         self.addCleanup(self.end, ran)
         return ran
 
     def end(self, ran):
-        def is_ended():
-            found = self.room.processes()
+        while found := self.room.processes():  # what is killed may have started another since it was looked for
             for process in found:
                 with contextlib.suppress(ProcessLookupError):
                     os.kill(process, signal.SIGKILL)
-            return not found
-
-        wait_until(is_ended)  # what is killed may have started another since it was looked for
+            time.sleep(0.1)
         ran.wait()
 
-    def told(self):
+    def told(self, text=None):
         """The lines that were told, but for the first, which tells what the list holds, and those of what takes its time."""
-        lines = (self.room.folder / "told").read_text().splitlines()
+        lines = ((self.room.folder / "told").read_text() if text is None else text).splitlines()
         return [line.removeprefix("ffosolve-many: ") for line in lines
                 if not re.search(": 60 lines in [0-9]+ parts, |, parts [0-9]+ of |: waits for ", line)]
 
@@ -181,10 +177,10 @@ class Case(unittest.TestCase):
         return (self.room.folder / "out").read_text()
 
     def whole(self, ran, seconds=300):
-        """The command ends with the report and the book of one run; gives what it told."""
+        """The command ends with the report and the book of one run, and leaves nothing where it can be; gives what it told."""
         self.assertEqual(ran.wait(timeout=seconds), 0, self.told())
-        self.assertEqual(self.printed(), ONE)
-        self.assertEqual((self.room.home / "joined.book").read_bytes(), BOOK)
+        self.assertEqual((self.printed(), (self.room.home / "joined.book").read_bytes()), (ONE, BOOK))
+        self.nothing_left(*(host for host in self.room.hosts.values() if host.is_up))
         return self.told()
 
     def solved(self, *words, **how):
@@ -216,8 +212,7 @@ class Case(unittest.TestCase):
         return f"sleep {seconds} " in host.processes().values()
 
     def nothing_left(self, *hosts):
-        for host in hosts or self.room.hosts.values():
-            self.assertEqual(self.left(host), [], host.name)
+        self.assertEqual({host.name: self.left(host) for host in hosts}, {host.name: [] for host in hosts})
 
     def connections(self, host):
         return host.do("cat", "/run/log").count("Accepted publickey")
@@ -238,7 +233,6 @@ class Gone(Case):
         self.whole(ran)
         self.assertTrue(self.is_told("h2 is lost: "), self.told())
         self.assertRegex("\n".join(self.told()), "h2 is lost: Timeout, server .* not responding.; its parts go to others")
-        self.nothing_left(self.h1, self.h3)
 
     def test_machine_that_is_up_again_at_once(self):
         self.LINES = 2
@@ -250,7 +244,6 @@ class Gone(Case):
         self.h2.boot()
         told = self.whole(ran)
         self.assertLessEqual(len([line for line in told if "h2" in line and not line.startswith("on ")]), 2, told)
-        self.nothing_left()
 
     def test_machine_that_is_lost_while_the_program_is_copied(self):
         self.lost_soon()
@@ -259,7 +252,7 @@ class Gone(Case):
         self.slow(5, self.h1, self.h2)
         ran = self.start("--book-in", "big.book")
         wait_until(lambda: any(self.h3.home.glob("run-*/solve")))
-        self.h3.relay.kill()
+        self.h3.lose_link()
         self.whole(ran)
         self.assertTrue(self.is_told("h3 is lost: "), self.told())
         self.assertEqual(len(self.begun("h1", "done") + self.begun("h2", "done")), 10)
@@ -282,7 +275,6 @@ class Gone(Case):
         self.h1.boot()
         told = "h1 is lost: Timeout, server 10.77.0.11 not responding.; it is tried again"
         self.assertEqual(self.whole(ran), ["on h1", told, "h1 is back"])
-        self.nothing_left(self.h1)
 
     def test_sshd_that_is_killed_with_all_processes(self):
         self.slow(1, self.h1, self.h2)
@@ -290,7 +282,6 @@ class Gone(Case):
         wait_until(lambda: self.begun("h1", "done"))
         self.h1.boot()
         self.whole(ran)
-        self.nothing_left()
 
 
 class Connections(Case):
@@ -310,7 +301,6 @@ class Connections(Case):
             self.assertEqual(self.begun("h1", "failed"), [])
             self.assertNotIn("drop connection", self.h1.do("cat", "/run/log"))
             self.assertEqual(self.connections(self.h1), connections)
-            self.nothing_left()
             self.again()
 
     def test_slow_link(self):
@@ -319,7 +309,6 @@ class Connections(Case):
         self.solved(by="plain", hosts="1/h1\n")
         begun, done = ([float(line[0]) for line in self.begun("h1", event)] for event in ("begin", "done"))
         self.assertLess(done[1] - begun[1], 25 * busy())
-        self.nothing_left(self.h1)
 
     def test_users_own_configuration_decides(self):
         self.configured("ServerAliveInterval 2", "ConnectTimeout 20")
@@ -347,7 +336,6 @@ class Connections(Case):
         self.assertEqual(len(self.left(self.h1)), 1)
         (self.h1.home / "slow").unlink()
         self.solved(hosts="2/h1\n")
-        self.nothing_left()
 
 
 class Tried(Case):
@@ -360,7 +348,6 @@ class Tried(Case):
         self.assertEqual(sorted(self.solved()), [
             "h1 is left out: its shell prints 'Welcome', where results are read", "h2 is left out: sha256sum is not there",
             "on h3"])
-        self.nothing_left()
 
     def test_program_that_does_not_run_there_or_is_wrong(self):
         self.write("wrong", "", self.h1.home)
@@ -369,14 +356,12 @@ class Tried(Case):
         self.assertEqual(sorted(self.solved()), ["h1 is left out: it solves a known line wrong",
                                                  "h2 is left out: it can't solve: Killed", "on h1, h2, h3"])
         self.assertEqual(self.begun("h1", "done") + self.begun("h2", "done"), [])
-        self.nothing_left()
 
     def test_machine_that_fails_three_parts_in_a_row(self):
         self.write("fails", "ffosolve: out of memory\nand more\n", self.h2.home)
         self.slow(1, self.h1, self.h2)  # so that h2 is left out before another part fails there
         self.assertIn("h2 is left out: 3 parts failed in a row: ffosolve: out of memory", self.solved(hosts="1/h1\n1/h2\n"))
         self.assertEqual(len(self.begun("h2", "failed")), 3)
-        self.nothing_left()
 
     def test_log_keeps_all_rounds(self):
         self.write("fails", "ffosolve: out of memory\n", self.h1.home)
@@ -414,6 +399,17 @@ class Tried(Case):
                          "not available.\nh3 is left out: mkdir: .*Read-only file system$")
         self.assertEqual(last, "no machine can work")
 
+    def test_machine_whose_question_is_killed_is_not_waited_for(self):
+        self.write("fails", "ffosolve: out of memory\n", self.h1.home)
+        self.write(".bashrc", "sleep 100\n", self.h2.home)
+        ran = self.start(by="hasty", hosts="1/h1\nh2\n")
+        wait_until(lambda: self.begun("h1", "failed"))
+        for process, words in sorted(self.room.processes().items()):
+            if "job meet" in words:
+                os.kill(process, signal.SIGKILL)
+        self.assertEqual(ran.wait(timeout=60 * busy()), 1)
+        self.assertEqual(self.begun("h2", "out"), [])
+
     def test_reason_that_ssh_does_not_tell(self):
         self.configured("LogLevel QUIET")
         self.h2.end()
@@ -448,7 +444,6 @@ class Tried(Case):
             self.slow(1, host)
         self.assertEqual(self.solved(), ["on h1, h2, h3"])
         self.assertTrue(all(self.begun(name, "done") for name in self.room.hosts))
-        self.nothing_left()
 
 
 class Swept(Case):
@@ -473,12 +468,11 @@ class Swept(Case):
         """The status of --sweep, and what it tells."""
         ran = run(*self.room.words(BASE / "slow/bin/ffosolve-many", "--sweep", "work"))
         self.assertEqual(ran.stdout, b"")
-        return ran.returncode, ran.stderr.decode()
+        return ran.returncode, self.told(ran.stderr.decode())
 
     def test_interrupted_run_is_swept_by_the_next_one(self):
         self.interrupt(self.h1, self.h2)
         self.solved(hosts="1/h1\n")
-        self.nothing_left()
 
     def test_machine_that_was_away_is_swept_by_the_next_run(self):
         self.lost_soon()
@@ -492,7 +486,6 @@ class Swept(Case):
         self.assertRegex(told[-1], f"^{self.stays(self.h2, '.')}")
         self.h2.boot()
         self.solved()
-        self.nothing_left()
 
     def test_machine_is_remembered_until_its_files_are_gone(self):
         self.slow(1, self.h1, self.h2)
@@ -505,10 +498,9 @@ class Swept(Case):
         for hosts in ("1/h1\n1/h2\n", "1/h1\n"):  # it isn't reached, and isn't named; the second time all is solved
             self.solved(hosts=hosts)
             self.assertTrue(self.is_told("h2: run-"), self.told())
-        self.nothing_left(self.h1)
         self.assertEqual(len(self.left(self.h2)), 1)
         self.h2.boot()
-        self.assertEqual(self.sweep(), (0, ""))
+        self.assertEqual(self.sweep(), (0, []))
         self.nothing_left(self.h1, self.h2)
         self.assertEqual((self.room.home / "work/hosts").read_text(), "")
 
@@ -541,14 +533,14 @@ class Swept(Case):
         for name in ("notes", "run-0123456789ab", f"{self.left(self.h1)[0]}/parts/mine"):
             self.write(name, "mine", self.h1.home)
         self.h3.end()
-        status, told = self.sweep()
+        status, (told,) = self.sweep()
         self.assertEqual(status, 3)
-        self.assertRegex(told, f"ffosolve-many: {self.stays(self.h3, 'ssh: ')}")
+        self.assertRegex(told, f"^{self.stays(self.h3, 'ssh: ')}")
         self.nothing_left(self.h2)
         self.assertEqual(sorted(path.name for path in self.h1.home.rglob("*") if path.is_file() and path.read_text() == "mine"),
                          ["mine", "notes", "run-0123456789ab"])
         self.h3.boot()
-        self.assertEqual(self.sweep(), (0, ""))
+        self.assertEqual(self.sweep(), (0, []))
         self.nothing_left(self.h2, self.h3)
 
 

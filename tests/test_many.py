@@ -476,6 +476,13 @@ class Scores(Case):
             self.assertEqual((ran.returncode, ran.stdout), (1, b"% refused: ?\n" + self.one))
         self.assertIn(", 3 of them solved before", ran.stderr.decode())
 
+    def test_output_that_is_cut_short_is_told(self):
+        self.one = SMALL
+        self.same("--scores", "work", "list.obf")
+        ran = run("sh", "-c", f'ulimit -f 1; PYTHONUNBUFFERED=1 exec "{MANY}" --quiet --scores work list.obf >short')
+        told = b"ffosolve-many: cannot write standard output: File too large\n"
+        self.assertEqual((ran.returncode, ran.stderr), (3, told))
+
     def test_scores_with_a_lost_line_are_made_again(self):
         self.one = SMALL
         self.same("--scores", "--lines=20", "work", "list.obf")

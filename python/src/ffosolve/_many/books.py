@@ -19,8 +19,8 @@ ENTRY = re.compile(rb"[XO-]{64} X;(?: (?:[A-H][1-8]|PS|--):[+-]\d\d;)+\n")  # as
 
 
 def entries_of(path, name=None):
-    """The entries of a book, rising: each as its position, its place, and between them the line that ffosolve writes, with the
-    greatest listed score and the moves listed with it."""
+    """The entries of a book, rising: each as its position; its line as ffosolve writes it, with the greatest listed score and
+    the moves listed with it; and its place."""
     with path.open("rb") as file:
         for number, text in enumerate(file, 1):
             with contextlib.suppress(NoPosition):
@@ -28,7 +28,7 @@ def entries_of(path, name=None):
                 if not ENTRY.fullmatch(text):
                     greatest = max(score for _, score in line.listed)
                     moves = {move for move, score in line.listed if score == greatest}
-                    best = [name for name in NAMES if name in moves] or [max(moves)]  # a pass rather than the end of the game
+                    best = [square for square in NAMES if square in moves] or [max(moves)]  # PS, otherwise --
                     text = f"{line.to_obf('X')}{''.join(f' {move}:{greatest:+03d};' for move in best)}\n".encode()
                 yield line, text, (name or str(path), number)
 

@@ -26,7 +26,8 @@ class Machine:
         """What a job has to know of it: `reach OPTIONS COMMAND` runs a command there."""
         is_ssh = "yes" if Path(self.command[0]).name == "ssh" else ""
         options = is_ssh and '-T -F ssh_config -S "$socket" -o ControlMaster=no -o ControlPersist=no'
-        values = {"name": self.name, "login": self.login, "jobs": self.jobs, "folder": f"{run.name}-{self.key}", "is_ssh": is_ssh}
+        values = {"name": self.name, "login": self.login, "jobs": self.jobs, "folder": f"{run.name}-{self.key}",
+                  "is_ssh": is_ssh}
         return "".join(f"{name}={shlex.quote(value)}\n" for name, value in values.items()) + (
             f'reach() {{ how=$1; shift; {shlex.join(self.command)} {options} $how "$name" "$@"; }}\n')
 

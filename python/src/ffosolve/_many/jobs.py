@@ -92,7 +92,7 @@ def parallel(run, lock, jobs, todo):
 
 
 def solve_parts(run, command, machines, parts, watch, stack, lock):
-    """Solves parts, in up to three rounds, and gives those that failed. The last connections are open as long as the stack is."""
+    """Solves parts, in up to three rounds, and gives those that failed; the stack keeps the last connections open."""
     asked = ask(machines, "meet", "out")
     for number in range(ROUNDS if parts else 0):
         check_tools(has_far=asked)

@@ -35,8 +35,9 @@ def read_parts(file, lines, name):
             if first == 1 and not part and not line.endswith(b"\n") and b"\r" in line.rstrip():
                 raise Refusal(UNREADABLE, f"cannot read {name}: its lines end with CR alone")
             if size > MOST_BYTES:
-                what = f"part {(first - 1) // lines:07d} (from line {first} of {name} on)" if part else f"line {first} of {name}"
-                use = f"use fewer lines, such as --lines {len(part)}" if part else "no part can hold it"
+                is_line, number = not part, f"{(first - 1) // lines:07d}"
+                what = f"line {first} of {name}" if is_line else f"part {number} (from line {first} of {name} on)"
+                use = "no part can hold it" if is_line else f"use fewer lines, such as --lines {len(part)}"
                 raise Refusal(REFUSED, f"{what} has more than {MOST_BYTES} bytes: {use}")
             part.append(line)
         if not part:
