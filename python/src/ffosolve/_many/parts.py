@@ -34,11 +34,11 @@ def read_parts(file, lines, name):
                 raise Refusal(UNREADABLE, f"cannot read {name}: it begins with a byte-order mark")
             if first == 1 and not part and not line.endswith(b"\n") and b"\r" in line.rstrip():
                 raise Refusal(UNREADABLE, f"cannot read {name}: its lines end with CR alone")
+            if size > MOST_BYTES and not part:
+                raise Refusal(REFUSED, f"line {first} of {name} has more than {MOST_BYTES} bytes: no part can hold it")
             if size > MOST_BYTES:
-                is_line, number = not part, f"{(first - 1) // lines:07d}"
-                what = f"line {first} of {name}" if is_line else f"part {number} (from line {first} of {name} on)"
-                use = "no part can hold it" if is_line else f"use fewer lines, such as --lines {len(part)}"
-                raise Refusal(REFUSED, f"{what} has more than {MOST_BYTES} bytes: {use}")
+                raise Refusal(REFUSED, f"part {(first - 1) // lines:07d} (from line {first} of {name} on) has more "
+                                       f"than {MOST_BYTES} bytes: use fewer lines, such as --lines {len(part)}")
             part.append(line)
         if not part:
             return
