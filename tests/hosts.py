@@ -2,21 +2,24 @@
 goes over ssh. They are namespaces of Linux below one process, with which they all end; nothing else of this machine is
 changed. That needs root, iproute2 and openssh-server.
 
-As a program, `python3 hosts.py NAME PID MS KBIT` is a slow link: a tap NAME here and a tap eth0 in the network of a
+As a program, `python3 -m tests.hosts NAME PID MS KBIT` is a slow link: a tap NAME here and a tap eth0 in the network of a
 process, joined with a delay and a rate each way.
 """
-import collections
+import concurrent.futures
 import contextlib
 import fcntl
 import os
-import select
+import queue
 import shutil
 import signal
 import struct
 import subprocess
 import sys
+import threading
 import time
 from pathlib import Path
+
+from tests.support import ROOT, wait_until
 
 USER = 3001  # the number of the user `me`, who calls, and whose home folder each machine has
 SSHD = "HostKey /run/key\nPidFile none\nUsePAM no\nPasswordAuthentication no\nStrictModes no\n"
@@ -24,34 +27,34 @@ SSHD = "HostKey /run/key\nPidFile none\nUsePAM no\nPasswordAuthentication no\nSt
 
 def child_of(process):
     """The number of the one child of a process."""
-    for _ in range(5500):
-        children = Path(f"/proc/{process}/task/{process}/children").read_text().split()
-        if children:
-            return int(children[0])
-        time.sleep(0.01)
-    raise AssertionError(f"process {process} starts nothing")
+    children = Path(f"/proc/{process}/task/{process}/children")
+    wait_until(children.read_text)
+    return int(children.read_text())
+
+
+def processes_beside(process, kind):
+    """What runs as the user in a process's namespace of a kind: command lines by their numbers."""
+    found, place = {}, os.readlink(f"/proc/{process}/ns/{kind}")
+    for path in Path("/proc").glob("[0-9]*"):
+        with contextlib.suppress(OSError):  # it has ended
+            if path.stat().st_uid == USER and os.readlink(path / "ns" / kind) == place:
+                found[int(path.name)] = (path / "cmdline").read_bytes().decode(errors="replace").replace("\0", " ")
+    return found
 
 
 class Room:
     """What the machines lie in: the caller's network, whose bridge joins them, and the caller's home folder."""
 
-    def __init__(self, folder, count=3):
-        self.folder = Path(folder)
-        self.home = self.folder / "me"
-        self.names = [f"h{number + 1}" for number in range(count)]
+    def __init__(self, folder):
+        self.folder, self.home, self.names = folder, folder / "me", ("h1", "h2", "h3")
         self.lay_keys()
-        words = ["unshare", "--mount", "--net", "--pid", "--fork", "--kill-child", "--mount-proc", "sh", "-c", "echo && exec cat"]
-        self.keeper = subprocess.Popen(words, stdin=subprocess.PIPE, stdout=subprocess.PIPE)  # which ends when this process does
+        words = ["unshare", "--mount", "--net", "--pid", "--fork", "--kill-child", "--mount-proc", "sh", "-c", "echo; exec cat"]
+        self.keeper = subprocess.Popen(words, stdin=subprocess.PIPE, stdout=subprocess.PIPE)  # ends when this process does
         self.keeper.stdout.readline()  # its mounts are its own by then
         self.inside = child_of(self.keeper.pid)
-        self.do("mount", "-t", "tmpfs", "none", "/home")
-        self.do("mkdir", "/home/me")
-        self.do("mount", "--bind", self.home, "/home/me")
-        self.do("mount", "--bind", self.folder / "passwd", "/etc/passwd")
-        self.do("ip", "link", "set", "lo", "up")
-        self.do("ip", "link", "add", "br0", "type", "bridge")
-        self.do("ip", "addr", "add", "10.77.0.1/24", "dev", "br0")
-        self.do("ip", "link", "set", "br0", "up")
+        self.do("sh", "-ec", f"""mount -t tmpfs none /home && mkdir /home/me
+            mount --bind '{self.home}' /home/me && mount --bind '{self.folder}/passwd' /etc/passwd
+            ip link set lo up && ip link add br0 type bridge && ip addr add 10.77.0.1/24 dev br0 && ip link set br0 up""")
         self.hosts = {name: Host(self, name, number) for number, name in enumerate(self.names, 1)}
 
     def lay_keys(self):
@@ -63,12 +66,20 @@ class Room:
             subprocess.run(["ssh-keygen", "-q", "-t", "ed25519", "-N", "", "-C", "", "-f", key], check=True)
         known = [f"{name} {Path(f'{key}.pub').read_text()}" for name, key in zip(self.names, keys[1:])]
         (ssh / "known_hosts").write_text("".join(known))
-        hosts = [f"Host {name}\n HostName 10.77.0.1{number}\n HostKeyAlias {name}\n"
-                 for number, name in enumerate(self.names, 1)]
-        (ssh / "config").write_text("".join(hosts))
+        self.config = "".join(f"Host {name}\n HostName 10.77.0.1{number}\n HostKeyAlias {name}\n"
+                              for number, name in enumerate(self.names, 1))
         self.give(self.home)
         for name, line in (("passwd", f"me:x:{USER}:{USER}::/home/me:/bin/bash"), ("shadow", "me:*:19000::::::")):
             (self.folder / name).write_text(Path("/etc", name).read_text() + line + "\n")
+
+    def clear(self):
+        """Has the caller's home folder and the machines as at first."""
+        for path in self.home.iterdir():
+            if path.name != ".ssh":
+                shutil.rmtree(path) if path.is_dir() else path.unlink()
+        (self.home / ".ssh/config").write_text(self.config)
+        with concurrent.futures.ThreadPoolExecutor() as threads:
+            list(threads.map(Host.clear, self.hosts.values()))
 
     def give(self, path):
         """Gives a file or a folder to the user."""
@@ -87,13 +98,8 @@ class Room:
                 "sh", "-c", 'cd && exec "$@"', "sh", *map(str, words)]
 
     def processes(self):
-        """What runs as the user who calls: command lines by their numbers."""
-        found = {}
-        for path in Path("/proc").glob("[0-9]*"):
-            with contextlib.suppress(OSError):  # it has ended
-                if path.stat().st_uid == USER and os.readlink(path / "ns/mnt") == os.readlink(f"/proc/{self.inside}/ns/mnt"):
-                    found[int(path.name)] = (path / "cmdline").read_bytes().decode(errors="replace").replace("\0", " ")
-        return found
+        """What runs as the user who calls."""
+        return processes_beside(self.inside, "mnt")
 
     def close(self):
         self.keeper.stdin.close()
@@ -106,31 +112,29 @@ class Host:
 
     def __init__(self, room, name, number):
         self.room, self.name, self.number = room, name, number
-        self.link = f"v{number}"
+        self.link, self.address = f"v{number}", f"10.77.0.1{number}"
+        self.forget = f"ip neigh flush to {self.address} dev br0 nud all"  # of one alone: two at once can't flush all
         self.key = room.folder / f"{name}.key"
         self.home = room.folder / name
-        self.more = ""  # lines of sshd_config
         self.relay = self.process = None
-        self.clear()
+        self.is_up = False
 
     def clear(self):
         """Boots it with an empty home folder, and with nothing changed."""
-        self.mend()
-        if self.process is not None:
-            self.end()
-            subprocess.run(["umount", "-q", self.home], stderr=subprocess.DEVNULL)
-            shutil.rmtree(self.home)
-        self.more = ""
+        self.end()
+        shutil.rmtree(self.home, ignore_errors=True)
         (self.home / ".ssh").mkdir(parents=True)
         shutil.copy(self.room.home / ".ssh/id_ed25519.pub", self.home / ".ssh/authorized_keys")
         self.room.give(self.home)
         self.boot()
 
-    def boot(self, shell="/bin/bash", home_size=None):
+    def boot(self, shell="/bin/bash", home_size=None, more=""):
+        """Starts it anew, with the user's shell, and lines of sshd_config; where it has a size, the home folder is empty."""
+        self.end()
         passwd = self.room.folder / f"{self.name}.passwd"
         passwd.write_text((self.room.folder / "passwd").read_text().replace("/home/me:/bin/bash", f"/home/me:{shell}"))
         config = self.room.folder / f"{self.name}.sshd"
-        config.write_text(SSHD + self.more)
+        config.write_text(SSHD + more)
         home = f"mount --bind '{self.home}' /home/me"
         if home_size:
             home = f"mount -t tmpfs -o size={home_size},uid={USER} none /home/me && cp -a '{self.home}/.ssh' /home/me"
@@ -142,50 +146,48 @@ class Host:
                  "--pid", "--fork", "--kill-child", "--mount-proc", "sh", "-c", script]
         self.process = subprocess.Popen(words, stdin=subprocess.DEVNULL, stderr=subprocess.DEVNULL)
         self.first = child_of(child_of(self.process.pid))
-        self.join()
-        for _ in range(5500):
-            if ":22 " in self.do("ss", "-ltn"):
-                return
-            time.sleep(0.01)
-        raise AssertionError(f"{self.name} does not start")
+        # The link of one that ended may be there, or go right now.
+        self.room.do("sh", "-c", f"""ip link del {self.link} 2>/dev/null
+            ip link add {self.link} type veth peer name eth0 netns {self.first}""")
+        self.plug()
+        self.is_up = True
+        wait_until(lambda: ":0016 00000000:0000 0A" in Path(f"/proc/{self.first}/net/tcp").read_text())  # it listens
 
-    def join(self):
-        """Gives it a link to the caller's bridge."""
-        with contextlib.suppress(subprocess.CalledProcessError):  # the link of one that ended may be there, or go right now
-            self.room.do("ip", "link", "del", self.link)
-        self.room.do("ip", "link", "add", self.link, "type", "veth", "peer", "name", "eth0", "netns", self.first)
-        self.room.do("ip", "link", "set", self.link, "master", "br0", "up")
-        self.address()
-
-    def address(self):
-        self.do("ip", "link", "set", "lo", "up")
-        self.do("ip", "addr", "add", f"10.77.0.1{self.number}/24", "dev", "eth0")
-        self.do("ip", "link", "set", "eth0", "up")
-        self.forget()
-
-    def forget(self):
-        """Has the caller ask for its link's address again. Of one machine alone: two at once can't flush all."""
-        self.room.do("ip", "neigh", "flush", "to", f"10.77.0.1{self.number}", "dev", "br0", "nud", "all")
+    def plug(self):
+        """Joins its link to the caller's bridge, once its own end is there."""
+        wait_until(lambda: "eth0" in Path(f"/proc/{self.first}/net/dev").read_text())
+        self.do("sh", "-ec", f"ip link set lo up; ip addr add {self.address}/24 dev eth0; ip link set eth0 up")
+        self.room.do("sh", "-ec", f"ip link set {self.link} master br0 up; {self.forget}")
 
     def do(self, *words):
         """Runs a command on it, as root."""
         return self.room.do(*words, pid=self.first)
 
+    def processes(self):
+        """What runs on it as the user, besides sshd."""
+        return processes_beside(self.first, "pid")
+
     def end(self):
         """Ends it: sshd and all its processes at once."""
-        with contextlib.suppress(ProcessLookupError):
-            os.kill(self.first, signal.SIGKILL)
-        self.process.wait()
+        self.is_up = False
+        if self.relay is not None:
+            self.relay.kill()
+            self.relay.wait()
+        if self.process is not None and self.process.poll() is None:
+            with contextlib.suppress(ProcessLookupError):
+                os.kill(self.first, signal.SIGKILL)
+            self.process.wait()
 
     def lose_link(self, more=""):
         """Has all packets vanish, so that connections hang; then more is done."""
-        mac = self.do("cat", "/sys/class/net/eth0/address").strip()
-        self.room.do("sh", "-ec", f"""ip neigh replace 10.77.0.1{self.number} lladdr {mac} dev br0 nud permanent
+        self.is_up = False
+        self.room.do("sh", "-ec", f"""ip neigh replace {self.address} lladdr 02:00:00:00:00:02 dev br0 nud permanent
             ip link set {self.link} down{more}""")
 
     def cut(self, seconds):
         """Has all packets vanish for so long, however busy this machine is."""
-        self.lose_link(f"; sleep {seconds}; ip neigh flush to 10.77.0.1{self.number} dev br0 nud all; ip link set {self.link} up")
+        self.lose_link(f"; sleep {seconds}; {self.forget}; ip link set {self.link} up")
+        self.is_up = True
 
     def lose_power(self):
         """Ends it while no packet says so."""
@@ -195,52 +197,40 @@ class Host:
     def delay(self, milliseconds, kbit):
         """Has each packet come so much later, at a rate."""
         self.room.do("ip", "link", "del", self.link)
-        words = ["nsenter", "-t", str(self.room.inside), "-n", sys.executable, __file__, self.link, self.first, milliseconds, kbit]
-        self.relay = subprocess.Popen(list(map(str, words)), stdin=subprocess.DEVNULL)
-        for _ in range(5500):
-            if "eth0" in self.do("ip", "link"):
-                break
-            time.sleep(0.01)
-        self.room.do("ip", "link", "set", self.link, "master", "br0", "up")
-        self.address()
+        words = ["nsenter", "-t", self.room.inside, "-n", sys.executable, "-m", "tests.hosts", self.link, self.first,
+                 milliseconds, kbit]
+        self.relay = subprocess.Popen(list(map(str, words)), stdin=subprocess.DEVNULL, cwd=ROOT)
+        self.plug()
 
-    def mend(self):
-        """Takes back what its link suffered."""
-        if self.relay is not None:
-            self.relay.kill()
-            self.relay.wait()
-            self.relay = None
-            self.join()
-        elif self.process is not None and self.process.poll() is None:
-            self.forget()
-            self.room.do("ip", "link", "set", self.link, "up")
+
+def carry(source, target, delay, rate):
+    """Hands on the frames of a tap, each so much later, at a rate; until a machine has ended."""
+    frames, free = queue.Queue(1000), 0.0
+
+    def write():
+        while True:
+            due, frame = frames.get()
+            time.sleep(max(0.0, due - time.monotonic()))
+            with contextlib.suppress(OSError):  # that end is down
+                os.write(target, frame)
+
+    threading.Thread(target=write, daemon=True).start()
+    with contextlib.suppress(OSError):
+        while True:
+            frame = os.read(source, 65536)
+            free = max(free, time.monotonic()) + len(frame) / rate
+            frames.put((free + delay, frame))
 
 
 def relay(name, process, milliseconds, kbit):
     """Joins two taps with a delay and a rate, for as long as this process lives."""
-    delay, rate = float(milliseconds) / 1000, float(kbit) * 1000 / 8
     ends = [os.open("/dev/net/tun", os.O_RDWR) for _ in range(2)]
     for end, tap in zip(ends, (name, "tap")):
         fcntl.ioctl(end, 0x400454CA, struct.pack("16sH22x", tap.encode(), 0x1002))  # TUNSETIFF; a tap without a header
     subprocess.run(["ip", "link", "set", "tap", "netns", process, "name", "eth0"], check=True)
-    queues, free = [collections.deque(), collections.deque()], [0.0, 0.0]
-    while True:
-        dues = [queue[0][0] for queue in queues if queue]
-        ready, _, _ = select.select(ends, [], [], max(0, min(dues) - time.monotonic()) if dues else None)
-        now = time.monotonic()
-        for at, end in enumerate(ends):
-            if end in ready and len(queues[at]) < 1000:
-                try:
-                    frame = os.read(end, 65536)
-                except OSError:  # the machine has ended
-                    return
-                free[at] = max(free[at], now) + len(frame) / rate
-                queues[at].append((free[at] + delay, frame))
-            while queues[at] and queues[at][0][0] <= now:
-                try:
-                    os.write(ends[1 - at], queues[at].popleft()[1])
-                except OSError:  # that end is down
-                    pass
+    how = float(milliseconds) / 1000, float(kbit) * 1000 / 8
+    threading.Thread(target=carry, args=(*ends, *how), daemon=True).start()
+    carry(*ends[::-1], *how)
 
 
 if __name__ == "__main__":

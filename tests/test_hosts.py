@@ -1,7 +1,6 @@
 """bin/ffosolve-many on machines with a real sshd, under faults: whatever happens, its report and its book are those of one
 run of ffosolve here, each machine that fails is named once, and nothing stays anywhere. It needs root.
 """
-import concurrent.futures
 import contextlib
 import os
 import re
@@ -9,14 +8,16 @@ import shutil
 import signal
 import subprocess
 import tempfile
+import threading
 import time
 import unittest
 from pathlib import Path
 
 from tests import support
-from tests.hosts import Host, Room, child_of
+from tests.hosts import Room, child_of
 from tests.support import ROOT, SECONDS, built, change_many, lay_many, need, run
 
+SIDE_BY_SIDE = 6  # tests, each on machines of its own: most of them wait
 # Stands in the program's place on the machines, in each of which files of the home folder say what it does.
 PROGRAM = """\
 #!/bin/sh
@@ -27,6 +28,7 @@ case $part in *known*) ;; *) [ ! -e ~/fails ] || { cat ~/fails >&2; exit 1; } ;;
 [ ! -e ~/wrong ] || { "@real@" "$@" | sed 's/ [+]/ -/'; exit; }
 exec "@real@" "$@"
 """
+MINE = '#!/bin/sh\nexec ssh "$@"\n'  # in place of ssh
 
 
 def busy():
@@ -35,12 +37,12 @@ def busy():
 
 
 def wait_until(holds, seconds=SECONDS):
-    """As that of support, on a machine that may be busy."""
-    support.wait_until(holds, seconds * busy())
+    """As that of support, on a machine that may be busy, which looks less often."""
+    support.wait_until(lambda: holds() or time.sleep(0.1), seconds * busy())
 
 
 def setUpModule():
-    global BASE, ROOM
+    global BASE, LIST, ONE, BOOK
     if os.geteuid() != 0:
         raise unittest.SkipTest("machines are made by root alone")
     for tool, package in (("parallel", "parallel"), ("ip", "iproute2"), ("sshd", "openssh-server"), ("nsenter", "util-linux")):
@@ -54,87 +56,147 @@ def setUpModule():
         shutil.copy(built(), program)
         if name != "plain":
             program.write_text(PROGRAM.replace("@real@", str(BASE / "plain/bin/ffosolve")))
-    change_many(BASE / "hasty/bin/ffosolve-many", "watch", "LOST_SECONDS = 60", "LOST_SECONDS = 3")
-    ROOM = Room(BASE / "room")
-    unittest.addModuleCleanup(ROOM.close)
+    for module, old, new in (("watch", "LOST_SECONDS = 60", "LOST_SECONDS = 3"), ("folder", "HOST_SECONDS = 30", "HOST_SECONDS = 10")):
+        change_many(BASE / "hasty/bin/ffosolve-many", module, old, new)
+    LIST = run(ROOT / "bench/positions", 60, 1, 5).stdout.decode()
+    (BASE / "list.obf").write_text(LIST)
+    ONE = run(BASE / "plain/bin/ffosolve", "--book-out", BASE / "one.book", BASE / "list.obf").stdout.decode()
+    BOOK = (BASE / "one.book").read_bytes()
+
+
+class Told(list):
+    """A result of a test that keeps what it is told."""
+
+    failfast = False
+
+    def __getattr__(self, name):
+        return lambda *words: self.append((name, words))
+
+
+class Beside:
+    """A test that runs beside others, in one of a few threads. What came of it is told in its turn."""
+
+    threads, waiting = [], []
+
+    def __init__(self, test):
+        self.test, self.told, self.is_over = test, Told(), threading.Event()
+        self.waiting.append(self)
+
+    def __call__(self, result):
+        while len(self.threads) < SIDE_BY_SIDE:
+            self.threads.append(threading.Thread(target=self.work, daemon=True))
+            self.threads[-1].start()
+        self.is_over.wait()
+        for name, words in self.told:
+            getattr(result, name)(*words)
+
+    def work(self):
+        with contextlib.suppress(IndexError):
+            while one := self.waiting.pop(0):
+                one.test(one.told)
+                one.is_over.set()
+
+
+def load_tests(loader, tests, pattern):
+    return unittest.TestSuite(Beside(test) for cases in tests for test in cases)
 
 
 class Case(unittest.TestCase):
     """A test with a list of 60 positions, in the home folder of the user who calls, and three machines."""
 
     LINES = 6  # of a part
+    rooms = threading.local()
 
     def setUp(self):
-        for path in ROOM.home.iterdir():
-            if path.name != ".ssh":
-                shutil.rmtree(path) if path.is_dir() else path.unlink()
-        with concurrent.futures.ThreadPoolExecutor() as threads:
-            list(threads.map(Host.clear, ROOM.hosts.values()))
-        self.h1, self.h2, self.h3 = ROOM.hosts.values()
-        self.write("list.obf", run(ROOT / "bench/positions", 60, 1, 5).stdout.decode())
-        ran = run(BASE / "plain/bin/ffosolve", "--book-out", ROOM.home / "one.book", ROOM.home / "list.obf")
-        self.one, self.book = ran.stdout.decode(), (ROOM.home / "one.book").read_bytes()
+        if not hasattr(self.rooms, "one"):
+            folder = Path(tempfile.mkdtemp(dir=BASE))
+            folder.chmod(0o755)
+            self.rooms.one = Room(folder)
+            unittest.addModuleCleanup(self.rooms.one.close)
+        self.room = self.rooms.one
+        self.room.clear()
+        self.h1, self.h2, self.h3 = self.room.hosts.values()
+        self.write("list.obf", LIST)
 
-    def write(self, name, text, home=None):
-        path = (home or ROOM.home) / name
+    def write(self, name, text, home=None, mode=0o644):
+        path = (home or self.room.home) / name
         path.write_text(text)
-        ROOM.give(path)
-
-    def words(self, *words, hosts="2/h1\n2/h2\n2/h3\n", by="plain", **environment):
-        self.write("hosts", hosts)
-        words = ("--hosts", "hosts", f"--lines={self.LINES}", "--book-out", "joined.book", *words, "work", "list.obf")
-        return ROOM.words(BASE / by / "bin/ffosolve-many", *words, **environment)
+        path.chmod(mode)
+        self.room.give(path)
 
     def slow(self, seconds, *hosts):
         """Has parts take so long on machines, so that all is not solved before the others were asked."""
         for host in hosts:
             self.write("slow", str(seconds), host.home)
 
+    def tools(self, host, *more):
+        """A machine that has no tools but these."""
+        (host.home / "tools").mkdir()
+        for tool in ("sh", "readlink", "rm", "rmdir", "nproc", "mkdir", "bash", *more):
+            os.symlink(shutil.which(tool), host.home / "tools" / tool)
+        host.boot(more="SetEnv PATH=/home/me/tools\n")
+
     def configured(self, *lines):
         """The caller's configuration of ssh has more lines for all machines."""
-        config = ROOM.home / ".ssh/config"
-        self.addCleanup(config.write_text, config.read_text())
-        config.write_text(config.read_text() + "Host *\n " + "\n ".join(lines) + "\n")
+        with open(self.room.home / ".ssh/config", "a") as config:
+            config.write("Host *\n " + "\n ".join(lines) + "\n")
 
     def lost_soon(self):
         """A machine that is lost is known in ten seconds, and not in 25."""
         self.configured("ServerAliveInterval 2", "ConnectTimeout 4")
 
-    def start(self, *words, **how):
+    def start(self, *words, hosts="2/h1\n2/h2\n2/h3\n", by="slow", **environment):
         """The command, which goes on meanwhile; what it tells is written to a file."""
-        with open(BASE / "out", "wb") as output, open(BASE / "told", "wb") as told:
-            ran = subprocess.Popen(self.words(*words, **how), stdin=subprocess.DEVNULL, stdout=output, stderr=told)
+        self.write("hosts", hosts)
+        words = ("--hosts", "hosts", f"--lines={self.LINES}", "--book-out", "joined.book", *words, "work", "list.obf")
+        words = self.room.words(BASE / by / "bin/ffosolve-many", *words, **environment)
+        with open(self.room.folder / "out", "wb") as output, open(self.room.folder / "told", "wb") as told:
+            ran = subprocess.Popen(words, stdin=subprocess.DEVNULL, stdout=output, stderr=told)
         self.addCleanup(self.end, ran)
         return ran
 
     def end(self, ran):
-        def is_ended():
-            found = ROOM.processes()
+        while found := self.room.processes():  # what is killed may have started another since it was looked for
             for process in found:
                 with contextlib.suppress(ProcessLookupError):
                     os.kill(process, signal.SIGKILL)
-            return not found
-
-        wait_until(is_ended)  # what is killed may have started another since it was looked for
+            time.sleep(0.1)
         ran.wait()
 
-    def told(self):
+    def told(self, text=None):
         """The lines that were told, but for the first, which tells what the list holds, and those of what takes its time."""
-        lines = (BASE / "told").read_text().splitlines()
+        lines = ((self.room.folder / "told").read_text() if text is None else text).splitlines()
         return [line.removeprefix("ffosolve-many: ") for line in lines
                 if not re.search(": 60 lines in [0-9]+ parts, |, parts [0-9]+ of |: waits for ", line)]
 
-    def wait(self, ran, seconds=300):
-        return ran.wait(timeout=seconds)
+    def is_told(self, text):
+        """Whether a line has a text, once."""
+        return sum(text in line for line in self.told()) == 1
 
-    def whole(self, ran, **how):
-        """The command ends with the report and the book of one run."""
-        self.assertEqual(self.wait(ran, **how), 0, self.told())
-        self.assertEqual((BASE / "out").read_text(), self.one)
-        self.assertEqual((ROOM.home / "joined.book").read_bytes(), self.book)
+    def printed(self):
+        return (self.room.folder / "out").read_text()
+
+    def whole(self, ran, seconds=300):
+        """The command ends with the report and the book of one run, and leaves nothing where it can be; gives what it told."""
+        self.assertEqual(ran.wait(timeout=seconds), 0, self.told())
+        self.assertEqual((self.printed(), (self.room.home / "joined.book").read_bytes()), (ONE, BOOK))
+        self.nothing_left(*(host for host in self.room.hosts.values() if host.is_up))
+        return self.told()
+
+    def solved(self, *words, **how):
+        return self.whole(self.start(*words, **how))
+
+    def refused(self, **how):
+        """What the command told that solved nothing."""
+        self.assertEqual((self.start(**how).wait(timeout=300), self.printed()), (3, ""))
+        return self.told()
+
+    def again(self):
+        """Has the list solved anew the next time."""
+        shutil.rmtree(self.room.home / "work")
 
     def log(self):
-        path = ROOM.home / "work/log"
+        path = self.room.home / "work/log"
         lines = path.read_text().splitlines() if path.exists() else []
         return [line.split("\t") for line in lines]
 
@@ -145,13 +207,12 @@ class Case(unittest.TestCase):
         """What is left in the home folder of a machine."""
         return sorted(path.name for path in host.home.iterdir() if path.name.startswith("run-"))
 
-    def at_work(self, host):
-        """The processes of a machine besides sshd."""
-        return [line for line in host.do("ps", "-eo", "args").splitlines()[1:] if "sshd" not in line and "ps -eo" not in line]
+    def sleeps(self, host, seconds):
+        """Whether a part is at work on a machine, and takes so long."""
+        return f"sleep {seconds} " in host.processes().values()
 
     def nothing_left(self, *hosts):
-        for host in hosts or ROOM.hosts.values():
-            self.assertEqual(self.left(host), [], host.name)
+        self.assertEqual({host.name: self.left(host) for host in hosts}, {host.name: [] for host in hosts})
 
     def connections(self, host):
         return host.do("cat", "/run/log").count("Accepted publickey")
@@ -162,137 +223,119 @@ class Gone(Case):
 
     def test_machine_that_loses_power_while_it_solves(self):
         self.LINES = 2
-        for host in ROOM.hosts.values():
-            self.write("slow", "1", host.home)
-        ran = self.start(by="slow")
+        self.slow(1, *self.room.hosts.values())
+        ran = self.start()
         wait_until(lambda: self.begun("h2", "done"))
-        self.write("slow", "50", self.h2.home)
-        count = len(self.begun("h2", "done"))
-        wait_until(lambda: len(self.begun("h2", "done")) >= count + 2 or len(self.begun("h2")) >= count + 2)
-        time.sleep(1)
+        self.slow(50, self.h2)
+        wait_until(lambda: list(self.h2.processes().values()).count("sleep 50 ") == 2)
         self.h2.lose_power()
-        wait_until(lambda: any("h2 is lost" in line for line in self.told()))  # TCP alone would take a quarter of an hour
+        wait_until(lambda: self.is_told("h2 is lost"))  # TCP alone would take a quarter of an hour
         self.whole(ran)
-        lost = [line for line in self.told() if line.startswith("h2 is lost: ")]
-        self.assertEqual(len(lost), 1, self.told())
-        self.assertRegex(lost[0], "Timeout, server .* not responding.; its parts go to others")
-        self.nothing_left(self.h1, self.h3)
+        self.assertTrue(self.is_told("h2 is lost: "), self.told())
+        self.assertRegex("\n".join(self.told()), "h2 is lost: Timeout, server .* not responding.; its parts go to others")
 
     def test_machine_that_is_up_again_at_once(self):
         self.LINES = 2
-        for host in ROOM.hosts.values():
-            self.write("slow", "1", host.home)
-        ran = self.start(by="slow")
+        self.slow(1, *self.room.hosts.values())
+        ran = self.start()
         wait_until(lambda: self.begun("h2", "done"))
         self.h2.lose_power()
         time.sleep(3)
         self.h2.boot()
-        self.whole(ran)
-        self.assertLessEqual(len([line for line in self.told() if "h2" in line and not line.startswith("on ")]), 2, self.told())
-        self.nothing_left()
+        told = self.whole(ran)
+        self.assertLessEqual(len([line for line in told if "h2" in line and not line.startswith("on ")]), 2, told)
 
     def test_machine_that_is_lost_while_the_program_is_copied(self):
         self.lost_soon()
         self.write("big.book", "% ffobook 2 winner\n" + "% " + os.urandom(300_000).hex() + "\n")
         self.h3.delay(20, 200)  # 12 seconds at least for that
         self.slow(5, self.h1, self.h2)
-        ran = self.start("--book-in", "big.book", by="slow")
+        ran = self.start("--book-in", "big.book")
         wait_until(lambda: any(self.h3.home.glob("run-*/solve")))
-        self.h3.relay.kill()
+        self.h3.lose_link()
         self.whole(ran)
-        self.assertEqual(len([line for line in self.told() if line.startswith("h3 is lost: ")]), 1, self.told())
+        self.assertTrue(self.is_told("h3 is lost: "), self.told())
         self.assertEqual(len(self.begun("h1", "done") + self.begun("h2", "done")), 10)
 
     def test_cut_that_returns_is_waited_for(self):
-        self.write("slow", "8", self.h1.home)
-        ran = self.start(by="slow", hosts="4/h1\n")
+        self.slow(8, self.h1)
+        ran = self.start(hosts="4/h1\n")
         wait_until(lambda: len(self.begun("h1")) >= 4)
         self.h1.cut(5)
         (self.h1.home / "slow").unlink()
-        self.whole(ran)
-        self.assertEqual(self.told(), ["on h1"])
+        self.assertEqual(self.whole(ran), ["on h1"])
 
     def test_only_machine_is_tried_again(self):
         self.lost_soon()
-        self.write("slow", "1", self.h1.home)
+        self.slow(1, self.h1)
         ran = self.start(by="hasty", hosts="1/h1\n")
         wait_until(lambda: self.begun("h1", "done"))
         self.h1.lose_power()
-        wait_until(lambda: any("h1 is lost" in line for line in self.told()))
+        wait_until(lambda: self.is_told("h1 is lost"))
         self.h1.boot()
-        self.whole(ran)
         told = "h1 is lost: Timeout, server 10.77.0.11 not responding.; it is tried again"
-        self.assertEqual(self.told(), ["on h1", told, "h1 is back"])
-        self.nothing_left(self.h1)
+        self.assertEqual(self.whole(ran), ["on h1", told, "h1 is back"])
 
     def test_sshd_that_is_killed_with_all_processes(self):
-        ran = self.start(by="slow", hosts="1/h1\n1/h2\n")
-        self.write("slow", "1", self.h1.home)
+        self.slow(1, self.h1, self.h2)
+        ran = self.start(hosts="1/h1\n1/h2\n")
         wait_until(lambda: self.begun("h1", "done"))
-        self.h1.end()
         self.h1.boot()
         self.whole(ran)
-        self.nothing_left()
 
 
 class Connections(Case):
     """One connection of a machine serves eight jobs."""
 
     def test_one_connection_for_ten_parts(self):
-        self.whole(self.start(hosts="1/h1\n"))
+        self.solved(by="plain", hosts="1/h1\n")
         self.assertEqual(self.connections(self.h1), 1)
         times = [float(line[0]) for line in self.log() if line[1] in ("begin", "done")]
         self.assertLess((times[-1] - times[0]) / 10, 5 * busy())
 
     def test_many_jobs_lose_no_connection(self):
-        for jobs in (16, 24):
-            self.write("slow", "0.5", self.h1.home)
-            shutil.rmtree(ROOM.home / "work", ignore_errors=True)
-            self.LINES = 1
-            self.whole(self.start(by="slow", hosts=f"{jobs}/h1\n"))
-            self.assertEqual(self.told(), ["on h1"])
+        self.LINES = 2
+        self.slow(0.5, self.h1)
+        for jobs, connections in ((16, 2), (24, 2 + 3)):
+            self.assertEqual(self.solved(hosts=f"{jobs}/h1\n"), ["on h1"])
             self.assertEqual(self.begun("h1", "failed"), [])
             self.assertNotIn("drop connection", self.h1.do("cat", "/run/log"))
-            self.nothing_left()
-        self.assertEqual(self.connections(self.h1), 2 + 3)
+            self.assertEqual(self.connections(self.h1), connections)
+            self.again()
 
     def test_slow_link(self):
         self.LINES = 30
         self.h1.delay(200, 1000)
-        self.whole(self.start(hosts="1/h1\n"))
+        self.solved(by="plain", hosts="1/h1\n")
         begun, done = ([float(line[0]) for line in self.begun("h1", event)] for event in ("begin", "done"))
         self.assertLess(done[1] - begun[1], 25 * busy())
-        self.nothing_left(self.h1)
 
     def test_users_own_configuration_decides(self):
         self.configured("ServerAliveInterval 2", "ConnectTimeout 20")
         for words in ({}, {"PARALLEL_SSH": "ssh -o ServerAliveInterval=1"}):
-            self.whole(self.start(hosts="h1", **words))
-            place = next((ROOM.home / "work").glob("run-*"))
-            told = run(*ROOM.words("ssh", "-G", "-F", f"work/{place.name}/ssh_config", "h1")).stdout.decode()
+            self.solved(hosts="h1", **words)
+            place = next((self.room.home / "work").glob("run-*"))
+            told = run(*self.room.words("ssh", "-G", "-F", f"work/{place.name}/ssh_config", "h1")).stdout.decode()
             for line in ("serveraliveinterval 2", "connecttimeout 20", "serveralivecountmax 4", "batchmode yes"):
                 self.assertIn(f"\n{line}\n", told)
-        shutil.rmtree(ROOM.home / "work")
-        self.write("mine", '#!/bin/sh\nexec ssh "$@"\n')
-        (ROOM.home / "mine").chmod(0o755)
-        self.whole(self.start(hosts="3/h2\n", PARALLEL_SSH="/home/me/mine"))
+        self.again()
+        self.write("mine", MINE, mode=0o755)
+        self.solved(hosts="3/h2\n", PARALLEL_SSH="/home/me/mine")
         self.assertGreaterEqual(self.connections(self.h2), 13)
 
     def test_signals_end_all_connections_and_what_they_run(self):
+        self.slow(400, self.h1)
         for number in (signal.SIGINT, signal.SIGTERM, signal.SIGKILL):
-            self.write("slow", "400", self.h1.home)
-            ran = self.start(by="slow", hosts="2/h1\n")
-            wait_until(lambda: any("sleep 400" in line for line in self.at_work(self.h1)))
+            ran = self.start(hosts="2/h1\n")
+            wait_until(lambda: self.sleeps(self.h1, 400))
             os.kill(child_of(ran.pid), number)
-            self.wait(ran, 20 * busy())
-            wait_until(lambda: not self.at_work(self.h1), 20)
-            wait_until(lambda: not ROOM.processes(), 20)
+            ran.wait(timeout=20 * busy())
+            wait_until(lambda: not self.h1.processes() and not self.room.processes(), 20)
             self.assertIn("sshd", self.h1.do("ps", "-eo", "args"))
             self.assertNotIn("sshd: me", self.h1.do("ps", "-eo", "args"))
         self.assertEqual(len(self.left(self.h1)), 1)
         (self.h1.home / "slow").unlink()
-        self.whole(self.start(by="slow", hosts="2/h1\n"))
-        self.nothing_left()
+        self.solved(hosts="2/h1\n")
 
 
 class Tried(Case):
@@ -300,43 +343,30 @@ class Tried(Case):
 
     def test_machines_that_cannot_work_are_named(self):
         self.write(".bashrc", "echo Welcome\n", self.h1.home)
-        tools = self.h2.home / "tools"
-        tools.mkdir()
-        for tool in ("sh", "readlink", "rm", "rmdir", "nproc", "mkdir", "bash"):
-            os.symlink(shutil.which(tool), tools / tool)
-        self.h2.more = "SetEnv PATH=/home/me/tools\n"
-        self.h2.end()
-        self.h2.boot()
+        self.tools(self.h2)
         self.slow(1, self.h3)
-        self.whole(self.start(by="slow"))
-        self.assertEqual(sorted(self.told()), [
+        self.assertEqual(sorted(self.solved()), [
             "h1 is left out: its shell prints 'Welcome', where results are read", "h2 is left out: sha256sum is not there",
             "on h3"])
-        self.nothing_left()
 
     def test_program_that_does_not_run_there_or_is_wrong(self):
         self.write("wrong", "", self.h1.home)
         self.write("dies", "", self.h2.home)
         self.slow(1, self.h3)
-        self.whole(self.start(by="slow"))
-        self.assertEqual(sorted(self.told()), ["h1 is left out: it solves a known line wrong",
-                                               "h2 is left out: it can't solve: Killed", "on h1, h2, h3"])
+        self.assertEqual(sorted(self.solved()), ["h1 is left out: it solves a known line wrong",
+                                                 "h2 is left out: it can't solve: Killed", "on h1, h2, h3"])
         self.assertEqual(self.begun("h1", "done") + self.begun("h2", "done"), [])
-        self.nothing_left()
 
     def test_machine_that_fails_three_parts_in_a_row(self):
         self.write("fails", "ffosolve: out of memory\nand more\n", self.h2.home)
-        self.write("slow", "1", self.h1.home)  # so that h2 is left out before another part comes to it
-        ran = self.start(by="slow", hosts="1/h1\n1/h2\n")
-        self.whole(ran)
-        self.assertIn("h2 is left out: 3 parts failed in a row: ffosolve: out of memory", self.told())
+        self.slow(1, self.h1, self.h2)  # so that h2 is left out before another part fails there
+        self.assertIn("h2 is left out: 3 parts failed in a row: ffosolve: out of memory", self.solved(hosts="1/h1\n1/h2\n"))
         self.assertEqual(len(self.begun("h2", "failed")), 3)
-        self.nothing_left()
 
     def test_log_keeps_all_rounds(self):
         self.write("fails", "ffosolve: out of memory\n", self.h1.home)
-        self.write("slow", "1", self.h1.home)
-        ran = self.start(by="slow", hosts="1/h1\n")
+        self.slow(1, self.h1)
+        ran = self.start(hosts="1/h1\n")
         wait_until(lambda: len(self.begun("h1", "failed")) >= 2)
         (self.h1.home / "fails").unlink()
         self.whole(ran)
@@ -344,90 +374,76 @@ class Tried(Case):
         self.assertGreaterEqual(len(self.begun("h1", "failed")), 2)
 
     def test_the_only_machine_has_no_room(self):
-        self.h1.end()
         self.h1.boot(home_size="64k")
         begun = time.monotonic()
-        self.assertEqual(self.wait(self.start(hosts="2/h1\n")), 3)
+        self.assertRegex("\n".join(self.refused(hosts="2/h1\n")), "^h1 is left out: no room: [0-9]+ KB are free, and [0-9]+ are "
+                         "needed\nno machine can work$")
         self.assertLess(time.monotonic() - begun, 30 * busy())
-        self.assertRegex(self.told()[0], "^h1 is left out: no room: [0-9]+ KB are free, and [0-9]+ are needed$")
-        self.assertEqual(self.told()[1:], ["no machine can work"])
 
     def test_machines_that_cannot_be_reached_are_named(self):
         self.h2.end()
-        hosts = "ssh -p 23 h1\nnone.invalid\nh2\nssh -i /dev/null -o IdentitiesOnly=yes h1\n2/h3\n"
         self.slow(2, self.h3)
-        self.whole(self.start(by="slow", hosts=hosts))
-        told = "\n".join(self.told())
+        told = self.solved(hosts="ssh -p 23 h1\nnone.invalid\nh2\nssh -i /dev/null -o IdentitiesOnly=yes h1\n2/h3\n")
         for line in ("h1 is left out: .*port 23: Connection refused", "none.invalid is left out: .*resolve",
                      "h2 is left out: .*(No route to host|timed out)", "h1 is left out: .*Permission denied", "on h3"):
-            self.assertRegex(told, line)
+            self.assertRegex("\n".join(told), line)
+        self.again()
+        self.assertEqual(self.refused(hosts="h2\n")[1:], ["no machine can be reached"])
 
     def test_machines_that_lack_what_they_need_say_so(self):
-        tools = self.h1.home / "tools"
-        tools.mkdir()
-        for tool in ("sh", "readlink", "rm", "rmdir", "nproc", "mkdir", "bash", "sha256sum", "sync"):
-            os.symlink(shutil.which(tool), tools / tool)
-        self.h1.more = "SetEnv PATH=/home/me/tools\n"
-        for host, shell in ((self.h1, "/bin/bash"), (self.h2, "/usr/sbin/nologin")):
-            host.end()
-            host.boot(shell=shell)
+        self.tools(self.h1, "sha256sum", "sync")
+        self.h2.boot(shell="/usr/sbin/nologin")
         self.h3.do("mount", "-o", "remount,bind,ro", "/home/me")
-        self.assertEqual(self.wait(self.start()), 3)
-        told = self.told()
-        self.assertRegex("\n".join(sorted(told[:3])), "^h1 is left out: tar is not there\nh2 is left out: This account is currently "
+        *told, last = self.refused()
+        self.assertRegex("\n".join(sorted(told)), "^h1 is left out: tar is not there\nh2 is left out: This account is currently "
                          "not available.\nh3 is left out: mkdir: .*Read-only file system$")
-        self.assertEqual(told[3], "no machine can work")
-        self.assertFalse([line for line in told if line.startswith("h2") and "may lie" in line], told)
+        self.assertEqual(last, "no machine can work")
+
+    def test_machine_whose_question_is_killed_is_not_waited_for(self):
+        self.write("fails", "ffosolve: out of memory\n", self.h1.home)
+        self.write(".bashrc", "sleep 100\n", self.h2.home)
+        ran = self.start(by="hasty", hosts="1/h1\nh2\n")
+        wait_until(lambda: self.begun("h1", "failed"))
+        for process, words in sorted(self.room.processes().items()):
+            if "job meet" in words:
+                os.kill(process, signal.SIGKILL)
+        self.assertEqual(ran.wait(timeout=60 * busy()), 1)
+        self.assertEqual(self.begun("h2", "out"), [])
 
     def test_reason_that_ssh_does_not_tell(self):
         self.configured("LogLevel QUIET")
         self.h2.end()
         self.slow(1, self.h1)
-        self.whole(self.start(by="slow", hosts="1/h1\nh2\n"))
-        self.assertEqual(self.told(), ["h2 is left out: ssh gives no reason", "on h1"])
+        self.assertEqual(self.solved(hosts="1/h1\nh2\n"), ["h2 is left out: ssh gives no reason", "on h1"])
 
     def test_terminal_that_ssh_forces(self):
         self.configured("RequestTTY force")
-        self.whole(self.start(hosts="1/ssh://me@h1:22\n1/ssh -t h2\n"))
-        self.assertEqual(self.told(), ["on ssh://me@h1:22, h2"])
-        self.write("mine", '#!/bin/sh\nexec ssh "$@"\n')
-        (ROOM.home / "mine").chmod(0o755)
-        shutil.rmtree(ROOM.home / "work")
-        self.assertEqual(self.wait(self.start(hosts="h3\n", PARALLEL_SSH="/home/me/mine")), 3)
-        self.assertEqual(self.told(), ["h3 is left out: ssh forces a terminal on what runs there", "no machine can work"])
+        self.assertEqual(self.solved(hosts="1/ssh://me@h1:22\n1/ssh -t h2\n"), ["on ssh://me@h1:22, h2"])
+        self.write("mine", MINE, mode=0o755)
+        self.again()
+        self.assertEqual(self.refused(hosts="h3\n", PARALLEL_SSH="/home/me/mine"),
+                         ["h3 is left out: ssh forces a terminal on what runs there", "no machine can work"])
 
     def test_full_temporary_folder(self):
-        (ROOM.home / "tmp").mkdir()
-        ROOM.do("mount", "-t", "tmpfs", "-o", "size=16k,mode=1777", "none", "/home/me/tmp")
-        self.addCleanup(ROOM.do, "umount", "/home/me/tmp")
-        ROOM.do("sh", "-c", "cd /home/me/tmp; yes >all 2>/dev/null; :")
-        self.whole(self.start(hosts="2/h1\n", TMPDIR="/home/me/tmp"))
-        self.assertEqual(self.told(), ["on h1"])
-
-    def test_no_machine_can_be_reached(self):
-        self.h2.end()
-        self.assertEqual(self.wait(self.start(hosts="h2\n")), 3)
-        self.assertEqual(self.told()[-1], "no machine can be reached")
-        self.assertEqual(len(self.told()), 2)
+        (self.room.home / "tmp").mkdir()
+        self.room.do("mount", "-t", "tmpfs", "-o", "size=16k,mode=1777", "none", "/home/me/tmp")
+        self.addCleanup(self.room.do, "umount", "/home/me/tmp")
+        self.room.do("sh", "-c", "cd /home/me/tmp; yes >all 2>/dev/null; :")
+        self.assertEqual(self.solved(hosts="2/h1\n", TMPDIR="/home/me/tmp"), ["on h1"])
 
     def test_what_a_shell_says_is_told_once(self):
         self.write(".bashrc", "echo so it is >&2\n", self.h1.home)
-        self.whole(self.start(hosts="2/h1\n"))
-        self.assertEqual(self.told(), ["h1: its shell says: so it is", "on h1"])
-        shutil.rmtree(ROOM.home / "work")
-        self.whole(self.start("--quiet", hosts="2/h1\n"))
-        self.assertEqual(self.told(), [])
+        self.assertEqual(self.solved(hosts="2/h1\n"), ["h1: its shell says: so it is", "on h1"])
+        self.again()
+        self.assertEqual(self.solved("--quiet", hosts="2/h1\n"), [])
 
     def test_other_shells(self):
-        for host, shell in zip(ROOM.hosts.values(), ("dash", "fish", "tcsh")):
+        for host, shell in zip(self.room.hosts.values(), ("dash", "fish", "tcsh")):
             if shutil.which(shell):
-                host.end()
                 host.boot(shell=shutil.which(shell))
             self.slow(1, host)
-        self.whole(self.start(by="slow"))
-        self.assertEqual(self.told(), ["on h1, h2, h3"])
-        self.assertTrue(all(self.begun(name, "done") for name in ROOM.hosts))
-        self.nothing_left()
+        self.assertEqual(self.solved(), ["on h1, h2, h3"])
+        self.assertTrue(all(self.begun(name, "done") for name in self.room.hosts))
 
 
 class Swept(Case):
@@ -435,108 +451,96 @@ class Swept(Case):
 
     def interrupt(self, *hosts):
         """A run that is killed in the middle."""
+        self.slow(40, *hosts)
+        ran = self.start(hosts="".join(f"1/{host.name}\n" for host in hosts))  # no other solves all before
         for host in hosts:
-            self.write("slow", "40", host.home)
-        ran = self.start(by="slow", hosts="".join(f"1/{host.name}\n" for host in hosts))  # no other solves all before
-        for host in hosts:
-            wait_until(lambda host=host: any("sleep 40" in line for line in self.at_work(host)))
+            wait_until(lambda host=host: self.sleeps(host, 40))
         self.end(ran)
         for host in hosts:
             self.assertEqual(len(self.left(host)), 1)
             (host.home / "slow").unlink()
 
+    def stays(self, host, why):
+        """What is told of a machine that is not swept."""
+        return f"{host.name}: {self.left(host)[0]} may still be there, until the next run reaches it: {why}"
+
+    def sweep(self):
+        """The status of --sweep, and what it tells."""
+        ran = run(*self.room.words(BASE / "slow/bin/ffosolve-many", "--sweep", "work"))
+        self.assertEqual(ran.stdout, b"")
+        return ran.returncode, self.told(ran.stderr.decode())
+
     def test_interrupted_run_is_swept_by_the_next_one(self):
         self.interrupt(self.h1, self.h2)
-        self.whole(self.start(by="slow", hosts="1/h1\n"))
-        self.nothing_left()
+        self.solved(hosts="1/h1\n")
 
     def test_machine_that_was_away_is_swept_by_the_next_run(self):
         self.lost_soon()
-        self.write("slow", "20", self.h2.home)
-        self.write("slow", "2", self.h1.home)  # otherwise h1 could solve all before h2 is asked
-        ran = self.start(by="slow", hosts="1/h1\n1/h2\n")
-        wait_until(lambda: any("sleep 20" in line for line in self.at_work(self.h2)))
+        self.slow(20, self.h2)
+        self.slow(2, self.h1)  # otherwise h1 could solve all before h2 is asked
+        ran = self.start(hosts="1/h1\n1/h2\n")
+        wait_until(lambda: self.sleeps(self.h2, 20))
         self.h2.lose_power()
-        self.whole(ran)
+        told = self.whole(ran)
         self.assertEqual(len(self.left(self.h2)), 1)
-        self.assertRegex(self.told()[-1], f"^h2: {self.left(self.h2)[0]} may still be there, until the next run reaches it: .")
+        self.assertRegex(told[-1], f"^{self.stays(self.h2, '.')}")
         self.h2.boot()
-        self.whole(self.start(by="slow"))
-        self.nothing_left()
-
-    def sweep(self, by="slow"):
-        """What --sweep gives."""
-        return run(*ROOM.words(BASE / by / "bin/ffosolve-many", "--sweep", "work"))
+        self.solved()
 
     def test_machine_is_remembered_until_its_files_are_gone(self):
-        self.write("slow", "1", self.h1.home)
-        self.write("slow", "1", self.h2.home)
-        ran = self.start(by="slow", hosts="1/h1\n1/h2\n")
+        self.slow(1, self.h1, self.h2)
+        ran = self.start(hosts="1/h1\n1/h2\n")
         wait_until(lambda: self.begun("h1", "done") and self.begun("h2", "done"))
         os.kill(child_of(ran.pid), signal.SIGINT)
-        self.wait(ran, 20 * busy())
+        ran.wait(timeout=20 * busy())
         self.assertEqual(len(self.left(self.h2)), 1)
         self.h2.end()
         for hosts in ("1/h1\n1/h2\n", "1/h1\n"):  # it isn't reached, and isn't named; the second time all is solved
-            self.whole(self.start(by="slow", hosts=hosts))
-            self.assertEqual(len([line for line in self.told() if line.startswith("h2: run-")]), 1, self.told())
-        self.nothing_left(self.h1)
+            self.solved(hosts=hosts)
+            self.assertTrue(self.is_told("h2: run-"), self.told())
         self.assertEqual(len(self.left(self.h2)), 1)
         self.h2.boot()
-        self.write("kept", (ROOM.home / "work/hosts").read_text())
-        ran = self.sweep()
-        self.assertEqual((ran.returncode, ran.stdout, ran.stderr), (0, b"", b""))
+        self.assertEqual(self.sweep(), (0, []))
         self.nothing_left(self.h1, self.h2)
-        self.assertEqual((ROOM.home / "work/hosts").read_text(), "")
-
-    def lose_one(self):
-        """A run whose last part is solved by h1, when h2 is gone without a word."""
-        self.write("slow", "10", self.h1.home)
-        ran = self.start(by="slow", hosts="1/h1\n1/h2\n")
-        wait_until(lambda: len(self.begun("h1") + self.begun("h2", "done")) == 10 and self.begun("h2", "done"))
-        self.h2.lose_link()
-        return ran
+        self.assertEqual((self.room.home / "work/hosts").read_text(), "")
 
     def test_report_waits_for_no_sweep(self):
-        ran = self.lose_one()
-        wait_until(lambda: (BASE / "out").read_text() == self.one and (ROOM.home / "joined.book").exists())
+        self.slow(10, self.h1)
+        ran = self.start(hosts="1/h1\n1/h2\n")
+        wait_until(lambda: len(self.begun("h1") + self.begun("h2", "done")) == 10 and self.begun("h2", "done"))
+        self.h2.lose_link()  # the last part is solved by h1
+        self.sweeps(ran, SECONDS)
+        self.sweeps(self.start(hosts="1/h1\n"), 5)  # all was solved before
+
+    def sweeps(self, ran, seconds):
+        """A command prints its report in so many seconds, and then waits for h2 until it is interrupted."""
+        wait_until(lambda: self.printed() == ONE and (self.room.home / "joined.book").exists(), seconds)
         self.assertIsNone(ran.poll())
         waits = "ffosolve-many: waits for h2 to remove what is left there, 30 seconds at most\n"
-        wait_until(lambda: waits in (BASE / "told").read_text())
+        wait_until(lambda: waits in (self.room.folder / "told").read_text())
         self.assertIsNone(ran.poll())
         os.kill(child_of(ran.pid), signal.SIGINT)
-        self.whole(ran, seconds=10 * busy())
-        self.assertEqual(self.told()[-1], f"h2: {self.left(self.h2)[0]} may still be there, until the next run reaches it: interrupted")
-        begun = time.monotonic()
-        ran = self.start(by="slow", hosts="1/h1\n")
-        wait_until(lambda: (BASE / "out").read_text() == self.one)
-        self.assertLess(time.monotonic() - begun, 5 * busy())  # all was solved before
-        wait_until(lambda: waits in (BASE / "told").read_text())
-        os.kill(child_of(ran.pid), signal.SIGINT)
-        self.whole(ran)
+        self.assertEqual(self.whole(ran, seconds=10 * busy())[-1], self.stays(self.h2, "interrupted"))
 
     def test_shell_that_hangs_is_not_waited_for(self):
         self.write(".bashrc", "sleep 100\n", self.h2.home)
         begun = time.monotonic()
-        self.whole(self.start(hosts="1/h1\n1/h2\n"))
+        self.assertEqual(self.solved(hosts="1/h1\n1/h2\n"), ["on h1"])
         self.assertLess(time.monotonic() - begun, 20 * busy())
-        self.assertEqual(self.told(), ["on h1"])
 
     def test_sweep_alone(self):
         self.interrupt(self.h1, self.h2, self.h3)
         for name in ("notes", "run-0123456789ab", f"{self.left(self.h1)[0]}/parts/mine"):
             self.write(name, "mine", self.h1.home)
         self.h3.end()
-        words = ROOM.words(BASE / "slow/bin/ffosolve-many", "--sweep", "work")
-        ran = run(*words)
-        self.assertEqual((ran.returncode, ran.stdout), (3, b""))
-        self.assertRegex(ran.stderr.decode(), "ffosolve-many: h3: run-.* may still be there, until the next run reaches it: ssh: ")
+        status, (told,) = self.sweep()
+        self.assertEqual(status, 3)
+        self.assertRegex(told, f"^{self.stays(self.h3, 'ssh: ')}")
         self.nothing_left(self.h2)
         self.assertEqual(sorted(path.name for path in self.h1.home.rglob("*") if path.is_file() and path.read_text() == "mine"),
                          ["mine", "notes", "run-0123456789ab"])
         self.h3.boot()
-        ran = run(*words)
-        self.assertEqual((ran.returncode, ran.stderr), (0, b""))
+        self.assertEqual(self.sweep(), (0, []))
         self.nothing_left(self.h2, self.h3)
 
 

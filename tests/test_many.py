@@ -216,11 +216,11 @@ class Functions(InFolder):
     def test_report_that_is_gone_when_it_is_printed_is_told(self):
         run_of = many.parts.Run(self.folder, "run-1", [many.parts.Part("0000004", 81, 20, "")])
         with self.assertRaisesRegex(many.messages.Refusal, r"part 0000004 \(lines 81 to 100\) was changed meanwhile"):
-            many.report.write_report(run_of, io.BytesIO())
+            list(run_of.rows())
 
     def test_books_of_parts_that_are_not_in_order_are_told(self):
         with self.assertRaisesRegex(many.messages.Refusal, "one line 3 is not in order"):
-            list(many.books.merged([[(b"2", b"b", ("one", 2)), (b"1", b"a", ("one", 3))]]))
+            list(many.books.merged([[((2, 0), b"b", ("one", 2)), ((1, 0), b"a", ("one", 3))]]))
 
     def test_claim_of_a_line_is_the_greatest_score_and_its_moves(self):
         head = BOARD + b" X;"
@@ -228,9 +228,9 @@ class Functions(InFolder):
                               (b"H1:1;A2:1", b" H1:+01; A2:+01;"), (b" A1:-0; junk; A9:+3; A1:+65", b" A1:+00;"),
                               (b"PS:-4;", b" PS:-04;"), (b"--:4;PS:4", b" PS:+04;"), (b"--:4;A1:4", b" A1:+04;"),
                               (b" A1:-02; % B1:+64;", b" A1:-02;"), (b"A1:2; B1:4\r\r", b" A1:+02;")):
-            self.assertEqual(many.books.claim_in(head + fields + b"\n"), head + claim + b"\n", fields)
+            write(Path("book"), head + fields + b"\n")
+            self.assertEqual([entry[1] for entry in many.books.entries_of(Path("book"))], [head + claim + b"\n"], fields)
         spelled = b" " + BOARD.replace(b"X", b"*").replace(b"O", b"w") + b"\tb;A1:1\r\n"
-        self.assertEqual(many.books.claim_in(spelled), head + b" A1:+01;\n")
         write(Path("book"), b"\n \t\r\n% X\n" + spelled)
         self.assertEqual([entry[1:] for entry in many.books.entries_of(Path("book"), "it")], [(head + b" A1:+01;\n", ("it", 4))])
 
@@ -274,7 +274,7 @@ class Functions(InFolder):
         run_of = many.parts.Run(self.folder, "run-1", [])
         for words, line, jobs in (((), ":", len(os.sched_getaffinity(0))), (("--jobs=3",), ":", 3), ((), "4/:", 4),
                                   (("--jobs=3",), "4/:", 3)):
-            many.jobs.lay_round(run_of, self.command(*words), [many.hosts.read_host(line, "")], [])
+            many.jobs.lay_round(run_of, self.command(*words), [many.hosts.read_host(line, "")])
             self.assertEqual(len(os.listdir("run-1/jobs/here")), jobs, (words, line))
 
     def test_file_is_on_the_disk_before_it_has_its_name(self):
@@ -475,6 +475,13 @@ class Scores(Case):
             ran = self.many("--lines=50", "work2", "other.obf", "--scores")
             self.assertEqual((ran.returncode, ran.stdout), (1, b"% refused: ?\n" + self.one))
         self.assertIn(", 3 of them solved before", ran.stderr.decode())
+
+    def test_output_that_is_cut_short_is_told(self):
+        self.one = SMALL
+        self.same("--scores", "work", "list.obf")
+        ran = run("sh", "-c", f'ulimit -f 1; PYTHONUNBUFFERED=1 exec "{MANY}" --quiet --scores work list.obf >short')
+        told = b"ffosolve-many: cannot write standard output: File too large\n"
+        self.assertEqual((ran.returncode, ran.stderr), (3, told))
 
     def test_scores_with_a_lost_line_are_made_again(self):
         self.one = SMALL

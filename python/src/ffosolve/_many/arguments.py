@@ -54,8 +54,7 @@ OPTIONS = {
         ("--max-empties", "N", f"solve positions with at most N empty squares, 0 to 60 [default: {DEFAULT_EMPTIES}]"),
         ("--workers", "N", "threads for each part, besides one of its own, 0 to 64 [default: 0]"),
         ("--table", "N", "entries of the table for each part, 32 bytes each"),
-        ("--scoring", "NAME",
-         "how a finished game is scored [default: winner] [possible values: winner, discs, sign]"),
+        ("--scoring", "NAME", "how a finished game is scored [default: winner] [possible values: winner, discs, sign]"),
         ("--book-in", "FILE", "a book of claimed answers, which are tested before they are used"),
         ("--book-out", "FILE", "write all solved positions to FILE as a book"))}
 
@@ -73,7 +72,8 @@ class Once(argparse.Action):
         setattr(namespace, self.dest, int(value) if self.const else value)
 
 
-def option_parser():
+def parse(words):
+    """The options of a command line, with `words`: those that are no options."""
     parser = argparse.ArgumentParser(NAME, USAGE, WHAT, MORE, allow_abbrev=False, add_help=False, exit_on_error=False,
                                      formatter_class=argparse.RawDescriptionHelpFormatter)
     for title, options in OPTIONS.items():
@@ -83,12 +83,7 @@ def option_parser():
                 group.add_argument(names, metavar=value, action=Once, const=MOST.get(names), help=text)
             else:
                 group.add_argument(*names.split(), action="store_true", help=text)
-    return parser
-
-
-def parse(words):
-    """The options of a command line, with `words`: those that are no options."""
-    end, parser = words.index("--") if "--" in words else len(words), option_parser()
+    end = words.index("--") if "--" in words else len(words)
     try:
         command, others = parser.parse_known_args(words[:end])
     except argparse.ArgumentError as why:

@@ -7,9 +7,8 @@ import sys
 import tempfile
 from pathlib import Path
 
+from .._text import MOST_BYTES
 from .messages import NAME, UNREADABLE, Refusal
-
-MOST_BYTES = 1_048_576  # of a file that ffosolve reads
 
 
 def check_readable(path):
@@ -27,7 +26,8 @@ def is_same(one, other):
 
 
 def regular(path, stack):
-    """The path of a regular file; of a copy for as long as the stack lasts, where it is none, as a pipe."""
+    """The path of a regular file that can be read; of a copy for as long as the stack lasts, where it is none, as a pipe."""
+    check_readable(path)
     if path.is_file():
         return path
     try:
@@ -41,10 +41,9 @@ def regular(path, stack):
 
 def read_or_nothing(path):
     """The bytes of a file; none where it can't be read."""
-    try:
+    with contextlib.suppress(OSError):
         return path.read_bytes()
-    except OSError:
-        return b""
+    return b""
 
 
 def digest_of(path, size=sys.maxsize):
@@ -55,10 +54,6 @@ def digest_of(path, size=sys.maxsize):
             digest.update(block)
             size -= len(block)
     return digest.hexdigest()
-
-
-def write_lines(path, lines):
-    path.write_text("".join(f"{line}\n" for line in lines))
 
 
 def write_whole(path, pieces, mode=None):

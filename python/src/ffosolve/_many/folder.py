@@ -1,10 +1,10 @@
 """The folder of a list: who may work in it, what it was begun with, and what is laid there.
 
 The scripts in `shell` are laid in it, with words like @run@ filled in. `solve` solves a part, here or on another
-machine; `work` does all of a round, as one session; `job` asks or sweeps a machine, or has a part solved; `ask` is what
-another machine runs to be asked, or to be swept of what this list left there. `ssh_config` holds where the user's own
-configuration says nothing.
+machine; `job` asks or sweeps a machine, or has a part solved; `ask` is what another machine runs to be asked or swept.
+`ssh_config` holds where the user's own configuration says nothing.
 """
+import contextlib
 import fcntl
 import hashlib
 import itertools
@@ -40,25 +40,18 @@ def read_asked(folder):
 def lock_folder(folder):
     """Makes a folder, refuses one that has files of anybody else's, locks it against other runs, and gives the lock."""
     folder.mkdir(parents=True, exist_ok=True)
-    found, mark = set(os.listdir(folder)), read_or_nothing(folder / LOCK)
-    is_empty = not found or (found == {LOCK} and not mark)
-    is_new = mark == MARK.encode() and all(name == LOCK or name.endswith(".new") for name in found)
-    if not is_empty and not is_new and read_asked(folder) is None:
-        raise Refusal(REFUSED, f"{folder} has files that are not {NAME}'s, as {sorted(found)[0]}: "
-                               "name a new or an empty folder")
-    lock = os.open(folder / LOCK, os.O_RDWR | os.O_CREAT, 0o666)
-    end = time.monotonic() + LOCK_SECONDS
-    while True:
-        try:
+    found, mark = sorted(os.listdir(folder)), read_or_nothing(folder / LOCK)
+    others = [name for name in found if name != LOCK and not (mark and name.endswith(".new"))]
+    if (others or mark not in (b"", MARK.encode())) and read_asked(folder) is None:
+        raise Refusal(REFUSED, f"{folder} has files that are not {NAME}'s, as {found[0]}: name a new or an empty folder")
+    lock, end = os.open(folder / LOCK, os.O_RDWR | os.O_CREAT, 0o666), time.monotonic() + LOCK_SECONDS
+    while time.monotonic() < end:
+        with contextlib.suppress(BlockingIOError):
             fcntl.flock(lock, fcntl.LOCK_EX | fcntl.LOCK_NB)
-            break
-        except BlockingIOError:
-            if time.monotonic() > end:
-                raise Refusal(UNREADABLE, f"another run works in {folder}") from None
-            time.sleep(0.05)
-    if os.fstat(lock).st_size == 0:
-        os.write(lock, MARK.encode())
-    return lock
+            os.pwrite(lock, MARK.encode(), 0)
+            return lock
+        time.sleep(0.05)
+    raise Refusal(UNREADABLE, f"another run works in {folder}")
 
 
 def difference(name, before, now):
@@ -71,10 +64,8 @@ def difference(name, before, now):
 
 def check_asked(before, options, listed, source, command):
     """Refuses other options and another list than those the folder was begun with; a longer list goes on."""
-    kept = before["options"]  # without --complete, where an earlier version began the folder
-    differing = [difference(name, kept.get(name, False), now) for name, now in options.items()
-                 if kept.get(name, False) != now]
-    if differing:
+    kept = {**dict.fromkeys(options, False), **before["options"]}  # an earlier version did not know --complete
+    if differing := [difference(name, kept[name], now) for name, now in options.items() if kept[name] != now]:
         raise Refusal(REFUSED, f"{command.folder} was begun {' and '.join(differing)}: "
                                "use another folder, or the same options")
     if before["list"] != listed and before["list"]["digest"] != digest_of(source, before["list"]["bytes"]):
@@ -98,11 +89,15 @@ def filled(name, run, command):
 
 
 def lay_scripts(run, command, *names):
-    """Lays scripts in the run's folder, where they aren't there whole."""
+    """Lays scripts in the run's folder."""
     for path in map(run.place.joinpath, names):
-        script = filled(path.name, run, command)
-        if read_or_nothing(path) != script.encode():
-            path.write_text(script)
+        lay(path, filled(path.name, run, command).encode())
+
+
+def lay(path, content):
+    """Lays a file where it isn't there whole."""
+    if read_or_nothing(path) != content:
+        path.write_bytes(content)
 
 
 def prepare(command, source, parts, listed, program, book_in):
@@ -119,21 +114,20 @@ def prepare(command, source, parts, listed, program, book_in):
     begun = {"mark": MARK, "run": f"run-{os.urandom(6).hex()}", "options": options, "program": ""}
     asked = {**(before or begun), "list": listed}
     run = Run(command.folder, asked["run"], parts, command.scoring, command.scores, command.book_out is not None)
-    new = program.itself.read_bytes()
     is_there = digest_of(run.place / "program") == asked["program"]  # the program of the first run stays
     if not is_there:
-        asked["program"] = hashlib.sha256(new).hexdigest()
+        asked["program"] = digest_of(program.itself)
     if asked != before:
         write_whole(command.folder / ASKED, [json.dumps(asked, indent=1).encode(), b"\n"])
     (run.place / "parts").mkdir(parents=True, exist_ok=True)
     lay_parts(run, command, source)
     if not is_there:
-        write_whole(run.place / "program", [new], 0o755)
+        write_whole(run.place / "program", [program.itself.read_bytes()], 0o755)
     if program.for_all.is_file():
         (run.place / "v2").mkdir(exist_ok=True)
         write_whole(run.place / "v2/program", [program.for_all.read_bytes()], 0o755)
-    if book_in and digest_of(run.place / "book-in") != options["--book-in"]:
-        write_whole(run.place / "book-in", [book_in.read_bytes()])
+    if book_in:
+        lay(run.place / "book-in", book_in.read_bytes())
     lay_scripts(run, command, "solve")
     return run
 
@@ -144,5 +138,4 @@ def lay_parts(run, command, source):
         for part, text in itertools.zip_longest(run.parts, read_parts(file, command.lines, command.list)):
             if part is None or text is None or hashlib.sha256(text).hexdigest() != part.digest:
                 raise Refusal(UNREADABLE, f"{command.list} changes while it is read")
-            if run.read(part) != text:
-                run.path(part).write_bytes(text)
+            lay(run.path(part), text)

@@ -24,14 +24,12 @@ class Machine:
 
     def script(self, run):
         """What a job has to know of it: `reach OPTIONS COMMAND` runs a command there."""
-        is_ssh = Path(self.command[0]).name == "ssh"
+        is_ssh = "yes" if Path(self.command[0]).name == "ssh" else ""
+        options = is_ssh and '-T -F ssh_config -S "$socket" -o ControlMaster=no -o ControlPersist=no'
         values = {"name": self.name, "login": self.login, "jobs": self.jobs, "folder": f"{run.name}-{self.key}",
-                  "is_ssh": "yes" if is_ssh else ""}
-        command = shlex.join(self.command)
-        if is_ssh:
-            command += ' -T -F ssh_config -S "$socket" -o ControlMaster=no -o ControlPersist=no'
+                  "is_ssh": is_ssh}
         return "".join(f"{name}={shlex.quote(value)}\n" for name, value in values.items()) + (
-            f'reach() {{ how=$1; shift; {command} $how {shlex.quote(self.name)} "$@"; }}\n')
+            f'reach() {{ how=$1; shift; {shlex.join(self.command)} {options} $how "$name" "$@"; }}\n')
 
 
 def usual_command():

@@ -7,7 +7,7 @@ import subprocess
 import time
 from pathlib import Path
 
-from .files import read_or_nothing, write_lines
+from .files import read_or_nothing
 from .folder import HOST_SECONDS, lay_scripts
 from .hosts import recorded
 from .messages import DONE, UNBUILT, UNREADABLE, Refusal
@@ -18,9 +18,8 @@ ROUNDS = 3  # of the parts that failed, on other machines
 SIGNALS = (signal.SIGINT, signal.SIGTERM, signal.SIGHUP)
 
 
-def lay_round(run, command, machines, parts):
-    """Lays what a round needs: how all machines are reached, and the parts, which free jobs solve, at first of this machine,
-    while the others are asked."""
+def lay_round(run, command, machines):
+    """Lays what a round needs: how all machines are reached, and the jobs of this one, which work while others are asked."""
     place = run.place
     (place / "parts").mkdir(parents=True, exist_ok=True)
     for name in ("jobs", "out", "asking", "machines", "sockets"):
@@ -36,9 +35,8 @@ def lay_round(run, command, machines, parts):
     for path in far + jobs:
         path.parent.mkdir(exist_ok=True)
         path.touch()
-    write_lines(place / "slots", [len(far + jobs)])
+    (place / "slots").write_text(f"{len(far + jobs)}\n")
     os.utime(place / "slots", (0, 0))
-    write_lines(place / "todo", [f"sh job ask {path.name}" for path in far] + [f"sh job part {part.name}" for part in parts])
     lay_scripts(run, command, "ask", "job", "ssh_config", "parts/known")
     if far and subprocess.call(["sh", "solve", "known"], cwd=place, stdin=subprocess.DEVNULL) != DONE:
         raise Refusal(UNBUILT, f"{place}/program can't solve a line on this machine")
@@ -46,22 +44,29 @@ def lay_round(run, command, machines, parts):
 
 def end_session(session):
     """Ends all processes of a session, until none is left."""
-    is_left = True
-    while is_left:
-        is_left = False
-        for process in filter(str.isdigit, os.listdir("/proc")):
-            fields = read_or_nothing(Path("/proc", process, "stat")).rpartition(b")")[2].split()
-            if len(fields) > 3 and fields[0] not in b"ZX" and int(fields[3]) == session:
-                is_left = True
-                with contextlib.suppress(ProcessLookupError):
-                    os.kill(int(process), signal.SIGKILL)
+    def is_left(process):
+        fields = read_or_nothing(Path("/proc", process, "stat")).rpartition(b")")[2].split()
+        return len(fields) > 3 and fields[0] not in b"ZX" and int(fields[3]) == session
+
+    while left := [int(process) for process in os.listdir("/proc") if process.isdigit() and is_left(process)]:
+        for process in left:
+            with contextlib.suppress(ProcessLookupError):
+                os.kill(process, signal.SIGKILL)
         time.sleep(0.01)
 
 
+def ask(machines, function, event):
+    """How machines are asked something; one that does not answer is told by an event."""
+    return [f"timeout {HOST_SECONDS} sh job {function} {machine.key} || "
+            f"sh job leave_out {machine.key} {event} 'no answer in {HOST_SECONDS} seconds'; rm asking/{machine.key}"
+            for machine in machines if not machine.is_here]
+
+
 @contextlib.contextmanager
-def parallel(run, lock, jobs):
-    """GNU parallel, which runs what is to be done, in a session of its own. All that it starts ends with this block; by a
-    guard, which keeps the lock, where this program is killed."""
+def parallel(run, lock, jobs, todo):
+    """GNU parallel, which runs commands, in a session of its own. All that it starts ends with this block; by a guard, which
+    keeps the lock, where this program is killed."""
+    (run.place / "todo").write_text("\n".join(todo) + "\n")
     reading, writing = os.pipe()
     words = ["parallel", "--plain", "--ungroup", "--tmpdir", ".", "--arg-file", "todo", "--jobs", str(jobs)]
     signal.pthread_sigmask(signal.SIG_BLOCK, SIGNALS)
@@ -87,20 +92,19 @@ def parallel(run, lock, jobs):
 
 
 def solve_parts(run, command, machines, parts, watch, stack, lock):
-    """Solves parts; what fails is tried again in a second and third round. Gives the parts that failed. The connections
-    of the last round are open as long as the stack is."""
-    has_far = any(not machine.is_here for machine in machines)
+    """Solves parts, in up to three rounds, and gives those that failed; the stack keeps the last connections open."""
+    asked = ask(machines, "meet", "out")
     for number in range(ROUNDS if parts else 0):
-        check_tools(has_far)
+        check_tools(has_far=asked)
         stack.close()
-        lay_round(run, command, machines, parts)
+        lay_round(run, command, machines)
         watch.begin(machines)
-        process = stack.enter_context(parallel(run, lock, "slots"))
+        process = stack.enter_context(parallel(run, lock, "slots", asked + [f"sh job part {part.name}" for part in parts]))
         watch.follow(lambda: process.poll() is not None or not watch.progress.weights)
         before, parts = parts, run.unsolved()
         if not watch.ready and len(parts) == len(run.parts):
             raise Refusal(UNREADABLE, f"no machine can {'work' if watch.is_reached else 'be reached'}")
-        if not parts or not has_far or not watch.ready or (len(parts) == len(before) and not watch.lost):
+        if not parts or not asked or not watch.ready or (len(parts) == len(before) and not watch.lost):
             break
         if watch.lost and number + 1 < ROUNDS:
             end = time.monotonic() + LOST_SECONDS
@@ -110,28 +114,24 @@ def solve_parts(run, command, machines, parts, watch, stack, lock):
 
 def sweep(run, command, watch, stack, lock):
     """Has machines remove what lies there of the list, over the stack's connections; that ends the stack."""
-    machines = recorded(run)
+    machines, asking = recorded(run), run.place / "asking"
     if not machines:
         return
     check_tools(has_far=True)
     if not watch.keys:
-        lay_round(run, command, [], [])
+        lay_round(run, command, [])
     for machine in machines:
-        (run.place / "asking" / machine.key).touch()
-    write_lines(run.place / "todo", [f"sh job sweep {machine.key}" for machine in machines])
-
-    def waits():
-        return [machine for machine in machines if (run.place / "asking" / machine.key).exists()]
-
+        (asking / machine.key).touch()
     try:
-        process = stack.enter_context(parallel(run, lock, len(machines)))
+        process = stack.enter_context(parallel(run, lock, len(machines), ask(machines, "clean", "unswept")))
         with contextlib.suppress(subprocess.TimeoutExpired):
             process.wait(timeout=5)
-        if names := ", ".join(machine.name for machine in waits()):
+        if names := ", ".join(machine.name for machine in machines if (asking / machine.key).exists()):
             watch.tell(f"waits for {names} to remove what is left there, {HOST_SECONDS} seconds at most", is_fault=False)
         process.wait()
     finally:
         stack.close()
         watch.read()
-        for machine in waits():
-            watch.tell(f"{machine.name}: {run.name}-{machine.key} may still be there, until the next run reaches it: interrupted")
+        for machine in recorded(run):
+            watch.tell(f"{machine.name}: {run.name}-{machine.key} may still be there, until the next run reaches it: "
+                       + watch.unswept.get(machine.name, "interrupted"))

@@ -53,12 +53,9 @@ def standard_output():
     if sys.stdout is None:
         raise Refusal(UNREADABLE, "cannot write standard output: it is closed")
     try:
-        try:
-            yield sys.stdout.buffer
-        finally:
-            sys.stdout.flush()
+        with open(1, "wb", closefd=False) as output:  # that of PYTHONUNBUFFERED may write a part alone
+            yield output
+    except BrokenPipeError:
+        raise
     except OSError as why:
-        os.dup2(os.open(os.devnull, os.O_WRONLY), 1)  # for the flush at the end
-        if isinstance(why, BrokenPipeError):
-            raise
         raise Refusal(UNREADABLE, f"cannot write standard output: {why.strerror}") from why

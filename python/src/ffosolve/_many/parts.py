@@ -2,12 +2,11 @@
 import hashlib
 import itertools
 import re
-from pathlib import Path
 from typing import NamedTuple
 
-from .._text import MARKS
-from .files import MOST_BYTES, digest_of, read_or_nothing
-from .messages import REFUSED, UNREADABLE, Refusal
+from .._text import MARKS, MOST_BYTES
+from .files import digest_of, read_or_nothing
+from .messages import REFUSED, UNREADABLE, UNSOLVED, Refusal
 
 SKIPPED = re.compile(rb"[ \t]*(?:%.*|\r?)", re.DOTALL)
 ROW = re.compile(rb"[+-]\d\d (?:[A-H][1-8](?:,[A-H][1-8])*|PS|--) [a-z]+|refused: [^\0]+")
@@ -48,14 +47,12 @@ def read_parts(file, lines, name):
 
 def scan_list(path, lines, name):
     """The parts of a list, each of so many lines, and how many bytes it has and their SHA-256."""
-    parts, size, whole = [], 0, hashlib.sha256()
+    parts = []
     with path.open("rb") as file:
-        for number, part in enumerate(read_parts(file, lines, name)):
-            count = part.count(b"\n") + (not part.endswith(b"\n"))
-            parts.append(Part(f"{number:07d}", number * lines + 1, count, hashlib.sha256(part).hexdigest()))
-            whole.update(part)
-            size += len(part)
-    return parts, {"bytes": size, "digest": whole.hexdigest()}
+        for number, text in enumerate(read_parts(file, lines, name)):
+            count = text.count(b"\n") + (not text.endswith(b"\n"))
+            parts.append(Part(f"{number:07d}", number * lines + 1, count, hashlib.sha256(text).hexdigest()))
+        return parts, {"bytes": file.tell(), "digest": digest_of(path, file.tell())}
 
 
 def asked_lines(part):
@@ -63,17 +60,22 @@ def asked_lines(part):
     return {number: line for number, line in enumerate(part.split(b"\n"), 1) if not SKIPPED.fullmatch(line)}
 
 
-def refused_in(rests):
-    return sum(rest.startswith(b"refused: ") for rest in rests)
+def report_lines(rows):
+    """A report of rows, each with the number of its line."""
+    count = refused = 0
+    yield b"[1]\n"
+    for number, rest in rows:
+        count, refused = count + 1, refused + rest.startswith(b"refused: ")
+        yield b"%d %b\n" % (number, rest)
+    yield b"solved %d refused %d\n" % (count - refused, refused)
 
 
 def read_report(text, numbers):
     """The rows of a part's report by the numbers of their lines, which are these; None where it is not whole."""
     rests = [row.partition(b" ")[2] for row in text.split(b"\n")[1:-2]]
-    rows = b"".join(b"%d %b\n" % row for row in zip(numbers, rests))
-    whole = b"[1]\n%bsolved %d refused %d\n" % (rows, len(rests) - refused_in(rests), refused_in(rests))
-    is_whole = whole == text and len(rests) == len(numbers) and all(map(ROW.fullmatch, rests))
-    return dict(zip(numbers, rests)) if is_whole else None
+    rows = dict(zip(numbers, rests))
+    is_whole = len(rests) == len(numbers) and all(map(ROW.fullmatch, rests)) and b"".join(report_lines(rows.items())) == text
+    return rows if is_whole else None
 
 
 def header_of(scoring):
@@ -81,24 +83,13 @@ def header_of(scoring):
     return b"% ffobook 2 " + scoring.encode() + b"\n"
 
 
-class Run(NamedTuple):
+class Run:
     """The parts of a list in their folder, and what their results are."""
 
-    folder: Path
-    name: str
-    parts: list
-    scoring: str = "winner"
-    has_scores: bool = False
-    has_book: bool = False
-
-    @property
-    def place(self):
-        return self.folder / self.name
-
-    @property
-    def endings(self):
-        """Those of a part's results, in the order of their checksums."""
-        return [".scores" if self.has_scores else ".report"] + [".book"] * self.has_book
+    def __init__(self, folder, name, parts, scoring="winner", has_scores=False, has_book=False):
+        self.folder, self.name, self.place, self.parts, self.scoring = folder, name, folder / name, parts, scoring
+        self.has_scores, self.has_book = has_scores, has_book
+        self.endings = [".scores" if has_scores else ".report"] + [".book"] * has_book  # in the order of their checksums
 
     def path(self, part, ending=""):
         return self.place / "parts" / f"{part.name}{ending}"
@@ -125,6 +116,14 @@ class Run(NamedTuple):
 
     def report(self, part):
         return read_report(self.read(part, ".report"), asked_lines(self.read(part)))
+
+    def rows(self):
+        """The rows of the report of the whole list, each with the number of its line."""
+        for part in self.parts:
+            rows = self.report(part)
+            if rows is None:
+                raise Refusal(UNSOLVED, f"{part.span()} was changed meanwhile; the same command solves it again")
+            yield from ((part.first - 1 + number, rest) for number, rest in rows.items())
 
     def unsolved(self):
         return [part for part in self.parts if self.status(part) is None]

@@ -3,19 +3,19 @@ import contextlib
 import os
 import signal
 import sys
+import tempfile
 from pathlib import Path
 
 from .. import __version__
 from .arguments import complete, parse, refuse_others
-from .books import check_place, merge_books
-from .files import check_readable, is_same, regular
-from .folder import lock_folder, prepare, read_asked
+from .books import check_place, merge_books, place_book, whole_book
+from .files import is_same, regular
+from .folder import LOG, lock_folder, prepare, read_asked
 from .hosts import Machine, read_hosts, recorded
 from .jobs import SIGNALS, solve_parts, sweep
-from .messages import DONE, NAME, UNREADABLE, Refusal, misused, outcome, say, standard_output
-from .parts import Run, scan_list
+from .messages import DONE, NAME, UNREADABLE, UNSOLVED, Refusal, misused, outcome, say, standard_output
+from .parts import Run, report_lines, scan_list
 from .programs import Program, check_tools, run_options
-from .report import finish
 from .watch import Watch
 
 
@@ -23,15 +23,13 @@ def solve_list(command, programs):
     """Lays the parts of a list, and has them solved; gives the status."""
     complete(command)
     machines = read_hosts(command.hosts) if command.hosts is not None else [Machine("", ":")]
-    if command.book_in is not None:
-        check_readable(Path(command.book_in))
     if is_same(command.list, 1):
         raise misused(f"standard output is the list {command.list}: name another file")
     if not command.cut and not command.folder.exists():
         check_tools()
     program = Program(programs, "ffoscores" if command.scores else "ffosolve")
     with contextlib.ExitStack() as stack:
-        book_in = regular(Path(command.book_in), stack) if command.book_in is not None else None
+        book_in = command.book_in and regular(Path(command.book_in), stack)
         read = [f"--book-in={book_in}"] if book_in else []
         program.check(run_options(command) + read, b"" if command.scores else b"[1]\nsolved 0 refused 0\n")
         check_place(command, command.list, program, *read)
@@ -49,6 +47,28 @@ def solve_list(command, programs):
                                      f"sh {run.folder}/run-*/solve NAME solves one, from 0000000 to {last}\n"))
         return DONE
     return solve_and_sweep(run, command, machines, lock)
+
+
+def finish(run, command, unsolved):
+    """Prints the report and writes the book, where all parts are solved; gives the status."""
+    if unsolved:
+        named = ", ".join(part.span() for part in unsolved[:3]) + (", .." if len(unsolved) > 3 else "")
+        raise Refusal(UNREADABLE if command.scores else UNSOLVED,
+                      f"not solved: {len(unsolved)} of {len(run.parts)} parts: {named}; see {run.folder / LOG}. "
+                      "The same command solves only these")
+    for pattern in ("asked.json.*.new", "run-*/*.????????.new", "run-*/parts/[0-9]*.new.*"):  # what killed runs left
+        for path in run.folder.glob(pattern):
+            path.unlink(missing_ok=True)
+    with standard_output() as output:
+        if command.scores:
+            output.writelines(run.read(part, ".scores") for part in run.parts)
+        else:
+            output.writelines(report_lines(run.rows()))
+    if command.book_out is not None:
+        paths = [run.path(part, ".book") for part in run.parts]
+        with tempfile.TemporaryDirectory(dir=run.place) as scratch:
+            place_book(command.book_out, whole_book(command.scoring, paths, scratch))
+    return max((run.status(part) for part in run.parts), default=DONE) if command.scores else DONE
 
 
 def solve_and_sweep(run, command, machines, lock):

@@ -18,9 +18,8 @@ class Watch:
     def __init__(self, run, command, parts):
         self.run, self.quiet, self.has_hosts = run, command.quiet, command.hosts is not None
         self.progress = Progress(run, parts, int(command.max_empties or 0))
-        self.keys, self.told, self.gone, self.is_reached = {}, set(), set(), False
+        self.keys, self.told, self.gone, self.unswept, self.is_reached = {}, set(), set(), {}, False
         self.log, self.shown = (run.folder / LOG).open("a+b"), time.monotonic()
-        self.log.seek(0, os.SEEK_END)
 
     def begin(self, machines):
         """Begins a round, by a line of the log."""
@@ -38,11 +37,13 @@ class Watch:
 
     def follow(self, is_over):
         """Sees the log until the work is over; a lost machine is tried again now and then."""
-        while not is_over():
+        is_last = False
+        while not is_last:
+            is_last = is_over()
             time.sleep(0.1)
             self.read()
-            if not any((self.run.place / "asking").iterdir()):
-                self.tell_ready()
+            if self.ready and self.has_hosts and (is_last or not any((self.run.place / "asking").iterdir())):
+                self.tell("on " + ", ".join(name for name in self.keys if name in self.ready), is_fault=False)
             is_terminal, now = sys.stderr.isatty(), time.monotonic()
             is_between = not self.progress.running and now < self.progress.ended + 2  # one part and the next
             if not self.quiet and not is_between and now > self.shown + (1 if is_terminal else 60):
@@ -52,13 +53,7 @@ class Watch:
                 if now > at + LOST_SECONDS:
                     self.lost[name] = now
                     self.move(name, "out", "jobs")
-        self.read()
-        self.tell_ready()
         show("")
-
-    def tell_ready(self):
-        if self.ready and self.has_hosts:
-            self.tell("on " + ", ".join(name for name in self.keys if name in self.ready), is_fault=False)
 
     def read(self):
         while (line := self.log.readline()).endswith(b"\n"):
@@ -67,47 +62,41 @@ class Watch:
         self.log.seek(-len(line), os.SEEK_CUR)
 
     def see(self, at, event, name, part, text):
+        """An event. A machine that fails three parts in a row is left out, but never this one."""
+        is_solved = event == "done" and self.run.status(self.progress.parts[part]) is not None
+        if event != "begin":
+            self.progress.end(part, is_solved)
         self.is_reached |= event in ("ready", "out")
         match event:
+            case "begin":
+                self.progress.running[part] = name, at
             case "ready":
                 self.ready.add(name)
             case "noise":
                 self.tell(f"{name}: its shell says: {text}", is_fault=False)
             case "unreached" | "out":
-                self.progress.end(part, False)
                 self.tell(f"{name} is left out: {text}")
             case "lost":
-                self.progress.end(part, False)
                 self.lost[name] = time.monotonic()
                 if name not in self.gone:
-                    self.gone.add(name)
                     others = [*(self.run.place / "jobs").iterdir(), *(self.run.place / "asking").iterdir()]
                     say(f"{name} is lost: {text}; {'its parts go to others' if others else 'it is tried again'}")
-            case "begin":
-                self.progress.running[part] = name, at
+                self.gone.add(name)
+            case "done" if is_solved:
+                self.fails[name] = 0
+                self.lost.pop(name, None)
+                if name in self.gone:
+                    say(f"{name} is back")
+                self.gone.discard(name)
             case "done" | "failed":
-                self.see_end(event, name, part, text)
+                text = text or "its results are not whole"
+                self.fails[name] = self.fails.get(name, 0) + 1
+                self.tell(f"{name} failed {self.progress.parts[part].span()}: {text}")
+                if self.fails[name] >= MOST_FAILS and name != "this machine":
+                    self.move(name, "jobs", "out")
+                    self.tell(f"{name} is left out: {MOST_FAILS} parts failed in a row: {text}")
             case "unswept":
-                self.tell(f"{name}: {text}")
-
-    def see_end(self, event, name, part, text):
-        """A part is solved or failed. A machine that fails three in a row is left out, but never this one."""
-        parts = self.progress.parts
-        is_solved = event == "done" and self.run.status(parts[part]) is not None
-        self.progress.end(part, is_solved)
-        if is_solved:
-            self.fails[name] = 0
-            self.lost.pop(name, None)
-            if name in self.gone:
-                self.gone.remove(name)
-                say(f"{name} is back")
-            return
-        text = text or "its results are not whole"
-        self.fails[name] = self.fails.get(name, 0) + 1
-        self.tell(f"{name} failed {parts[part].span()}: {text}")
-        if self.fails[name] >= MOST_FAILS and name != "this machine":
-            self.move(name, "jobs", "out")
-            self.tell(f"{name} is left out: {MOST_FAILS} parts failed in a row: {text}")
+                self.unswept[name] = text
 
     def move(self, name, place, other):
         """Leaves a machine out, or takes it back: its jobs lie in `jobs` or in `out`."""
