@@ -1,14 +1,12 @@
 /* Prints random positions with what plain minimax on 64 cells says of them. It shares nothing with the library.
 
-       library_oracle COUNT MOST [SEED]          COUNT positions of 0 to MOST empty squares in turn
+       library_oracle COUNT MOST          COUNT positions of 0 to MOST empty squares in turn
 
-   Each position stands in a game of random moves of its own. Masks are hexadecimal, with A1 as bit 0. Two kinds of line:
+   Each position stands in a game of random moves of its own, and has a line for each of the scorings 0, 1 and 2:
 
-       solve OWN OPP SCORING SCORE KIND BEST MOVE-SCORE..       one for each of the scorings 0, 1 and 2
-       rules OWN OPP MOVES OWN OPP ..                           of one in 32 positions of the games
+       OWN OPP SCORING SCORE KIND BEST SQUARE:SCORE..
 
-   A solve line ends with the score of each move, in the order of the squares; a rules line with the position after each
-   move, with the other side as the mover. */
+   Masks are hexadecimal, with A1 as bit 0. A line ends with the score of each move, by the squares' numbers. */
 #include <inttypes.h>
 #include <stdio.h>
 #include <stdlib.h>
@@ -111,26 +109,11 @@ static uint64_t mask(const board *of, enum cell cell) {
     return bits;
 }
 
-static void print_position(const board *of) { printf(" %016" PRIx64 " %016" PRIx64, mask(of, OWN), mask(of, OPP)); }
-
 static uint64_t moves_of(const board *of) {
     uint64_t moves = 0;
     board after;
     for (int square = 0; square < 64; square++) moves |= (uint64_t)(moved(of, square, &after) > 0) << square;
     return moves;
-}
-
-static void print_rules(const board *of) {
-    board after;
-    printf("rules");
-    print_position(of);
-    printf(" %016" PRIx64, moves_of(of));
-    for (int square = 0; square < 64; square++) {
-        if (moved(of, square, &after) == 0) continue;
-        after = passed(&after);
-        print_position(&after);
-    }
-    printf("\n");
 }
 
 static void print_solutions(const board *of) {
@@ -147,11 +130,10 @@ static void print_solutions(const board *of) {
         for (int square = 0; square < 64; square++) {
             all |= (uint64_t)(moves >> square & 1 && scores[square].of[scoring] == best.of[scoring]) << square;
         }
-        printf("solve");
-        print_position(of);
+        printf("%016" PRIx64 " %016" PRIx64, mask(of, OWN), mask(of, OPP));
         printf(" %d %d %d %016" PRIx64, scoring, best.of[scoring], kind, all);
         for (int square = 0; square < 64; square++) {
-            if (moves >> square & 1) printf(" %d", scores[square].of[scoring]);
+            if (moves >> square & 1) printf(" %d:%d", square, scores[square].of[scoring]);
         }
         printf("\n");
     }
@@ -173,7 +155,6 @@ static int is_found(int empties, board *found) {
     found->cells[27] = found->cells[36] = OPP;
     for (int has_passed = 0; count(found, EMPTY) > empties;) {
         uint64_t moves = moves_of(found);
-        if (chance() % 32 == 0) print_rules(found);
         if (moves == 0) {
             if (has_passed) return 0;
             has_passed = 1;
@@ -194,12 +175,11 @@ static int is_found(int empties, board *found) {
 
 int main(int words, char **word) {
     if (words < 3) {
-        fprintf(stderr, "usage: library_oracle COUNT MOST [SEED]\n");
+        fprintf(stderr, "usage: library_oracle COUNT MOST\n");
         return 2;
     }
     const long wanted = strtol(word[1], NULL, 10);
     const int most = atoi(word[2]);
-    if (words > 3) state = strtoull(word[3], NULL, 10) * 2 + 1;
     for (long done = 0; done < wanted;) {
         board found;
         if (!is_found((int)(done % (most + 1)), &found)) continue;

@@ -1,5 +1,6 @@
 """make install and make uninstall, from a copy of the checkout and of what it has built, and the texts that they lay."""
 import ctypes
+import functools
 import os
 import pty
 import re
@@ -7,7 +8,6 @@ import select
 import shutil
 import signal
 import stat
-import sys
 import tempfile
 import time
 import unittest
@@ -257,29 +257,25 @@ class Installed(Case):
         ran = run("ffosolve-many", self.folder / "work", "first.obf", cwd=ROOT / "examples", env=places, text=True)
         self.assertEqual((ran.returncode, ran.stdout), (0, FIRST), ran)
 
-    def test_example_in_python(self):
-        """With the package that is laid, and the library."""
-        self.install()
-        shipped = self.root / "share/doc/ffosolve"
-        places = {"PYTHONPATH": str(shipped / "python/src"), "FFOSOLVE_LIBRARY": str(self.root / "lib/libffosolve.so"),
-                  "PYTHONDONTWRITEBYTECODE": "1"}
-        masks = (ROOT / "examples/masks.txt").read_text()
-        ran = run(sys.executable, shipped / "examples/python/answers.py", input=masks, env=places, text=True)
-        self.assertEqual((ran.returncode, ran.stdout), (0, (ROOT / "examples/answers.txt").read_text()), ran)
-
     def test_version(self):
-        """That of the file VERSION, which is written down once more, in the programs."""
+        """That of the file VERSION, in the programs, their pages, the library and all that names it."""
         self.install()
         self.assertRegex(VERSION, r"\A\d+\.\d+\.\d+\Z")
+        number = functools.reduce(lambda number, part: 100 * number + int(part), VERSION.split("."), 0)
+        self.assertEqual(ctypes.CDLL(self.root / "lib/libffosolve.so").ffosolve_version(), number)
         for name in COMMANDS:
             ran = run(self.root / "bin" / name, "--version", env=self.places, text=True)
             self.assertEqual((ran.returncode, ran.stdout), (0, f"{name} {VERSION}\n"), ran)
-            self.assertIn(f'"ffosolve {VERSION}"', (self.root / f"share/man/man1/{name}.1").read_text())
-        major, minor, patch = map(int, VERSION.split("."))
-        number = ctypes.CDLL(self.root / "lib/libffosolve.so").ffosolve_version()
-        self.assertEqual(number, 10000 * major + 100 * minor + patch)
-        self.assertIn(f"#define FFOSOLVE_VERSION {number}\n", (self.root / "include/ffosolve.h").read_text())
-        self.assertIn(f"\n## [{VERSION}] - ", (ROOT / "CHANGELOG.md").read_text())
+        for place, text in (
+            *((self.root / f"share/man/man1/{name}.1", f'"ffosolve {VERSION}"') for name in COMMANDS),
+            (self.root / "include/ffosolve.h", f'#define FFOSOLVE_VERSION_TEXT "{VERSION}"\n#define FFOSOLVE_VERSION {number}\n'),
+            (self.root / "lib/pkgconfig/ffosolve.pc", f"Version: {VERSION}\n"),
+            (self.root / "lib/cmake/ffosolve/ffosolve-config-version.cmake", f'set(PACKAGE_VERSION "{VERSION}")\n'),
+            (ROOT / "rust/Cargo.toml", f'\nversion = "{VERSION}"\n'),
+            (ROOT / "crates/ffosolve_c/src/calls.rt", f"\nconst VERSION: u32 = {number:_};\n"),
+            (ROOT / "CHANGELOG.md", f"\n## [{VERSION}] - "),
+        ):
+            self.assertIn(text, place.read_text(), place)
 
 
 def plain(text):

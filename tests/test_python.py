@@ -1,4 +1,4 @@
-"""The package for Python: many positions, pictures of boards, and the program that it installs."""
+"""The package for Python: many positions, games, arrays, pictures of boards, and what is published of it."""
 import contextlib
 import email
 import gzip
@@ -53,14 +53,6 @@ class Many(unittest.TestCase):
         cls.solver = Solver()
         cls.answers = [cls.solver.solve(position) for position in cls.positions]
         cls.scores = [cls.solver.move_scores(position) for position in cls.positions]
-
-    def test_one_by_one_is_exact(self):
-        """By plain alpha-beta; the others are compared with these."""
-        for (board, side, _), answer, scores in zip(self.known, self.answers, self.scores):
-            if board.count(EMPTY) <= 5:
-                black = 32 + (answer.score if side == "X" else -answer.score) // 2
-                self.assertEqual(black, discs_of_black(board, side))
-                self.assertEqual([name for name in scores if scores[name] == answer.score], answer.squares)
 
     def test_all_and_as_they_come(self):
         for threads in (1, 2, 4):
@@ -184,17 +176,6 @@ class Many(unittest.TestCase):
                 list(call([(0.5, 1)]))
 
 
-class Lines(unittest.TestCase):
-    def test_worked_lines(self):
-        """tests/rows/lines.read follows from the grammar, and no program printed it; tests/library_lines.py has odd lines."""
-        told, refused = {}, []
-        for line in ffosolve.read_lines(stored("tests/rows/lines.obf"), refused=refused.append):
-            listed = "".join(f" {move}:{score}" for move, score in line.listed)
-            told[line.number] = f"{line.number} {line.own:016x} {line.opp:016x} {line.side}{listed}"
-        told.update((error.line, str(error).replace("line ", "").replace(":", " refused:")) for error in refused)
-        self.assertEqual([told[number] for number in sorted(told)], stored("tests/rows/lines.read").decode().splitlines())
-
-
 class Games(InFolder):
     """Beside the plain player of test_games."""
 
@@ -308,20 +289,18 @@ class Arrays(unittest.TestCase):
         self.positions = [position for _, _, position in random_positions(400, range(11))]
         self.own, self.opp = numpy.array(self.positions, numpy.uint64).T
 
-    def test_answers(self):
-        answers = self.solver.solve_all(self.positions)
-        for threads in (1, 3):
-            found = self.solver.solve_arrays(self.own, self.opp, threads=threads)
+    def test_as_lists(self):
+        """Answers and scores are those of the calls for lists, on one thread and on some, under each scoring, and of nothing."""
+        for scoring, threads, count in (*((scoring, 1, 90) for scoring in ffosolve.Scoring), (0, 3, 400), (0, 2, 0)):
+            solver, positions = Solver(scoring=scoring), self.positions[:count]
+            found = solver.solve_arrays(self.own[:count], self.opp[:count], threads=threads)
             self.assertEqual([str(array.dtype) for array in found], ["int32", "int32", "uint64"])
-            self.assertEqual([Answer(*its) for its in zip(*(array.tolist() for array in found))], answers)
-
-    def test_scores(self):
-        for threads in (1, 3):
-            found = self.solver.move_scores_arrays(self.own, self.opp, threads=threads)
-            self.assertEqual((str(found.dtype), found.shape), ("int8", (400, 64)))
+            self.assertEqual([Answer(*its) for its in zip(*(array.tolist() for array in found))], solver.solve_all(positions))
+            found = solver.move_scores_arrays(self.own[:count], self.opp[:count], threads=threads)
+            self.assertEqual((str(found.dtype), found.shape), ("int8", (count, 64)))
             told = [{ffosolve.square_name(at): score for at, score in enumerate(row) if score != ffosolve.NO_SCORE}
                     for row in found.tolist()]
-            self.assertEqual(told, self.solver.move_scores_all(self.positions))
+            self.assertEqual(told, solver.move_scores_all(positions))
 
     def test_what_is_asked(self):
         """The scoring of the solver, its number of table entries, and calls of three threads at once."""
@@ -343,19 +322,6 @@ class Arrays(unittest.TestCase):
             asked.clear()
             call(own, opp, threads=3)
             self.assertEqual(asked, [(f"ffosolve_{name}", 2, 7)] * 3)
-
-    def test_scorings(self):
-        positions = [position.passed() for position in self.positions[:90]]
-        own, opp = self.numpy.array(positions, self.numpy.uint64).T
-        for scoring in ffosolve.Scoring:
-            solver = Solver(scoring=scoring)
-            found = solver.solve_arrays(own, opp)
-            self.assertEqual([Answer(*its) for its in zip(*(array.tolist() for array in found))], solver.solve_all(positions))
-
-    def test_none(self):
-        nothing = self.numpy.array([], self.numpy.uint64)
-        self.assertEqual([array.shape for array in self.solver.solve_arrays(nothing, nothing, threads=2)], [(0,)] * 3)
-        self.assertEqual(self.solver.move_scores_arrays(nothing, nothing).shape, (0, 64))
 
     def test_refusals(self):
         for call in (self.solver.solve_arrays, self.solver.move_scores_arrays):
@@ -391,11 +357,8 @@ class Boards(InFolder):
         told = str(position.show(self.SCORES, side="O")).splitlines()
         self.assertEqual(told[1], "1 +38*  +36    O    O    O    O    O   +0")
         self.assertEqual((told[2][:6], told[8][-4:], told[-1]), ("2 +38*", " -12", "O is to move"))
-
-    def test_refused(self):
         for scores, side in (({"C1": 3}, "X"), ({"I9": 3}, "X"), ({}, "black")):
-            with self.assertRaises(ValueError):
-                Position.from_obf(BOARD).show(scores, side)
+            self.assertRaises(ValueError, position.show, scores, side)
 
     def picture(self, svg):
         """The picture's colours at a place from the left and from the top, in pixels."""
@@ -460,22 +423,6 @@ class Package(InFolder):
             self.assertTrue(told[field], field)
         self.assertEqual((told["Version"], told["Description-Content-Type"]), (ffosolve.__version__, "text/markdown"))
         self.assertEqual(told.get_payload(), inspect.getdoc(ffosolve) + "\n")
-
-
-class Installed(InFolder):
-    def test_the_program_that_pip_installs(self):
-        if run(sys.executable, "-m", "pip", "--version").returncode != 0:
-            lack("pip (Debian: python3-pip)")
-        words = "install --quiet --no-index --no-deps --disable-pip-version-check --root-user-action=ignore --target site".split()
-        run("cp", "-r", ROOT / "python", ROOT / "VERSION", ROOT / "LICENSE", ".", check=True)
-        run(sys.executable, "-m", "pip", *words, "./python", check=True, timeout=300)
-        environment = {**os.environ, "PYTHONPATH": str(self.folder / "site")}
-        ran = run("site/bin/ffosolve-games", "--version", env=environment)
-        self.assertEqual(ran.stdout.decode(), f"ffosolve-games {stored('VERSION').decode()}", ran.stderr)
-        ran = run("site/bin/ffosolve-games", "--empties", "59", input=b"f5", env=environment)
-        self.assertRegex(ran.stdout.decode(), "^\\S{64} O; % standard input, game 1\n$", ran.stderr)
-        licence, = self.folder.glob("site/ffosolve-*.dist-info/LICENSE")
-        self.assertEqual(licence.read_bytes(), stored("LICENSE"))
 
 
 if __name__ == "__main__":
