@@ -108,12 +108,15 @@ class CommandLines(unittest.TestCase):
                 with self.subTest(name=name, line=line):
                     self.ends((0, name.encode() + b" " + stored("VERSION"), b""), name, *line.split())
 
-    def test_output_that_is_full(self):
-        for name, words in (("ffosolve", "--help --version /dev/null"), ("ffoscores", "--help --version")):
+    def test_output_that_is_full_or_closed(self):
+        """Of what is told of a program, and of a report, even of nothing."""
+        for name, words in (("ffosolve", "--help --version /dev/null"), ("ffoscores", f"--help --version {ROOT}/examples/kinds.obf")):
             for word in words.split():
-                with self.subTest(name=name, word=word), open("/dev/full", "wb") as full:
-                    ran = run(PROGRAMS[name], word, stdout=full, stderr=subprocess.PIPE, capture_output=False)
-                    self.assertEqual((ran.returncode, ran.stderr), (3, f"{name}: cannot write standard output\n".encode()))
+                for target, prepare in (("/dev/full", None), ("/dev/null", lambda: os.close(1))):
+                    with self.subTest(name=name, word=word, target=target), open(target, "wb") as output:
+                        how = {"stdout": output, "stderr": subprocess.PIPE, "capture_output": False, "preexec_fn": prepare}
+                        ran = run(PROGRAMS[name], word, **how)
+                        self.assertEqual((ran.returncode, ran.stderr), (3, f"{name}: cannot write standard output\n".encode()))
 
     def test_words_behind_two_dashes_are_files(self):
         for name in PROGRAMS:

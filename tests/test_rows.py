@@ -1,8 +1,8 @@
 """Worked rows, and the streams of a run.
 
 Beside each list NAME.obf of tests/rows stands what the programs print of it: NAME.SCORING.report by ffosolve,
-NAME.SCORING.complete with --complete, and NAME.SCORING.scores by ffoscores. It follows from the rules, and was printed
-by no program.
+NAME.SCORING.complete with --complete, NAME.SCORING.scores by ffoscores, and NAME.SCORING.remarks with --complete. It follows
+from the rules, and was printed by no program.
 """
 import os
 import resource
@@ -59,7 +59,7 @@ def shorter_than(size):
 class Rows(InFolder):
     def test_rows(self):
         for name, kind, status, words in (("ffosolve", "report", 0, ()), ("ffosolve", "complete", 0, ("--complete",)),
-                                          ("ffoscores", "scores", 1, ())):  # lines are remarked
+                                          ("ffoscores", "scores", 1, ()), ("ffoscores", "remarks", 1, ("--complete",))):
             wanted = sorted(ROWS.glob(f"*.{kind}"))
             self.assertTrue(wanted)
             for path in wanted:

@@ -40,13 +40,19 @@ class Lines(Scores):
         self.ends((1, SCORES, b""), "/dev/stdin", input=KINDS)
 
     def test_line_by_line(self):
-        """Each line gives one, whatever it is, with LF behind it."""
-        for line, printed in zip(KINDS.splitlines(keepends=True), SCORES.splitlines(keepends=True), strict=True):
-            is_wrong = printed.startswith(b"% refused: ") or re.search(rb"; % (not read: |\S+ is )", printed) is not None
-            for end in (b"\n", b"\r\n", b""):
-                text = line.rstrip(b"\r\n") + end
-                with self.subTest(text=text):
-                    self.ends((int(is_wrong), printed if text else b"", b""), input=text)
+        """Each line gives one, whatever it is, with LF behind it. With --complete it may remark a best move that is not listed."""
+        rows = [stored("tests", "rows", f"unlisted.{name}") for name in ("obf", "winner.scores", "winner.remarks")]
+        for words, lines, scores in (((), KINDS, SCORES), ((), *rows[:2]), (("--complete",), *rows[::2])):
+            for line, printed in zip(lines.splitlines(keepends=True), scores.splitlines(keepends=True), strict=True):
+                is_wrong = re.search(rb"^% refused: |; % (not read: |best move |\S+ is )", printed) is not None
+                for end in (b"\n", b"\r\n", b""):
+                    text = line.rstrip(b"\r\n") + end
+                    with self.subTest(words=words, text=text):
+                        self.ends((int(is_wrong), printed if text else b"", b""), *words, input=text)
+        for name, text in (("rows.obf", rows[0]), ("kinds.obf", KINDS)):
+            Path(name).write_bytes(text)
+        for words in ("--workers 0", "--workers=3", "--table 0"):
+            self.ends((1, rows[2] + SCORES + rows[2], b""), "--complete", *words.split(), "rows.obf", "kinds.obf", "rows.obf")
 
     def test_its_own_output(self):
         self.ends((0, SCORES, b""), input=SCORES)
@@ -80,43 +86,6 @@ class Lines(Scores):
         ):
             with self.subTest(words=words):
                 self.ends((status, printed, b""), *words.split(), input=text)
-
-    def test_best_moves_that_are_not_listed(self):
-        """--complete remarks them behind the other remarks, where a line lists moves at all. A1 and H1 are the only moves of
-        the board `equal`, and each leads to a board of the mover's discs alone."""
-        equal, passes = b"-OXXXXO-" + b"X" * 56 + b" X", b"-OOOOOOX" + b"X" * 56 + b" O"
-        both, a1, h1 = b"; A1:+64; H1:+64;", b"best move A1 is not listed", b"best move H1 is not listed"
-        rows = (
-            (equal + b"; h1:64; a1:+64", equal + both, b"", b""),
-            (equal, equal + both, b"", b""),
-            (equal + b"; A1:+64;", equal + both, b"", b" % " + h1),
-            (equal + b"; H1:+60; ?", equal + both, b" % H1:+60 is +64, not read: ?", b", " + a1),
-            (equal + b"; D4:+02; PS:+64", equal + both, b" % D4:+02 is no move, PS:+64 is no move", b", " + a1 + b", " + h1),
-            (equal + b"; ?", equal + both, b" % not read: ?", b""),
-            (BOARD + b"; H1:+62", BOARD + b"; H1:+62; A1:+52;", b"", b""),
-            (BOARD + b"; A1:+52", BOARD + b"; H1:+62; A1:+52;", b"", b" % " + h1),
-            (passes + b"; PS:-64", passes + b"; PS:-64;", b"", b""),
-            (passes + b"; A1:-64", passes + b"; PS:-64;", b" % A1:-64 is no move", b""),
-            (b"X" * 64 + b" O; PS:-64", b"X" * 64 + b" O; --:-64;", b" % PS:-64 is no move", b""),
-        )
-        for line, scored, remarks, more in rows:
-            with self.subTest(line=line):
-                self.ends((int(remarks != b""), scored + remarks + b" % own\n", b""), input=line + b" % own")
-                self.ends((int(remarks + more != b""), scored + remarks + more + b" % own\n", b""), "--complete",
-                          input=line + b" % own")
-        told = b"".join(scored + remarks + more + b"\n" for _, scored, remarks, more in rows)
-        Path("rows.obf").write_bytes(b"\n".join(line for line, *_ in rows))
-        Path("kinds.obf").write_bytes(KINDS)
-        for words in ("--workers 0", "--workers=3", "--table 0"):
-            self.ends((1, told + SCORES + told, b""), "--complete", *words.split(), "rows.obf", "kinds.obf", "rows.obf")
-        for scoring, line, printed in (
-            ("discs", equal + b"; A1:+64", equal + both + b" % " + h1),
-            ("sign", equal + b"; A1:+1", equal + b"; A1:+01; H1:+01; % " + h1),
-            ("sign", BOARD + b"; H1:+1", BOARD + b"; A1:+01; H1:+01; % " + a1),
-        ):
-            with self.subTest(scoring=scoring, line=line):
-                self.ends((1, printed + b"\n", b""), "--scoring", scoring, "--complete", input=line)
-        self.ends((0, equal + both + b"\n", b""), "--complete", input=equal + both)
 
     def test_position_of_twenty(self):
         """Position 40 of the FFO test: the published move and score, and no other move is as good."""
@@ -155,14 +124,6 @@ class Streams(Scores):
         folder = os.open(".", os.O_RDONLY)
         self.addCleanup(os.close, folder)
         self.ends((3, b"", b"ffoscores: cannot read standard input\n"), stdin=folder)
-
-    def test_full_and_closed_output(self):
-        for words in ((), ("--help",)):
-            for target, how in (("/dev/full", {}), ("/dev/null", {"preexec_fn": lambda: os.close(1)})):
-                with self.subTest(words=words, target=target), open(target, "wb") as output:
-                    how = {"stdout": output, "stderr": subprocess.PIPE, "capture_output": False, **how}
-                    ran = run(PROGRAM, *words, input=KINDS, **how)
-                    self.assertEqual((ran.returncode, ran.stderr), (3, UNWRITTEN))
 
     def start(self, *words, text):
         """A run that goes on meanwhile, of a text that it has whole."""
