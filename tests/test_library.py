@@ -42,6 +42,9 @@ NAMES = {
     "BOARD": "-OXXXXX-XXXXXXXOXXXXXXXXXXXXXXXXXXXOXXXXXXXXXXXXXXXXXXXXXXXXXXXX",
     "READ": "fffffff7ffff7f7c 800008002", "AS_WHITE": "800008002 fffffff7ffff7f7c",
 }
+# What tests/library_nulls.c has to print.
+NULLS = "".join(f"{row}\n" * 3 for row in ("0 2 65 0: other other other", "1 2 65 1: given given given",
+                                           "0 2 65 1: other given given", "1 2 65 0: given other given", "0 2 65 0: given given given"))
 BAD = "fffffff7ffff7f7c 0000000800008002\n0000000000000003 0000000000000002\n"
 BAD_TEXT = "position 2: the masks share a square"
 PROGRAM = """#include "ffosolve.h"
@@ -281,30 +284,58 @@ def named(text):
 
 
 class Calls(unittest.TestCase):
-    """Calls from C and C++, with good and bad arguments."""
+    """Calls from C and C++, with good and bad arguments, and null pointers."""
 
-    def test_from_c_and_cxx(self):
+    def setUp(self):
         """Each row of tests/library_calls.txt is a call, and what it writes; that follows from the header."""
         rows = [row.rsplit(" = ", 1) for row in named((TESTS / "library_calls.txt").read_text()).splitlines()]
         calls = [re.sub(r"(?<=^read_line . ).*", lambda text: text[0].encode().decode("unicode_escape").encode().hex(), call)
                  for call, _ in rows]
+        self.calls, self.wanted = "\n".join(calls), "".join(f"{wanted}\n" for _, wanted in rows)
+
+    def printed(self, compiler, header, folder):
+        """What is printed of the calls and of the inline forms by programs in a folder, compiled with this header."""
+        words = ("-I", header.parent), ("-I", header.parent, "-x", "none", PREFIX.archive)
+        nulls, calls = (PREFIX.compile([*compiler, "-pthread"], folder / name, [TESTS / f"library_{name}.c"], *more)
+                        for name, more in zip(("nulls", "calls"), words))
+        return PREFIX.make(nulls).stdout, PREFIX.make(calls, text=self.calls).stdout
+
+    def test_from_c_and_cxx(self):
         for compiler in (C, CXX):
             with self.subTest(compiler=compiler[0]):
-                self.assertEqual(list(zip(calls, called(calls, compiler))), list(zip(calls, (wanted for _, wanted in rows))))
+                self.assertEqual(self.printed(compiler, PREFIX.header, PREFIX.work), (NULLS, self.wanted))
+
+    def test_wrong_headers_are_noticed(self):
+        """Each number one more, members or last parameters exchanged, and null pointers that are handed on."""
+        wrong = [
+            PREFIX.text[:found.start()] + (new(found) if callable(new) else found.expand(new)) + PREFIX.text[found.end():]
+            for pattern, new in (
+                (r"(?<=[A-Z] = )\d+|(?<=MOST_\w{7} )\d+|(?<=NO_SCORE )\d+", lambda found: str(int(found[0]) + 1)),
+                (r"(    \w+ \w+(?:\[64\])?;\n)(    \w+ \w+;\n)(?=.*\n?} ffosolve)", r"\2\1"),
+                (r"(size_t room),(\s+)(size_t \*at)\);", r"\3,\2\1);"),
+                (r"(\w+)(?: \|\| \w+)? \? \1 : (?:&\w+|\"\")", r"\1"),
+            )
+            for found in re.finditer(pattern, PREFIX.text)
+        ]
+        self.assertGreater(len(wrong), 40)
+
+        def is_noticed(number):
+            header = PREFIX.write(f"wrong-{number}/ffosolve.h", wrong[number])
+            try:
+                told = self.printed([*C, "-Wno-unused-variable", "-Wno-unused-parameter"], header, header.parent)
+            except AssertionError:  # it can't be compiled
+                return True
+            return told != (NULLS, self.wanted)
+
+        with ThreadPoolExecutor() as pool:
+            for number, noticed in enumerate(pool.map(is_noticed, range(len(wrong)))):
+                self.assertTrue(noticed, wrong[number])
 
     def test_without_memory(self):
         calls = ("solve @CORNERS@ 0 4194304", "confirm @CORNERS@ 0 4194304 62 0 0x80", "move_scores @CORNERS@ 0 4194304",
                  "solve_all 0 4194304 1 @CORNERS@", "move_scores_all 0 4194304 1 @CORNERS@", "long_line", "solve @CORNERS@ 0 0")
         told = called(map(named, calls), preexec_fn=lambda: resource.setrlimit(resource.RLIMIT_AS, (60_000_000, 60_000_000)))
         self.assertEqual(told, ["7"] * 6 + ["0 62/0/80"])
-
-    def test_null_pointers_end_in_the_header(self):
-        wanted = ("0 2 65 0: other other other", "1 2 65 1: given given given", "0 2 65 1: other given given",
-                  "1 2 65 0: given other given", "0 2 65 0: given given given")
-        for compiler in (C, CXX):
-            with self.subTest(compiler=compiler[0]):
-                program = PREFIX.compile(compiler, "nulls", [TESTS / "library_nulls.c"], "-I", PREFIX.header.parent)
-                self.assertEqual(PREFIX.make(program).stdout.splitlines(), [row for row in wanted for _ in range(3)])
 
     def test_stack_is_as_the_header_says(self):
         """Calls of 14 empty squares end on a thread with so much, and that of a game's first position works on for two seconds."""
