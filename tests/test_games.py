@@ -12,108 +12,71 @@ import sys
 import unittest
 import unittest.mock
 
+from bench import player
+
 from .support import ROOT, SECONDS, InFolder, built, limit, need, run, stored, wait_until
 
 PROGRAM = ROOT / "bin/ffosolve-games"
 UNREADABLE = "ffosolve-games: {}: {}\n"
-BLACK, WHITE, EMPTY = "X", "O", "-"
 NAMES = [column + row for row in "12345678" for column in "ABCDEFGH"]
 SQUARE_BYTES = [10 * row + column for row in range(1, 9) for column in range(1, 9)]  # A1, B1, .. H8 in a WTHOR file
 PASSES = ("pass", "ps", "--", "PS", "Pass")
 MOST_BYTES = limit("MOST_BYTES")  # of a line
 
 
-# A plain game player, on a list of 64 letters, which shares nothing with the library.
+# Positions of the plain player: the discs of the mover and of the other side, and whether Black moves.
 
 
-def other(side):
-    return WHITE if side == BLACK else BLACK
+def passed(position):
+    own, opp, is_black = position
+    return opp, own, not is_black
 
 
-def turned(board, side, square):
-    """The squares whose discs a move turns; none where it is no move."""
-    found = []
-    if board[square] != EMPTY:
-        return found
-    for right, down in ((1, 0), (-1, 0), (0, 1), (0, -1), (1, 1), (-1, -1), (1, -1), (-1, 1)):
-        x, y, line = square % 8 + right, square // 8 + down, []
-        while 0 <= x < 8 and 0 <= y < 8 and board[8 * y + x] == other(side):
-            line.append(8 * y + x)
-            x, y = x + right, y + down
-        if 0 <= x < 8 and 0 <= y < 8 and board[8 * y + x] == side:
-            found += line
-    return found
+def can_move(position):
+    return player.moves(*position[:2]) != 0
 
 
-def moves_of(board, side):
-    return [square for square in range(64) if turned(board, side, square)]
-
-
-def after(board, side, square):
-    board = list(board)
-    for at in [square, *turned(board, side, square)]:
-        board[at] = side
-    return board
-
-
-def beginning():
-    board = [EMPTY] * 64
-    for name, side in (("D4", WHITE), ("E5", WHITE), ("E4", BLACK), ("D5", BLACK)):
-        board[NAMES.index(name)] = side
-    return board
+def play(position, square):
+    """The position after a move to a square, by its number; None where it is no move."""
+    own, opp, is_black = position
+    return (*player.after(own, opp, 1 << square), not is_black) if player.moves(own, opp) >> square & 1 else None
 
 
 def random_game(rng):
     """A game to its end: its squares, and None for each pass."""
-    board, side, game = beginning(), BLACK, []
-    while True:
-        squares = rng.sample(range(64), 64)
-        move = next((square for square in squares if turned(board, side, square)), None)
-        if move is not None:
-            board = after(board, side, move)
-        elif not moves_of(board, other(side)):
-            return game
-        game.append(move)
-        side = other(side)
+    at, game = (*player.START, True), []
+    while can_move(at) or can_move(passed(at)):
+        can = [square.bit_length() - 1 for square in player.squares_in(player.moves(*at[:2]))]
+        game.append(rng.choice(can) if can else None)
+        at = play(at, game[-1]) if can else passed(at)
+    return game
 
 
 def positions_of(squares):
-    """The first position, and the side to move, at each number of empty squares, up to the first square that is no move."""
-    board, side = beginning(), BLACK
-    found = {60: (board, side)}
+    """The first position at each number of empty squares, up to the first square that is no move."""
+    at = (*player.START, True)
+    found = {60: at}
     for square in squares:
-        if not turned(board, side, square) and not moves_of(board, side):
-            side = other(side)
-        if not turned(board, side, square):
+        at = play(at if can_move(at) else passed(at), square)
+        if at is None:
             break
-        board, side = after(board, side, square), other(side)
-        found[board.count(EMPTY)] = board, side
+        found[64 - player.count(at[0] | at[1])] = at
     return found
 
 
-def score(board, side, low=-64, high=64):
-    """The mover's exact score, with the empty squares to the winner, by plain alpha-beta."""
-    moves = moves_of(board, side)
-    if not moves:
-        if moves_of(board, other(side)):
-            return -score(board, other(side), -high, -low)
-        less = board.count(side) - board.count(other(side))
-        return less + board.count(EMPTY) * ((less > 0) - (less < 0))
-    for square in moves:
-        low = max(low, -score(after(board, side, square), other(side), -high, -low))
-        if low >= high:
-            break
-    return low
+def score(position):
+    """The mover's exact score, with the empty squares to the winner."""
+    return player.values(*position[:2])[0]
 
 
-def discs_of_black(board, side):
-    return 32 + (score(board, side) if side == BLACK else -score(board, side)) // 2
+def discs_of_black(position):
+    return 32 + (score(position) if position[2] else -score(position)) // 2
 
 
 def real_score(positions):
     """Black's discs at the end of a game's positions; any number where the game is not over."""
-    board, side = positions[min(positions)]
-    return 40 if moves_of(board, side) or moves_of(board, other(side)) else discs_of_black(board, side)
+    last = positions[min(positions)]
+    return 40 if can_move(last) or can_move(passed(last)) else discs_of_black(last)
 
 
 @functools.lru_cache(maxsize=None)
@@ -121,11 +84,16 @@ def real_score_of(squares):
     return real_score(positions_of(squares))
 
 
-def best_moves(board, side):
-    """The names of the moves with the mover's exact score."""
-    scores = {NAMES[square]: -score(after(board, side, square), other(side)) for square in moves_of(board, side)}
-    pass_or_end = ["PS"] if moves_of(board, other(side)) else ["--"]
-    return [name for name in scores if scores[name] == max(scores.values())] or pass_or_end
+def moves_of(position):
+    """The squares' names, each with the mover's exact score."""
+    own, opp, _ = position
+    return {NAMES[square.bit_length() - 1]: -player.values(*player.after(own, opp, square))[0]
+            for square in player.squares_in(player.moves(own, opp))}
+
+
+def best_moves(position):
+    scores = moves_of(position)
+    return [name for name in scores if scores[name] == score(position)] or ["PS" if can_move(passed(position)) else "--"]
 
 
 # Games as files have them.
@@ -155,8 +123,7 @@ def wthor(records, empties=22, count=None, board=8, kind=0, another=0):
 
 
 def line_of(position, comment):
-    board, side = position
-    return f"{''.join(board)} {side}; % {comment}\n"
+    return f"{player.line(*position)} % {comment}\n"
 
 
 def squares_of(game):
@@ -315,8 +282,9 @@ class Faults(Case):
         while len(kinds) < 3:
             game = squares_of(random_game(rng))
             positions = positions_of(game)
-            board, _ = positions[min(positions)]
-            black, white, empty = (board.count(it) for it in (BLACK, WHITE, EMPTY))
+            last = positions[min(positions)]
+            black, white = map(player.count, last[:2] if last[2] else last[1::-1])
+            empty = 64 - black - white
             kind = (black > white) - (black < white)
             if (empty or kind == 0) and kind not in kinds:
                 kinds.add(kind)
@@ -381,7 +349,7 @@ class Faults(Case):
             squares, side, name, number = re.fullmatch(r"(\S{64}) ([XO]); % (\S+), game (\d+)(?:, .*)?", line).groups()
             moves = files[name][16 + 68 * int(number) - 60:][:60].rstrip(b"\0")
             positions = positions_of([SQUARE_BYTES.index(byte) for byte in moves])
-            self.assertEqual((list(squares), side), positions[squares.count(EMPTY)], line)
+            self.assertEqual(f"{squares} {side};", player.line(*positions[squares.count("-")]), line)
         self.assertGreater(len(lines), len(files))
 
 
@@ -627,12 +595,12 @@ class Compare(Case):
         mine, others = ([at[5] for at in known if 5 in at][start::2][:20] for start in (0, 1))
         self.write("list", "".join(line_of(at, f"x.wtb, game {number}, theoretical score 32") for number, at in enumerate(mine, 1)))
         for listed, status in ((mine, 1), (others, 3)):
-            best = [best_moves(*at) for at in listed]
-            rows = [f"{number} {score(*at):+03} {','.join(names)} unlisted\n" for number, (at, names) in enumerate(zip(listed, best), 1)]
+            best = [best_moves(at) for at in listed]
+            rows = [f"{number} {score(at):+03} {','.join(names)} unlisted\n" for number, (at, names) in enumerate(zip(listed, best), 1)]
             self.write("report", "[1]\n" + "".join(rows) + "solved 20 refused 0\n")
             out, told = self.games("compare", "list", "report", status=status)
         wrong = [(number, name) for number, (at, names) in enumerate(zip(mine, best), 1) for name in names
-                 if name not in [NAMES[square] for square in moves_of(*at)]]
+                 if name not in moves_of(at)]
         self.assertEqual((out, told), ("", "ffosolve-games: report is not a report of list: line {} of the list has no legal move {}, "
                                            "which the report calls best\n".format(*wrong[0])))
 
@@ -645,7 +613,7 @@ class Fix(Case):
         rng = random.Random(7)
         games = [squares_of(game) for game in (random_game(rng) for _ in range(12))]
         self.games_of_file = [game for game in games if 5 in positions_of(game)]
-        self.exact = [discs_of_black(*positions_of(game)[5]) for game in self.games_of_file]
+        self.exact = [discs_of_black(positions_of(game)[5]) for game in self.games_of_file]
         published = [it + {2: -2, 5: 7}.get(number, 0) for number, it in enumerate(self.exact)]
         self.records = [record(*both) for both in zip(self.games_of_file, published)]
         self.write("it.wtb", wthor(self.records, empties=5) + b"more")
@@ -659,8 +627,9 @@ class Fix(Case):
         self.write("list", ran.stdout)
         rows = ""
         for number, line in enumerate(ran.stdout.decode().splitlines(), 1):
-            at = list(line[:64]), line[65]
-            said = "refused: 5 empties, limit 4" if number in skipped else f"{score(*at):+03} {','.join(best_moves(*at))} unlisted"
+            black, white = (sum(1 << square for square in range(64) if line[square] == letter) for letter in "XO")
+            at = (black, white, True) if line[65] == "X" else (white, black, False)
+            said = "refused: 5 empties, limit 4" if number in skipped else f"{score(at):+03} {','.join(best_moves(at))} unlisted"
             rows += f"{number} {said}\n"
         self.write("report", f"[1]\n{rows}solved {number - len(skipped)} refused {len(skipped)}\n")
 
@@ -805,7 +774,7 @@ class Recipe(Case):
         built("ffosolve")
         rng = random.Random(7)
         games = [squares_of(game) for game in (random_game(rng) for _ in range(20))]
-        exact = [discs_of_black(*positions_of(game)[6]) for game in games]
+        exact = [discs_of_black(positions_of(game)[6]) for game in games]
         published = [it + {4: -2, 13: 7}.get(number, 0) for number, it in enumerate(exact)]
         self.assertTrue(all(0 <= it <= 64 for it in published))
         name = re.search(r"\S+\.wtb", commands)[0]

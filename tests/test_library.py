@@ -1,10 +1,11 @@
 """The library for C as its users have it: from an installed prefix, away from the checkout.
 
 In the environment, TEST_PREFIX is that prefix, which `make install` lays if it is not given; POSITIONS is the number of
-random positions under each scoring, 2,000 if not given, of up to MOST empty squares, 8 if not given.
+random positions under each scoring, 2,000 if not given, of up to MOST empty squares, 6 if not given; 40 of 7 and 8 follow.
 """
 import collections
 import functools
+import itertools
 import os
 import random
 import re
@@ -15,14 +16,15 @@ import subprocess
 import sys
 import tempfile
 import unittest
-from concurrent.futures import ThreadPoolExecutor
+from concurrent.futures import ProcessPoolExecutor, ThreadPoolExecutor
 from pathlib import Path
 
+from bench import player
 from tests.support import ROOT, built, lack, need, run, stored
 from tests.test_python import ffosolve, random_positions
 
 TESTS = ROOT / "tests"
-POSITIONS, MOST = int(os.environ.get("POSITIONS", 2000)), int(os.environ.get("MOST", 8))
+POSITIONS, MOST, DEEP = int(os.environ.get("POSITIONS", 2000)), int(os.environ.get("MOST", 6)), 40
 STRICT = ["-Wall", "-Wextra", "-Wpedantic", "-Wshadow", "-Wconversion", "-Werror"]
 C = ["cc", "-std=c11", *STRICT, "-O1"]
 CXX = ["c++", "-std=c++11", *STRICT, "-O1", "-x", "c++"]
@@ -340,7 +342,7 @@ class Calls(unittest.TestCase):
     def test_stack_is_as_the_header_says(self):
         """Calls of 14 empty squares end on a thread with so much, and that of a game's first position works on for two seconds."""
         self.assertTrue("32 KiB are enough for 14 empty squares and 128 KiB for 60" in re.sub(r"\s+", " ", PREFIX.text))
-        calls = [call.format(f"{own:#x} {opp:#x}") for _, _, (own, opp) in random_positions(20, [14])
+        calls = [call.format(f"{own:#x} {opp:#x}") for own, opp in random_positions(20, [14])
                  for call in ("solve {} 0 1024", "confirm {} 1 0 0 0 1", "move_scores {} 2 1024", "solve_all 0 1024 1 {}")]
         self.assertEqual([line[:2] for line in called(calls, stack=32 << 10)], ["0 "] * len(calls))
         with self.assertRaises(subprocess.TimeoutExpired):
@@ -531,21 +533,27 @@ class Readme(unittest.TestCase):
         self.prints(wanted, PREFIX.rust_client("readme", program))
 
 
-def solved(line):
-    """A line of library_oracle.c: the position, the scoring, the answer, and the moves' scores by their squares."""
-    own, opp, scoring, score, kind, best, *scores = line.split()
-    answer = ffosolve.Answer(int(score), ffosolve.Kind(int(kind)), int(best, 16))
-    return ffosolve.Position(int(own, 16), int(opp, 16)), int(scoring), answer, [tuple(map(int, it.split(":"))) for it in scores]
+def solved(position):
+    """What plain minimax says of a position under each scoring: the scoring, the answer, and the moves' scores by their squares."""
+    own, opp = position
+    children = {square.bit_length() - 1: player.values(*player.after(own, opp, square))
+                for square in player.squares_in(player.moves(own, opp))}
+    kind = ffosolve.Kind.MOVES if children else ffosolve.Kind.PASS if player.moves(opp, own) else ffosolve.Kind.OVER
+    rows = []
+    for scoring, score in enumerate(player.values(own, opp)):
+        scores = [(square, -after[scoring]) for square, after in children.items()]
+        rows.append((position, scoring, ffosolve.Answer(score, kind, sum(1 << square for square, it in scores if it == score)), scores))
+    return rows
 
 
 class RandomPositions(unittest.TestCase):
-    """Random positions beside plain minimax on 64 cells: through Python by each call, some through C and Rust, and by ffoscores."""
+    """Random positions beside plain minimax: through Python by each call, some through C and Rust, and by ffoscores."""
 
     @classmethod
     def setUpClass(cls):
-        oracle = PREFIX.compile([*C, "-O2"], "oracle", [TESTS / "library_oracle.c"])
-        told = PREFIX.make(oracle, POSITIONS, MOST, timeout=LONGEST if POSITIONS <= 10_000 and MOST <= 8 else None).stdout
-        cls.rows = list(map(solved, told.splitlines()))
+        positions = random_positions(POSITIONS, range(MOST + 1)) + random_positions(DEEP, (7, 8))
+        with ProcessPoolExecutor() as pool:
+            cls.rows = list(itertools.chain(*pool.map(solved, positions, chunksize=20)))
 
     def solver(self, scoring, entries=1024):
         return ffosolve.Solver(str(PREFIX.shared), scoring=scoring, entries=entries)
@@ -565,7 +573,7 @@ class RandomPositions(unittest.TestCase):
 
     def test_through_python(self):
         """On eight threads at once, and as lists."""
-        self.assertEqual(len(self.rows), 3 * POSITIONS)
+        self.assertEqual(len(self.rows), 3 * (POSITIONS + DEEP))
         with ThreadPoolExecutor(8) as pool:
             self.assertEqual(len(list(pool.map(self.compare, range(len(self.rows)), self.rows))), len(self.rows))
         for scoring in ffosolve.Scoring:

@@ -17,8 +17,10 @@ import unittest
 import xml.etree.ElementTree
 import zipfile
 
+from bench import player
+
 from .support import ROOT, SECONDS, InFolder, lack, need, run, stored
-from .test_games import EMPTY, discs_of_black, positions_of, random_game, record, squares_of, transcript, wthor
+from .test_games import discs_of_black, positions_of, random_game, record, squares_of, transcript, wthor
 
 SOURCES = ROOT / "python/src"
 sys.path.insert(0, str(SOURCES))
@@ -30,26 +32,19 @@ SHARED, WIDE = Position(3, 2), Position(1, 6)
 BOARD = "--XXXXX--OOOXX-O-OOOXXOX-OXOXOXXOXXXOXXX--XOXOXX-XXXOOO--OOOOO-- X;"
 
 
-def mask(board, side):
-    return sum(1 << at for at, letter in enumerate(board) if letter == side)
-
-
 def random_positions(count, empties, seed=1):
-    """Positions of random games, with so many empty squares in turn: each board with its side to move, and as Position."""
+    """Positions of random games, with so many empty squares in turn."""
     rng, found = random.Random(seed), []
     while len(found) < count:
-        at = positions_of(squares_of(random_game(rng)))
-        if empties[len(found) % len(empties)] in at:
-            board, side = at[empties[len(found) % len(empties)]]
-            found.append((board, side, Position(mask(board, side), mask(board, "O" if side == "X" else "X"))))
+        at = positions_of(squares_of(random_game(rng))).get(empties[len(found) % len(empties)])
+        found += [Position(*at[:2])] * (at is not None)
     return found
 
 
 class Many(unittest.TestCase):
     @classmethod
     def setUpClass(cls):
-        cls.known = random_positions(300, range(10))
-        cls.positions = [position for _, _, position in cls.known]
+        cls.positions = random_positions(300, range(10))
         cls.solver = Solver()
         cls.answers = [cls.solver.solve(position) for position in cls.positions]
         cls.scores = [cls.solver.move_scores(position) for position in cls.positions]
@@ -65,7 +60,7 @@ class Many(unittest.TestCase):
                 self.assertEqual(list(call([], threads=threads)), [])
 
     def test_one_that_takes_long_keeps_its_place(self):
-        long = random_positions(1, [13])[0][2]
+        long = random_positions(1, [13])[0]
         positions = [long, *self.positions * 5]  # in some ten parts
         answers = [self.solver.solve(long), *self.answers * 5]
         for threads in (1, 3):
@@ -111,7 +106,7 @@ class Many(unittest.TestCase):
                 return call
 
         solver._library = Library()
-        positions = [position for _, _, position in random_positions(3, [16])]  # each is a part of its own
+        positions = random_positions(3, [16])  # each is a part of its own
         answers, scores = self.solver.solve_all(positions), self.solver.move_scores_all(positions)
         for call, wanted in ((solver.solve_all, answers), (solver.solve_iter, answers),
                              (solver.move_scores_all, scores), (solver.move_scores_iter, scores)):
@@ -127,7 +122,7 @@ class Many(unittest.TestCase):
                 return 0
 
         def positions():
-            for number, (_, _, position) in enumerate(random_positions(20, [20])):
+            for number, position in enumerate(random_positions(20, [20])):
                 if number == 10:
                     asked.set()
                 yield position
@@ -155,7 +150,7 @@ class Many(unittest.TestCase):
 
     def test_refusals_come_before_anything_is_solved(self):
         """The first position would take hours."""
-        hopeless = random_positions(1, [34])[0][2]
+        hopeless = random_positions(1, [34])[0]
         for bad, error in ((SHARED, ffosolve.SharedSquare), (WIDE, ffosolve.TooManyEmpties)):
             for threads in (1, 2):
                 for call in (self.solver.solve_all, self.solver.move_scores_all):
@@ -186,12 +181,12 @@ class Games(InFolder):
         cls.solver = Solver()
 
     def shown(self, positions):
-        return [(list(position.to_obf()[:64]), position.side) for position in positions]
+        return [position.to_obf() for position in positions]
 
     def expected(self, game):
         """The plain player's positions, from the start on."""
         at = positions_of(squares_of(game))
-        return [at[empties] for empties in sorted(at, reverse=True)]
+        return [player.line(*at[empties]) for empties in sorted(at, reverse=True)]
 
     def test_transcripts_in_many_ways(self):
         rng = random.Random(5)
@@ -247,10 +242,10 @@ class Games(InFolder):
         self.assertEqual([it.empties for it in ffosolve.read_games("it.wtb")], [None])
 
     def test_wrong_theoretical_scores_as_the_docstring_finds_them(self):
-        games = [game for game in self.played if 8 in positions_of(squares_of(game))][:20]
-        exact = [discs_of_black(*positions_of(squares_of(game))[8]) for game in games]
+        games = [game for game in self.played if 6 in positions_of(squares_of(game))][:20]
+        exact = [discs_of_black(positions_of(squares_of(game))[6]) for game in games]
         published = [it ^ (at in (3, 11)) for at, it in enumerate(exact)]
-        (self.folder / "WTH_2001.wtb").write_bytes(wthor(map(record, games, published), empties=8, count=20))
+        (self.folder / "WTH_2001.wtb").write_bytes(wthor(map(record, games, published), empties=6, count=20))
         code = textwrap.dedent(inspect.getdoc(ffosolve.read_games).split(":\n\n")[1])
         told = io.StringIO()
         with contextlib.redirect_stdout(told):
@@ -286,7 +281,7 @@ class Arrays(unittest.TestCase):
         except ImportError:
             lack("numpy (Debian: python3-numpy)")
         self.numpy, self.solver = numpy, Solver()
-        self.positions = [position for _, _, position in random_positions(400, range(11))]
+        self.positions = random_positions(400, range(11))
         self.own, self.opp = numpy.array(self.positions, numpy.uint64).T
 
     def test_as_lists(self):
@@ -317,7 +312,7 @@ class Arrays(unittest.TestCase):
 
         solver = Solver(scoring=ffosolve.Scoring.SIGN, entries=7)
         solver._library = Library()
-        own, opp = self.numpy.array([position for _, _, position in random_positions(3, [17])], self.numpy.uint64).T
+        own, opp = self.numpy.array(random_positions(3, [17]), self.numpy.uint64).T
         for call, name in ((solver.solve_arrays, "solve_all"), (solver.move_scores_arrays, "move_scores_all")):
             asked.clear()
             call(own, opp, threads=3)
@@ -379,7 +374,7 @@ class Boards(InFolder):
         black, white, green, yellow = "111111", "fafafa", "2f8f5b", "ffd54a"
         for svg, mover, other in ((position._repr_svg_(), black, white), (position.show(side="O")._repr_svg_(), white, black)):
             at = self.picture(svg)
-            colours = {"X": mover, "O": other, EMPTY: green}
+            colours = {"X": mover, "O": other, "-": green}
             for place, letter in enumerate(BOARD[:64]):
                 x, y = 22 + 44 * (place % 8), 22 + 44 * (place // 8)
                 self.assertEqual((at(x + 22, y + 22), at(x + 4, y + 4)), (colours[letter], green), place)
@@ -391,7 +386,7 @@ class Boards(InFolder):
             x, y = 22 + 44 * (place % 8), 22 + 44 * (place // 8)
             colours = {at(x + right, y + down) for right in range(8, 36) for down in range(14, 30)}
             is_scored = ffosolve.square_name(place) in ("A1", "A2", "B1", "H1", "H8")
-            if BOARD[place] == EMPTY:
+            if BOARD[place] == "-":
                 self.assertEqual(len(colours) > 3, is_scored, place)
 
 
