@@ -189,12 +189,20 @@ class RandomGames(Case):
 
 
 class Faults(Case):
+    """Each game that is refused has a line; the others are printed all the same."""
+
+    def reads(self, content, out, *why, name="it.wtb", words=(), status=None):
+        """Compares what is printed of one file, and what is told of it behind its name."""
+        self.write(name, content)
+        told = "".join(f"ffosolve-games: {name}{it}\n" for it in why)
+        self.games(*words, name, status=len(why) > 0 if status is None else status, out=out, told=told)
+
     def test_transcripts(self):
-        """Each game that is refused has a line; the others are printed all the same."""
         lines = (
             ("f5d6c3", None),
             ("% a comment", None),
             ("", None),
+            ("\r", None),
             ("f5d6d5", "move 3: D5 is not a legal move"),
             ("F5 D6 C5 z9", "move 4: 'z9' is not a square"),
             ("f5d6c", "move 3: 'c' is not a square"),
@@ -206,28 +214,27 @@ class Faults(Case):
             ("f5", "move 1: it ends here, with 59 empty squares; 58 are asked for"),
             ("f5d6c3d3c4f4c5b3c2\xff", "move 10: '\ufffd' is not a square"),
         )
-        self.write("games", "\n".join(text for text, _ in lines).encode("latin-1"))
-        told = "".join(f"ffosolve-games: games, game {number}, {why}\n" for number, (_, why) in enumerate(lines, 1) if why)
-        self.games("--empties=58", "games", status=1, out=line_of(positions_of([37, 43])[58], "games, game 1"), told=told)
+        why = (f", game {number}, {why}" for number, (_, why) in enumerate(lines, 1) if why)
+        out = line_of(positions_of([37, 43])[58], "games, game 1")
+        self.reads("\n".join(text for text, _ in lines).encode("latin-1"), out, *why, name="games", words=["--empties=58"])
 
-    def test_a_move_behind_the_end_of_a_game(self):
-        game = squares_of(random_game(random.Random(1)))
+    def test_the_end_of_a_game(self):
+        """No move comes behind it, but a pass may; one square may stay empty."""
+        rng = random.Random(1)
+        game = squares_of(random_game(rng))
         for more in (game[:1], game[-1:]):
-            self.write("long", transcript(game + more))
-            told = f"ffosolve-games: long, game 1, move {len(game) + 1}: {NAMES[more[0]]} comes after the end of the game\n"
-            self.games("--empties=30", "long", status=1, out="", told=told)
-
-    def test_passes_at_the_end(self):
-        game = squares_of(random_game(random.Random(1)))
-        self.write("passes", transcript(game) + "--pass")
-        self.games("--empties=30", "passes", out=line_of(positions_of(game)[30], "passes, game 1"), told="")
+            why = f", game 1, move {len(game) + 1}: {NAMES[more[0]]} comes after the end of the game"
+            self.reads(transcript(game + more), "", why, name="long", words=["--empties=30"])
+        self.reads(transcript(game) + "--pass", line_of(positions_of(game)[30], "passes, game 1"), name="passes", words=["--empties=30"])
+        game = next(squares for squares in iter(lambda: squares_of(random_game(rng)), None) if len(squares) == 59)
+        why = ", game 1, move 59: it ends here, with 1 empty square; 0 are asked for"
+        self.reads(transcript(game), "", why, name="text", words=["--empties=0"])
 
     def test_records(self):
         game = squares_of(random_game(random.Random(2)))
         line = line_of(positions_of(game)[22], "it.wtb, game 1, theoretical score 33")
         whole = record(game)
         gap, no_square, twice = (whole[:18] + bytes([byte]) + whole[19:] for byte in (0, 99, whole[17]))
-        name = NAMES[game[9]]
         for records, count, why in (
             ([whole, whole[:67]], 2, "game 2: the file ends after 67 of the 68 bytes of this game, but its header counts 2 games"),
             ([whole, whole[:1]], 7, "game 2: the file ends after 1 of the 68 bytes of this game, but its header counts 7 games"),
@@ -236,45 +243,34 @@ class Faults(Case):
             ([whole, b"\n"], 1, "game 2: the file goes on, but its header counts 1 game"),
             ([whole, gap], 2, "game 2, move 11: 0 is not a square"),
             ([whole, no_square], 2, "game 2, move 11: 99 is not a square"),
-            ([whole, twice], 2, f"game 2, move 11: {name} is not a legal move"),
+            ([whole, twice], 2, f"game 2, move 11: {NAMES[game[9]]} is not a legal move"),
             ([whole, record([])], 2, "game 2: it has no moves"),
             ([whole, record(game[:37])], 2, "game 2, move 37: it ends here, with 23 empty squares; 22 are asked for"),
         ):
-            self.write("it.wtb", wthor(records, count=count))
-            self.games("it.wtb", status=1, out=line, told=f"ffosolve-games: it.wtb, {why}\n")
-
-    def test_a_game_that_ends_with_one_empty_square(self):
-        rng = random.Random(4)
-        game = next(squares for squares in iter(lambda: squares_of(random_game(rng)), None) if len(squares) == 59)
-        self.write("text", transcript(game))
-        told = "text, game 1, move 59: it ends here, with 1 empty square; 0 are asked for"
-        self.games("--empties=0", "text", status=1, out="", told=f"ffosolve-games: {told}\n")
+            self.reads(wthor(records, count=count), line, f", {why}")
 
     def test_scores_of_records(self):
         """A game's line is printed, and what is wrong with its scores is told."""
         game = squares_of(random_game(random.Random(2)))
         at, real = positions_of(game), real_score(positions_of(game))
-        for squares, theoretical, written, why in (
-            (game, 64, real, ()),
-            (game, 65, real, ("its theoretical score is 65, more than 64 discs",)),
-            (game, 33, real + 1, (f"its real score is {real + 1}, but its moves give {real}",)),
-            (game, 255, 65, ("its theoretical score is 255, more than 64 discs", "its real score is 65, more than 64 discs")),
-            (game[:-1], 33, 0, ("its moves stop before the end of the game, so its real score 0 is not checked",)),
-            (game[:-1], 33, 200, ("its real score is 200, more than 64 discs",)),
+        wrong = f"its real score is {real + 1}, but its moves give {real}"
+        for squares, theoretical, written, empties, why in (
+            (game, 64, real, 22, ()),
+            (game, 65, real, 22, ("its theoretical score is 65, more than 64 discs",)),
+            (game, 33, real + 1, 22, (wrong,)),
+            (game, 255, real + 1, 20, (wrong,)),
+            (game, 255, 65, 22, ("its theoretical score is 255, more than 64 discs", "its real score is 65, more than 64 discs")),
+            (game[:-1], 33, 0, 22, ("its moves stop before the end of the game, so its real score 0 is not checked",)),
+            (game[:-1], 33, 200, 22, ("its real score is 200, more than 64 discs",)),
         ):
-            self.write("it.wtb", wthor([record(squares, theoretical, written)]))
-            line = line_of(at[22], f"it.wtb, game 1, theoretical score {theoretical}")
-            told = "".join(f"ffosolve-games: it.wtb, game 1: {it}\n" for it in why)
-            self.games("it.wtb", status=1 if why else 0, out=line, told=told)
+            line = line_of(at[empties], "it.wtb, game 1" + f", theoretical score {theoretical}" * (empties == 22))
+            self.reads(wthor([record(squares, theoretical, written)]), line, *(f", game 1: {it}" for it in why),
+                       words=[f"--empties={empties}"])
         rng = random.Random(3)
-        passed = next(it for it in iter(lambda: random_game(rng), None) if None in it[38:])
-        before = squares_of(passed[:passed.index(None, 38)])
-        self.write("it.wtb", wthor([record(before, 33, 20)]))
-        self.games("it.wtb", status=1, told="ffosolve-games: it.wtb, game 1: its moves stop before the end of the game, "
-                   "so its real score 20 is not checked\n")
-        self.write("it.wtb", wthor([record(game, 255, real + 1)]))
-        told = f"ffosolve-games: it.wtb, game 1: its real score is {real + 1}, but its moves give {real}\n"
-        self.games("it.wtb", "--empties=20", status=1, out=line_of(at[20], "it.wtb, game 1"), told=told)
+        with_pass = next(it for it in iter(lambda: random_game(rng), None) if None in it[38:])
+        before = squares_of(with_pass[:with_pass.index(None, 38)])
+        why = ", game 1: its moves stop before the end of the game, so its real score 20 is not checked"
+        self.reads(wthor([record(before, 33, 20)]), None, why)
 
     def test_real_scores_of_games_that_end_early(self):
         """The empty squares count for the winner; where both have as many discs, Black's score is 32."""
@@ -290,16 +286,14 @@ class Faults(Case):
                 kinds.add(kind)
                 real = {1: black + empty, 0: 32, -1: black}[kind]
                 for written in (real, 64 - real if kind else 31):
-                    self.write("it.wtb", wthor([record(game, real=written)], empties=30))
-                    told = f"ffosolve-games: it.wtb, game 1: its real score is {written}, but its moves give {real}\n"
-                    self.games("it.wtb", status=int(written != real), told=told if written != real else "")
+                    why = [f", game 1: its real score is {written}, but its moves give {real}"] * (written != real)
+                    self.reads(wthor([record(game, real=written)], empties=30), None, *why)
 
     def test_headers(self):
         game = squares_of(random_game(random.Random(2)))
         whole, line = record(game), line_of(positions_of(game)[22], "it.wtb, game 1, theoretical score 33")
         for board, kind in ((0, 0), (8, 0), (8, 1)):
-            self.write("it.wtb", wthor([whole], board=board, kind=kind))
-            self.games("it.wtb", out=line, told="")
+            self.reads(wthor([whole], board=board, kind=kind), line)
         for content, why in (
             (b"", "it is empty"),
             (wthor([])[:15], "it ends within its header of 16 bytes"),
@@ -310,25 +304,21 @@ class Faults(Case):
             (wthor([whole], empties=61), "its theoretical scores are for 61 empty squares, but a game has only 60"),
             (b"f5d6c3d3c4f4c5b3c2\n", "it begins like a text"),
         ):
-            self.write("none.wtb", content)
-            self.write("it.wtb", wthor([whole]))
-            told = f"ffosolve-games: none.wtb is not a WTHOR file of games: {why}\n"
-            self.games("none.wtb", "it.wtb", status=3, out=line, told=told)
+            self.reads(content, "", f" is not a WTHOR file of games: {why}", name="none.wtb", status=3)
+        self.write("it.wtb", wthor([whole]))
+        self.games("none.wtb", "it.wtb", status=3, out=line)
 
     def test_the_number_of_empty_squares(self):
         """A theoretical score belongs to the positions of its own number of empty squares."""
         game = squares_of(random_game(random.Random(2)))
-        at = positions_of(game)
-        self.write("it.wtb", wthor([record(game, 20)], empties=24))
-        self.games("it.wtb", out=line_of(at[24], "it.wtb, game 1, theoretical score 20"), told="")
-        self.games("--empties", "24", "it.wtb", out=line_of(at[24], "it.wtb, game 1, theoretical score 20"), told="")
-        self.games("--empties", "22", "it.wtb", out=line_of(at[22], "it.wtb, game 1"), told="")
-        self.write("it.wtb", wthor([record(game, 20)], empties=0))
-        self.games("--empties", "22", "it.wtb", out=line_of(at[22], "it.wtb, game 1, theoretical score 20"), told="")
-        told = "it.wtb does not say how many squares are empty at its theoretical scores; try --empties 22 or 24, the usual numbers"
-        self.games("it.wtb", status=2, out="", told=f"ffosolve-games: {told}\n")
-        self.write("text", transcript(game))
-        self.games("text", status=2, out="", told="ffosolve-games: text is a text: its games need --empties N\n")
+        at = {empties: line_of(position, "it.wtb, game 1") for empties, position in positions_of(game).items()}
+        scored = {empties: line[:-1] + ", theoretical score 20\n" for empties, line in at.items()}
+        for words, empties, out in (((), 24, scored[24]), (("--empties", "24"), 24, scored[24]), (("--empties", "22"), 24, at[22]),
+                                    (("--empties", "22"), 0, scored[22])):
+            self.reads(wthor([record(game, 20)], empties=empties), out, words=words)
+        why = " does not say how many squares are empty at its theoretical scores; try --empties 22 or 24, the usual numbers"
+        self.reads(wthor([record(game, 20)], empties=0), "", why, status=2)
+        self.reads(transcript(game), "", " is a text: its games need --empties N", name="text", status=2)
 
     def test_each_byte_changed(self):
         """What is printed of a changed file is a position of the game that its record tells, by the plain player."""
@@ -382,10 +372,6 @@ class Use(Case):
         told = UNREADABLE.format("cannot read none", "No such file or directory")
         told += UNREADABLE.format("cannot read .", "Is a directory")
         self.games("--empties=20", "none", ".", "text", status=3, out=self.line.format("text"), told=told)
-
-    def test_a_text_from_windows(self):
-        self.write("text", transcript(self.game) + "\r\n\r\n")
-        self.games("--empties=20", "text", out=self.line.format("text"), told="")
 
     def test_texts_that_are_refused(self):
         """As a file, as standard input and as what is compared; a text that follows is read all the same."""

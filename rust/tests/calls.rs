@@ -24,44 +24,24 @@ fn square(name: &str) -> Square {
 
 #[test]
 fn solves() {
-    let solver = Solver::new();
-    assert_eq!(solver.solve(corners()), Ok(ANSWER));
-    assert_eq!(ANSWER.squares().to_string(), "H1");
     for (scoring, score) in [(Scoring::Winner, -40), (Scoring::Discs, -39), (Scoring::Sign, -1)] {
         let (of, passed) = (Solver::new().scoring(scoring).entries(64), corners().passed());
         let answer = of.solve(passed).expect("an answer");
         assert_eq!(answer.score, score);
-        assert_eq!(of.confirm(passed, ANSWER), Ok(answer));
+        for best in [Best::Over, Best::Pass, Best::Moves(Squares(0)), answer.best] {
+            assert_eq!(of.confirm(passed, Answer { score: 62, best }), Ok(answer));
+        }
         assert_eq!(of.solve_all(&[passed]), Ok(vec![answer]));
         assert_eq!(of.move_scores(passed), Ok(vec![(square("H1"), score)]));
     }
-    assert_eq!(solver.solve(position(0x7e, !0x7f)), Ok(Answer { score: -64, best: Best::Pass }));
-    assert_eq!(solver.solve(position(0xffff_ffff, 0xffff << 48)), Ok(Answer { score: 32, best: Best::Over }));
-    for best in [Best::Pass, Best::Over] {
-        assert!(Answer { score: 0, best }.squares().is_empty());
-    }
-    assert_eq!(solver, Solver::default());
-}
-
-#[test]
-fn confirms_whatever_is_claimed() {
-    for claim in [ANSWER, Answer { score: -128, best: Best::Over }, Answer { score: 62, best: Best::Moves(Squares(0)) }] {
-        assert_eq!(Solver::new().confirm(corners(), claim), Ok(ANSWER));
-    }
-}
-
-#[test]
-fn solves_lists() {
-    assert_eq!(Solver::new().solve_all(&[]), Ok(Vec::new()));
-    let answers = Solver::new().solve_all(&[corners(), corners().passed()]).expect("answers");
-    assert_eq!(answers.iter().map(|answer| answer.score).collect::<Vec<i8>>(), [62, -40]);
-}
-
-#[test]
-fn scores_each_move() {
-    let told = Solver::new().move_scores(corners());
-    assert_eq!(told, Ok(vec![(square("A1"), 52), (square("H1"), 62)]));
-    assert_eq!(Solver::new().move_scores(position(0x7e, !0x7f)), Ok(Vec::new()));
+    let (solver, pass, over) = (Solver::default(), position(0x7e, !0x7f), position(0xffff_ffff, 0xffff << 48));
+    let [at_pass, at_end] = [(-64, Best::Pass), (32, Best::Over)].map(|(score, best)| Answer { score, best });
+    assert_eq!(solver, Solver::new());
+    assert_eq!(solver.solve_all(&[corners(), pass, over]), Ok(vec![ANSWER, at_pass, at_end]));
+    assert_eq!(solver.solve_all(&[]), Ok(Vec::new()));
+    assert_eq!(solver.move_scores(corners()), Ok(vec![(square("A1"), 52), (square("H1"), 62)]));
+    assert_eq!(solver.move_scores(pass), Ok(Vec::new()));
+    assert_eq!([ANSWER, at_pass, at_end].map(|answer| answer.squares().to_string()), ["H1", "", ""]);
 }
 
 #[test]
