@@ -72,8 +72,12 @@ if library.ffosolve_solve(position, library.FFOSOLVE_WINNER, 64, answer) != libr
 print(answer.score, answer.kind, answer.best, library.ffosolve_limit(0) == library.FFOSOLVE_MOST_ENTRIES)
 """
 CMAKE = """cmake_minimum_required(VERSION 3.16)
-project(shown C)
-add_executable(program shown.c)
+project(clients C CXX)
+add_executable(program answers.c)
+{}add_executable(shared answers.c)
+add_executable(in_cxx answers.cpp)
+target_link_libraries(shared ffosolve::ffosolve)
+target_link_libraries(in_cxx ffosolve::ffosolve)
 """
 LINES_IN_RUST = """
 use ffosolve::{Line, ObfError, Side};
@@ -349,6 +353,13 @@ class Calls(unittest.TestCase):
             called([named("solve @START@ 0 1024")], stack=128 << 10, timeout=2)
 
 
+def shown(language, *names):
+    """The one block that these documents show of the library in a language, and what its comments say that it prints."""
+    texts = "".join((ROOT / name).read_text() for name in names or ("README.md", "docs/library.md"))
+    (block,) = re.findall(rf"^```{language}\n(.*?)^```$", texts, re.MULTILINE | re.DOTALL)
+    return block, "".join(f"{line}\n" for line in re.findall(r"(?:  # |// )(.*)$", block, re.MULTILINE))
+
+
 class Clients(unittest.TestCase):
     """Clients, as their authors build them."""
 
@@ -373,23 +384,21 @@ class Clients(unittest.TestCase):
                 program = PREFIX.compile(compiler, "by-pkg-config", [*words, source], "-x", "none", *flags)
                 self.answers(program, count=count)
 
-    @staticmethod
-    def configure(source, built, *words):
-        return ["cmake", "-S", source, "-B", PREFIX.work / built, f"-DCMAKE_PREFIX_PATH={PREFIX.folder}", *words]
-
-    def test_examples_by_cmake(self):
+    def test_example_by_cmake(self):
+        """As the page of the library shows it, shared and in C++; and a version that is newer is not found."""
         need_tool("cmake")
-        folder = PREFIX.work / "cmake-client"
-        shutil.copytree(TESTS / "library_client", folder)
+        (first, second, _), (block, _) = PREFIX.version.split("."), shown("cmake")
         for name in ("answers.c", "answers.cpp"):
-            shutil.copy2(PREFIX.shipped / "examples/c/answers.c", folder / name)
-        PREFIX.make(*self.configure(folder, "cmake-built"))
-        PREFIX.make("cmake", "--build", PREFIX.work / "cmake-built")
-        for name in ("c_shared", "c_static", "cxx_shared"):
+            PREFIX.write(f"cmake/{name}", (PREFIX.shipped / "examples/c/answers.c").read_text())
+        configure = ("cmake", "-S", "cmake", "-B", "cmake-built", f"-DCMAKE_PREFIX_PATH={PREFIX.folder}")
+        PREFIX.write("cmake/CMakeLists.txt", CMAKE.format(block))
+        PREFIX.make(*configure)
+        PREFIX.make("cmake", "--build", "cmake-built")
+        for name in ("program", "shared", "in_cxx"):
             with self.subTest(name=name):
                 self.answers(PREFIX.work / "cmake-built" / name, count=SMALL)
-        first, second, _ = PREFIX.version.split(".")
-        told = PREFIX.run(*self.configure(folder, "cmake-newer", f"-DWANTED={first}.{int(second) + 1}"))
+        PREFIX.write("cmake/CMakeLists.txt", CMAKE.format(block.replace(" 1.0 ", f" {first}.{int(second) + 1} ")))
+        told = PREFIX.run(*configure)
         self.assertNotEqual(told.returncode, 0)
         self.assertIn(PREFIX.version, told.stderr)
 
@@ -486,13 +495,6 @@ class RustCrate(unittest.TestCase):
         self.assertIn(why, told.stderr)
 
 
-def shown(language, *names):
-    """The one block that these documents show of the library in a language, and what its comments say that it prints."""
-    texts = "".join((ROOT / name).read_text() for name in names or ("README.md", "docs/library.md"))
-    (block,) = re.findall(rf"^```{language}\n(.*?)^```$", texts, re.MULTILINE | re.DOTALL)
-    return block, "".join(f"{line}\n" for line in re.findall(r"(?:  # |// )(.*)$", block, re.MULTILINE))
-
-
 class Readme(unittest.TestCase):
     """What the documents show of the library."""
 
@@ -505,15 +507,6 @@ class Readme(unittest.TestCase):
             with self.subTest(language=language):
                 block, wanted = shown(language)
                 self.prints(wanted, PREFIX.compile(compiler, "shown", [PREFIX.write(f"shown.{language}", block)]))
-
-    def test_in_c_by_cmake(self):
-        need_tool("cmake")
-        block, wanted = shown("c")
-        PREFIX.write("shown-by-cmake/shown.c", block)
-        PREFIX.write("shown-by-cmake/CMakeLists.txt", CMAKE + shown("cmake")[0])
-        PREFIX.make(*Clients.configure(PREFIX.work / "shown-by-cmake", "shown-built"))
-        PREFIX.make("cmake", "--build", PREFIX.work / "shown-built")
-        self.prints(wanted, PREFIX.work / "shown-built/program")
 
     def test_in_python(self):
         block, wanted = shown("python")
