@@ -286,8 +286,7 @@ class Lists(Books):
             ("--book-in large.book none.obf", "book line 2: bad square at column 1"),
         ):
             with self.subTest(words=words):
-                ran = run(PROGRAM, *words.split(), stdin=folder)
-                self.assertEqual((ran.returncode, ran.stdout, ran.stderr), (3, b"", f"ffosolve: {told}\n".encode()))
+                self.ends((3, b"", f"ffosolve: {told}\n".encode()), PROGRAM, *words.split(), stdin=folder)
 
     def test_order_of_what_is_tried(self):
         """Files are counted and measured first, then the place of the book is tried, and then hours of work begin. A pipe as the

@@ -2,9 +2,8 @@
 import os
 import re
 import subprocess
-import unittest
 
-from tests.support import ROOT, built, limit, run, stored
+from tests.support import ROOT, InFolder, built, limit, run, stored
 
 MOST_ENTRIES = limit("MOST_ENTRIES")
 LARGE = MOST_ENTRIES + 1
@@ -65,17 +64,17 @@ def setUpModule():
     PROGRAMS = {name: built(name) for name in ("ffosolve", "ffoscores")}
 
 
-class CommandLines(unittest.TestCase):
+class CommandLines(InFolder):
     """Standard input is a pipe to which nobody writes, so that a program which reads it does not end."""
 
     def setUp(self):
+        super().setUp()
         self.pipe, writer = os.pipe()
         self.addCleanup(os.close, self.pipe)
         self.addCleanup(os.close, writer)
 
     def ends(self, wanted, name, *words):
-        ran = run(PROGRAMS[name], *words, stdin=self.pipe)
-        self.assertEqual((ran.returncode, ran.stdout, ran.stderr), wanted)
+        super().ends(wanted, PROGRAMS[name], *words, stdin=self.pipe)
 
     def test_refused_words(self):
         for name, own in (("ffosolve", REFUSED_BY_SOLVER), ("ffoscores", REFUSED_BY_SCORES)):

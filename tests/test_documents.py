@@ -145,11 +145,10 @@ class Definitions(unittest.TestCase):
         self.assertEqual([word for word in named if word not in words], [])
 
 
-class Reports(unittest.TestCase):
+class Reports(InFolder):
     def test_stored_reports_are_what_the_program_prints(self):
         reports = sorted(ROOT.glob("examples/*.report"))
         self.assertTrue(reports)
         for report in reports:
             with self.subTest(report=report.name):
-                ran = run(built(), report.with_suffix(".obf"))
-                self.assertEqual((ran.returncode, ran.stdout, ran.stderr), (0, report.read_bytes(), b""))
+                self.ends((0, report.read_bytes(), b""), built(), report.with_suffix(".obf"))

@@ -789,7 +789,3 @@ class Recipe(Case):
         new = commands.split()[-1]
         wanted = self.check(commands, ["list.obf", "list.report", new])
         self.assertEqual((self.folder / new).read_bytes(), wanted)
-
-
-if __name__ == "__main__":
-    unittest.main()

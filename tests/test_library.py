@@ -556,7 +556,7 @@ class RandomPositions(unittest.TestCase):
 
     def compare(self, number, row):
         """Right claims and wrong ones are confirmed alike."""
-        (position, scoring, wanted, scores), solver = row, self.solver(row[1], (0, 1, 64, 1024)[number % 4])
+        (position, _, wanted, scores), solver = row, self.solver(row[1], (0, 1, 64, 1024)[number % 4])
         claim = (wanted._replace(score=wanted.score + number % 5), wanted._replace(best=wanted.best ^ number), wanted)[number % 3]
         told = solver.solve(position), solver.confirm(position, claim), self.by_number(solver.move_scores(position))
         self.assertEqual(told, (wanted, wanted, scores), row)

@@ -418,7 +418,3 @@ class Package(InFolder):
             self.assertTrue(told[field], field)
         self.assertEqual((told["Version"], told["Description-Content-Type"]), (ffosolve.__version__, "text/markdown"))
         self.assertEqual(told.get_payload(), inspect.getdoc(ffosolve) + "\n")
-
-
-if __name__ == "__main__":
-    unittest.main()

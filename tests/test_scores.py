@@ -23,9 +23,7 @@ def setUpModule():
 
 class Scores(InFolder):
     def ends(self, wanted, *words, **how):
-        """A run ends with this status, standard output and standard error."""
-        ran = run(PROGRAM, *words, **how)
-        self.assertEqual((ran.returncode, ran.stdout, ran.stderr), wanted, words)
+        super().ends(wanted, PROGRAM, *words, **how)
 
 
 class Lines(Scores):

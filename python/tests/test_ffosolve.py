@@ -420,7 +420,3 @@ class Obf(unittest.TestCase):
         self.assertLessEqual(max(sizes), ffosolve.MOST_ENTRIES)
         at = [sizes[empties] for empties in (0, 10, 11, 14, 15, 19, 20, 60)]  # as ffosolve.h says
         self.assertEqual(at, [0, 0, 1024, 1024, 65536, 65536, 1000000, 1000000])
-
-
-if __name__ == "__main__":
-    unittest.main()
