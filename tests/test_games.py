@@ -753,9 +753,8 @@ class Fix(Case):
 
 
 class Recipe(Case):
-    """The wrong scores of a WTHOR file are found by the commands that a user is shown."""
-
-    def check(self, commands, names):
+    def test_commands_that_are_shown(self):
+        """Those of the guide and of the help find the wrong scores of a WTHOR file, and write one with exact scores."""
         need("parallel", "parallel")
         built("ffosolve")
         rng = random.Random(7)
@@ -763,29 +762,17 @@ class Recipe(Case):
         exact = [discs_of_black(positions_of(game)[6]) for game in games]
         published = [it + {4: -2, 13: 7}.get(number, 0) for number, it in enumerate(exact)]
         self.assertTrue(all(0 <= it <= 64 for it in published))
-        name = re.search(r"\S+\.wtb", commands)[0]
-        self.write(name, wthor([record(*both) for both in zip(games, published)], empties=6))
-        (self.folder / "bin").symlink_to(ROOT / "bin")
-        ran = run("sh", "-e", "-c", commands, timeout=300, env={**os.environ, "PATH": f"{ROOT}/bin:{os.environ['PATH']}"})
-        rows = "".join(f"{name}, game {at + 1}: published {published[at]}, exact {exact[at]}, difference {less}\n"
-                       for at, less in ((4, "-2"), (13, "+7")))
-        self.assertEqual(ran.stdout.decode(), rows + "compared 20 differ 2 refused 0 unscored 0\n", ran.stderr)
-        self.assertEqual(ran.returncode, 1)
-        self.assertLessEqual({name, *names}, set(os.listdir()))
-        return wthor([record(*both) for both in zip(games, exact)], empties=6)
-
-    def test_the_guide(self):
-        blocks = re.findall(r"^```sh\n(.*?)^```", stored("docs", "check-wthor.md").decode(), re.M | re.S)
-        self.assertEqual([len(block.splitlines()) for block in blocks], [3, 1])
-        wanted = self.check(blocks[0], ["list.obf", "list.report"])
-        fix = blocks[1].split()
-        self.assertEqual(run(*fix).returncode, 1)
-        self.assertEqual((self.folder / fix[-1]).read_bytes(), wanted)
-
-    def test_the_help(self):
-        """It keeps the list, which compare needs, and writes a file with exact scores."""
-        commands = re.search(r"^examples:\n.*?\n\n(.*?)\n\n", self.games("--help")[0], re.M | re.S)[1]
-        self.assertEqual(len(commands.splitlines()), 3)
-        new = commands.split()[-1]
-        wanted = self.check(commands, ["list.obf", "list.report", new])
-        self.assertEqual((self.folder / new).read_bytes(), wanted)
+        guide = "".join(re.findall(r"^```sh\n(.*?)^```", stored("docs", "check-wthor.md").decode(), re.M | re.S))
+        of_help = re.search(r"^examples:\n.*?\n\n(.*?)\n\n", self.games("--help")[0], re.M | re.S)[1]
+        for place, commands, count in (("guide", guide, 4), ("help", of_help, 3)):
+            self.assertEqual(len(commands.splitlines()), count)
+            name, new = re.search(r"\S+\.wtb", commands)[0], commands.split()[-1]
+            os.mkdir(place)
+            os.symlink(ROOT / "bin", f"{place}/bin")
+            self.write(f"{place}/{name}", wthor([record(*both) for both in zip(games, published)], empties=6))
+            ran = run("sh", "-c", commands, timeout=300, cwd=place, env={**os.environ, "PATH": f"{ROOT}/bin:{os.environ['PATH']}"})
+            rows = "".join(f"{name}, game {at + 1}: published {published[at]}, exact {exact[at]}, difference {less}\n"
+                           for at, less in ((4, "-2"), (13, "+7")))
+            told = f"{rows}compared 20 differ 2 refused 0 unscored 0\n" * (count - 2)  # of each command that compares
+            self.assertEqual((ran.returncode, ran.stdout.decode()), (1, told), ran.stderr)
+            self.assertEqual((self.folder / place / new).read_bytes(), wthor(map(record, games, exact), empties=6, count=20))
