@@ -113,17 +113,18 @@ class Files(Books):
         """The folder, the file or where a link leads. One that may be written and not read may be no book; where each may replace
         its own files alone, no new file takes the place of one of root."""
         self.addCleanup(os.chmod, ".", 0o755)
-        for folder_mode, file_mode, wanted in ((0o555, 0o666, REFUSED), (0o777, 0o444, REFUSED), (0o777, 0o222, UNREAD),
-                                               *[(0o1777, 0o666, UNWRITTEN)] * (os.getuid() == 0)):
-            for place in ("it.book", "there"):
-                with self.subTest(folder=oct(folder_mode), file=oct(file_mode), place=place):
-                    put(place, OLD, file_mode)
-                    place == "it.book" or os.symlink(place, "it.book")
-                    os.chmod(".", folder_mode)
-                    self.solves(wanted, prepare=give_up_rights)
-                    os.chmod(".", 0o755)
-                    os.chmod(place, 0o644)
-                    self.left({place: OLD, "it.book": OLD})
+        for place, folder_mode, file_mode, wanted in (
+            ("it.book", 0o555, 0o666, REFUSED), ("it.book", 0o777, 0o444, REFUSED), ("there", 0o777, 0o444, REFUSED),
+            ("it.book", 0o777, 0o222, UNREAD), *[("it.book", 0o1777, 0o666, UNWRITTEN)] * (os.getuid() == 0),
+        ):
+            with self.subTest(place=place, folder=oct(folder_mode), file=oct(file_mode)):
+                put(place, OLD, file_mode)
+                place == "it.book" or os.symlink(place, "it.book")
+                os.chmod(".", folder_mode)
+                self.solves(wanted, prepare=give_up_rights)
+                os.chmod(".", 0o755)
+                os.chmod(place, 0o644)
+                self.left({place: OLD, "it.book": OLD})
 
     def test_full_disk(self):
         put("it.book", OLD)
