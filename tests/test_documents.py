@@ -65,12 +65,18 @@ def printed_by(commands):
 
 
 class Commands(InFolder):
-    def setUp(self):
-        super().setUp()
+    def test_each_document(self):
+        need("parallel", "parallel")
         built()
-        for name in os.listdir(ROOT):
-            if not name.startswith(".") and not is_ignored(name):
-                os.symlink(ROOT / name, name)
+        for name in DOCUMENTS:
+            with self.subTest(name=name):
+                folder = self.folder / name.replace("/", "-")
+                folder.mkdir()
+                os.chdir(folder)
+                for linked in os.listdir(ROOT):
+                    if not linked.startswith(".") and not is_ignored(linked):
+                        os.symlink(ROOT / linked, linked)
+                self.shows(TEXTS[name])
 
     def shows(self, text):
         """Each command prints what is shown, and leaves nothing that git would ask about."""
@@ -85,20 +91,6 @@ class Commands(InFolder):
         left = [name for name in os.listdir() if not os.path.islink(name)] + made_by_blocks(text)
         if (ROOT / ".git").exists():
             self.assertEqual([name for name in left if not is_ignored(name)], [])
-
-
-def commands_of(name):
-    def test(self):
-        if any("ffosolve-many" in block for block in blocks_of(TEXTS[name], "console")):
-            need("parallel", "parallel")
-        self.shows(TEXTS[name])
-
-    return test
-
-
-for document in DOCUMENTS:
-    if blocks_of(TEXTS[document], "console"):
-        setattr(Commands, f"test_{re.sub('[^a-z]+', '_', document.lower())}", commands_of(document))
 
 
 class Names(unittest.TestCase):
