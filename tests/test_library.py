@@ -678,7 +678,7 @@ class OddLines(unittest.TestCase):
 
     @classmethod
     def setUpClass(cls):
-        chance = random.Random(1)
+        chance = random.Random(5)  # some lines agree
         cls.text = b"\n".join(odd_line(chance) for _ in range(LINES))
         cls.rows = read(cls.text)
 

@@ -37,7 +37,7 @@ def random_positions(count, empties, seed=1):
     rng, found = random.Random(seed), []
     while len(found) < count:
         at = positions_of(squares_of(random_game(rng))).get(empties[len(found) % len(empties)])
-        found += [Position(*at[:2])] * (at is not None)
+        found += [Position(*at[:2])] if at else []
     return found
 
 
