@@ -81,6 +81,7 @@ def positions(*words):
 def setUpModule():
     global BASE, PROGRAMS, MANY, ACTS, SMALL
     need("parallel", "parallel")
+    PROGRAMS = {name: built(name) for name in ("ffosolve", "ffoscores")}
     folder = tempfile.TemporaryDirectory(prefix="ffosolve-many-tests-")
     unittest.addModuleCleanup(folder.cleanup)
     BASE = Path(folder.name)
@@ -93,7 +94,6 @@ def setUpModule():
     environment = mock.patch.dict(os.environ, places)
     environment.start()
     unittest.addModuleCleanup(environment.stop)
-    PROGRAMS = {name: built(name) for name in ("ffosolve", "ffoscores")}
     MANY, ACTS = install("plain"), install("acting prefix", ACTING)
     SMALL = positions(60, 1, 5)
 
@@ -182,8 +182,8 @@ class Functions(InFolder):
     def test_results_that_are_spoiled_meanwhile_are_told(self):
         one = Run(self.folder, "run-1", [Part("0000004", 81, 20, "")])
         self.refuses(r"part 0000004 \(lines 81 to 100\) was changed meanwhile", many.report.write_report, one, io.BytesIO())
-        self.refuses("one line 3 is not in order", lambda: [
-            *many.books.merged([[(b"2", b"b", ("one", 2)), (b"1", b"a", ("one", 3))]])])
+        write("one", BOARD + b" X; A1:+02;\n" + BOARD.replace(b"-", b"O", 1)[::-1] + b" X; A1:+02;\n")
+        self.refuses("one line 2 is not in order", lambda: [*many.books.merged([many.books.entries_of(Path("one"))])])
 
     def test_claim_of_a_line_is_the_greatest_score_and_its_moves(self):
         head = BOARD + b" X;"
@@ -191,10 +191,9 @@ class Functions(InFolder):
                               (b"H1:1;A2:1", b" H1:+01; A2:+01;"), (b" A1:-0; junk; A9:+3; A1:+65", b" A1:+00;"),
                               (b"PS:-4;", b" PS:-04;"), (b"--:4;PS:4", b" PS:+04;"), (b"--:4;A1:4", b" A1:+04;"),
                               (b" A1:-02; % B1:+64;", b" A1:-02;"), (b"A1:2; B1:4\r\r", b" A1:+02;")):
-            self.assertEqual(many.books.claim_in(head + fields + b"\n"), head + claim + b"\n", fields)
-        spelled = b" " + BOARD.replace(b"X", b"*").replace(b"O", b"w") + b"\tb;A1:1\r\n"
-        write("book", b"\n \t\r\n% X\n" + spelled)
-        self.assertEqual([entry[1:] for entry in many.books.entries_of(Path("book"), "it")], [(head + b" A1:+01;\n", ("it", 4))])
+            write("book", b"\n \t\r\n% X\n" + head + fields + b"\n")
+            ((_, line, place),) = many.books.entries_of(Path("book"), "it")
+            self.assertEqual((line, place), (head + claim + b"\n", ("it", 4)), fields)
 
     def test_hosts_are_read(self):
         write("hosts", "# all\n\n:\n 8/me@a \nssh -p 22 b # the third\n2 / c\n5/c\n::1\n4/ssh://me@d:22\n")
