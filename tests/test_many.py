@@ -482,7 +482,8 @@ class Resuming(Case):
         asked = Path("work/asked.json").read_text()
         write("work/asked.json", asked.replace('  "--complete": false,\n', ""))
         self.assertNotEqual(Path("work/asked.json").read_text(), asked)
-        self.refused(2, "work was begun without --complete: use another folder", *self.WORDS, "--complete")
+        self.refused(2, "work was begun without --complete and without --book-in: use another folder", *self.WORDS,
+                     "--complete", "--book-in=one.book")
         self.again(3)
 
     def test_list_that_grew_at_its_end_goes_on(self):
