@@ -323,6 +323,21 @@ class Results(Case):
                 self.ends(status, one.stdout, f", {before} of them solved before", "--scores", *words, "--lines=50",
                           f"work{number}", "list.obf")
 
+    def test_cut_parts_are_solved_by_their_script(self):
+        """As another scheduler does, and joined without parallel."""
+        told = b"3 parts, 0 of them solved; sh work/run-*/solve NAME solves one, from 0000000 to 0000002\n"
+        self.same("--cut", *self.WORDS, text=told)
+        self.assertEqual([path.name for path in self.place("parts").iterdir() if "." in path.name], [])
+        self.assertFalse(Path("work/log").exists())
+        for name in ("0000000", "parts/0000002"):
+            self.assertEqual(self.same("-c", f"sh work/run-*/solve {name}", by="sh", text=b""), "")
+        self.same("--cut", *self.WORDS, text=told.replace(b" 0 of", b" 2 of"))
+        self.same(*self.WORDS, told="in 3 parts, 2 of them solved before")
+        Path("tools").mkdir()
+        os.symlink(sys.executable, "tools/python3")
+        self.same(*self.WORDS, places={"PATH": str(self.folder / "tools")})
+        self.same_book()
+
     def test_book_goes_through_a_link_or_into_a_pipe(self):
         """A file keeps its permissions."""
         write("there", "% ffobook 2 winner\n", 0o640)
@@ -372,9 +387,7 @@ class Results(Case):
             os.close(writing)
             self.assertEqual((ran.returncode, ran.stderr), (-signal.SIGPIPE, b""), words)
         self.same("list.obf", told=", 1 of them solved before")
-
-    def test_closed_streams_are_not_taken_for_files(self):
-        self.same("-c", f'exec "{MANY}" list.obf <&- 2>&-', by="sh")
+        self.same("-c", f'exec "{MANY}" list.obf <&- 2>&-', by="sh")  # closed streams are not taken for files
 
 
 class Resuming(Case):
@@ -395,16 +408,16 @@ class Resuming(Case):
         return Path("work/log").read_text().rpartition("\twork\t")[2].count("\tbegin\t")
 
     def test_part_whose_results_are_not_whole_is_solved_again(self):
-        """Spoiled as a loss of power does."""
+        """Each of its files is spoiled in a part of its own: gone, or as a loss of power does."""
         self.begin()
         self.again(3)
-        for ending in ("report", "book", "done"):
-            path = self.place(f"parts/0000001.{ending}")
-            whole = path.read_bytes()
-            for spoiled in (None, b"", b"".join(whole.splitlines(keepends=True)[:-1]), bytes(len(whole))):
-                path.unlink() if spoiled is None else path.write_bytes(spoiled)
-                self.again(2)
-                self.assertEqual(path.read_bytes(), whole)
+        paths = [self.place(name) for name in ("parts/0000000.report", "parts/0000001.book", "parts/0000002.done")]
+        wholes = [path.read_bytes() for path in paths]
+        for spoil in (None, lambda _: b"", lambda whole: whole[:whole[:-1].rindex(b"\n") + 1], lambda whole: bytes(len(whole))):
+            for path, whole in zip(paths, wholes):
+                path.write_bytes(spoil(whole)) if spoil else path.unlink()
+            self.again(0)
+            self.assertEqual([path.read_bytes() for path in paths], wholes)
 
     def test_scores_are_whole_with_a_line_for_each_of_the_part(self):
         part = Part("0000000", 1, 3, "")
@@ -426,13 +439,12 @@ class Resuming(Case):
     def test_whole_checksums_of_what_are_no_results_are_not_believed(self):
         """A report of another line, and a book of another scoring."""
         self.begin()
-        for ending, old, new in ((".report", b"\n1 ", b"\n2 "), (".book", b"winner", b"discs")):
-            paths = [self.place(f"parts/0000000{ending}") for ending in ("", ".report", ".book")]
-            spoiled = self.place(f"parts/0000000{ending}")
-            spoiled.write_bytes(spoiled.read_bytes().replace(old, new, 1))
-            sums = "".join(f"{many.files.digest_of(path)}  -\n" for path in paths)
-            write(self.place("parts/0000000.done"), f"{self.place().name} 0\n{sums}")
-            self.again(2)
+        for name, ending, old, new in (("0000000", ".report", b"\n1 ", b"\n2 "), ("0000001", ".book", b"winner", b"discs")):
+            paths = {ending: self.place(f"parts/{name}{ending}") for ending in ("", ".report", ".book")}
+            paths[ending].write_bytes(paths[ending].read_bytes().replace(old, new, 1))
+            sums = "".join(f"{many.files.digest_of(path)}  -\n" for path in paths.values())
+            write(self.place(f"parts/{name}.done"), f"{self.place().name} 0\n{sums}")
+        self.again(1)
 
     def test_removed_run_is_solved_again(self):
         self.begin()
@@ -451,12 +463,11 @@ class Resuming(Case):
         read = "--book-in=one.book"
         self.begin(read)
         self.assertIn("--book-in=book-in", self.place("solve").read_text())
-        for name in ("parts/0000001", "program", "solve", "book-in"):
-            path = self.place(name)
-            whole = path.read_bytes()
+        before = {path: path.read_bytes() for path in map(self.place, ("parts/0000001", "program", "solve", "book-in"))}
+        for path, whole in before.items():
             write(path, whole[:-5])
-            self.again(3, read)
-            self.assertEqual(path.read_bytes(), whole)
+        self.again(3, read)
+        self.assertEqual({path: path.read_bytes() for path in before}, before)
 
     def test_other_options_are_told_by_name(self):
         words = ("--lines=20", "--scoring=discs", "--max-empties=7", "--complete", "--book-in=one.book", "work", "list.obf")
@@ -535,8 +546,8 @@ class Resuming(Case):
         self.assertEqual([path.exists() for path in strays + kept], [False] * 4 + [True] * 5)
 
 
-class Pipes(Case):
-    """A list or a book that can be read once alone."""
+class Files(Case):
+    """What is read, also by a pipe, and whose folders are taken."""
 
     def test_list_on_standard_input(self):
         self.same("--lines=20", "work", "-", told="/dev/stdin: 60 lines in 3 parts", input=SMALL)
@@ -578,10 +589,6 @@ class Pipes(Case):
                 self.refused(2, told, "--lines=2", folder, "-", input=text)
         self.assertEqual(self.many("--cut", "--lines=2", "work", "-", input=half * 4).stdout[:8], b"2 parts,")
 
-
-class Folders(Case):
-    """A folder is nobody else's."""
-
     def test_list_that_changes_while_it_is_read(self):
         by = install("changing")
         laid = "    lay_parts(run, command, source)\n"
@@ -613,25 +620,21 @@ class Folders(Case):
             self.assertEqual([*Path("work").glob("*.new")], [])
             shutil.rmtree("work")
 
-    def test_place_that_cannot_be_written_is_told(self):
-        self.refused(3, "cannot write /proc/work", "/proc/work", "list.obf")
-        write("list.obf.parts", "")
-        self.refused(2, "'list.obf.parts' is not a folder", "list.obf")
-
 
 class Words(Case):
     """What is refused, each by a line that names the word."""
 
     def test_command_lines(self):
-        write("two.obf", SMALL)
-        write("kept", SMALL)
-        write("empty.hosts", b"# none\n")
+        for name, text in (("two.obf", SMALL), ("two.obf.parts", ""), ("kept", SMALL), ("empty.hosts", "# none\n")):
+            write(name, text)
         os.symlink("kept", "link")
         read = "one.book is read and would be overwritten: write --book-out NEW, then ffosolve-many --merge-books one.book NEW"
         for status, told, *words in (
                 (2, "no list is named"),
                 (2, "'two.obf' is one word too many", "work", "list.obf", "two.obf"),
                 (2, "'list.obf' is not a folder: name one FOLDER and one LIST", "list.obf", "two.obf"),
+                (2, "'two.obf.parts' is not a folder", "two.obf"),
+                (3, "cannot write /proc/work", "/proc/work", "list.obf"),
                 (2, "'-x' is not an option; a file of that name is ./-x", "-x"),
                 (2, "'/dev/stdin' has no folder of its own: name a FOLDER before it", "-"),
                 (2, "'--joobs=2' is not an option", "list.obf", "--joobs=2"),
@@ -683,9 +686,6 @@ class Words(Case):
             self.assertTrue(told.startswith("usage: ffosolve-many [OPTIONS] [FOLDER] LIST"), told)
             self.assertLessEqual(max(map(len, told.splitlines())), 80)
             self.assertEqual(told.count("\n  ffosolve-many "), 2)
-            for option in ("--jobs N", "--lines N", "--hosts FILE", "--cut", "--scores", "--merge-books", "--quiet",
-                           "--book-out FILE"):
-                self.assertIn(option, told)
         self.assertFalse(Path("list.obf.parts").exists())
         by = install("versioned")
         write(by.parent.parent / "VERSION", "1.2.3\n")
@@ -713,25 +713,6 @@ class Words(Case):
             ran = run("sh", "-c", f'"$0" "$@" >>{output}', MANY, *self.WORDS)
             self.assertEqual((ran.returncode, Path("list.obf").read_bytes()), (2, SMALL))
             self.assertIn(told, ran.stderr.decode())
-
-
-class Cutting(Case):
-    """Parts that another scheduler solves."""
-
-    def test_cut_parts_are_solved_by_their_script(self):
-        """And joined without parallel."""
-        told = b"3 parts, 0 of them solved; sh work/run-*/solve NAME solves one, from 0000000 to 0000002\n"
-        self.same("--cut", *self.WORDS, text=told)
-        self.assertEqual([path.name for path in self.place("parts").iterdir() if "." in path.name], [])
-        self.assertFalse(Path("work/log").exists())
-        for name in ("0000000", "parts/0000002"):
-            self.assertEqual(self.same("-c", f"sh work/run-*/solve {name}", by="sh", text=b""), "")
-        self.same("--cut", *self.WORDS, text=told.replace(b" 0 of", b" 2 of"))
-        self.same(*self.WORDS, told="in 3 parts, 2 of them solved before")
-        Path("tools").mkdir()
-        os.symlink(sys.executable, "tools/python3")
-        self.same(*self.WORDS, places={"PATH": str(self.folder / "tools")})
-        self.same_book()
 
 
 class Signals(Case):
@@ -906,7 +887,7 @@ class Hosts(Case):
         self.assertEqual([path.name for host in ("near", "far") for path in Path("hosts", host).iterdir()], [])
 
     def test_all_jobs_of_all_machines_work_at_a_time(self):
-        self.same_on("3/near", "2/far", lines=2, by=ACTS, PAUSE="1.5")
+        self.same_on("3/near", "2/far", lines=3, by=ACTS, PAUSE="1.5")
         running = most = 0
         for line in Path("work/log").read_text().splitlines():
             running += {"begin": 1, "done": -1}.get(line.split("\t")[1], 0)
@@ -926,10 +907,10 @@ class Hosts(Case):
         by = install("checkout", '#!/bin/sh\nexec "${0%/*}/../out/ffosolve" "$@"\n')
         (root / "out/x86-64-v2").mkdir(parents=True)
         write(root / "crates.txt", "")
-        shutil.copy(PROGRAMS["ffosolve"], root / "out/x86-64-v2")
+        shutil.copy(PROGRAMS["ffosolve"], root / "out/x86-64-v2/ffosolve")
         write(root / "out/ffosolve", f'#!/bin/sh\n[ ! -e "$HOME/old" ] || exit 127\nexec "{MANY.parent}/ffosolve" "$@"\n', 0o755)
         write("hosts/near/old", "")
-        self.assertEqual(self.same_on("near", lines=6, by=by)[1], ["near"] * 10)
+        self.assertEqual(self.same_on("near", by=by)[1], ["near"] * 3)
         (root / "out/x86-64-v2/ffosolve").unlink()
         shutil.rmtree("work")
         words, places = self.on("near")
