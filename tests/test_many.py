@@ -293,29 +293,30 @@ class Results(Case):
     def test_options_come_to_the_program_of_each_part(self):
         """Each has one thread if no more are asked for."""
         usual, others = "--max-empties=20 --scoring=winner --workers=0", "--max-empties=7 --scoring=discs --workers=1 --table=9"
-        for words, given in (("", usual), ("--complete", f"{usual} --complete"), (others, others)):
-            for mode, program in ((), "ffosolve"), (("--scores",), "ffoscores"):
-                text = run(PROGRAMS[program], *words.split(), "list.obf").stdout
-                self.same(*mode, *words.split(), "--lines=20", f"{program} {words}", "list.obf", text=text, by=ACTS,
-                          places={"WORDS": f"{self.folder}/words"})
-                told = [line.rpartition(" ")[0] for line in Path("words").read_text().splitlines()]
-                self.assertEqual(told, [given] * 4)  # one of them with an empty list
-                Path("words").unlink()
+        for program, words, given in (("ffosolve", "", usual), ("ffoscores", "--complete", f"{usual} --complete"),
+                                      ("ffosolve", others, others)):
+            text = run(PROGRAMS[program], *words.split(), "list.obf").stdout
+            mode = ["--scores"] if program == "ffoscores" else []
+            self.same(*mode, *words.split(), "--lines=20", f"work {words}", "list.obf", text=text, by=ACTS,
+                      places={"WORDS": f"{self.folder}/words"})
+            told = [line.rpartition(" ")[0] for line in Path("words").read_text().splitlines()]
+            self.assertEqual(told, [given] * 4)  # one of them with an empty list
+            Path("words").unlink()
 
     def test_lines_of_each_kind_and_none(self):
-        """Also lines that leave out a best move, with and without --complete."""
+        """Also lines that leave out a best move, with --complete."""
         kinds, blank = stored("examples/kinds.obf"), b"\r\n \t\n\t % X\n% no end of the last line\n\r\r\n \r\n"
-        for number, text in enumerate((kinds + blank + kinds.rstrip(b"\n"), b"", stored("tests/rows/best.obf"))):
+        whole, best = kinds + blank + kinds.rstrip(b"\n"), stored("tests/rows/best.obf")
+        for text, lines, *words in (whole, 4), (whole, 1000), (b"", 4), (best, 4, "--complete"):
             write("list.obf", text)
-            for words in (("--lines=4",), ("--lines=1000",), ("--lines=4", "--complete")):
-                self.one = self.solve(*words[1:], "list.obf")
-                self.same(*words, f"work {number} {words}", "list.obf", "--book-out", "joined.book")
-                self.same_book()
+            self.one = self.solve(*words, "list.obf")
+            self.same("--lines", lines, *words, f"work {len(text)} {lines}", "list.obf", "--book-out", "joined.book")
+            self.same_book()
 
     def test_scores_and_status_are_those_of_one_run(self):
         kinds = stored("examples/kinds.obf") + SMALL
         for number, (words, text, status) in enumerate((((), SMALL + b"% remark\r\n\n" + SMALL.rstrip(b"\n"), 0),
-                                                        ((), kinds, 1), (("--complete",), kinds, 1))):
+                                                        (("--complete",), kinds, 1))):
             write("list.obf", text)
             one = run(PROGRAMS["ffoscores"], *words, "list.obf")
             self.assertEqual(one.returncode, status)
@@ -370,13 +371,14 @@ class Results(Case):
             self.assertEqual(Path("report").read_bytes(), self.one)
             told = (ran.stderr or ran.stdout).decode()
             counts = [int(found[1]) for found in line.finditer(told)]
-            self.assertEqual((counts, "\033" in told), (sorted(counts), place == "terminal"))
+            is_one_line = "\033" in told and told.count("\n") == 1  # behind the first, over and over
+            self.assertEqual((counts, is_one_line), (sorted(counts), place == "terminal"))
             self.assertGreater(len(set(counts)), 2, told)
         self.assertEqual(self.same("--quiet", "--lines=6", "list.obf", by=by, places={"PAUSE": "0.3"}), "")
 
     def test_output_that_fails_is_told(self):
         """On a full disk, or closed. Where nobody reads it any more, it ends the program as others."""
-        for words in (("list.obf",), ("--help",), ("--version",), ("--merge-books", "one.book")):
+        for words in (("list.obf",), ("--help",), ("--merge-books", "one.book")):
             for output, why in ((">/dev/full", "No space left on device"), (">&-", "it is closed")):
                 ran = run("sh", "-c", f'exec "$0" --quiet "$@" {output}', MANY, *words)
                 told = f"ffosolve-many: cannot write standard output: {why}\n"
@@ -531,6 +533,7 @@ class Resuming(Case):
         self.assertEqual(self.begun(), 2)
         self.same_book()
         self.ends(3, b"", "not solved: 2 of 7 parts: ", "--scores", "--lines=20", "work2", "list.obf", by=ACTS)
+        self.assertEqual(len([*Path("work2").glob("run-*/parts/0000006*")]), 1)
 
     def test_what_killed_runs_left_is_cleared_and_nothing_else(self):
         """Also where the log is gone."""
