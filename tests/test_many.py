@@ -243,8 +243,8 @@ class Functions(InFolder):
         self.assertEqual((is_folder, len(names), "it" in names, others), (False, 1, False, [(True, ["it"])]))
 
     def test_jobs_at_a_time_are_those_asked_for(self):
-        for words, line, jobs in (((), ":", len(os.sched_getaffinity(0))), (("--jobs=3",), ":", 3), ((), "4/:", 4),
-                                  (("--jobs=3",), "4/:", 3)):
+        all_of_them = len(os.sched_getaffinity(0))
+        for words, line, jobs in (((), ":", all_of_them), (("--jobs=99",), ":", 99), ((), "98/:", 98), (("--jobs=99",), "98/:", 99)):
             one = Run(self.folder, "run-1", [])
             many.jobs.lay_round(one, self.command(*words), [many.hosts.read_host(line, "")], [])
             self.assertEqual(len(os.listdir("run-1/jobs/here")), jobs, (words, line))
@@ -675,9 +675,8 @@ class Words(Case):
 
     def test_what_the_program_refuses(self):
         write("bad.book", b"?\n")
-        for status, told, *words in ((2, "61", "--max-empties", 61), (2, "-1", "--max-empties=-1"),
-                                     (2, "a;b", "--scoring", "a;b"), (2, "x", "--workers=x"), (2, "--table", "--table=5000000"),
-                                     (3, "book line 1: bad square at column 1", "--book-in", "bad.book")):
+        for status, told, *words in ((2, "'61'", "--max-empties", 61), (2, "'a;b'", "--scoring", "a;b"), (2, "'x'", "--workers=x"),
+                                     (2, "'5000000'", "--table=5000000"), (3, "book line 1: bad square", "--book-in=bad.book")):
             self.ends(status, b"", told, "work", "list.obf", *words)
             self.assertFalse(Path("work").exists())
 
@@ -845,11 +844,10 @@ class Signals(Case):
         for _ in range(KILLS):
             ran = self.open(ACTS)
             time.sleep(rng.uniform(0, 1.2))
-            kill = rng.choice((os.killpg, os.kill))
-            one = rng.choice([ran.pid, *self.workers()])
-            if ran.poll() is None:
-                with contextlib.suppress(ProcessLookupError):
-                    kill(ran.pid if kill == os.killpg else one, signal.SIGKILL)
+            worker = rng.choice([*self.workers()] or [ran.pid])
+            kill, one = rng.choice(((os.killpg, ran.pid), (os.kill, ran.pid), (os.kill, worker)))
+            with contextlib.suppress(ProcessLookupError):
+                kill(one, signal.SIGKILL)
             output, _ = ran.communicate(timeout=SECONDS)
             self.assertIn(ran.returncode, (0, -9) if output else (1, 3, 4, -9))
             self.assertIn(output, (self.one, b""))
