@@ -1,7 +1,7 @@
 """Published scores: the list of ffosolve-games is joined with the report of its solved positions."""
 import os
 import re
-from typing import Callable, Dict, Iterable, List, NamedTuple, Optional
+from typing import Any, Callable, Dict, Iterable, List, NamedTuple, Optional, Tuple
 
 from ._games import discs_of_black, final_score
 from ._positions import Line, Position
@@ -84,8 +84,8 @@ def read_list(lines: Iterable[bytes]) -> Dict[int, Listed]:
             found[number] = Listed(None, str(why))
             continue
         match = COMMENT.fullmatch(os.fsdecode(text.rstrip(b"\r\n")))
-        file, game, score = match.groups() if match else ("", 0, None)
-        found[number] = Listed(position, "", file, int(game), int(score) if score else None)
+        told: Tuple[Any, ...] = match.groups() if match else ("", 0, None)
+        found[number] = Listed(position, "", told[0], int(told[1]), int(told[2]) if told[2] else None)
     return found
 
 
