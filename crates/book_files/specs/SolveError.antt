@@ -7,7 +7,6 @@ use Rattle.program_settings.specs.declared.input_fault.InputFault.TheVariants as
 use Rattle.suite_runs.specs.declared.run_fault.RunFault.{RunFault}
 use Rattle.suite_runs.specs.declared.run_fault.RunFault.TheVariants as run
 use Rattle.program_parts.specs.ProgramError.{error_reason}
-use Rattle.program_parts.specs.declared.program_error.ProgramError.{ProgramError}
 use Rattle.program_parts.specs.declared.program_error.ProgramError.TheVariants.{Memory, BadInput, BadWords, CannotRead, CannotWrite}
 use Rattle.book_files.specs.declared.solve_error.SolveError.{SolveError}
 use Rattle.book_files.specs.declared.solve_error.SolveError.TheVariants.{Program, Mixed, BadBook, NoPlace, NoBook, ReadBook}

@@ -1,6 +1,6 @@
 -- The first file that is too large, and the refusal of files.
 use Rattle.std.proofs.Common.{◌≡◌, ℕ, ◌+◌, ◌<◌, ◌≤◌, ◌⊎◌, inl, inr, Bool, true, false, not, cond, List, [], ◌∷◌, length, get_or, refl, ◌∙◌, ap, arith, Vec, Global}
-use Rattle.std.specs.Prelude.{Option, Some, None, nat_lt, option_map}
+use Rattle.std.specs.Prelude.{Some, None, nat_lt, option_map}
 use Rattle.std.specs.List.{position, position_or_len}
 use Rattle.std.proofs.lemmas.List.{length-map}
 use Rattle.std.proofs.lemmas.List.Sums.{fails_before_first}

@@ -1,5 +1,5 @@
 -- How a call of `ffosolve` ended.
-use Rattle.std.proofs.Common.{◌≡◌, ◌⊎◌, ◌≤◌, ◌<◌, ℕ, List, length, sym, subst, ◌∙◌, arith, inl, inr}
+use Rattle.std.proofs.Common.{◌≡◌, ◌≤◌, ◌<◌, ℕ, List, sym, subst, ◌∙◌, arith, inl, inr}
 use Rattle.std.specs.Prelude.{◌↔◌, Option, Some, None, Result, Ok, Err, IfErr, IsErrOf, OnOk}
 use Rattle.std.proofs.lemmas.Bool.{cases_lt}
 use Rattle.clap.specs.Words.{kind_of}
