@@ -157,6 +157,12 @@ class Functions(InFolder):
         with self.assertRaisesRegex(many.messages.Refusal, told):
             call(*words)
 
+    def test_signals_after_the_first_are_ignored(self):
+        with mock.patch.object(signal, "signal") as handled, self.assertRaises(KeyboardInterrupt):
+            many.program.catch(signal.SIGTERM, None)
+        self.assertEqual([words[0][0] for words in handled.call_args_list], [*many.jobs.SIGNALS])
+        self.assertEqual([words[0][1](0, None) for words in handled.call_args_list], [None] * len(many.jobs.SIGNALS))
+
     def test_processes_that_end_while_they_are_looked_at_are_passed_over(self):
         gone, process = (subprocess.Popen(["sleep", seconds], start_new_session=True) for seconds in ("0", "60"))
         self.addCleanup(process.kill)
