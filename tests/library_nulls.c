@@ -1,5 +1,5 @@
-/* The inline forms of ffosolve.h over stand-ins for the library's calls: no null pointer may reach those, and any other
-   pointer is handed on. Prints what reached them. */
+/* The inline forms of ffosolve.h over stand-ins for the library's calls: no null pointer may reach those, and any other pointer
+   is handed on. Prints the numbers that reached them, and how each pointer did. */
 #include "ffosolve.h"
 
 #include <stdio.h>
@@ -8,30 +8,34 @@
 #undef ffosolve_move_scores_all
 #undef ffosolve_read_line
 
+/* Whether a pointer is given to each call, and how much stands at it or has room there. */
+static const struct {
+    size_t has_from, count, has_to, room, has_at;
+} ways[] = {{0, 0, 0, 0, 0}, {1, 1, 1, 1, 1}, {0, 0, 1, 1, 1}, {1, 1, 0, 0, 1}, {1, 0, 1, 0, 1}};
+
 static const void *given[3];
 
-/* How a pointer reached the library: null, as it was given, or another in its place. */
-static const char *how(const void *pointer, const void *first) { return !pointer ? "null" : pointer == first ? "given" : "other"; }
+static int32_t tell(size_t count, unsigned scoring, size_t entries, size_t room, const void *from, const void *to, const void *at) {
+    const void *pointers[] = {from, to, at};
+    printf("%zu %u %zu %zu:", count, scoring, entries, room);
+    for (int i = 0; i < 3; i++) printf(" %s", !pointers[i] ? "null" : pointers[i] == given[i] ? "given" : "other");
+    printf("\n");
+    return FFOSOLVE_NO_MEMORY;
+}
 
 int32_t ffosolve_solve_all(const ffosolve_position *positions, size_t count, uint32_t scoring, size_t entries,
                            ffosolve_answer *answers, size_t room, size_t *at) {
-    printf("solve_all %zu %u %zu %zu: positions %s, answers %s, at %s\n", count, (unsigned)scoring, entries, room,
-           how(positions, given[0]), how(answers, given[1]), how(at, given[2]));
-    return FFOSOLVE_NO_MEMORY;
+    return tell(count, scoring, entries, room, positions, answers, at);
 }
 
 int32_t ffosolve_move_scores_all(const ffosolve_position *positions, size_t count, uint32_t scoring, size_t entries,
                                  ffosolve_move_scores_of *found, size_t room, size_t *at) {
-    printf("move_scores_all %zu %u %zu %zu: positions %s, found %s, at %s\n", count, (unsigned)scoring, entries, room,
-           how(positions, given[0]), how(found, given[1]), how(at, given[2]));
-    return FFOSOLVE_NO_MEMORY;
+    return tell(count, scoring, entries, room, positions, found, at);
 }
 
 int32_t ffosolve_read_line(const char *text, size_t length, ffosolve_line *line, ffosolve_listed *listed, size_t room,
                            size_t *at) {
-    printf("read_line %zu %zu: text %s, line %s, listed %s, at %s\n", length, room, how(text, given[0]),
-           line ? "given" : "null", how(listed, given[1]), how(at, given[2]));
-    return FFOSOLVE_NO_MEMORY;
+    return line ? tell(length, 2, 65, room, text, listed, at) : FFOSOLVE_DONE;
 }
 
 int main(void) {
@@ -40,27 +44,21 @@ int main(void) {
     ffosolve_move_scores_of found = {{0}, 0};
     ffosolve_line line = {{0, 0}, 0, 0};
     ffosolve_listed listed = {0, 0, 0};
+    const char *text = "-";
     size_t at = 0;
-    int32_t statuses[14];
-    statuses[0] = ffosolve_solve_all_or_null(NULL, 0, 1, 64, NULL, 0, NULL);
-    statuses[1] = ffosolve_read_line_or_null(NULL, 0, &line, NULL, 0, NULL);
-    statuses[2] = ffosolve_move_scores_all_or_null(NULL, 0, 1, 64, NULL, 0, NULL);
-    given[0] = &position, given[1] = &found, given[2] = &at;
-    statuses[3] = ffosolve_move_scores_all_or_null(&position, 1, 2, 65, &found, 1, &at);
-    statuses[4] = ffosolve_move_scores_all_or_null(NULL, 0, 2, 65, &found, 1, &at);
-    statuses[5] = ffosolve_move_scores_all_or_null(&position, 1, 2, 65, NULL, 0, &at);
-    given[1] = &answer;
-    statuses[6] = ffosolve_solve_all_or_null(&position, 1, 2, 65, &answer, 1, &at);
-    statuses[7] = ffosolve_solve_all_or_null(&position, 0, 0, 66, &answer, 0, &at);
-    statuses[8] = ffosolve_solve_all_or_null(NULL, 0, 0, 66, &answer, 1, &at);
-    statuses[9] = ffosolve_solve_all_or_null(&position, 1, 0, 66, NULL, 0, &at);
-    given[0] = "-", given[1] = &listed;
-    statuses[10] = ffosolve_read_line_or_null((const char *)given[0], 1, &line, &listed, 1, &at);
-    statuses[11] = ffosolve_read_line_or_null((const char *)given[0], 0, &line, &listed, 0, &at);
-    statuses[12] = ffosolve_read_line_or_null(NULL, 0, &line, &listed, 1, &at);
-    statuses[13] = ffosolve_read_line_or_null((const char *)given[0], 1, &line, NULL, 0, &at);
-    for (size_t i = 0; i < sizeof statuses / sizeof *statuses; i++) {
-        if (statuses[i] != FFOSOLVE_NO_MEMORY) return 1;
+    int known = 1;
+    for (size_t i = 0; i < sizeof ways / sizeof *ways; i++) {
+        const size_t count = ways[i].count, room = ways[i].room;
+        size_t *const where = ways[i].has_at ? &at : NULL;
+        given[0] = &position, given[1] = &answer, given[2] = &at;
+        known &= ffosolve_solve_all_or_null(ways[i].has_from ? &position : NULL, count, 2, 65,
+                                            ways[i].has_to ? &answer : NULL, room, where) == FFOSOLVE_NO_MEMORY;
+        given[1] = &found;
+        known &= ffosolve_move_scores_all_or_null(ways[i].has_from ? &position : NULL, count, 2, 65,
+                                                  ways[i].has_to ? &found : NULL, room, where) == FFOSOLVE_NO_MEMORY;
+        given[0] = text, given[1] = &listed;
+        known &= ffosolve_read_line_or_null(ways[i].has_from ? text : NULL, count, &line, ways[i].has_to ? &listed : NULL,
+                                            room, where) == FFOSOLVE_NO_MEMORY;
     }
-    return 0;
+    return !known;
 }

@@ -12,108 +12,71 @@ import sys
 import unittest
 import unittest.mock
 
+from bench import player
+
 from .support import ROOT, SECONDS, InFolder, built, limit, need, run, stored, wait_until
 
 PROGRAM = ROOT / "bin/ffosolve-games"
 UNREADABLE = "ffosolve-games: {}: {}\n"
-BLACK, WHITE, EMPTY = "X", "O", "-"
 NAMES = [column + row for row in "12345678" for column in "ABCDEFGH"]
 SQUARE_BYTES = [10 * row + column for row in range(1, 9) for column in range(1, 9)]  # A1, B1, .. H8 in a WTHOR file
 PASSES = ("pass", "ps", "--", "PS", "Pass")
 MOST_BYTES = limit("MOST_BYTES")  # of a line
 
 
-# A plain game player, on a list of 64 letters, which shares nothing with the library.
+# Positions of the plain player: the discs of the mover and of the other side, and whether Black moves.
 
 
-def other(side):
-    return WHITE if side == BLACK else BLACK
+def passed(position):
+    own, opp, is_black = position
+    return opp, own, not is_black
 
 
-def turned(board, side, square):
-    """The squares whose discs a move turns; none where it is no move."""
-    found = []
-    if board[square] != EMPTY:
-        return found
-    for right, down in ((1, 0), (-1, 0), (0, 1), (0, -1), (1, 1), (-1, -1), (1, -1), (-1, 1)):
-        x, y, line = square % 8 + right, square // 8 + down, []
-        while 0 <= x < 8 and 0 <= y < 8 and board[8 * y + x] == other(side):
-            line.append(8 * y + x)
-            x, y = x + right, y + down
-        if 0 <= x < 8 and 0 <= y < 8 and board[8 * y + x] == side:
-            found += line
-    return found
+def can_move(position):
+    return player.moves(*position[:2]) != 0
 
 
-def moves_of(board, side):
-    return [square for square in range(64) if turned(board, side, square)]
-
-
-def after(board, side, square):
-    board = list(board)
-    for at in [square, *turned(board, side, square)]:
-        board[at] = side
-    return board
-
-
-def beginning():
-    board = [EMPTY] * 64
-    for name, side in (("D4", WHITE), ("E5", WHITE), ("E4", BLACK), ("D5", BLACK)):
-        board[NAMES.index(name)] = side
-    return board
+def play(position, square):
+    """The position after a move to a square, by its number; None where it is no move."""
+    own, opp, is_black = position
+    return (*player.after(own, opp, 1 << square), not is_black) if player.moves(own, opp) >> square & 1 else None
 
 
 def random_game(rng):
     """A game to its end: its squares, and None for each pass."""
-    board, side, game = beginning(), BLACK, []
-    while True:
-        squares = rng.sample(range(64), 64)
-        move = next((square for square in squares if turned(board, side, square)), None)
-        if move is not None:
-            board = after(board, side, move)
-        elif not moves_of(board, other(side)):
-            return game
-        game.append(move)
-        side = other(side)
+    at, game = (*player.START, True), []
+    while can_move(at) or can_move(passed(at)):
+        can = [square.bit_length() - 1 for square in player.squares_in(player.moves(*at[:2]))]
+        game.append(rng.choice(can) if can else None)
+        at = play(at, game[-1]) if can else passed(at)
+    return game
 
 
 def positions_of(squares):
-    """The first position, and the side to move, at each number of empty squares, up to the first square that is no move."""
-    board, side = beginning(), BLACK
-    found = {60: (board, side)}
+    """The first position at each number of empty squares, up to the first square that is no move."""
+    at = (*player.START, True)
+    found = {60: at}
     for square in squares:
-        if not turned(board, side, square) and not moves_of(board, side):
-            side = other(side)
-        if not turned(board, side, square):
+        at = play(at if can_move(at) else passed(at), square)
+        if at is None:
             break
-        board, side = after(board, side, square), other(side)
-        found[board.count(EMPTY)] = board, side
+        found[64 - player.count(at[0] | at[1])] = at
     return found
 
 
-def score(board, side, low=-64, high=64):
-    """The mover's exact score, with the empty squares to the winner, by plain alpha-beta."""
-    moves = moves_of(board, side)
-    if not moves:
-        if moves_of(board, other(side)):
-            return -score(board, other(side), -high, -low)
-        less = board.count(side) - board.count(other(side))
-        return less + board.count(EMPTY) * ((less > 0) - (less < 0))
-    for square in moves:
-        low = max(low, -score(after(board, side, square), other(side), -high, -low))
-        if low >= high:
-            break
-    return low
+def score(position):
+    """The mover's exact score, with the empty squares to the winner."""
+    return player.values(*position[:2])[0]
 
 
-def discs_of_black(board, side):
-    return 32 + (score(board, side) if side == BLACK else -score(board, side)) // 2
+def discs_of_black(position):
+    return 32 + (score(position) if position[2] else -score(position)) // 2
 
 
 def real_score(positions):
     """Black's discs at the end of a game's positions; any number where the game is not over."""
-    board, side = positions[min(positions)]
-    return 40 if moves_of(board, side) or moves_of(board, other(side)) else discs_of_black(board, side)
+    last = positions[min(positions)]
+    return 40 if can_move(last) or can_move(passed(last)) else discs_of_black(last)
 
 
 @functools.lru_cache(maxsize=None)
@@ -121,11 +84,16 @@ def real_score_of(squares):
     return real_score(positions_of(squares))
 
 
-def best_moves(board, side):
-    """The names of the moves with the mover's exact score."""
-    scores = {NAMES[square]: -score(after(board, side, square), other(side)) for square in moves_of(board, side)}
-    pass_or_end = ["PS"] if moves_of(board, other(side)) else ["--"]
-    return [name for name in scores if scores[name] == max(scores.values())] or pass_or_end
+def moves_of(position):
+    """The squares' names, each with the mover's exact score."""
+    own, opp, _ = position
+    return {NAMES[square.bit_length() - 1]: -player.values(*player.after(own, opp, square))[0]
+            for square in player.squares_in(player.moves(own, opp))}
+
+
+def best_moves(position):
+    scores = moves_of(position)
+    return [name for name in scores if scores[name] == score(position)] or ["PS" if can_move(passed(position)) else "--"]
 
 
 # Games as files have them.
@@ -155,8 +123,7 @@ def wthor(records, empties=22, count=None, board=8, kind=0, another=0):
 
 
 def line_of(position, comment):
-    board, side = position
-    return f"{''.join(board)} {side}; % {comment}\n"
+    return f"{player.line(*position)} % {comment}\n"
 
 
 def squares_of(game):
@@ -222,12 +189,20 @@ class RandomGames(Case):
 
 
 class Faults(Case):
+    """Each game that is refused has a line; the others are printed all the same."""
+
+    def reads(self, content, out, *why, name="it.wtb", words=(), status=None):
+        """Compares what is printed of one file, and what is told of it behind its name."""
+        self.write(name, content)
+        told = "".join(f"ffosolve-games: {name}{it}\n" for it in why)
+        self.games(*words, name, status=len(why) > 0 if status is None else status, out=out, told=told)
+
     def test_transcripts(self):
-        """Each game that is refused has a line; the others are printed all the same."""
         lines = (
             ("f5d6c3", None),
             ("% a comment", None),
             ("", None),
+            ("\r", None),
             ("f5d6d5", "move 3: D5 is not a legal move"),
             ("F5 D6 C5 z9", "move 4: 'z9' is not a square"),
             ("f5d6c", "move 3: 'c' is not a square"),
@@ -239,28 +214,27 @@ class Faults(Case):
             ("f5", "move 1: it ends here, with 59 empty squares; 58 are asked for"),
             ("f5d6c3d3c4f4c5b3c2\xff", "move 10: '\ufffd' is not a square"),
         )
-        self.write("games", "\n".join(text for text, _ in lines).encode("latin-1"))
-        told = "".join(f"ffosolve-games: games, game {number}, {why}\n" for number, (_, why) in enumerate(lines, 1) if why)
-        self.games("--empties=58", "games", status=1, out=line_of(positions_of([37, 43])[58], "games, game 1"), told=told)
+        why = (f", game {number}, {why}" for number, (_, why) in enumerate(lines, 1) if why)
+        out = line_of(positions_of([37, 43])[58], "games, game 1")
+        self.reads("\n".join(text for text, _ in lines).encode("latin-1"), out, *why, name="games", words=["--empties=58"])
 
-    def test_a_move_behind_the_end_of_a_game(self):
-        game = squares_of(random_game(random.Random(1)))
+    def test_the_end_of_a_game(self):
+        """No move comes behind it, but a pass may; one square may stay empty."""
+        rng = random.Random(1)
+        game = squares_of(random_game(rng))
         for more in (game[:1], game[-1:]):
-            self.write("long", transcript(game + more))
-            told = f"ffosolve-games: long, game 1, move {len(game) + 1}: {NAMES[more[0]]} comes after the end of the game\n"
-            self.games("--empties=30", "long", status=1, out="", told=told)
-
-    def test_passes_at_the_end(self):
-        game = squares_of(random_game(random.Random(1)))
-        self.write("passes", transcript(game) + "--pass")
-        self.games("--empties=30", "passes", out=line_of(positions_of(game)[30], "passes, game 1"), told="")
+            why = f", game 1, move {len(game) + 1}: {NAMES[more[0]]} comes after the end of the game"
+            self.reads(transcript(game + more), "", why, name="long", words=["--empties=30"])
+        self.reads(transcript(game) + "--pass", line_of(positions_of(game)[30], "passes, game 1"), name="passes", words=["--empties=30"])
+        game = next(squares for squares in iter(lambda: squares_of(random_game(rng)), None) if len(squares) == 59)
+        why = ", game 1, move 59: it ends here, with 1 empty square; 0 are asked for"
+        self.reads(transcript(game), "", why, name="text", words=["--empties=0"])
 
     def test_records(self):
         game = squares_of(random_game(random.Random(2)))
         line = line_of(positions_of(game)[22], "it.wtb, game 1, theoretical score 33")
         whole = record(game)
         gap, no_square, twice = (whole[:18] + bytes([byte]) + whole[19:] for byte in (0, 99, whole[17]))
-        name = NAMES[game[9]]
         for records, count, why in (
             ([whole, whole[:67]], 2, "game 2: the file ends after 67 of the 68 bytes of this game, but its header counts 2 games"),
             ([whole, whole[:1]], 7, "game 2: the file ends after 1 of the 68 bytes of this game, but its header counts 7 games"),
@@ -269,45 +243,34 @@ class Faults(Case):
             ([whole, b"\n"], 1, "game 2: the file goes on, but its header counts 1 game"),
             ([whole, gap], 2, "game 2, move 11: 0 is not a square"),
             ([whole, no_square], 2, "game 2, move 11: 99 is not a square"),
-            ([whole, twice], 2, f"game 2, move 11: {name} is not a legal move"),
+            ([whole, twice], 2, f"game 2, move 11: {NAMES[game[9]]} is not a legal move"),
             ([whole, record([])], 2, "game 2: it has no moves"),
             ([whole, record(game[:37])], 2, "game 2, move 37: it ends here, with 23 empty squares; 22 are asked for"),
         ):
-            self.write("it.wtb", wthor(records, count=count))
-            self.games("it.wtb", status=1, out=line, told=f"ffosolve-games: it.wtb, {why}\n")
-
-    def test_a_game_that_ends_with_one_empty_square(self):
-        rng = random.Random(4)
-        game = next(squares for squares in iter(lambda: squares_of(random_game(rng)), None) if len(squares) == 59)
-        self.write("text", transcript(game))
-        told = "text, game 1, move 59: it ends here, with 1 empty square; 0 are asked for"
-        self.games("--empties=0", "text", status=1, out="", told=f"ffosolve-games: {told}\n")
+            self.reads(wthor(records, count=count), line, f", {why}")
 
     def test_scores_of_records(self):
         """A game's line is printed, and what is wrong with its scores is told."""
         game = squares_of(random_game(random.Random(2)))
         at, real = positions_of(game), real_score(positions_of(game))
-        for squares, theoretical, written, why in (
-            (game, 64, real, ()),
-            (game, 65, real, ("its theoretical score is 65, more than 64 discs",)),
-            (game, 33, real + 1, (f"its real score is {real + 1}, but its moves give {real}",)),
-            (game, 255, 65, ("its theoretical score is 255, more than 64 discs", "its real score is 65, more than 64 discs")),
-            (game[:-1], 33, 0, ("its moves stop before the end of the game, so its real score 0 is not checked",)),
-            (game[:-1], 33, 200, ("its real score is 200, more than 64 discs",)),
+        wrong = f"its real score is {real + 1}, but its moves give {real}"
+        for squares, theoretical, written, empties, why in (
+            (game, 64, real, 22, ()),
+            (game, 65, real, 22, ("its theoretical score is 65, more than 64 discs",)),
+            (game, 33, real + 1, 22, (wrong,)),
+            (game, 255, real + 1, 20, (wrong,)),
+            (game, 255, 65, 22, ("its theoretical score is 255, more than 64 discs", "its real score is 65, more than 64 discs")),
+            (game[:-1], 33, 0, 22, ("its moves stop before the end of the game, so its real score 0 is not checked",)),
+            (game[:-1], 33, 200, 22, ("its real score is 200, more than 64 discs",)),
         ):
-            self.write("it.wtb", wthor([record(squares, theoretical, written)]))
-            line = line_of(at[22], f"it.wtb, game 1, theoretical score {theoretical}")
-            told = "".join(f"ffosolve-games: it.wtb, game 1: {it}\n" for it in why)
-            self.games("it.wtb", status=1 if why else 0, out=line, told=told)
+            line = line_of(at[empties], "it.wtb, game 1" + f", theoretical score {theoretical}" * (empties == 22))
+            self.reads(wthor([record(squares, theoretical, written)]), line, *(f", game 1: {it}" for it in why),
+                       words=[f"--empties={empties}"])
         rng = random.Random(3)
-        passed = next(it for it in iter(lambda: random_game(rng), None) if None in it[38:])
-        before = squares_of(passed[:passed.index(None, 38)])
-        self.write("it.wtb", wthor([record(before, 33, 20)]))
-        self.games("it.wtb", status=1, told="ffosolve-games: it.wtb, game 1: its moves stop before the end of the game, "
-                   "so its real score 20 is not checked\n")
-        self.write("it.wtb", wthor([record(game, 255, real + 1)]))
-        told = f"ffosolve-games: it.wtb, game 1: its real score is {real + 1}, but its moves give {real}\n"
-        self.games("it.wtb", "--empties=20", status=1, out=line_of(at[20], "it.wtb, game 1"), told=told)
+        with_pass = next(it for it in iter(lambda: random_game(rng), None) if None in it[38:])
+        before = squares_of(with_pass[:with_pass.index(None, 38)])
+        why = ", game 1: its moves stop before the end of the game, so its real score 20 is not checked"
+        self.reads(wthor([record(before, 33, 20)]), None, why)
 
     def test_real_scores_of_games_that_end_early(self):
         """The empty squares count for the winner; where both have as many discs, Black's score is 32."""
@@ -315,23 +278,22 @@ class Faults(Case):
         while len(kinds) < 3:
             game = squares_of(random_game(rng))
             positions = positions_of(game)
-            board, _ = positions[min(positions)]
-            black, white, empty = (board.count(it) for it in (BLACK, WHITE, EMPTY))
+            last = positions[min(positions)]
+            black, white = map(player.count, last[:2] if last[2] else last[1::-1])
+            empty = 64 - black - white
             kind = (black > white) - (black < white)
             if (empty or kind == 0) and kind not in kinds:
                 kinds.add(kind)
                 real = {1: black + empty, 0: 32, -1: black}[kind]
                 for written in (real, 64 - real if kind else 31):
-                    self.write("it.wtb", wthor([record(game, real=written)], empties=30))
-                    told = f"ffosolve-games: it.wtb, game 1: its real score is {written}, but its moves give {real}\n"
-                    self.games("it.wtb", status=int(written != real), told=told if written != real else "")
+                    why = [f", game 1: its real score is {written}, but its moves give {real}"] * (written != real)
+                    self.reads(wthor([record(game, real=written)], empties=30), None, *why)
 
     def test_headers(self):
         game = squares_of(random_game(random.Random(2)))
         whole, line = record(game), line_of(positions_of(game)[22], "it.wtb, game 1, theoretical score 33")
         for board, kind in ((0, 0), (8, 0), (8, 1)):
-            self.write("it.wtb", wthor([whole], board=board, kind=kind))
-            self.games("it.wtb", out=line, told="")
+            self.reads(wthor([whole], board=board, kind=kind), line)
         for content, why in (
             (b"", "it is empty"),
             (wthor([])[:15], "it ends within its header of 16 bytes"),
@@ -342,25 +304,21 @@ class Faults(Case):
             (wthor([whole], empties=61), "its theoretical scores are for 61 empty squares, but a game has only 60"),
             (b"f5d6c3d3c4f4c5b3c2\n", "it begins like a text"),
         ):
-            self.write("none.wtb", content)
-            self.write("it.wtb", wthor([whole]))
-            told = f"ffosolve-games: none.wtb is not a WTHOR file of games: {why}\n"
-            self.games("none.wtb", "it.wtb", status=3, out=line, told=told)
+            self.reads(content, "", f" is not a WTHOR file of games: {why}", name="none.wtb", status=3)
+        self.write("it.wtb", wthor([whole]))
+        self.games("none.wtb", "it.wtb", status=3, out=line)
 
     def test_the_number_of_empty_squares(self):
         """A theoretical score belongs to the positions of its own number of empty squares."""
         game = squares_of(random_game(random.Random(2)))
-        at = positions_of(game)
-        self.write("it.wtb", wthor([record(game, 20)], empties=24))
-        self.games("it.wtb", out=line_of(at[24], "it.wtb, game 1, theoretical score 20"), told="")
-        self.games("--empties", "24", "it.wtb", out=line_of(at[24], "it.wtb, game 1, theoretical score 20"), told="")
-        self.games("--empties", "22", "it.wtb", out=line_of(at[22], "it.wtb, game 1"), told="")
-        self.write("it.wtb", wthor([record(game, 20)], empties=0))
-        self.games("--empties", "22", "it.wtb", out=line_of(at[22], "it.wtb, game 1, theoretical score 20"), told="")
-        told = "it.wtb does not say how many squares are empty at its theoretical scores; try --empties 22 or 24, the usual numbers"
-        self.games("it.wtb", status=2, out="", told=f"ffosolve-games: {told}\n")
-        self.write("text", transcript(game))
-        self.games("text", status=2, out="", told="ffosolve-games: text is a text: its games need --empties N\n")
+        at = {empties: line_of(position, "it.wtb, game 1") for empties, position in positions_of(game).items()}
+        scored = {empties: line[:-1] + ", theoretical score 20\n" for empties, line in at.items()}
+        for words, empties, out in (((), 24, scored[24]), (("--empties", "24"), 24, scored[24]), (("--empties", "22"), 24, at[22]),
+                                    (("--empties", "22"), 0, scored[22])):
+            self.reads(wthor([record(game, 20)], empties=empties), out, words=words)
+        why = " does not say how many squares are empty at its theoretical scores; try --empties 22 or 24, the usual numbers"
+        self.reads(wthor([record(game, 20)], empties=0), "", why, status=2)
+        self.reads(transcript(game), "", " is a text: its games need --empties N", name="text", status=2)
 
     def test_each_byte_changed(self):
         """What is printed of a changed file is a position of the game that its record tells, by the plain player."""
@@ -381,7 +339,7 @@ class Faults(Case):
             squares, side, name, number = re.fullmatch(r"(\S{64}) ([XO]); % (\S+), game (\d+)(?:, .*)?", line).groups()
             moves = files[name][16 + 68 * int(number) - 60:][:60].rstrip(b"\0")
             positions = positions_of([SQUARE_BYTES.index(byte) for byte in moves])
-            self.assertEqual((list(squares), side), positions[squares.count(EMPTY)], line)
+            self.assertEqual(f"{squares} {side};", player.line(*positions[squares.count("-")]), line)
         self.assertGreater(len(lines), len(files))
 
 
@@ -414,10 +372,6 @@ class Use(Case):
         told = UNREADABLE.format("cannot read none", "No such file or directory")
         told += UNREADABLE.format("cannot read .", "Is a directory")
         self.games("--empties=20", "none", ".", "text", status=3, out=self.line.format("text"), told=told)
-
-    def test_a_text_from_windows(self):
-        self.write("text", transcript(self.game) + "\r\n\r\n")
-        self.games("--empties=20", "text", out=self.line.format("text"), told="")
 
     def test_texts_that_are_refused(self):
         """As a file, as standard input and as what is compared; a text that follows is read all the same."""
@@ -627,12 +581,12 @@ class Compare(Case):
         mine, others = ([at[5] for at in known if 5 in at][start::2][:20] for start in (0, 1))
         self.write("list", "".join(line_of(at, f"x.wtb, game {number}, theoretical score 32") for number, at in enumerate(mine, 1)))
         for listed, status in ((mine, 1), (others, 3)):
-            best = [best_moves(*at) for at in listed]
-            rows = [f"{number} {score(*at):+03} {','.join(names)} unlisted\n" for number, (at, names) in enumerate(zip(listed, best), 1)]
+            best = [best_moves(at) for at in listed]
+            rows = [f"{number} {score(at):+03} {','.join(names)} unlisted\n" for number, (at, names) in enumerate(zip(listed, best), 1)]
             self.write("report", "[1]\n" + "".join(rows) + "solved 20 refused 0\n")
             out, told = self.games("compare", "list", "report", status=status)
         wrong = [(number, name) for number, (at, names) in enumerate(zip(mine, best), 1) for name in names
-                 if name not in [NAMES[square] for square in moves_of(*at)]]
+                 if name not in moves_of(at)]
         self.assertEqual((out, told), ("", "ffosolve-games: report is not a report of list: line {} of the list has no legal move {}, "
                                            "which the report calls best\n".format(*wrong[0])))
 
@@ -645,7 +599,7 @@ class Fix(Case):
         rng = random.Random(7)
         games = [squares_of(game) for game in (random_game(rng) for _ in range(12))]
         self.games_of_file = [game for game in games if 5 in positions_of(game)]
-        self.exact = [discs_of_black(*positions_of(game)[5]) for game in self.games_of_file]
+        self.exact = [discs_of_black(positions_of(game)[5]) for game in self.games_of_file]
         published = [it + {2: -2, 5: 7}.get(number, 0) for number, it in enumerate(self.exact)]
         self.records = [record(*both) for both in zip(self.games_of_file, published)]
         self.write("it.wtb", wthor(self.records, empties=5) + b"more")
@@ -659,8 +613,9 @@ class Fix(Case):
         self.write("list", ran.stdout)
         rows = ""
         for number, line in enumerate(ran.stdout.decode().splitlines(), 1):
-            at = list(line[:64]), line[65]
-            said = "refused: 5 empties, limit 4" if number in skipped else f"{score(*at):+03} {','.join(best_moves(*at))} unlisted"
+            black, white = (sum(1 << square for square in range(64) if line[square] == letter) for letter in "XO")
+            at = (black, white, True) if line[65] == "X" else (white, black, False)
+            said = "refused: 5 empties, limit 4" if number in skipped else f"{score(at):+03} {','.join(best_moves(at))} unlisted"
             rows += f"{number} {said}\n"
         self.write("report", f"[1]\n{rows}solved {number - len(skipped)} refused {len(skipped)}\n")
 
@@ -798,43 +753,26 @@ class Fix(Case):
 
 
 class Recipe(Case):
-    """The wrong scores of a WTHOR file are found by the commands that a user is shown."""
-
-    def check(self, commands, names):
+    def test_commands_that_are_shown(self):
+        """Those of the guide and of the help find the wrong scores of a WTHOR file, and write one with exact scores."""
         need("parallel", "parallel")
         built("ffosolve")
         rng = random.Random(7)
         games = [squares_of(game) for game in (random_game(rng) for _ in range(20))]
-        exact = [discs_of_black(*positions_of(game)[6]) for game in games]
+        exact = [discs_of_black(positions_of(game)[6]) for game in games]
         published = [it + {4: -2, 13: 7}.get(number, 0) for number, it in enumerate(exact)]
         self.assertTrue(all(0 <= it <= 64 for it in published))
-        name = re.search(r"\S+\.wtb", commands)[0]
-        self.write(name, wthor([record(*both) for both in zip(games, published)], empties=6))
-        (self.folder / "bin").symlink_to(ROOT / "bin")
-        ran = run("sh", "-e", "-c", commands, timeout=300, env={**os.environ, "PATH": f"{ROOT}/bin:{os.environ['PATH']}"})
-        rows = "".join(f"{name}, game {at + 1}: published {published[at]}, exact {exact[at]}, difference {less}\n"
-                       for at, less in ((4, "-2"), (13, "+7")))
-        self.assertEqual(ran.stdout.decode(), rows + "compared 20 differ 2 refused 0 unscored 0\n", ran.stderr)
-        self.assertEqual(ran.returncode, 1)
-        self.assertLessEqual({name, *names}, set(os.listdir()))
-        return wthor([record(*both) for both in zip(games, exact)], empties=6)
-
-    def test_the_guide(self):
-        blocks = re.findall(r"^```sh\n(.*?)^```", stored("docs", "check-wthor.md").decode(), re.M | re.S)
-        self.assertEqual([len(block.splitlines()) for block in blocks], [3, 1])
-        wanted = self.check(blocks[0], ["list.obf", "list.report"])
-        fix = blocks[1].split()
-        self.assertEqual(run(*fix).returncode, 1)
-        self.assertEqual((self.folder / fix[-1]).read_bytes(), wanted)
-
-    def test_the_help(self):
-        """It keeps the list, which compare needs, and writes a file with exact scores."""
-        commands = re.search(r"^examples:\n.*?\n\n(.*?)\n\n", self.games("--help")[0], re.M | re.S)[1]
-        self.assertEqual(len(commands.splitlines()), 3)
-        new = commands.split()[-1]
-        wanted = self.check(commands, ["list.obf", "list.report", new])
-        self.assertEqual((self.folder / new).read_bytes(), wanted)
-
-
-if __name__ == "__main__":
-    unittest.main()
+        guide = "".join(re.findall(r"^```sh\n(.*?)^```", stored("docs", "check-wthor.md").decode(), re.M | re.S))
+        of_help = re.search(r"^examples:\n.*?\n\n(.*?)\n\n", self.games("--help")[0], re.M | re.S)[1]
+        for place, commands, count in (("guide", guide, 4), ("help", of_help, 3)):
+            self.assertEqual(len(commands.splitlines()), count)
+            name, new = re.search(r"\S+\.wtb", commands)[0], commands.split()[-1]
+            os.mkdir(place)
+            os.symlink(ROOT / "bin", f"{place}/bin")
+            self.write(f"{place}/{name}", wthor([record(*both) for both in zip(games, published)], empties=6))
+            ran = run("sh", "-c", commands, timeout=300, cwd=place, env={**os.environ, "PATH": f"{ROOT}/bin:{os.environ['PATH']}"})
+            rows = "".join(f"{name}, game {at + 1}: published {published[at]}, exact {exact[at]}, difference {less}\n"
+                           for at, less in ((4, "-2"), (13, "+7")))
+            told = f"{rows}compared 20 differ 2 refused 0 unscored 0\n" * (count - 2)  # of each command that compares
+            self.assertEqual((ran.returncode, ran.stdout.decode()), (1, told), ran.stderr)
+            self.assertEqual((self.folder / place / new).read_bytes(), wthor(map(record, games, exact), empties=6, count=20))

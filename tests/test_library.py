@@ -1,26 +1,30 @@
 """The library for C as its users have it: from an installed prefix, away from the checkout.
 
 In the environment, TEST_PREFIX is that prefix, which `make install` lays if it is not given; POSITIONS is the number of
-random positions under each scoring, 2,000 if not given, of up to MOST empty squares, 8 if not given.
+random positions under each scoring, 2,000 if not given, of up to MOST empty squares, 6 if not given; 40 of 7 and 8 follow.
 """
 import collections
 import functools
+import itertools
 import os
 import random
 import re
 import resource
 import shlex
 import shutil
+import subprocess
 import sys
 import tempfile
 import unittest
+from concurrent.futures import ProcessPoolExecutor, ThreadPoolExecutor
 from pathlib import Path
 
-from tests.support import ROOT, built, lack, need, run
-from tests.test_python import random_positions
+from bench import player
+from tests.support import ROOT, built, lack, need, run, stored
+from tests.test_python import ffosolve, random_positions
 
 TESTS = ROOT / "tests"
-POSITIONS, MOST = int(os.environ.get("POSITIONS", 2000)), int(os.environ.get("MOST", 8))
+POSITIONS, MOST, DEEP = int(os.environ.get("POSITIONS", 2000)), int(os.environ.get("MOST", 6)), 40
 STRICT = ["-Wall", "-Wextra", "-Wpedantic", "-Wshadow", "-Wconversion", "-Werror"]
 C = ["cc", "-std=c11", *STRICT, "-O1"]
 CXX = ["c++", "-std=c++11", *STRICT, "-O1", "-x", "c++"]
@@ -28,27 +32,21 @@ C_STANDARDS = ("c90", "c99", "c11", "c17", "c2x")
 CXX_STANDARDS = ("c++11", "c++14", "c++17", "c++20")
 PACKAGES = {"cc": "gcc", "c++": "g++", "clang++": "clang", "nm": "binutils", "readelf": "binutils"}
 PIP = [sys.executable, "-m", "pip", "--disable-pip-version-check", "install", "--quiet", "--no-index"]
-THREADS = 8
 LONGEST = 300  # seconds of a command, since on a busy machine compilers and solvers take a while
-STACK_ROOM = {"14": 32 << 10, "60": 128 << 10}  # bytes that suffice, as the header says, by empty squares
 LINES = 10_000  # odd ones
-REFUSED = ("board has N of N squares", "bad square at column N", "bad side at column N", "N empties, limit N")
+REFUSED = {9: "board has {} of 64 squares", 10: "bad square at column {}", 11: "bad side at column {}"}  # by the status
 SMALL, LARGE = 9, 10  # positions of examples/masks.txt, without the one of 20 empty squares and with it
-NULLS = """solve_all 0 1 64 0: positions other, answers other, at other
-read_line 0 0: text other, line given, listed other, at other
-move_scores_all 0 1 64 0: positions other, found other, at other
-move_scores_all 1 2 65 1: positions given, found given, at given
-move_scores_all 0 2 65 1: positions other, found given, at given
-move_scores_all 1 2 65 0: positions given, found other, at given
-solve_all 1 2 65 1: positions given, answers given, at given
-solve_all 0 0 66 0: positions given, answers given, at given
-solve_all 0 0 66 1: positions other, answers given, at given
-solve_all 1 0 66 0: positions given, answers other, at given
-read_line 1 1: text given, line given, listed given, at given
-read_line 0 0: text given, line given, listed given, at given
-read_line 0 1: text other, line given, listed given, at given
-read_line 1 0: text given, line given, listed other, at given
-"""  # what tests/library_nulls.c has to print
+# What the names in tests/library_calls.txt stand for: positions of two empty squares, before a pass, at an end, and refused ones.
+NAMES = {
+    "CORNERS": "0xfffffff7ffff7f7c 0x0000000800008002", "PASSED": "0x0000000800008002 0xfffffff7ffff7f7c",
+    "PASS": "0x7e 0xffffffffffffff80", "OVER": "0xffffffff 0xffff000000000000", "EMPTY": "0 0xffffffffffffffff",
+    "SHARED": "3 2", "WIDE": "1 6", "START": "0x0000000810000000 0x0000001008000000",
+    "BOARD": "-OXXXXX-XXXXXXXOXXXXXXXXXXXXXXXXXXXOXXXXXXXXXXXXXXXXXXXXXXXXXXXX",
+    "READ": "fffffff7ffff7f7c 800008002", "AS_WHITE": "800008002 fffffff7ffff7f7c",
+}
+# What tests/library_nulls.c has to print.
+NULLS = "".join(f"{row}\n" * 3 for row in ("0 2 65 0: other other other", "1 2 65 1: given given given",
+                                           "0 2 65 1: other given given", "1 2 65 0: given other given", "0 2 65 0: given given given"))
 BAD = "fffffff7ffff7f7c 0000000800008002\n0000000000000003 0000000000000002\n"
 BAD_TEXT = "position 2: the masks share a square"
 PROGRAM = """#include "ffosolve.h"
@@ -73,16 +71,31 @@ if library.ffosolve_solve(position, library.FFOSOLVE_WINNER, 64, answer) != libr
     sys.exit(1)
 print(answer.score, answer.kind, answer.best, library.ffosolve_limit(0) == library.FFOSOLVE_MOST_ENTRIES)
 """
-OTHER_LIBRARY = """
-import ffosolve, sys
-try:
-    ffosolve.Solver()
-except ffosolve.LibraryNotFound as why:
-    sys.exit(str(why))
-"""
 CMAKE = """cmake_minimum_required(VERSION 3.16)
-project(shown C)
-add_executable(program shown.c)
+project(clients C CXX)
+add_executable(program answers.c)
+{}add_executable(shared answers.c)
+add_executable(in_cxx answers.cpp)
+target_link_libraries(shared ffosolve::ffosolve)
+target_link_libraries(in_cxx ffosolve::ffosolve)
+"""
+LINES_IN_RUST = """
+use ffosolve::{Line, ObfError, Side};
+use std::io::BufRead;
+
+fn main() {
+    for (at, text) in std::io::stdin().lock().split(b'\\n').enumerate() {
+        match Line::from_obf(&text.expect("a line")) {
+            Ok(Line { position, side, listed }) => {
+                let listed: String = listed.iter().map(|(what, score)| format!(" {what}:{score}")).collect();
+                let side = if side == Side::Black { 'X' } else { 'O' };
+                println!("{} {:016x} {:016x} {side}{listed}", at + 1, position.own().mask(), position.opp().mask());
+            }
+            Err(ObfError::NoPosition) => {}
+            Err(error) => println!("{} refused: {error}", at + 1),
+        }
+    }
+}
 """
 
 
@@ -215,18 +228,6 @@ class Library(unittest.TestCase):
         for part in (f"soname: [libffosolve.so.{major}]", "GNU_RELRO", "BIND_NOW", f"Name: FFOSOLVE_{major}"):
             self.assertIn(part, told)
 
-    def test_one_version_everywhere(self):
-        """What the file VERSION has; the crate for Rust has it as well, and the library its number."""
-        places = {
-            PREFIX.header: f'#define FFOSOLVE_VERSION_TEXT "{PREFIX.version}"\n#define FFOSOLVE_VERSION {PREFIX.number}\n',
-            PREFIX.libraries / "pkgconfig/ffosolve.pc": f"Version: {PREFIX.version}\n",
-            PREFIX.libraries / "cmake/ffosolve/ffosolve-config-version.cmake": f'set(PACKAGE_VERSION "{PREFIX.version}")\n',
-            ROOT / "rust/Cargo.toml": f'\nversion = "{PREFIX.version}"\n',
-            ROOT / "crates/ffosolve_c/src/calls.rt": f"\nconst VERSION: u32 = {int(PREFIX.number):_};\n",
-        }
-        for place, words in places.items():
-            self.assertIn(words, place.read_text(), place)
-
 
 class Header(unittest.TestCase):
     def test_by_each_compiler(self):
@@ -275,45 +276,88 @@ class Header(unittest.TestCase):
                 self.assertEqual(len(re.findall(r"\[-Werror[=,](?:-W)?unused-result\]", told)), len(names), told)
 
 
-class Calls(unittest.TestCase):
-    """Calls from C and C++, with good and bad arguments; tests/library_calls.txt is what library_calls.c has to print."""
+def called(calls, compiler=C, stack="", **how):
+    """What tests/library_calls.c prints of each call, on a thread with so many bytes of stack, if they are given."""
+    program = PREFIX.compile([*compiler, "-pthread"], "calls", [TESTS / "library_calls.c"])
+    return PREFIX.make(program, *filter(None, [stack]), text="\n".join(calls), **how).stdout.splitlines()
 
-    SOURCE = TESTS / "library_calls.c"
+
+def named(text):
+    """A text with what its names stand for."""
+    for name, value in {**NAMES, "VERSION": PREFIX.version, "NUMBER": str(PREFIX.number)}.items():
+        text = text.replace(f"@{name}@", value)
+    return text
+
+
+class Calls(unittest.TestCase):
+    """Calls from C and C++, with good and bad arguments, and null pointers."""
 
     def setUp(self):
-        self.wanted = (TESTS / "library_calls.txt").read_text()
-        for name, value in (("VERSION", PREFIX.version), ("NUMBER", str(PREFIX.number))):
-            self.wanted = self.wanted.replace(f"@{name}@", value)
+        """Each row of tests/library_calls.txt is a call, and what it writes; that follows from the header."""
+        rows = [row.rsplit(" = ", 1) for row in named((TESTS / "library_calls.txt").read_text()).splitlines()]
+        calls = [re.sub(r"(?<=^read_line . ).*", lambda text: text[0].encode().decode("unicode_escape").encode().hex(), call)
+                 for call, _ in rows]
+        self.calls, self.wanted = "\n".join(calls), "".join(f"{wanted}\n" for _, wanted in rows)
+
+    def printed(self, compiler, header, folder):
+        """What is printed of the calls and of the inline forms by programs in a folder, compiled with this header."""
+        words = ("-I", header.parent), ("-I", header.parent, "-x", "none", PREFIX.archive)
+        nulls, calls = (PREFIX.compile([*compiler, "-pthread"], folder / name, [TESTS / f"library_{name}.c"], *more)
+                        for name, more in zip(("nulls", "calls"), words))
+        return PREFIX.make(nulls).stdout, PREFIX.make(calls, text=self.calls).stdout
 
     def test_from_c_and_cxx(self):
         for compiler in (C, CXX):
             with self.subTest(compiler=compiler[0]):
-                told = PREFIX.run(PREFIX.compile(compiler, "calls", [self.SOURCE]))
-                self.assertEqual((told.returncode, told.stdout), (0, self.wanted), told.stderr)
+                self.assertEqual(self.printed(compiler, PREFIX.header, PREFIX.work), (NULLS, self.wanted))
+
+    def test_wrong_headers_are_noticed(self):
+        """Each number one more, members or last parameters exchanged, and null pointers that are handed on."""
+        wrong = [
+            PREFIX.text[:found.start()] + (new(found) if callable(new) else found.expand(new)) + PREFIX.text[found.end():]
+            for pattern, new in (
+                (r"(?<=[A-Z] = )\d+|(?<=MOST_\w{7} )\d+|(?<=NO_SCORE )\d+", lambda found: str(int(found[0]) + 1)),
+                (r"(    \w+ \w+(?:\[64\])?;\n)(    \w+ \w+;\n)(?=.*\n?} ffosolve)", r"\2\1"),
+                (r"(size_t room),(\s+)(size_t \*at)\);", r"\3,\2\1);"),
+                (r"(\w+)(?: \|\| \w+)? \? \1 : (?:&\w+|\"\")", r"\1"),
+            )
+            for found in re.finditer(pattern, PREFIX.text)
+        ]
+        self.assertGreater(len(wrong), 40)
+
+        def is_noticed(number):
+            header = PREFIX.write(f"wrong-{number}/ffosolve.h", wrong[number])
+            try:
+                told = self.printed([*C, "-Wno-unused-variable", "-Wno-unused-parameter"], header, header.parent)
+            except AssertionError:  # it can't be compiled
+                return True
+            return told != (NULLS, self.wanted)
+
+        with ThreadPoolExecutor() as pool:
+            for number, noticed in enumerate(pool.map(is_noticed, range(len(wrong)))):
+                self.assertTrue(noticed, wrong[number])
 
     def test_without_memory(self):
-        def limit():
-            resource.setrlimit(resource.RLIMIT_AS, (60_000_000, 60_000_000))
-
-        told = PREFIX.run(PREFIX.compile(C, "calls", [self.SOURCE]), "without-memory", preexec_fn=limit)
-        wanted = "no memory: statuses 7 7 7 7 7, nothing written, at 99 and 99\nsolve: status 0, score 62, kind 0, best 0000000000000080\n"
-        wanted += "read_line: status 7, side 99, listed 99, square 99, at 99\n"
-        self.assertEqual(told.stdout, wanted)
-
-    def test_null_pointers_end_in_the_header(self):
-        for compiler in (C, CXX):
-            with self.subTest(compiler=compiler[0]):
-                program = PREFIX.compile(compiler, "nulls", [TESTS / "library_nulls.c"], "-I", PREFIX.header.parent)
-                self.assertEqual(PREFIX.make(program).stdout, NULLS)
+        calls = ("solve @CORNERS@ 0 4194304", "confirm @CORNERS@ 0 4194304 62 0 0x80", "move_scores @CORNERS@ 0 4194304",
+                 "solve_all 0 4194304 1 @CORNERS@", "move_scores_all 0 4194304 1 @CORNERS@", "long_line", "solve @CORNERS@ 0 0")
+        told = called(map(named, calls), preexec_fn=lambda: resource.setrlimit(resource.RLIMIT_AS, (60_000_000, 60_000_000)))
+        self.assertEqual(told, ["7"] * 6 + ["0 62/0/80"])
 
     def test_stack_is_as_the_header_says(self):
-        program = PREFIX.compile([*C, "-pthread"], "stack", [TESTS / "library_stack.c"])
-        text = "".join(f"{own:x} {opp:x}\n" for _, _, (own, opp) in random_positions(20, [14]))
-        used = dict(line.split(": ") for line in PREFIX.make(program, text=text).stdout.splitlines())
-        self.assertEqual(set(used), set(STACK_ROOM))
-        for empties, room in STACK_ROOM.items():
-            self.assertIn(f"{room >> 10} KiB", PREFIX.text)
-            self.assertTrue(1024 < int(used[empties]) <= room, used)
+        """Calls of 14 empty squares end on a thread with so much, and that of a game's first position works on for two seconds."""
+        self.assertTrue("32 KiB are enough for 14 empty squares and 128 KiB for 60" in re.sub(r"\s+", " ", PREFIX.text))
+        calls = [call.format(f"{own:#x} {opp:#x}") for own, opp in random_positions(20, [14])
+                 for call in ("solve {} 0 1024", "confirm {} 1 0 0 0 1", "move_scores {} 2 1024", "solve_all 0 1024 1 {}")]
+        self.assertEqual([line[:2] for line in called(calls, stack=32 << 10)], ["0 "] * len(calls))
+        with self.assertRaises(subprocess.TimeoutExpired):
+            called([named("solve @START@ 0 1024")], stack=128 << 10, timeout=2)
+
+
+def shown(language, *names):
+    """The one block that these documents show of the library in a language, and what its comments say that it prints."""
+    texts = "".join((ROOT / name).read_text() for name in names or ("README.md", "docs/library.md"))
+    (block,) = re.findall(rf"^```{language}\n(.*?)^```$", texts, re.MULTILINE | re.DOTALL)
+    return block, "".join(f"{line}\n" for line in re.findall(r"(?:  # |// )(.*)$", block, re.MULTILINE))
 
 
 class Clients(unittest.TestCase):
@@ -340,23 +384,21 @@ class Clients(unittest.TestCase):
                 program = PREFIX.compile(compiler, "by-pkg-config", [*words, source], "-x", "none", *flags)
                 self.answers(program, count=count)
 
-    @staticmethod
-    def configure(source, built, *words):
-        return ["cmake", "-S", source, "-B", PREFIX.work / built, f"-DCMAKE_PREFIX_PATH={PREFIX.folder}", *words]
-
-    def test_examples_by_cmake(self):
+    def test_example_by_cmake(self):
+        """As the page of the library shows it, shared and in C++; and a version that is newer is not found."""
         need_tool("cmake")
-        folder = PREFIX.work / "cmake-client"
-        shutil.copytree(TESTS / "library_client", folder)
+        (first, second, _), (block, _) = PREFIX.version.split("."), shown("cmake")
         for name in ("answers.c", "answers.cpp"):
-            shutil.copy2(PREFIX.shipped / "examples/c/answers.c", folder / name)
-        PREFIX.make(*self.configure(folder, "cmake-built"))
-        PREFIX.make("cmake", "--build", PREFIX.work / "cmake-built")
-        for name in ("c_shared", "c_static", "cxx_shared"):
+            PREFIX.write(f"cmake/{name}", (PREFIX.shipped / "examples/c/answers.c").read_text())
+        configure = ("cmake", "-S", "cmake", "-B", "cmake-built", f"-DCMAKE_PREFIX_PATH={PREFIX.folder}")
+        PREFIX.write("cmake/CMakeLists.txt", CMAKE.format(block))
+        PREFIX.make(*configure)
+        PREFIX.make("cmake", "--build", "cmake-built")
+        for name in ("program", "shared", "in_cxx"):
             with self.subTest(name=name):
                 self.answers(PREFIX.work / "cmake-built" / name, count=SMALL)
-        first, second, _ = PREFIX.version.split(".")
-        told = PREFIX.run(*self.configure(folder, "cmake-newer", f"-DWANTED={first}.{int(second) + 1}"))
+        PREFIX.write("cmake/CMakeLists.txt", CMAKE.format(block.replace(" 1.0 ", f" {first}.{int(second) + 1} ")))
+        told = PREFIX.run(*configure)
         self.assertNotEqual(told.returncode, 0)
         self.assertIn(PREFIX.version, told.stderr)
 
@@ -383,6 +425,8 @@ class PythonPackage(unittest.TestCase):
     def test_the_program_that_pip_installs(self):
         for words, wanted in ((["--version"], f"ffosolve-games {PREFIX.version}\n"), (["--empties", "59"], r"\S{64} O; % standard input, game 1\n")):
             self.assertRegex(PREFIX.make(self.site / "bin/ffosolve-games", *words, text="f5").stdout, rf"\A{wanted}\Z")
+        licence, = self.site.glob("ffosolve-*.dist-info/LICENSE")
+        self.assertEqual(licence.read_bytes(), stored("LICENSE"))
 
     def test_library_that_is_named(self):
         """The library that FFOSOLVE_LIBRARY names is taken; another version of it is not, nor one that lacks a call."""
@@ -395,7 +439,7 @@ class PythonPackage(unittest.TestCase):
             other = PREFIX.work / f"other-{calls}-{number}.so"
             PREFIX.make("cc", "-shared", "-fPIC", "-o", other, source)
             env = {**PREFIX.environment, "FFOSOLVE_LIBRARY": str(other)}
-            told = PREFIX.run(sys.executable, "-c", OTHER_LIBRARY, env=env)
+            told = PREFIX.run(sys.executable, "-c", "import ffosolve; ffosolve.Solver()", env=env)
             is_told = why in told.stderr and str(other) in told.stderr
             self.assertTrue(is_told if why else told.returncode == 0, told)
         named = {**PREFIX.environment, "FFOSOLVE_LIBRARY": str(PREFIX.shared), "LD_LIBRARY_PATH": ""}
@@ -451,13 +495,6 @@ class RustCrate(unittest.TestCase):
         self.assertIn(why, told.stderr)
 
 
-def shown(language, *names):
-    """The one block that these documents show of the library in a language, and what its comments say that it prints."""
-    texts = "".join((ROOT / name).read_text() for name in names or ("README.md", "docs/library.md"))
-    (block,) = re.findall(rf"^```{language}\n(.*?)^```$", texts, re.MULTILINE | re.DOTALL)
-    return block, "".join(f"{line}\n" for line in re.findall(r"(?:  # |// )(.*)$", block, re.MULTILINE))
-
-
 class Readme(unittest.TestCase):
     """What the documents show of the library."""
 
@@ -470,15 +507,6 @@ class Readme(unittest.TestCase):
             with self.subTest(language=language):
                 block, wanted = shown(language)
                 self.prints(wanted, PREFIX.compile(compiler, "shown", [PREFIX.write(f"shown.{language}", block)]))
-
-    def test_in_c_by_cmake(self):
-        need_tool("cmake")
-        block, wanted = shown("c")
-        PREFIX.write("shown-by-cmake/shown.c", block)
-        PREFIX.write("shown-by-cmake/CMakeLists.txt", CMAKE + shown("cmake")[0])
-        PREFIX.make(*Clients.configure(PREFIX.work / "shown-by-cmake", "shown-built"))
-        PREFIX.make("cmake", "--build", PREFIX.work / "shown-built")
-        self.prints(wanted, PREFIX.work / "shown-built/program")
 
     def test_in_python(self):
         block, wanted = shown("python")
@@ -498,34 +526,83 @@ class Readme(unittest.TestCase):
         self.prints(wanted, PREFIX.rust_client("readme", program))
 
 
-def lies(text):
-    """The lines with one wrong: an answer's last move score, and a position after a move."""
-    lines = text.splitlines(keepends=True)
-    for kind in ("solve", "rules"):
-        at = max(number for number, line in enumerate(lines) if line.startswith(kind) and len(line.split()) > 7)
-        words = lines[at].split()
-        words[-1] = str(int(words[-1]) - 1) if kind == "solve" else f"{int(words[-1], 16) ^ 1:016x}"
-        yield "".join([" ".join(words) + "\n", *lines[:200]])
+def solved(position):
+    """What plain minimax says of a position under each scoring: the scoring, the answer, and the moves' scores by their squares."""
+    own, opp = position
+    children = {square.bit_length() - 1: player.values(*player.after(own, opp, square))
+                for square in player.squares_in(player.moves(own, opp))}
+    kind = ffosolve.Kind.MOVES if children else ffosolve.Kind.PASS if player.moves(opp, own) else ffosolve.Kind.OVER
+    rows = []
+    for scoring, score in enumerate(player.values(own, opp)):
+        scores = [(square, -after[scoring]) for square, after in children.items()]
+        rows.append((position, scoring, ffosolve.Answer(score, kind, sum(1 << square for square, it in scores if it == score)), scores))
+    return rows
 
 
 class RandomPositions(unittest.TestCase):
-    """Random positions beside plain minimax on 64 cells, by library_oracle.c: through Python, on eight threads at once, by each
-    call of the library. What C and Rust do of it are their examples, and tests of their own."""
+    """Random positions beside plain minimax: through Python by each call, some through C and Rust, and by ffoscores."""
 
-    def test_as_plain_minimax(self):
-        seconds = LONGEST if POSITIONS <= 10_000 and MOST <= 8 else None
-        oracle = PREFIX.compile([*C, "-O2"], "oracle", [TESTS / "library_oracle.c"])
-        text = PREFIX.make(oracle, POSITIONS, MOST, timeout=seconds).stdout
-        solutions, rules = (len(re.findall(f"^{kind} ", text, re.MULTILINE)) for kind in ("solve", "rules"))
-        self.assertEqual(solutions, 3 * POSITIONS)
-        self.assertGreater(rules, POSITIONS // 2)
-        compare = (PREFIX.site and sys.executable, TESTS / "library_compare.py")
-        told = PREFIX.make(*compare, PREFIX.write("positions.txt", text), THREADS, timeout=seconds)
-        self.assertEqual(told.stdout, f"{solutions} solutions and {rules} rules agree\n")
-        for lie in lies(text):
-            told = PREFIX.run(*compare, PREFIX.write("lie.txt", lie), THREADS)
-            self.assertEqual(told.returncode, 1, "a wrong line is not noticed")
-            self.assertIn("differs", told.stderr)
+    @classmethod
+    def setUpClass(cls):
+        positions = random_positions(POSITIONS, range(MOST + 1)) + random_positions(DEEP, (7, 8))
+        with ProcessPoolExecutor() as pool:
+            cls.rows = list(itertools.chain(*pool.map(solved, positions, chunksize=20)))
+
+    def solver(self, scoring, entries=1024):
+        return ffosolve.Solver(str(PREFIX.shared), scoring=scoring, entries=entries)
+
+    def by_number(self, scores):
+        return [(ffosolve.square_number(name), score) for name, score in scores.items()]
+
+    def compare(self, number, row):
+        """Right claims and wrong ones are confirmed alike."""
+        (position, _, wanted, scores), solver = row, self.solver(row[1], (0, 1, 64, 1024)[number % 4])
+        claim = (wanted._replace(score=wanted.score + number % 5), wanted._replace(best=wanted.best ^ number), wanted)[number % 3]
+        told = solver.solve(position), solver.confirm(position, claim), self.by_number(solver.move_scores(position))
+        self.assertEqual(told, (wanted, wanted, scores), row)
+        self.assertEqual(solver.moves(position), sum(1 << square for square, _ in scores), row)
+        for square in set(range(64)) - {square for square, _ in scores}:
+            self.assertRaises(ffosolve.NoMove, solver.play, position, square)
+
+    def test_through_python(self):
+        """On eight threads at once, and as lists."""
+        self.assertEqual(len(self.rows), 3 * (POSITIONS + DEEP))
+        with ThreadPoolExecutor(8) as pool:
+            self.assertEqual(len(list(pool.map(self.compare, range(len(self.rows)), self.rows))), len(self.rows))
+        for scoring in ffosolve.Scoring:
+            positions, _, answers, scores = zip(*self.rows[scoring::3])
+            self.assertEqual(self.solver(scoring).solve_all(positions), list(answers))
+            self.assertEqual([*map(self.by_number, self.solver(scoring).move_scores_all(positions))], list(scores))
+
+    def test_through_c(self):
+        calls, wanted = [], []
+        for number, ((own, opp), scoring, (score, kind, best), scores) in enumerate(self.rows[:900]):
+            words = f"{own:#x} {opp:#x} {scoring} {number % 3 * 16}"
+            calls += [f"solve {words}", f"confirm {words} {score} {kind} {number}", f"move_scores {words}"]
+            listed = "".join(f" {square}:{it}" for square, it in scores)
+            moves = f"0 {sum(1 << square for square, _ in scores):x}{listed} +{64 - len(scores)}"
+            wanted += 2 * [f"0 {score}/{kind}/{best:x}"] + [moves]
+        self.assertEqual(called(calls), wanted)
+
+    def test_through_the_example_in_rust(self):
+        PREFIX.cargo("build", PREFIX.crate and PREFIX.work / "examples/rust", "--quiet")
+        rows = self.rows[:2700:3]
+        text = "".join(f"{own:x} {opp:x}\n" for (own, opp), *_ in rows)
+        told = PREFIX.make(PREFIX.work / "target/debug/answers", text=text).stdout.splitlines()
+        wanted = [f"{it.score:+03} {','.join(it.squares) or ('', 'PS', '--')[it.kind]}" for _, _, it, _ in rows]
+        self.assertEqual(told[:len(wanted)], wanted)
+
+    def test_by_ffoscores(self):
+        """The best first, and of equals in the order of the squares."""
+        for scoring in ffosolve.Scoring:
+            rows = self.rows[scoring::3]
+            text = "".join(f"{position.to_obf()}\n" for position, *_ in rows)
+            for entries in (0, 65_536):
+                told = PREFIX.make(built("ffoscores"), "--scoring", scoring.name.lower(), "--table", entries, text=text).stdout
+                for line, (_, _, answer, scores) in zip(told.splitlines(), rows, strict=True):
+                    best = [(ffosolve.square_name(square), score) for square, score in sorted(scores, key=lambda it: -it[1])]
+                    best = best or [(("", "PS", "--")[answer.kind], answer.score)]
+                    self.assertEqual(line[66:], ";" + "".join(f" {name}:{score:+03};" for name, score in best))
 
 
 def odd_line(chance):
@@ -534,7 +611,7 @@ def odd_line(chance):
     empty = chance.sample(range(64), chance.choice([0, 1, 2, 3, 3, 30]))
     cells = [letters[2] if square in empty else chance.choice(letters[:2]) for square in range(64)]
     fields = "".join(chance.choice([" ", "", "\t"]) + odd_field(chance) for _ in range(chance.randrange(6)))
-    side = chance.choice(["X", "O", " X", " O", "\tw", "  b", "-", "", "%"])
+    side = chance.choice(["X", "O", " X", " O", "\tw", "  b", "-", "", "%", "*", "B", " W", "x", " o"])
     line = (chance.choice(["", "", "", " ", "\t "]) + "".join(cells) + side + ";" + fields).encode()
     return b"".join(spoiled(chance, line))
 
@@ -558,41 +635,75 @@ def spoiled(chance, line):
     return (line,)
 
 
+def row(line):
+    listed = "".join(f" {move}:{score}" for move, score in line.listed)
+    return f"{line.own:016x} {line.opp:016x} {line.side}{listed}"
+
+
+def read(text):
+    """What lines say by their numbers: masks, side and listed moves, or why one is refused; nothing of one that is skipped."""
+    refused = []
+    rows = {line.number: row(line) for line in ffosolve.read_lines(text, refused=refused.append)}
+    rows.update((error.line, "refused: " + str(error).split(": ", 1)[1]) for error in refused)
+    return [f"{number} {rows[number]}" for number in sorted(rows)]
+
+
+def read_by_line(text):
+    """The same, each line by itself."""
+    for number, line in enumerate(text.split(b"\n"), 1):
+        try:
+            yield f"{number} {row(ffosolve.Position.from_obf(line))}"
+        except ffosolve.NoPosition:
+            pass
+        except ValueError as error:
+            yield f"{number} refused: {error}"
+
+
+def read_in_c(text):
+    """The same, by ffosolve_read_line."""
+    cr = b"\r"
+    told = called(f"read_line 8 {line.removesuffix(cr).hex()}" for line in text.split(b"\n"))
+    for number, (status, *words) in enumerate((line.split() for line in told), 1):
+        if status == "0":
+            own, opp, side, _, *listed = words
+            listed = [tuple(map(int, it.split("/"))) for it in listed]
+            moves = "".join(f" {('PS', '--')[kind - 1] if kind else ffosolve.square_name(square)}:{it}" for kind, square, it in listed)
+            yield f"{number} {own:0>16} {opp:0>16} {'XO'[int(side)]}{moves}"
+        elif status != "8":
+            yield f"{number} refused: {REFUSED[int(status)].format(words[1])}"
+
+
 class OddLines(unittest.TestCase):
-    """Many odd lines, as they are read through Python, beside the report of the program."""
+    """Worked lines, and many odd ones, as Python, C and Rust read them; the odd ones beside the report of the program."""
 
     @classmethod
     def setUpClass(cls):
-        chance = random.Random(1)
+        chance = random.Random(5)  # some lines agree
         cls.text = b"\n".join(odd_line(chance) for _ in range(LINES))
-        cls.file = PREFIX.write("odd.obf", "")
-        cls.file.write_bytes(cls.text)
-        cls.report = PREFIX.make(built("ffosolve"), cls.file).stdout.splitlines()[1:-1]
-        cls.rows = cls.told(cls.text)
+        cls.rows = read(cls.text)
 
-    @staticmethod
-    def told(text):
-        reads = (PREFIX.site and sys.executable, TESTS / "library_lines.py")
-        return run(*reads, input=text, env=PREFIX.environment, timeout=LONGEST, check=True).stdout.decode().splitlines()
-
-    def test_worked_lines(self):
+    def test_as_each_reads_them(self):
         """tests/rows/lines.read has what each line of lines.obf says; it follows from the grammar, and no program printed it."""
-        told = self.told((TESTS / "rows/lines.obf").read_bytes())
-        self.assertEqual(told, (TESTS / "rows/lines.read").read_text().splitlines())
+        in_rust = PREFIX.rust_client("lines", LINES_IN_RUST)
+        worked = (TESTS / "rows/lines.obf").read_bytes(), (TESTS / "rows/lines.read").read_text().splitlines()
+        for text, wanted in (worked, (self.text, self.rows)):
+            self.assertEqual(read(text), wanted)
+            self.assertEqual(read(line + b"\n" for line in text.split(b"\n")), wanted)
+            self.assertEqual(list(read_by_line(text)), wanted)
+            self.assertEqual(list(read_in_c(text)), wanted)
+            self.assertEqual(run(in_rust, input=text, env=PREFIX.environment, check=True).stdout.decode().splitlines(), wanted)
 
     def test_as_the_report_says(self):
         """The numbers of lines, what is refused and why; and of each position its answer, and whether the line agrees."""
-        sys.path.insert(0, str(PREFIX.site))
-        self.addCleanup(sys.path.remove, str(PREFIX.site))
-        import ffosolve
+        file = PREFIX.work / "odd.obf"
+        file.write_bytes(self.text)
+        report, solver = PREFIX.make(built("ffosolve"), file).stdout.splitlines()[1:-1], ffosolve.Solver(str(PREFIX.shared))
+        self.assertEqual(report, [self.reported(solver, row) for row in self.rows])
+        kinds = collections.Counter(re.sub(r"\d+", "N", row.split(" ", 1)[1]) if "refused" in row else row.split()[-1] for row in report)
+        for kind in ("agree", "differ", "unlisted", "refused: N empties, limit N", *(f"refused: {it}" for it in REFUSED.values())):
+            self.assertGreater(kinds[re.sub(r"\d+|{}", "N", kind)], 0, kinds)
 
-        solver = ffosolve.Solver(str(PREFIX.shared))
-        self.assertEqual(self.report, [self.reported(ffosolve, solver, row) for row in self.rows])
-        kinds = collections.Counter(re.sub(r"\d+", "N", row.split(" ", 1)[1]) if "refused" in row else row.split()[-1] for row in self.report)
-        for kind in ("agree", "differ", "unlisted", *(f"refused: {why}" for why in REFUSED)):
-            self.assertGreater(kinds[kind], 0, kinds)
-
-    def reported(self, ffosolve, solver, row):
+    def reported(self, solver, row):
         if "refused" in row:
             return row
         number, own, opp, _, *listed = row.split()

@@ -1,4 +1,4 @@
-"""The package for Python: many positions, pictures of boards, and the program that it installs."""
+"""The package for Python: many positions, games, arrays, pictures of boards, and what is published of it."""
 import contextlib
 import email
 import gzip
@@ -17,8 +17,10 @@ import unittest
 import xml.etree.ElementTree
 import zipfile
 
+from bench import player
+
 from .support import ROOT, SECONDS, InFolder, lack, need, run, stored
-from .test_games import EMPTY, discs_of_black, positions_of, random_game, record, squares_of, transcript, wthor
+from .test_games import discs_of_black, positions_of, random_game, record, squares_of, transcript, wthor
 
 SOURCES = ROOT / "python/src"
 sys.path.insert(0, str(SOURCES))
@@ -30,37 +32,22 @@ SHARED, WIDE = Position(3, 2), Position(1, 6)
 BOARD = "--XXXXX--OOOXX-O-OOOXXOX-OXOXOXXOXXXOXXX--XOXOXX-XXXOOO--OOOOO-- X;"
 
 
-def mask(board, side):
-    return sum(1 << at for at, letter in enumerate(board) if letter == side)
-
-
 def random_positions(count, empties, seed=1):
-    """Positions of random games, with so many empty squares in turn: each board with its side to move, and as Position."""
+    """Positions of random games, with so many empty squares in turn."""
     rng, found = random.Random(seed), []
     while len(found) < count:
-        at = positions_of(squares_of(random_game(rng)))
-        if empties[len(found) % len(empties)] in at:
-            board, side = at[empties[len(found) % len(empties)]]
-            found.append((board, side, Position(mask(board, side), mask(board, "O" if side == "X" else "X"))))
+        at = positions_of(squares_of(random_game(rng))).get(empties[len(found) % len(empties)])
+        found += [Position(*at[:2])] if at else []
     return found
 
 
 class Many(unittest.TestCase):
     @classmethod
     def setUpClass(cls):
-        cls.known = random_positions(300, range(10))
-        cls.positions = [position for _, _, position in cls.known]
+        cls.positions = random_positions(300, range(10))
         cls.solver = Solver()
         cls.answers = [cls.solver.solve(position) for position in cls.positions]
         cls.scores = [cls.solver.move_scores(position) for position in cls.positions]
-
-    def test_one_by_one_is_exact(self):
-        """By plain alpha-beta; the others are compared with these."""
-        for (board, side, _), answer, scores in zip(self.known, self.answers, self.scores):
-            if board.count(EMPTY) <= 5:
-                black = 32 + (answer.score if side == "X" else -answer.score) // 2
-                self.assertEqual(black, discs_of_black(board, side))
-                self.assertEqual([name for name in scores if scores[name] == answer.score], answer.squares)
 
     def test_all_and_as_they_come(self):
         for threads in (1, 2, 4):
@@ -73,7 +60,7 @@ class Many(unittest.TestCase):
                 self.assertEqual(list(call([], threads=threads)), [])
 
     def test_one_that_takes_long_keeps_its_place(self):
-        long = random_positions(1, [13])[0][2]
+        long = random_positions(1, [13])[0]
         positions = [long, *self.positions * 5]  # in some ten parts
         answers = [self.solver.solve(long), *self.answers * 5]
         for threads in (1, 3):
@@ -119,7 +106,7 @@ class Many(unittest.TestCase):
                 return call
 
         solver._library = Library()
-        positions = [position for _, _, position in random_positions(3, [16])]  # each is a part of its own
+        positions = random_positions(3, [16])  # each is a part of its own
         answers, scores = self.solver.solve_all(positions), self.solver.move_scores_all(positions)
         for call, wanted in ((solver.solve_all, answers), (solver.solve_iter, answers),
                              (solver.move_scores_all, scores), (solver.move_scores_iter, scores)):
@@ -135,7 +122,7 @@ class Many(unittest.TestCase):
                 return 0
 
         def positions():
-            for number, (_, _, position) in enumerate(random_positions(20, [20])):
+            for number, position in enumerate(random_positions(20, [20])):
                 if number == 10:
                     asked.set()
                 yield position
@@ -163,7 +150,7 @@ class Many(unittest.TestCase):
 
     def test_refusals_come_before_anything_is_solved(self):
         """The first position would take hours."""
-        hopeless = random_positions(1, [34])[0][2]
+        hopeless = random_positions(1, [34])[0]
         for bad, error in ((SHARED, ffosolve.SharedSquare), (WIDE, ffosolve.TooManyEmpties)):
             for threads in (1, 2):
                 for call in (self.solver.solve_all, self.solver.move_scores_all):
@@ -184,17 +171,6 @@ class Many(unittest.TestCase):
                 list(call([(0.5, 1)]))
 
 
-class Lines(unittest.TestCase):
-    def test_worked_lines(self):
-        """tests/rows/lines.read follows from the grammar, and no program printed it; tests/library_lines.py has odd lines."""
-        told, refused = {}, []
-        for line in ffosolve.read_lines(stored("tests/rows/lines.obf"), refused=refused.append):
-            listed = "".join(f" {move}:{score}" for move, score in line.listed)
-            told[line.number] = f"{line.number} {line.own:016x} {line.opp:016x} {line.side}{listed}"
-        told.update((error.line, str(error).replace("line ", "").replace(":", " refused:")) for error in refused)
-        self.assertEqual([told[number] for number in sorted(told)], stored("tests/rows/lines.read").decode().splitlines())
-
-
 class Games(InFolder):
     """Beside the plain player of test_games."""
 
@@ -205,12 +181,12 @@ class Games(InFolder):
         cls.solver = Solver()
 
     def shown(self, positions):
-        return [(list(position.to_obf()[:64]), position.side) for position in positions]
+        return [position.to_obf() for position in positions]
 
     def expected(self, game):
         """The plain player's positions, from the start on."""
         at = positions_of(squares_of(game))
-        return [at[empties] for empties in sorted(at, reverse=True)]
+        return [player.line(*at[empties]) for empties in sorted(at, reverse=True)]
 
     def test_transcripts_in_many_ways(self):
         rng = random.Random(5)
@@ -266,10 +242,10 @@ class Games(InFolder):
         self.assertEqual([it.empties for it in ffosolve.read_games("it.wtb")], [None])
 
     def test_wrong_theoretical_scores_as_the_docstring_finds_them(self):
-        games = [game for game in self.played if 8 in positions_of(squares_of(game))][:20]
-        exact = [discs_of_black(*positions_of(squares_of(game))[8]) for game in games]
+        games = [game for game in self.played if 6 in positions_of(squares_of(game))][:20]
+        exact = [discs_of_black(positions_of(squares_of(game))[6]) for game in games]
         published = [it ^ (at in (3, 11)) for at, it in enumerate(exact)]
-        (self.folder / "WTH_2001.wtb").write_bytes(wthor(map(record, games, published), empties=8, count=20))
+        (self.folder / "WTH_2001.wtb").write_bytes(wthor(map(record, games, published), empties=6, count=20))
         code = textwrap.dedent(inspect.getdoc(ffosolve.read_games).split(":\n\n")[1])
         told = io.StringIO()
         with contextlib.redirect_stdout(told):
@@ -305,23 +281,21 @@ class Arrays(unittest.TestCase):
         except ImportError:
             lack("numpy (Debian: python3-numpy)")
         self.numpy, self.solver = numpy, Solver()
-        self.positions = [position for _, _, position in random_positions(400, range(11))]
+        self.positions = random_positions(400, range(11))
         self.own, self.opp = numpy.array(self.positions, numpy.uint64).T
 
-    def test_answers(self):
-        answers = self.solver.solve_all(self.positions)
-        for threads in (1, 3):
-            found = self.solver.solve_arrays(self.own, self.opp, threads=threads)
+    def test_as_lists(self):
+        """Answers and scores are those of the calls for lists, on one thread and on some, under each scoring, and of nothing."""
+        for scoring, threads, count in (*((scoring, 1, 90) for scoring in ffosolve.Scoring), (0, 3, 400), (0, 2, 0)):
+            solver, positions = Solver(scoring=scoring), self.positions[:count]
+            found = solver.solve_arrays(self.own[:count], self.opp[:count], threads=threads)
             self.assertEqual([str(array.dtype) for array in found], ["int32", "int32", "uint64"])
-            self.assertEqual([Answer(*its) for its in zip(*(array.tolist() for array in found))], answers)
-
-    def test_scores(self):
-        for threads in (1, 3):
-            found = self.solver.move_scores_arrays(self.own, self.opp, threads=threads)
-            self.assertEqual((str(found.dtype), found.shape), ("int8", (400, 64)))
+            self.assertEqual([Answer(*its) for its in zip(*(array.tolist() for array in found))], solver.solve_all(positions))
+            found = solver.move_scores_arrays(self.own[:count], self.opp[:count], threads=threads)
+            self.assertEqual((str(found.dtype), found.shape), ("int8", (count, 64)))
             told = [{ffosolve.square_name(at): score for at, score in enumerate(row) if score != ffosolve.NO_SCORE}
                     for row in found.tolist()]
-            self.assertEqual(told, self.solver.move_scores_all(self.positions))
+            self.assertEqual(told, solver.move_scores_all(positions))
 
     def test_what_is_asked(self):
         """The scoring of the solver, its number of table entries, and calls of three threads at once."""
@@ -338,24 +312,11 @@ class Arrays(unittest.TestCase):
 
         solver = Solver(scoring=ffosolve.Scoring.SIGN, entries=7)
         solver._library = Library()
-        own, opp = self.numpy.array([position for _, _, position in random_positions(3, [17])], self.numpy.uint64).T
+        own, opp = self.numpy.array(random_positions(3, [17]), self.numpy.uint64).T
         for call, name in ((solver.solve_arrays, "solve_all"), (solver.move_scores_arrays, "move_scores_all")):
             asked.clear()
             call(own, opp, threads=3)
             self.assertEqual(asked, [(f"ffosolve_{name}", 2, 7)] * 3)
-
-    def test_scorings(self):
-        positions = [position.passed() for position in self.positions[:90]]
-        own, opp = self.numpy.array(positions, self.numpy.uint64).T
-        for scoring in ffosolve.Scoring:
-            solver = Solver(scoring=scoring)
-            found = solver.solve_arrays(own, opp)
-            self.assertEqual([Answer(*its) for its in zip(*(array.tolist() for array in found))], solver.solve_all(positions))
-
-    def test_none(self):
-        nothing = self.numpy.array([], self.numpy.uint64)
-        self.assertEqual([array.shape for array in self.solver.solve_arrays(nothing, nothing, threads=2)], [(0,)] * 3)
-        self.assertEqual(self.solver.move_scores_arrays(nothing, nothing).shape, (0, 64))
 
     def test_refusals(self):
         for call in (self.solver.solve_arrays, self.solver.move_scores_arrays):
@@ -391,11 +352,8 @@ class Boards(InFolder):
         told = str(position.show(self.SCORES, side="O")).splitlines()
         self.assertEqual(told[1], "1 +38*  +36    O    O    O    O    O   +0")
         self.assertEqual((told[2][:6], told[8][-4:], told[-1]), ("2 +38*", " -12", "O is to move"))
-
-    def test_refused(self):
         for scores, side in (({"C1": 3}, "X"), ({"I9": 3}, "X"), ({}, "black")):
-            with self.assertRaises(ValueError):
-                Position.from_obf(BOARD).show(scores, side)
+            self.assertRaises(ValueError, position.show, scores, side)
 
     def picture(self, svg):
         """The picture's colours at a place from the left and from the top, in pixels."""
@@ -416,7 +374,7 @@ class Boards(InFolder):
         black, white, green, yellow = "111111", "fafafa", "2f8f5b", "ffd54a"
         for svg, mover, other in ((position._repr_svg_(), black, white), (position.show(side="O")._repr_svg_(), white, black)):
             at = self.picture(svg)
-            colours = {"X": mover, "O": other, EMPTY: green}
+            colours = {"X": mover, "O": other, "-": green}
             for place, letter in enumerate(BOARD[:64]):
                 x, y = 22 + 44 * (place % 8), 22 + 44 * (place // 8)
                 self.assertEqual((at(x + 22, y + 22), at(x + 4, y + 4)), (colours[letter], green), place)
@@ -428,7 +386,7 @@ class Boards(InFolder):
             x, y = 22 + 44 * (place % 8), 22 + 44 * (place // 8)
             colours = {at(x + right, y + down) for right in range(8, 36) for down in range(14, 30)}
             is_scored = ffosolve.square_name(place) in ("A1", "A2", "B1", "H1", "H8")
-            if BOARD[place] == EMPTY:
+            if BOARD[place] == "-":
                 self.assertEqual(len(colours) > 3, is_scored, place)
 
 
@@ -460,23 +418,3 @@ class Package(InFolder):
             self.assertTrue(told[field], field)
         self.assertEqual((told["Version"], told["Description-Content-Type"]), (ffosolve.__version__, "text/markdown"))
         self.assertEqual(told.get_payload(), inspect.getdoc(ffosolve) + "\n")
-
-
-class Installed(InFolder):
-    def test_the_program_that_pip_installs(self):
-        if run(sys.executable, "-m", "pip", "--version").returncode != 0:
-            lack("pip (Debian: python3-pip)")
-        words = "install --quiet --no-index --no-deps --disable-pip-version-check --root-user-action=ignore --target site".split()
-        run("cp", "-r", ROOT / "python", ROOT / "VERSION", ROOT / "LICENSE", ".", check=True)
-        run(sys.executable, "-m", "pip", *words, "./python", check=True, timeout=300)
-        environment = {**os.environ, "PYTHONPATH": str(self.folder / "site")}
-        ran = run("site/bin/ffosolve-games", "--version", env=environment)
-        self.assertEqual(ran.stdout.decode(), f"ffosolve-games {stored('VERSION').decode()}", ran.stderr)
-        ran = run("site/bin/ffosolve-games", "--empties", "59", input=b"f5", env=environment)
-        self.assertRegex(ran.stdout.decode(), "^\\S{64} O; % standard input, game 1\n$", ran.stderr)
-        licence, = self.folder.glob("site/ffosolve-*.dist-info/LICENSE")
-        self.assertEqual(licence.read_bytes(), stored("LICENSE"))
-
-
-if __name__ == "__main__":
-    unittest.main()

@@ -103,13 +103,6 @@ def dist_info():
     yield f"{head()}.dist-info/entry_points.txt", program.encode()
 
 
-def get_requires_for_build_wheel(config_settings=None):
-    return []
-
-
-get_requires_for_build_sdist = get_requires_for_build_editable = get_requires_for_build_wheel
-
-
 def build_wheel(wheel_directory, config_settings=None, metadata_directory=None):
     return write_wheel(wheel_directory, [*package_files(), *libraries(), *dist_info()])
 

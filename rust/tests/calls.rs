@@ -24,44 +24,24 @@ fn square(name: &str) -> Square {
 
 #[test]
 fn solves() {
-    let solver = Solver::new();
-    assert_eq!(solver.solve(corners()), Ok(ANSWER));
-    assert_eq!(ANSWER.squares().to_string(), "H1");
     for (scoring, score) in [(Scoring::Winner, -40), (Scoring::Discs, -39), (Scoring::Sign, -1)] {
         let (of, passed) = (Solver::new().scoring(scoring).entries(64), corners().passed());
         let answer = of.solve(passed).expect("an answer");
         assert_eq!(answer.score, score);
-        assert_eq!(of.confirm(passed, ANSWER), Ok(answer));
+        for best in [Best::Over, Best::Pass, Best::Moves(Squares(0)), answer.best] {
+            assert_eq!(of.confirm(passed, Answer { score: 62, best }), Ok(answer));
+        }
         assert_eq!(of.solve_all(&[passed]), Ok(vec![answer]));
         assert_eq!(of.move_scores(passed), Ok(vec![(square("H1"), score)]));
     }
-    assert_eq!(solver.solve(position(0x7e, !0x7f)), Ok(Answer { score: -64, best: Best::Pass }));
-    assert_eq!(solver.solve(position(0xffff_ffff, 0xffff << 48)), Ok(Answer { score: 32, best: Best::Over }));
-    for best in [Best::Pass, Best::Over] {
-        assert!(Answer { score: 0, best }.squares().is_empty());
-    }
-    assert_eq!(solver, Solver::default());
-}
-
-#[test]
-fn confirms_whatever_is_claimed() {
-    for claim in [ANSWER, Answer { score: -128, best: Best::Over }, Answer { score: 62, best: Best::Moves(Squares(0)) }] {
-        assert_eq!(Solver::new().confirm(corners(), claim), Ok(ANSWER));
-    }
-}
-
-#[test]
-fn solves_lists() {
-    assert_eq!(Solver::new().solve_all(&[]), Ok(Vec::new()));
-    let answers = Solver::new().solve_all(&[corners(), corners().passed()]).expect("answers");
-    assert_eq!(answers.iter().map(|answer| answer.score).collect::<Vec<i8>>(), [62, -40]);
-}
-
-#[test]
-fn scores_each_move() {
-    let told = Solver::new().move_scores(corners());
-    assert_eq!(told, Ok(vec![(square("A1"), 52), (square("H1"), 62)]));
-    assert_eq!(Solver::new().move_scores(position(0x7e, !0x7f)), Ok(Vec::new()));
+    let (solver, pass, over) = (Solver::default(), position(0x7e, !0x7f), position(0xffff_ffff, 0xffff << 48));
+    let [at_pass, at_end] = [(-64, Best::Pass), (32, Best::Over)].map(|(score, best)| Answer { score, best });
+    assert_eq!(solver, Solver::new());
+    assert_eq!(solver.solve_all(&[corners(), pass, over]), Ok(vec![ANSWER, at_pass, at_end]));
+    assert_eq!(solver.solve_all(&[]), Ok(Vec::new()));
+    assert_eq!(solver.move_scores(corners()), Ok(vec![(square("A1"), 52), (square("H1"), 62)]));
+    assert_eq!(solver.move_scores(pass), Ok(Vec::new()));
+    assert_eq!([ANSWER, at_pass, at_end].map(|answer| answer.squares().to_string()), ["H1", "", ""]);
 }
 
 #[test]
@@ -167,36 +147,19 @@ fn tells_the_discs_of_positions_and_the_squares_of_sets() {
 }
 
 #[test]
-fn reads_each_letter() {
-    let board = |first: char, side: char| Position::from_obf(&format!("{first}O{} {side}", "-".repeat(62)));
-    for black in "Xx*Bb".chars() {
-        assert_eq!(board(black, 'X'), Ok(position(1, 2)), "{black}");
-        assert_eq!(board('X', black), Ok(position(1, 2)), "{black}");
-    }
-    for white in "OoWw".chars() {
-        assert_eq!(board(white, 'X'), Ok(position(0, 3)), "{white}");
-        assert_eq!(board('X', white), Ok(position(2, 1)), "{white}");
-    }
-    for empty in "-.".chars() {
-        assert_eq!(board(empty, 'X'), Ok(position(0, 2)), "{empty}");
-    }
-}
-
-#[test]
 fn reads_obf() {
     assert_eq!(Position::from_obf(LINE), Ok(corners()));
     assert_eq!(format!("  {}", LINE.replace('X', "*").replace('O', "w").replace('-', ".")).parse(), Ok(corners()));
-    assert_eq!(Position::from_obf(&LINE.replace(" X;", "\tO;")), Ok(corners().passed()));
-    assert_eq!(Position::from_obf(&corners().to_obf()), Ok(corners()));
-    for skipped in ["", " \t", "  % X", "\r\n"] {
-        assert_eq!(Position::from_obf(skipped), Err(ObfError::NoPosition));
-        assert_eq!(Line::from_obf(skipped), Err(ObfError::NoPosition));
+    assert_eq!(Position::from_obf(&corners().passed().to_obf()), Ok(corners().passed()));
+    for (text, error) in [
+        ("\r\n".to_string(), ObfError::NoPosition),
+        (LINE[..63].to_string(), ObfError::ShortBoard { squares: 63 }),
+        (LINE.replace('O', "ö"), ObfError::BadSquare { column: 2 }),
+        (LINE[..64].to_string(), ObfError::BadSide { column: 65 }),
+    ] {
+        assert_eq!(Position::from_obf(&text), Err(error));
+        assert_eq!(Line::from_obf(&text), Err(error));
     }
-    assert_eq!(Position::from_obf(&LINE[..63]), Err(ObfError::ShortBoard { squares: 63 }));
-    assert_eq!(Position::from_obf(&LINE.replacen('X', "?", 1)), Err(ObfError::BadSquare { column: 3 }));
-    assert_eq!(Position::from_obf(&LINE[..64]), Err(ObfError::BadSide { column: 65 }));
-    assert_eq!(Position::from_obf(&LINE.replace(" X;", " -;")), Err(ObfError::BadSide { column: 66 }));
-    assert_eq!(Position::from_obf(&LINE.replace('O', "ö")), Err(ObfError::BadSquare { column: 2 }));
 }
 
 #[test]
@@ -205,12 +168,9 @@ fn keeps_what_a_line_lists() {
     let listed = vec![(Listed::Move(square("H1")), 62)];
     assert_eq!(LINE.parse(), Ok(Line { position: corners(), side: Side::Black, listed: listed.clone() }));
     assert_eq!(line(" O"), Line { position: corners().passed(), side: Side::White, listed: Vec::new() });
-    for text in ["X H1:+62", "XH1:62\n", "X; h1:+62 \r\n", "X;H1:62;a9:1;H1:65;note% A1:1;"] {
-        assert_eq!(line(text).listed, listed);
-    }
-    let told = line("X; PS:-4;--:0; A1:-64;");
-    let words: Vec<String> = told.listed.iter().map(|(what, score)| format!("{what}:{score}")).collect();
-    assert_eq!(words, ["PS:-4", "--:0", "A1:-64"]);
+    assert_eq!(line("X; h1:+62 \r\n").listed, listed);
+    let told = line("X; PS:-4;--:0; A1:-64;").listed;
+    assert_eq!(told, [(Listed::Pass, -4), (Listed::Over, 0), (Listed::Move(square("A1")), -64)]);
     for count in [0, 16, 17, 1000] {
         let scores: Vec<i8> = (0..count).map(|at| (at % 129 - 64) as i8).collect();
         let fields: String = scores.iter().map(|score| format!("B1:{score};")).collect();
@@ -241,11 +201,7 @@ fn threads_call_at_once() {
     is_shared(&(Solver::new(), corners(), ANSWER, Error::NoMove));
     thread::scope(|scope| {
         for _ in 0..8 {
-            scope.spawn(|| {
-                for _ in 0..100 {
-                    assert_eq!(Solver::new().entries(1024).solve(corners()), Ok(ANSWER));
-                }
-            });
+            scope.spawn(|| assert!((0..100).all(|_| Solver::new().entries(1024).solve(corners()) == Ok(ANSWER))));
         }
     });
 }

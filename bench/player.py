@@ -1,0 +1,67 @@
+"""A plain player of Othello on masks, which shares nothing with the library: for lists of positions, and for tests.
+
+A position is the discs of the side to move and those of the other side; A1 is bit 0, and H8 bit 63.
+"""
+import functools
+
+NOT_A, NOT_H, FULL = 0xFEFEFEFEFEFEFEFE, 0x7F7F7F7F7F7F7F7F, (1 << 64) - 1
+# A shift to the left for each direction, or to the right where it is negative, and the squares that it may reach.
+STEPS = ((1, NOT_A), (-1, NOT_H), (8, FULL), (-8, FULL), (9, NOT_A), (-9, NOT_H), (7, NOT_H), (-7, NOT_A))
+START = (1 << 28 | 1 << 35, 1 << 27 | 1 << 36)
+
+
+def shifted(mask, step, reached):
+    return (mask << step if step > 0 else mask >> -step) & reached & FULL
+
+
+def moves(own, opp):
+    """The squares to which the mover may move."""
+    found = 0
+    for step, reached in STEPS:
+        run = shifted(own, step, reached) & opp
+        for _ in range(5):
+            run |= shifted(run, step, reached) & opp
+        found |= shifted(run, step, reached)
+    return found & ~(own | opp) & FULL
+
+
+def after(own, opp, square):
+    """The position after a move, in which the other side is to move."""
+    turned = 0
+    for step, reached in STEPS:
+        run, at = 0, shifted(square, step, reached)
+        while at & opp:
+            run |= at
+            at = shifted(at, step, reached)
+        if at & own:
+            turned |= run
+    return opp & ~turned, own | turned | square
+
+
+def squares_in(mask):
+    while mask:
+        yield mask & -mask
+        mask &= mask - 1
+
+
+def count(mask):
+    return bin(mask).count("1")
+
+
+def line(own, opp, is_black):
+    black, white = (own, opp) if is_black else (opp, own)
+    cells = ("X" if black >> at & 1 else "O" if white >> at & 1 else "-" for at in range(64))
+    return f"{''.join(cells)} {'X' if is_black else 'O'};"
+
+
+@functools.lru_cache(maxsize=None)
+def values(own, opp):
+    """The mover's value by minimax, under each of the scorings winner, discs and sign."""
+    can = moves(own, opp)
+    if can:
+        return tuple(-min(of) for of in zip(*(values(*after(own, opp, square)) for square in squares_in(can))))
+    if moves(opp, own):
+        return tuple(-value for value in values(opp, own))
+    more = count(own) - count(opp)
+    sign = (more > 0) - (more < 0)
+    return more + sign * (64 - count(own | opp)), more, sign
