@@ -24,10 +24,10 @@ def built(name="ffosolve", level=""):
     return ROOT / path
 
 
-def build_peer(folder, level=LEVELS[0], source=BENCH / "peer.rs"):
+def build_peer(folder, level=LEVELS[0]):
     """The path of the search in plain Rust."""
-    peer = Path(folder, f"{level}-{Path(source).stem}")
-    subprocess.run(["rustc", "-C", "opt-level=3", "-C", f"target-cpu={level}", "-o", peer, source], check=True)
+    peer = Path(folder, f"{level}-peer")
+    subprocess.run(["rustc", "-C", "opt-level=3", "-C", f"target-cpu={level}", "-o", peer, BENCH / "peer.rs"], check=True)
     return peer
 
 
