@@ -85,6 +85,11 @@ class InFolder(unittest.TestCase):
         self.addCleanup(os.chdir, os.getcwd())
         os.chdir(self.folder)
 
+    def ends(self, wanted, *words, **how):
+        """A command ends with this status, and prints this on standard output and standard error."""
+        ran = run(*words, **how)
+        self.assertEqual((ran.returncode, ran.stdout, ran.stderr), wanted, words)
+
 
 def wait_until(holds, seconds=SECONDS):
     """Waits until a call gives what is true."""

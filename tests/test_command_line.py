@@ -2,9 +2,8 @@
 import os
 import re
 import subprocess
-import unittest
 
-from tests.support import ROOT, built, limit, run, stored
+from tests.support import ROOT, InFolder, built, limit, run, stored
 
 MOST_ENTRIES = limit("MOST_ENTRIES")
 LARGE = MOST_ENTRIES + 1
@@ -65,17 +64,17 @@ def setUpModule():
     PROGRAMS = {name: built(name) for name in ("ffosolve", "ffoscores")}
 
 
-class CommandLines(unittest.TestCase):
+class CommandLines(InFolder):
     """Standard input is a pipe to which nobody writes, so that a program which reads it does not end."""
 
     def setUp(self):
+        super().setUp()
         self.pipe, writer = os.pipe()
         self.addCleanup(os.close, self.pipe)
         self.addCleanup(os.close, writer)
 
     def ends(self, wanted, name, *words):
-        ran = run(PROGRAMS[name], *words, stdin=self.pipe)
-        self.assertEqual((ran.returncode, ran.stdout, ran.stderr), wanted)
+        super().ends(wanted, PROGRAMS[name], *words, stdin=self.pipe)
 
     def test_refused_words(self):
         for name, own in (("ffosolve", REFUSED_BY_SOLVER), ("ffoscores", REFUSED_BY_SCORES)):
@@ -108,12 +107,15 @@ class CommandLines(unittest.TestCase):
                 with self.subTest(name=name, line=line):
                     self.ends((0, name.encode() + b" " + stored("VERSION"), b""), name, *line.split())
 
-    def test_output_that_is_full(self):
-        for name, words in (("ffosolve", "--help --version /dev/null"), ("ffoscores", "--help --version")):
+    def test_output_that_is_full_or_closed(self):
+        """Of what is told of a program, and of a report, even of nothing."""
+        for name, words in (("ffosolve", "--help --version /dev/null"), ("ffoscores", f"--help --version {ROOT}/examples/kinds.obf")):
             for word in words.split():
-                with self.subTest(name=name, word=word), open("/dev/full", "wb") as full:
-                    ran = run(PROGRAMS[name], word, stdout=full, stderr=subprocess.PIPE, capture_output=False)
-                    self.assertEqual((ran.returncode, ran.stderr), (3, f"{name}: cannot write standard output\n".encode()))
+                for target, prepare in (("/dev/full", None), ("/dev/null", lambda: os.close(1))):
+                    with self.subTest(name=name, word=word, target=target), open(target, "wb") as output:
+                        how = {"stdout": output, "stderr": subprocess.PIPE, "capture_output": False, "preexec_fn": prepare}
+                        ran = run(PROGRAMS[name], word, **how)
+                        self.assertEqual((ran.returncode, ran.stderr), (3, f"{name}: cannot write standard output\n".encode()))
 
     def test_words_behind_two_dashes_are_files(self):
         for name in PROGRAMS:
