@@ -24,6 +24,7 @@ NOBODY = 65534
 # The status, whether anything is printed, and what is told: before anything is solved, and behind the reports.
 REFUSED = (3, False, b"ffosolve: cannot write it.book\n")
 UNWRITTEN = (3, True, b"ffosolve: cannot write it.book\n")
+UNREAD = (3, False, b"ffosolve: cannot read it.book\n")
 NO_BOOK = (3, False, b"ffosolve: it.book is no book and would be overwritten\n")
 DONE = (0, True, b"")
 
@@ -73,12 +74,14 @@ class Books(InFolder):
         """The folder has these files alone, named without their ending, with these contents."""
         self.assertEqual({name: content(name) for name in os.listdir()}, {f"{name}.book": it for name, it in files.items()})
 
+    def left(self, files):
+        """The folder has these files alone, which then go."""
+        self.assertEqual({name: content(name) for name in os.listdir()}, files)
+        for name in files:
+            os.remove(name)
+
 
 class Files(Books):
-    def test_new_file(self):
-        self.solves(DONE)
-        self.has(it=BOOK)
-
     def test_book_of_each_scoring(self):
         """Also where a book of another scoring is read, or stands in its place."""
         list_of_one = b"--OOOOO" + b"X" * 57 + b" X\n"
@@ -106,33 +109,22 @@ class Files(Books):
         self.has(it=BOOK, twin=OLD)
         self.assertEqual(mode("it.book"), 0o640)
 
-    def test_file_that_may_not_be_replaced(self):
-        """One of root in a folder where each may replace its own alone: it may be written, and no file take its place."""
-        if os.getuid() != 0:
-            self.skipTest("root alone makes files of two owners")
+    def test_what_nobody_may_write(self):
+        """The folder, the file or where a link leads. One that may be written and not read may be no book; where each may replace
+        its own files alone, no new file takes the place of one of root."""
         self.addCleanup(os.chmod, ".", 0o755)
-        os.chmod(".", 0o1777)
-        put("it.book", OLD, 0o666)
-        self.solves(UNWRITTEN, prepare=give_up_rights)
-        self.has(it=OLD)
-
-    def test_folder_or_file_that_may_not_be_written(self):
-        self.addCleanup(os.chmod, ".", 0o755)
-        for folder_mode, file_mode in ((0o555, 0o666), (0o777, 0o444)):
-            with self.subTest(folder=oct(folder_mode)):
-                os.chmod(".", 0o755)
-                put("it.book", OLD, file_mode)
+        for place, folder_mode, file_mode, wanted in (
+            ("it.book", 0o555, 0o666, REFUSED), ("it.book", 0o777, 0o444, REFUSED), ("there", 0o777, 0o444, REFUSED),
+            ("it.book", 0o777, 0o222, UNREAD), *[("it.book", 0o1777, 0o666, UNWRITTEN)] * (os.getuid() == 0),
+        ):
+            with self.subTest(place=place, folder=oct(folder_mode), file=oct(file_mode)):
+                put(place, OLD, file_mode)
+                place == "it.book" or os.symlink(place, "it.book")
                 os.chmod(".", folder_mode)
-                self.solves(REFUSED, prepare=give_up_rights)
-                self.has(it=OLD)
-
-    def test_file_that_may_be_written_and_not_read(self):
-        """It may be no book."""
-        put("it.book", OLD, 0o222)
-        os.chmod(".", 0o777)
-        self.solves((3, False, b"ffosolve: cannot read it.book\n"), prepare=give_up_rights)
-        os.chmod("it.book", 0o644)
-        self.has(it=OLD)
+                self.solves(wanted, prepare=give_up_rights)
+                os.chmod(".", 0o755)
+                os.chmod(place, 0o644)
+                self.left({place: OLD, "it.book": OLD})
 
     def test_full_disk(self):
         put("it.book", OLD)
@@ -160,13 +152,11 @@ class Files(Books):
         self.assertEqual(sorted(os.listdir()), ["watch.so", "watched"])
 
     def test_files_beside_are_left_alone(self):
-        put("it.book", OLD)
-        others = [f"it.book.{number}.part" for number in range(3)]
-        for name in others:
-            put(name, b"of another")
+        others = dict.fromkeys((f"it.book.{number}.part" for number in range(3)), b"of another")
+        for name, text in {"it.book": OLD, **others}.items():
+            put(name, text)
         self.solves(DONE)
-        self.assertEqual(content("it.book"), BOOK)
-        self.assertEqual({name: content(name) for name in os.listdir() if name != "it.book"}, dict.fromkeys(others, b"of another"))
+        self.left({"it.book": BOOK, **others})
 
     def test_all_names_beside_are_taken(self):
         put("it.book", OLD)
@@ -178,71 +168,52 @@ class Files(Books):
         self.solves(DONE)
         self.assertEqual((content("it.book"), os.path.exists("it.book.99.part")), (BOOK, False))
 
-    def test_what_comes_meanwhile_stays(self):
-        """The report is more than a pipe holds, so the program waits for its reader: the place is tried by then, and the name
-        beside is chosen."""
+    def changed_meanwhile(self, place, change):
+        """A run that may not put its book there, since something changes once it prints: its report is more than a pipe holds."""
         put("list", TEXT * 2000)
+        pipes = {"stdout": subprocess.PIPE, "stderr": subprocess.PIPE}
+        program = subprocess.Popen([PROGRAM, "--book-out", place, "list"], preexec_fn=give_up_rights, **pipes)
+        self.addCleanup(program.kill)
+        begun = program.stdout.read(1)
+        change()
+        report, told = program.communicate(timeout=SECONDS)
+        self.assertEqual((begun, report[-3:], program.returncode), (b"[", b" 0\n", 3))
+        self.assertEqual(told, f"ffosolve: cannot write {place}\n".encode())
+
+    def test_what_comes_meanwhile_stays(self):
+        """In the place, or in that of the name beside."""
         os.chmod(".", 0o777)
         for name, new, new_mode in (("it.book", NOTES, 0o666), ("it.book", BOOK, 0o444),
                                     ("it.book", OLD, 0o222), ("it.book.0.part", b"of another", 0o666)):
             with self.subTest(name=name, new=new[:9]):
                 put("it.book", OLD, 0o666)
-                pipes = {"stdout": subprocess.PIPE, "stderr": subprocess.PIPE}
-                program = subprocess.Popen([PROGRAM, "--book-out", "it.book", "list"], preexec_fn=give_up_rights, **pipes)
-                self.addCleanup(program.kill)
-                begun = program.stdout.read(1)
-                put(name, new, new_mode)
-                report, told = program.communicate(timeout=SECONDS)
-                self.assertEqual((begun, program.returncode, told, report[-3:]), (b"[", *REFUSED[::2], b" 0\n"))
+                self.changed_meanwhile("it.book", lambda: put(name, new, new_mode))
                 os.chmod(name, 0o644)
-                self.assertEqual(content(name), new)
-                os.remove(name)
-                self.assertLessEqual(set(os.listdir()), {"list", "it.book"})
+                self.left({"list": TEXT * 2000, "it.book": OLD, name: new})
 
     def test_folder_that_is_closed_meanwhile(self):
-        """Nobody may look for the place once the reports are printed."""
-        put("list", TEXT * 2000)
         os.mkdir("there")
         self.addCleanup(os.chmod, "there", 0o755)
         for old in ({}, {"it.book": OLD}):
-            with self.subTest(old=list(old)):
-                os.chmod("there", 0o777)
-                for name, text in old.items():
-                    put(f"there/{name}", text, 0o666)
-                words = [PROGRAM, "--book-out", "there/it.book", "list"]
-                pipes = {"stdout": subprocess.PIPE, "stderr": subprocess.PIPE}
-                program = subprocess.Popen(words, preexec_fn=give_up_rights, **pipes)
-                self.addCleanup(program.kill)
-                begun = program.stdout.read(1)
-                os.chmod("there", 0)
-                report, told = program.communicate(timeout=SECONDS)
-                self.assertEqual((begun, program.returncode, report[-3:]), (b"[", 3, b" 0\n"))
-                self.assertEqual(told, b"ffosolve: cannot write there/it.book\n")
-                os.chmod("there", 0o755)
-                self.assertEqual({name: content(f"there/{name}") for name in os.listdir("there")}, old)
+            os.chmod("there", 0o777)
+            for name, text in old.items():
+                put(f"there/{name}", text, 0o666)
+            self.changed_meanwhile("there/it.book", lambda: os.chmod("there", 0))
+            os.chmod("there", 0o755)
+            self.assertEqual({name: content(f"there/{name}") for name in os.listdir("there")}, old)
 
     def test_places_of_no_file(self):
-        """A name that is too long, a folder that is missing, and a folder that is a file."""
+        """A name that is too long, a folder that is missing, a folder that is a file, and a folder."""
         put("some.book", OLD)
         for name in ("b" * 251, "no/it.book", "some.book/it.book"):
-            with self.subTest(name=name):
-                self.solves((3, False, f"ffosolve: cannot write {name}\n".encode()), name)
-                self.has(some=OLD)
-
-    def test_folder(self):
+            self.solves((3, False, f"ffosolve: cannot write {name}\n".encode()), name)
+            self.has(some=OLD)
         os.mkdir("it.book")
         self.solves(REFUSED)
         self.assertEqual(os.listdir("it.book"), [])
 
 
 class Links(Books):
-    def test_link_to_a_file_that_may_not_be_written(self):
-        put("there", OLD, 0o444)
-        os.symlink("there", "it.book")
-        os.chmod(".", 0o777)
-        self.solves(REFUSED, prepare=give_up_rights)
-        self.assertEqual(content("there"), OLD)
-
     def test_link_to_a_file_and_to_none(self):
         os.symlink("there", "it.book")
         self.solves(DONE)
@@ -316,8 +287,7 @@ class Lists(Books):
             ("--book-in large.book none.obf", "book line 2: bad square at column 1"),
         ):
             with self.subTest(words=words):
-                ran = run(PROGRAM, *words.split(), stdin=folder)
-                self.assertEqual((ran.returncode, ran.stdout, ran.stderr), (3, b"", f"ffosolve: {told}\n".encode()))
+                self.ends((3, b"", f"ffosolve: {told}\n".encode()), PROGRAM, *words.split(), stdin=folder)
 
     def test_order_of_what_is_tried(self):
         """Files are counted and measured first, then the place of the book is tried, and then hours of work begin. A pipe as the
@@ -350,9 +320,7 @@ class Overwrites(Books):
                         put(place, old, of)
                         place == "it.book" or os.symlink(place, "it.book")
                         self.solves(wanted)
-                        self.assertEqual((content(place), set(os.listdir())), (BOOK if wanted == DONE else old, {place, "it.book"}))
-                        for name in os.listdir():
-                            os.remove(name)
+                        self.left(dict.fromkeys((place, "it.book"), BOOK if wanted == DONE else old))
 
     def test_log_that_is_written_on(self):
         """/dev/stdout, where a log of earlier runs is; and where nothing is but the report that the run puts there."""
