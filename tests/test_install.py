@@ -1,20 +1,16 @@
 """make install and make uninstall, from a copy of the checkout and of what it has built, and the texts that they lay."""
 import ctypes
+import functools
 import os
-import pty
 import re
-import select
 import shutil
-import signal
 import stat
-import sys
 import tempfile
-import time
 import unittest
 from pathlib import Path
 
 from tests.checkouts import FIRST, copied_checkout, make_all, names_of_files, path_without
-from tests.support import ROOT, SECONDS, InFolder, lack, need, run
+from tests.support import ROOT, InFolder, lack, need, run
 
 PREFIX = "/opt/a prefix"
 NOBODY = 65534
@@ -85,11 +81,6 @@ class Install(Case):
         for name in ("include/ffosolve.h", "lib/pkgconfig/ffosolve.pc", "lib/cmake/ffosolve/ffosolve-config.cmake"):
             self.assertEqual(re.findall("@[A-Z]+@", (self.root / name).read_text()), [])
 
-    def test_default_is_usr_local(self):
-        ran = run("make", "-s", "-C", CHECKOUT, "install", f"DESTDIR={self.stage}", text=True, env=self.places)
-        self.assertEqual((ran.stdout, ran.stderr), (f"installed under {self.stage}/usr/local\n", ""))
-        self.assertEqual((os.listdir(self.stage), os.listdir(self.stage / "usr")), (["usr"], ["local"]))
-
     def test_places_by_their_names(self):
         """As a distribution has them; what pkg-config and CMake read leads there, and scripts find the package for Python."""
         need("pkg-config", "pkg-config")
@@ -128,9 +119,13 @@ class Install(Case):
         self.make("uninstall")
         self.assertEqual(os.listdir(self.stage / "opt"), [])
 
-    def test_folders_of_the_system_stay(self):
-        self.install(prefix="/usr/local")
-        self.make("uninstall", prefix="/usr/local")
+    def test_default_is_usr_local(self):
+        """Whose folders stay."""
+        words = ["make", "-s", "-C", CHECKOUT, f"DESTDIR={self.stage}"]
+        ran = run(*words, "install", text=True, env=self.places)
+        self.assertEqual((ran.stdout, ran.stderr), (f"installed under {self.stage}/usr/local\n", ""))
+        self.assertEqual((os.listdir(self.stage), os.listdir(self.stage / "usr")), (["usr"], ["local"]))
+        run(*words, "uninstall", env=self.places)
         self.assertTrue((self.stage / "usr/local/bin").is_dir())
         self.assertEqual([path for path in self.stage.rglob("*") if not path.is_dir()], [])
 
@@ -257,29 +252,39 @@ class Installed(Case):
         ran = run("ffosolve-many", self.folder / "work", "first.obf", cwd=ROOT / "examples", env=places, text=True)
         self.assertEqual((ran.returncode, ran.stdout), (0, FIRST), ran)
 
-    def test_example_in_python(self):
-        """With the package that is laid, and the library."""
-        self.install()
-        shipped = self.root / "share/doc/ffosolve"
-        places = {"PYTHONPATH": str(shipped / "python/src"), "FFOSOLVE_LIBRARY": str(self.root / "lib/libffosolve.so"),
-                  "PYTHONDONTWRITEBYTECODE": "1"}
-        masks = (ROOT / "examples/masks.txt").read_text()
-        ran = run(sys.executable, shipped / "examples/python/answers.py", input=masks, env=places, text=True)
-        self.assertEqual((ran.returncode, ran.stdout), (0, (ROOT / "examples/answers.txt").read_text()), ran)
-
     def test_version(self):
-        """That of the file VERSION, which is written down once more, in the programs."""
+        """That of the file VERSION, in the programs, their pages, the library and all that names it."""
         self.install()
         self.assertRegex(VERSION, r"\A\d+\.\d+\.\d+\Z")
+        number = functools.reduce(lambda number, part: 100 * number + int(part), VERSION.split("."), 0)
+        self.assertEqual(ctypes.CDLL(self.root / "lib/libffosolve.so").ffosolve_version(), number)
         for name in COMMANDS:
             ran = run(self.root / "bin" / name, "--version", env=self.places, text=True)
             self.assertEqual((ran.returncode, ran.stdout), (0, f"{name} {VERSION}\n"), ran)
-            self.assertIn(f'"ffosolve {VERSION}"', (self.root / f"share/man/man1/{name}.1").read_text())
-        major, minor, patch = map(int, VERSION.split("."))
-        number = ctypes.CDLL(self.root / "lib/libffosolve.so").ffosolve_version()
-        self.assertEqual(number, 10000 * major + 100 * minor + patch)
-        self.assertIn(f"#define FFOSOLVE_VERSION {number}\n", (self.root / "include/ffosolve.h").read_text())
-        self.assertIn(f"\n## [{VERSION}] - ", (ROOT / "CHANGELOG.md").read_text())
+        for place, text in (
+            *((self.root / f"share/man/man1/{name}.1", f'"ffosolve {VERSION}"') for name in COMMANDS),
+            (self.root / "include/ffosolve.h", f'#define FFOSOLVE_VERSION_TEXT "{VERSION}"\n#define FFOSOLVE_VERSION {number}\n'),
+            (self.root / "lib/pkgconfig/ffosolve.pc", f"Version: {VERSION}\n"),
+            (self.root / "lib/cmake/ffosolve/ffosolve-config-version.cmake", f'set(PACKAGE_VERSION "{VERSION}")\n'),
+            (ROOT / "rust/Cargo.toml", f'\nversion = "{VERSION}"\n'),
+            (ROOT / "crates/ffosolve_c/src/calls.rt", f"\nconst VERSION: u32 = {number:_};\n"),
+            (ROOT / "CHANGELOG.md", f"\n## [{VERSION}] - "),
+        ):
+            self.assertIn(text, place.read_text(), place)
+
+
+ZSHRC = """
+fpath=($SHARE/zsh/site-functions $fpath); autoload -Uz compinit; compinit -u -d dump
+zle-line-init() {
+    for line in ${(f)"$(<asked)"}; do
+        BUFFER=$line CURSOR=$#line
+        zle expand-or-complete
+        print -r -- $BUFFER >>told
+    done
+    exit
+}
+zle -N zle-line-init
+"""
 
 
 def plain(text):
@@ -349,58 +354,14 @@ class Texts(Case):
         self.assertEqual(self.told("fish", script, "ffosolve", "--scoring=d"), ["--scoring=discs"])
 
     def test_zsh(self):
-        """On a terminal, by its own line editor."""
+        """On a terminal, by its own line editor, which completes each line that is asked and tells what it is then."""
         need("zsh", "zsh")
-        shell = Shell(self.root, self.folder)
-        self.addCleanup(shell.end)
-        for begun, whole in (("ffosolve --sco", "ffosolve --scoring"), ("ffosolve --scoring=d", "ffosolve --scoring=discs"),
-                             ("ffoscores --scoring w", "ffoscores --scoring winner"), ("bin/ffosolve --sco", "bin/ffosolve --scoring"),
-                             ("ffosolve --book-in fir", "ffosolve --book-in first."), ("ffosolve kinds.o", "ffosolve kinds.obf"),
-                             *((f"{name} {option}",) * 2 for name in COMMANDS for option in self.options_of(name))):
-            self.assertTrue(shell.completes(begun, whole), (whole, shell.told))
-
-
-class Shell:
-    """zsh on a terminal, with the completions of an installation."""
-
-    def __init__(self, root, folder):
-        self.told = ""
-        self.child, self.terminal = pty.fork()
-        if self.child == 0:
-            try:
-                os.chdir("examples")
-                places = {"PATH": "/usr/bin:/bin", "HOME": str(folder), "TERM": "dumb"}
-                os.execvpe("zsh", ["zsh", "-f", "-i"], places)
-            finally:
-                os._exit(99)
-        load = f"fpath=('{root}/share/zsh/site-functions' $fpath); autoload -Uz compinit; compinit -u -d '{folder}/dump'"
-        self.type(f"PS1='' RPS1=''; {load}; echo rea''dy\n")
-        if not self.shows("ready", SECONDS):
-            raise AssertionError(self.told)
-
-    def type(self, keys):
-        self.told = ""
-        os.write(self.terminal, keys.encode())
-
-    def shows(self, text, seconds):
-        end = time.monotonic() + seconds
-        while time.monotonic() < end and text not in self.told:
-            if select.select([self.terminal], [], [], 0.1)[0]:
-                self.told += re.sub(r"\x1b\[[\d;?]*[A-Za-z]|\r", "", os.read(self.terminal, 4096).decode(errors="replace"))
-        return text in self.told
-
-    def completes(self, begun, whole):
-        """Whether a tab makes the one line of the other; the line is then printed as it stands. Keys that come before the shell
-        has completed can spoil that, so it is tried with more time."""
-        return any(self.completes_in(seconds, begun, whole) for seconds in (0.5, 3, 10))
-
-    def completes_in(self, seconds, begun, whole):
-        self.type(begun + "\t")
-        time.sleep(seconds)
-        self.type("\x01print -r -- '@@'\x05\n")
-        return self.shows(f"\n@@{whole}\n", 10)
-
-    def end(self):
-        os.kill(self.child, signal.SIGKILL)
-        os.waitpid(self.child, 0)
-        os.close(self.terminal)
+        lines = {"ffosolve --sco": "ffosolve --scoring", "ffosolve --scoring=d": "ffosolve --scoring=discs",
+                 "ffoscores --scoring w": "ffoscores --scoring winner", "bin/ffosolve --sco": "bin/ffosolve --scoring",
+                 "ffosolve --book-in fir": "ffosolve --book-in first.", "ffosolve kinds.o": "ffosolve kinds.obf",
+                 **{line: line for name in COMMANDS for line in (f"{name} {option}" for option in self.options_of(name))}}
+        Path("examples/asked").write_text("\n".join(lines))
+        Path(".zshrc").write_text(ZSHRC)
+        run("script", "-qec", "zsh -i", "/dev/null", cwd="examples", check=True,
+            env={"PATH": "/usr/bin:/bin", "ZDOTDIR": str(self.folder), "TERM": "dumb", "SHARE": str(self.root / "share")})
+        self.assertEqual([line.strip() for line in Path("examples/told").read_text().splitlines()], list(lines.values()))
