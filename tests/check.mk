@@ -23,7 +23,7 @@ check: begin $(modules)
 $(modules): begin
 	@begun=$$(date +%s); \
 	setpriv --pdeathsig INT timeout --foreground --signal=INT --kill-after=10 $(TEST_SECONDS) \
-	    env -u MAKEFLAGS -u MFLAGS -u MAKELEVEL --default-signal=INT $(PYTHON) -m unittest -v tests.$@ \
+	    env -u MAKEFLAGS -u MFLAGS -u MAKELEVEL $(PYTHON) -m unittest -v tests.$@ \
 	    >$(at).log 2>&1 </dev/null; \
 	status=$$?; [ $$status -ne 124 ] || echo "ended, since it took longer than $(TEST_SECONDS) seconds" >>$(at).log; \
 	awk -v status=$$status -f tests/count.awk $(at).log >$(at).count; \

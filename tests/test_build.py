@@ -1,14 +1,9 @@
 """What `bin/ffosolve` and make build, when, and what they tell of it: over a small checkout with a stand-in for the kit."""
-import fcntl
 import os
-import pty
 import re
-import select
 import shutil
 import signal
-import struct
 import subprocess
-import termios
 import time
 from pathlib import Path
 
@@ -142,7 +137,10 @@ class Builds(Case):
         self.assertEqual(ran.stdout, f"made of 1\n<w>{self.root}/bin\n", ran)
 
     def test_what_is_handed_over(self):
-        """rt gets nothing to read and no lock; the program the caller's three streams alone, and his process."""
+        """rt gets nothing to read, and neither it nor what tells how far it is gets the lock; the program gets the caller's three
+        streams alone, and his process."""
+        below = self.root / "scripts/below"
+        self.write(below, below.read_text().replace("\n", '\nls -l /proc/$$/fd >>"$STARTS.rt"\n', 1))
         ran = self.start()
         ran.communicate(timeout=SECONDS)
         to_rt, to_program = Path(f"{self.starts}.rt").read_text(), Path(f"{self.starts}.program").read_text()
@@ -347,43 +345,27 @@ class Signals(Case):
             self.assertEqual(self.left_over(), {})
         self.ran(self.use(), 1, builds=5)
 
-    def on_a_terminal(self, keys, go=False, columns=80):
-        """What it prints on a terminal, and its status. Once it shows how far the crate is, the keys are typed."""
-        child, terminal = pty.fork()
-        if child == 0:
-            try:
-                os.chdir("/")
-                as_at_a_login()
-                fcntl.ioctl(0, termios.TIOCSWINSZ, struct.pack("HHHH", 0, columns, 0, 0))
-                os.execve(self.script, [str(self.script), "w"], self.how(WAITS="yes")["env"])
-            finally:
-                os._exit(99)
+    def on_a_terminal(self, keys, shown, go=False, columns=80):
+        """What it prints on a terminal, and its status. Once it has shown how far it is, the keys are typed."""
+        words = ["script", "-qec", f"stty cols {columns}; exec '{self.script}' w", "/dev/null"]
+        ran = subprocess.Popen(words, stdin=subprocess.PIPE, stdout=subprocess.PIPE, **{**self.how(WAITS="yes"), "text": False})
+        self.addCleanup(ran.kill)
         told, end = b"", time.monotonic() + SECONDS
-        while time.monotonic() < end:
-            try:
-                if select.select([terminal], [], [], 0.2)[0]:
-                    told += os.read(terminal, 4096)
-            except OSError:
-                break
-            if keys and (b" functions" in told or columns < 40 and b"crate 1" in told):
-                os.write(terminal, keys)
-                keys = b""
-                go and Path(f"{self.starts}.go").touch()
-        os.close(terminal)
-        return told.decode(), os.waitpid(child, 0)[1]
+        while shown not in told and time.monotonic() < end:
+            told += os.read(ran.stdout.fileno(), 4096)
+        go and Path(f"{self.starts}.go").touch()
+        return (told + ran.communicate(keys, timeout=SECONDS)[0]).decode(), ran.returncode
 
     def test_on_a_terminal(self):
         """One line is written over, and fits where the terminal is narrow; an interrupt ends all."""
-        told, status = self.on_a_terminal(b"\x03")
-        self.assertTrue(os.WIFSIGNALED(status) and os.WTERMSIG(status) == signal.SIGINT, (told, status))
-        self.assertEqual(self.left_over(), {})
-        told, status = self.on_a_terminal(b"\x04", go=True)
+        told, status = self.on_a_terminal(b"\x03", b" functions")
+        self.assertEqual((status, self.left_over()), (128 + signal.SIGINT, {}), told)
+        told, status = self.on_a_terminal(b"\x04", b" functions", go=True)
         self.assertIn("\r\x1b[Kffosolve: 0 min, crate 1 of 2, othello_rules: 34 of 83 functions\r\x1b[K", told)
-        self.assertIn("made of 1", told)
-        self.assertEqual(os.WEXITSTATUS(status), 3)
+        self.assertEqual(("made of 1" in told, status), (True, 3), told)
         self.write(self.source, "2\n")
         Path(f"{self.starts}.go").unlink()
-        told, _ = self.on_a_terminal(b"\x04", go=True, columns=30)
+        told, _ = self.on_a_terminal(b"\x04", b"crate 1", go=True, columns=30)
         shown = [line for line in re.split(r"\r\n?|\x1b\[K", told) if "crate 1" in line]
         self.assertTrue(shown and all(len(line) < 30 for line in shown), told)
 

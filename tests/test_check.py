@@ -80,12 +80,15 @@ class Modules(Check):
             self.assertNotEqual(make.returncode, 0)
             wait_until(lambda: not processes_with("cwd", self.folder), 30)
 
-    def test_no_word_of_make_is_handed_on(self):
-        """To a make that a test calls, which would wait for the jobs of this one, or tell that it can't."""
+    def test_what_is_handed_on(self):
+        """No word of make to a make that a test calls, which would wait for the jobs of this one, or tell that it can't; and no
+        interrupt that is ignored, as where make check was begun in the background."""
         Path("Makefile").write_text("check:\n\t$(MAKE) -f tests/check.mk\n\nsome:\n\techo made\n")
-        made = '        self.assertEqual(run("sh", "-c", "make -s some 2>&1", cwd=ROOT).stdout, b"made\\n")\n'
-        self.module("one", "    def test_a(self):\n" + made)
-        self.ends(0, "1 passed, 0 failed", words=("make", "--no-print-directory", "check"))
+        self.module("one", """    def test_a(self):
+        self.assertEqual(run("sh", "-c", "make -s some 2>&1", cwd=ROOT).stdout, b"made\\n")
+        self.assertIs(signal.getsignal(signal.SIGINT), signal.default_int_handler)
+""")
+        self.ends(0, "1 passed, 0 failed", words=("sh", "-c", "trap '' INT; exec make --no-print-directory check"))
 
 
 class Gate(Check):
