@@ -147,8 +147,7 @@ class Unpacked(InFolder):
         """Its parts are solved by a program that runs on every machine."""
         need("parallel", "parallel")
         words = (UNPACKED / "bin/ffosolve-many", "--quiet", "work", ROOT / "examples/first.obf")
-        ran = run(*words, env=WITHOUT_RT, text=True)
-        self.assertEqual((ran.returncode, ran.stdout, ran.stderr), (0, FIRST, ""))
+        self.ends((0, FIRST, ""), *words, env=WITHOUT_RT, text=True)
         program, = Path("work").glob("run-*/program")
         self.assertEqual(program.read_bytes(), (UNPACKED / "libexec/ffosolve/x86-64-v2/ffosolve").read_bytes())
 
@@ -186,8 +185,7 @@ class Unpacked(InFolder):
         if run(*words, "/", "/bin/true").returncode:
             lack("a right to change the root")
         for level in LEVELS[:1 + (b"x86-64-v3 (supported" in run("/lib64/ld-linux-x86-64.so.2", "--help").stdout)]:
-            ran = run(*words, empty, f"/opt/ffosolve/{level}/ffosolve", "/first.obf", env={}, text=True)
-            self.assertEqual((ran.returncode, ran.stdout, ran.stderr), (0, FIRST, ""))
+            self.ends((0, FIRST, ""), *words, empty, f"/opt/ffosolve/{level}/ffosolve", "/first.obf", env={}, text=True)
 
 
 class Refused(unittest.TestCase):

@@ -65,12 +65,18 @@ def printed_by(commands):
 
 
 class Commands(InFolder):
-    def setUp(self):
-        super().setUp()
+    def test_each_document(self):
+        need("parallel", "parallel")
         built()
-        for name in os.listdir(ROOT):
-            if not name.startswith(".") and not is_ignored(name):
-                os.symlink(ROOT / name, name)
+        for name in DOCUMENTS:
+            with self.subTest(name=name):
+                folder = self.folder / name.replace("/", "-")
+                folder.mkdir()
+                os.chdir(folder)
+                for linked in os.listdir(ROOT):
+                    if not linked.startswith(".") and not is_ignored(linked):
+                        os.symlink(ROOT / linked, linked)
+                self.shows(TEXTS[name])
 
     def shows(self, text):
         """Each command prints what is shown, and leaves nothing that git would ask about."""
@@ -85,20 +91,6 @@ class Commands(InFolder):
         left = [name for name in os.listdir() if not os.path.islink(name)] + made_by_blocks(text)
         if (ROOT / ".git").exists():
             self.assertEqual([name for name in left if not is_ignored(name)], [])
-
-
-def commands_of(name):
-    def test(self):
-        if any("ffosolve-many" in block for block in blocks_of(TEXTS[name], "console")):
-            need("parallel", "parallel")
-        self.shows(TEXTS[name])
-
-    return test
-
-
-for document in DOCUMENTS:
-    if blocks_of(TEXTS[document], "console"):
-        setattr(Commands, f"test_{re.sub('[^a-z]+', '_', document.lower())}", commands_of(document))
 
 
 class Names(unittest.TestCase):
@@ -124,43 +116,18 @@ def defines(sources, word):
     return any(declared.search(source.read_text()) for source in sources)
 
 
-def sections_of(text):
-    """The crates that a heading names, and the text below it."""
-    parts = re.split(r"^## (.*)$", text, flags=re.M)
-    yield [], parts[0]
-    for heading, section in zip(parts[1::2], parts[2::2]):
-        yield re.findall(r"`(\w+)`", heading), section
-
-
 class Definitions(unittest.TestCase):
     """Names between backticks of what sources declare."""
 
     def test_qualified_names_are_declared(self):
-        for name in ["definitions.md", "guarantees.md", "architecture.md"]:
-            for crates, section in sections_of(TEXTS[f"docs/{name}"]):
-                self.assertEqual(self.lost_definitions(crates or ["*"], section), [], name)
-                self.assertEqual(self.lost_items(section), [], name)
-
-    def lost_definitions(self, crates, section):
-        """Names such as `Rules.flips`, of a module of specs/."""
-        named = re.findall(r"`([A-Z]\w*)\.(\w+)`", section)
-        return [
-            (module, word)
-            for module, word in named
-            if word not in ("antt", "md")
-            and not defines([one for crate in crates for one in ROOT.glob(f"crates/{crate}/specs/{module}.antt")], word)
-        ]
-
-    def lost_items(self, section):
-        """Names such as `laws::books_are_one` and `Task::new`, of a module or a type."""
-        lost = []
-        for owner, word in re.findall(r"`(\w+)::(\w+)`", section):
-            files = list(ROOT.glob(f"crates/*/src/**/{owner}.rt"))
-            of_type = re.compile(rf"\b(?:impl|enum) {owner} ")
-            files += [one for one in ROOT.glob("crates/*/src/**/*.rt") if of_type.search(one.read_text())]
-            if not defines(files, word):
-                lost.append((owner, word))
-        return lost
+        """Such as `Rules.flips`, of a module of specs/, and `laws::books_are_one` and `Task::new`, of a module or a type."""
+        sources = {path: path.read_text() for path in ROOT.glob("crates/*/src/**/*.rt")}
+        for name in ("definitions.md", "guarantees.md", "architecture.md"):
+            for owner, mark, word in re.findall(r"`([A-Z]\w*(?=\.)|\w+(?=::))(\.(?!antt|md)|::)(\w+)`", TEXTS[f"docs/{name}"]):
+                of_type = re.compile(rf"\b(?:impl|enum) {owner} ")
+                files = [path for path, text in sources.items() if path.stem == owner or of_type.search(text)]
+                files = files if mark == "::" else ROOT.glob(f"crates/*/specs/{owner}.antt")
+                self.assertTrue(defines(files, word), f"{name}: {owner}{mark}{word}")
 
     def test_other_names_stand_in_sources(self):
         """Those of definitions.md that are written as a definition is: `AreRanked`, `lists_text`."""
@@ -170,11 +137,10 @@ class Definitions(unittest.TestCase):
         self.assertEqual([word for word in named if word not in words], [])
 
 
-class Reports(unittest.TestCase):
+class Reports(InFolder):
     def test_stored_reports_are_what_the_program_prints(self):
         reports = sorted(ROOT.glob("examples/*.report"))
         self.assertTrue(reports)
         for report in reports:
             with self.subTest(report=report.name):
-                ran = run(built(), report.with_suffix(".obf"))
-                self.assertEqual((ran.returncode, ran.stdout, ran.stderr), (0, report.read_bytes(), b""))
+                self.ends((0, report.read_bytes(), b""), built(), report.with_suffix(".obf"))

@@ -68,6 +68,5 @@ class Runs(InFolder):
             large.truncate(256 << 20)
         for name, wanted in (("ffosolve", 1), ("ffoscores", 3)):
             told = b"%s: file 1 is larger than %d bytes\n" % (name.encode(), LARGE - 1)
-            ran = run(PROGRAMS[name], "large.obf")
-            self.assertEqual((ran.returncode, ran.stdout, ran.stderr), (wanted, b"", told))
+            self.ends((wanted, b"", told), PROGRAMS[name], "large.obf")
             self.assertLess(self.cost(name, "large.obf")[1], 64 << 20)
