@@ -323,11 +323,12 @@ class Overwrites(Books):
                         self.left(dict.fromkeys((place, "it.book"), BOOK if wanted == DONE else old))
 
     def test_log_that_is_written_on(self):
-        """/dev/stdout, where a log of earlier runs is; and where nothing is but the report that the run puts there."""
-        for old, told in ((NOTES, b"/dev/stdout is not a book and would be overwritten"), (b"", b"cannot write /dev/stdout")):
+        """As /dev/stdout leads to it: where it is that of earlier runs, and where nothing is but the report that the run puts there."""
+        os.symlink("/proc/self/fd/1", "out")
+        for old, told in ((NOTES, b"out is not a book and would be overwritten"), (b"", b"cannot write out")):
             put("log", old)
             with self.subTest(old=old), open("log", "ab") as log:
-                ran = run(PROGRAM, "--book-out", "/dev/stdout", input=TEXT, capture_output=False, stdout=log, stderr=subprocess.PIPE)
+                ran = run(PROGRAM, "--book-out", "out", input=TEXT, capture_output=False, stdout=log, stderr=subprocess.PIPE)
                 self.assertEqual((ran.returncode, ran.stderr), (3, b"ffosolve: " + told + b"\n"))
                 self.assertTrue(content("log").startswith(old or b"[1]\n"))
 

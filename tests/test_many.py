@@ -637,6 +637,7 @@ class Words(Case):
         for name, text in (("two.obf", SMALL), ("two.obf.parts", ""), ("kept", SMALL), ("empty.hosts", "# none\n")):
             write(name, text)
         os.symlink("kept", "link")
+        os.symlink("/proc/self/fd/1", "out")
         read = "one.book is read and would be overwritten: write --book-out NEW, then ffosolve-many --merge-books one.book NEW"
         for status, told, *words in (
                 (2, "no list is named"),
@@ -660,7 +661,7 @@ class Words(Case):
                 (2, "--book-in '': the value is empty", "list.obf", "--book-in="),
                 (2, "--book-in is not an option of ffoscores", "--scores", "list.obf", "--book-in=one.book"),
                 (2, "--book-out is not an option of ffoscores", "--scores", "list.obf", "--book-out=b"),
-                (2, "--book-out /dev/stdout is standard output", "list.obf", "--book-out", "/dev/stdout"),
+                (2, "--book-out out is standard output", "list.obf", "--book-out", "out"),
                 (2, "--book-out ./list.obf is the list", "list.obf", "--book-out", "./list.obf"),
                 (3, "cannot write none/book", "list.obf", "--book-out", "none/book"),
                 (3, "cannot write /proc/book", "list.obf", "--book-out", "/proc/book"),
