@@ -129,20 +129,4 @@ impl SolveError<'_> {
         let error = self;
         write!(errors, "ffosolve: {error}\n")
     }
-
-    /// The exit status of `ffosolve` after this error: 1, 2 or 3.
-    pub fn status(&self) -> u8
-        ensures { result ≡ status_of self.now }
-    {
-        match self {
-            SolveError::Program(ProgramError::Memory | ProgramError::BadInput(_))
-            | SolveError::Mixed => 1,
-            SolveError::Program(ProgramError::BadWords) => 2,
-            SolveError::Program(ProgramError::CannotRead(_) | ProgramError::CannotWrite(_))
-            | SolveError::BadBook(_)
-            | SolveError::NoPlace(_)
-            | SolveError::NoBook(_)
-            | SolveError::ReadBook(_) => 3,
-        }
-    }
 }

@@ -1,14 +1,17 @@
 //! How the scores that a line lists compare with the answer.
 
-ghost use Rattle.std.specs.Prelude.{◌≡◌};
+ghost use Rattle.std.specs.Prelude.{◌≡◌, Some};
 ghost use Rattle.std.specs.List.{list_all};
 ghost use Rattle.suite_reports.specs.Check.{are_best_in, check, check_by, complete_check, is_best_in};
 ghost use Rattle.suite_reports.specs.Check.{is_square, lists_best, lists_square};
+ghost use Rattle.suite_reports.specs.ReportText.{check_text};
 
 use obf_text::{ListedMove, greatest_score};
 use othello_rules::{Answer, Best, Square, has_square, squares_in};
+use std::fmt;
 
-/// How the scores that a line lists compare with the exact answer of its position.
+/// How the scores that a line lists compare with the exact answer of its position. A report prints
+/// the text of a check.
 #[derive(Clone, Copy, PartialEq, Eq, Debug)]
 pub enum Check {
     /// The greatest listed score is the answer's score, and each move listed with it is a best
@@ -18,6 +21,19 @@ pub enum Check {
     Differ,
     /// The line lists no score.
     Unlisted,
+}
+
+impl fmt::Display for Check {
+    ghost output = { λ check. Some (check_text check) };
+
+    #[tactic(auto, unfolding(crate::specs::ReportText::check_text))]
+    fn fmt<W: fmt::Write>(&self, f: &mut fmt::Formatter<W>) -> fmt::Result {
+        match self {
+            Check::Agree => f.write_str("agree"),
+            Check::Differ => f.write_str("differ"),
+            Check::Unlisted => f.write_str("unlisted"),
+        }
+    }
 }
 
 // Whether a listed move is best: a square that is one of the best moves, a pass where the answer is

@@ -3,7 +3,7 @@
 ghost use Rattle.std.specs.Prelude.{◌≡◌, ◌<◌, ◌≤◌, length, OnOk};
 ghost use Rattle.std.specs.Io.KnownBytes.{Appends};
 ghost use Rattle.othello_rules.specs.Masks.{squares_of};
-ghost use Rattle.suite_reports.specs.ReportText.{answer_text, best_text, check_text, comma_name, head_text, last_text};
+ghost use Rattle.suite_reports.specs.ReportText.{answer_text, best_text, comma_name, head_text, last_text};
 ghost use Rattle.suite_reports.specs.ReportText.{names_text, report_text, result_text};
 ghost use Rattle.suite_reports.specs.ReportText.{row_text, solved_count};
 
@@ -50,18 +50,6 @@ fn write_best<W: Write>(writer: &mut W, best: Best) -> io::Result<()>
     }
 }
 
-#[tactic(auto, unfolding(crate::specs::ReportText::check_text))]
-fn write_check<W: Write>(writer: &mut W, check: Check) -> io::Result<()>
-    ensures { OnOk result
-        (Appends (W.contents writer.old) (W.contents writer.new) (check_text check)) }
-{
-    match check {
-        Check::Agree => writer.write_all(b"agree"),
-        Check::Differ => writer.write_all(b"differ"),
-        Check::Unlisted => writer.write_all(b"unlisted"),
-    }
-}
-
 #[tactic(auto, unfolding(crate::specs::ReportText::answer_text))]
 fn write_answer<W: Write>(writer: &mut W, answer: &Answer) -> io::Result<()>
     ensures { OnOk result
@@ -78,8 +66,7 @@ fn write_solved<W: Write>(writer: &mut W, answer: &Answer, check: Check) -> io::
         (W.contents writer.new) (result_text (RowResult.Solved answer.now check))) }
 {
     write_answer(writer, answer)?;
-    writer.write_all(b" ")?;
-    write_check(writer, check)
+    write!(writer, " {check}")
 }
 
 #[tactic(auto, unfolding(crate::specs::ReportText::result_text))]

@@ -34,13 +34,29 @@ impl Termination for ExitStatus {
     }
 }
 
+// The exit status after this error.
+fn error_status(error: &SolveError<'_>) -> u8
+    ensures { result ≡ status_of error.now }
+{
+    match error {
+        SolveError::Program(ProgramError::Memory | ProgramError::BadInput(_)) | SolveError::Mixed =>
+            1,
+        SolveError::Program(ProgramError::BadWords) => 2,
+        SolveError::Program(ProgramError::CannotRead(_) | ProgramError::CannotWrite(_))
+        | SolveError::BadBook(_)
+        | SolveError::NoPlace(_)
+        | SolveError::NoBook(_)
+        | SolveError::ReadBook(_) => 3,
+    }
+}
+
 /// Prints the error that ends the program, and gives the exit status. A failure of standard error
 /// changes nothing.
 pub(crate) fn print_error<E: Write>(error: &SolveError<'_>, errors: &mut E) -> u8
     ensures { result ≡ status_of error.now }
 {
     let _ = error.print(errors);
-    error.status()
+    error_status(error)
 }
 
 /// The whole program, like `program`, for the words that `env::args` gives. The result ends the
