@@ -3,7 +3,7 @@ import contextlib
 import os
 from typing import BinaryIO, Dict, Iterable, Iterator, List
 
-from ._games import HEADER, RECORD, SCORE, Fault, Player, Wthor, game_of
+from ._games import HEADER, RECORD, SCORE, GameRefused, Player, game_of, read_header
 from ._published import Compared, Unfit
 
 
@@ -22,7 +22,7 @@ class Fixed:
         return self.games - len(self._compared)
 
     def __iter__(self) -> Iterator[bytes]:
-        Wthor(self._file)
+        read_header(self._file)
         self._file.seek(0)
         yield self._file.read(HEADER.size)
         while len(record := self._file.read(RECORD)) == RECORD:
@@ -39,7 +39,7 @@ class Fixed:
         try:
             position = self._player.play(game, it.position.empties).position
             is_same = (position, position.side) == (it.position, it.position.side)
-        except Fault:
+        except GameRefused:
             is_same = False
         if not is_same or game.score != it.published:
             raise Unfit(f"its game {it.game} has another position or theoretical score")

@@ -1,7 +1,7 @@
 """Games: how transcripts and WTHOR files are read, and how a game is played by the library's rules."""
 import ctypes
 import struct
-from typing import BinaryIO, Iterator, List, NamedTuple, Optional, Sequence, Tuple
+from typing import Any, BinaryIO, Iterator, List, NamedTuple, Optional, Sequence, Tuple, Type
 
 from ._boards import OTHER
 from ._library import CPosition
@@ -22,16 +22,19 @@ for square in range(64):
 TEXT = bytes([*b"\t\n\v\f\r", *range(32, 256)])  # what a text begins with, and the century of a WTHOR file is not
 
 
-class NotGames(Exception):
+class NotGames(ValueError):
     """Why a file is not a WTHOR file of games."""
 
 
-class Fault(Exception):
-    """Why a game, or its move of a number from 1, is refused."""
+class GameRefused(ValueError):
+    """A game can't be read or played. `game` is its number, and `move` the number of the wrong move, from 1, or None."""
 
-    def __init__(self, reason: str, move: Optional[int] = None) -> None:
-        super().__init__(reason)
-        self.move = move
+    def __init__(self, reason: str, game: int, move: Optional[int] = None) -> None:
+        super().__init__(f"game {game}" + ("" if move is None else f", move {move}") + f": {reason}")
+        self.reason, self.game, self.move = reason, game, move
+
+    def __reduce__(self) -> Tuple[Type["GameRefused"], Tuple[str, int, Optional[int]]]:
+        return type(self), (self.reason, self.game, self.move)
 
 
 class Game(NamedTuple):
@@ -74,6 +77,18 @@ class Played(NamedTuple):
     discs: Optional[int]  # Black's at the end, with the empty squares to the winner; None where the moves stop before
 
 
+def games_in(file: Any, name: str) -> Tuple[Iterator[Game], Optional[int]]:
+    """The games of a file, and how many squares are empty at its theoretical scores: 0 where a WTHOR file does not say that,
+    None of a text. Raises NotGames, and NotText when the games are read."""
+    if not name.lower().endswith(".wtb") and file.peek(1)[:1].strip(TEXT) == b"":
+        return transcripts(file, name), None
+    try:
+        count, empties = read_header(file)
+    except NotGames as why:
+        raise NotGames(f"{name} is not a WTHOR file of games: {why}") from None
+    return records(file, count, empties), empties
+
+
 def transcripts(file: BinaryIO, name: str) -> Iterator[Game]:
     """The games of a text, one a line; lines without a move, and all from `%` on, are skipped. Raises NotText."""
     for number, line in enumerate(text_lines(file, name), 1):
@@ -82,44 +97,36 @@ def transcripts(file: BinaryIO, name: str) -> Iterator[Game]:
             yield game
 
 
-def is_wthor(name: str, head: bytes) -> bool:
-    """Whether a file with this name and beginning is read as a WTHOR file, and not as a text."""
-    return name.lower().endswith(".wtb") or head[:1].strip(TEXT) != b""
+def read_header(file: BinaryIO) -> Tuple[int, int]:
+    """How many games the header of a WTHOR file counts, and the empty squares of their theoretical scores. Raises NotGames."""
+    head = file.read(HEADER.size)
+    if len(head) < HEADER.size:
+        raise NotGames(f"it ends within its header of {HEADER.size} bytes" if head else "it is empty")
+    count, other, board, kind, empties = HEADER.unpack(head)
+    for is_wrong, why in (
+        (b"\0" not in head, "it begins like a text"),
+        (board not in (0, 8), f"its board has {board} by {board} squares"),
+        (other, f"its header counts {other} records of another kind, like a file of players or tournaments"),
+        (kind > 1, f"byte 14 of its header is {kind}, and has to be 0 or 1"),
+        (empties > 60, f"its theoretical scores are for {empties} empty squares, but a game has only 60"),
+    ):
+        if is_wrong:
+            raise NotGames(why)
+    return count, empties
 
 
-class Wthor:
-    """A WTHOR file, behind whose header of 16 bytes a game has 68. Raises NotGames."""
-
-    def __init__(self, file: BinaryIO) -> None:
-        head = file.read(HEADER.size)
-        if len(head) < HEADER.size:
-            raise NotGames(f"it ends within its header of {HEADER.size} bytes" if head else "it is empty")
-        self._file = file
-        self.count, other, board, kind, self.empties = HEADER.unpack(head)
-        if b"\0" not in head:
-            raise NotGames("it begins like a text")
-        if board not in (0, 8):
-            raise NotGames(f"its board has {board} by {board} squares")
-        if other != 0:
-            raise NotGames(f"its header counts {other} records of another kind, like a file of players or tournaments")
-        if kind > 1:
-            raise NotGames(f"byte 14 of its header is {kind}, and has to be 0 or 1")
-        if self.empties > START.empties:
-            raise NotGames(f"its theoretical scores are for {self.empties} empty squares, but a game has only {START.empties}")
-
-    def games(self, has_scores: bool) -> Iterator[Game]:
-        """The games, each with its theoretical score where those are wanted."""
-        counts = f"its header counts {self.count} game{'s' * (self.count != 1)}"
-        for number in range(1, self.count + 1):
-            record = self._file.read(RECORD)
-            if len(record) < RECORD:
-                where = f"after {len(record)} of the {RECORD} bytes of this game" if record else "before this game"
-                yield Game(number, fault=f"the file ends {where}, but {counts}")
-                return
-            game = game_of(number, record)
-            yield game if has_scores else game._replace(score=None)
-        if self._file.read(1):
-            yield Game(self.count + 1, fault=f"the file goes on, but {counts}")
+def records(file: BinaryIO, count: int, empties: int) -> Iterator[Game]:
+    """The games of a WTHOR file behind its header, 68 bytes each."""
+    counts = f"its header counts {count} game{'s' * (count != 1)}"
+    for number in range(1, count + 1):
+        record = file.read(RECORD)
+        if len(record) < RECORD:
+            where = f"after {len(record)} of the {RECORD} bytes of this game" if record else "before this game"
+            yield Game(number, fault=f"the file ends {where}, but {counts}")
+            return
+        yield game_of(number, record)._replace(empties=empties or None)
+    if file.read(1):
+        yield Game(count + 1, fault=f"the file goes on, but {counts}")
 
 
 def game_of(number: int, record: bytes) -> Game:
@@ -147,23 +154,25 @@ class Player:
 
     def play(self, game: Game, empties: int) -> Played:
         """What a game's first position with so many empty squares is, and how the game ends. It is played to its end,
-        since an illegal move shows that an earlier one may be wrong. Raises Fault."""
+        since an illegal move shows that an earlier one may be wrong. Raises GameRefused."""
         found, last = self._played(game, range(empties, empties + 1))
+        if not found and not game.moves:
+            raise GameRefused("it has no moves", game.number)
         if not found:
             told = f"it ends here, with {last.empties} empty square{'s' * (last.empties > 1)}; {empties} are asked for"
-            raise Fault(told, START.empties - last.empties) if game.moves else Fault("it has no moves")
+            raise GameRefused(told, game.number, START.empties - last.empties)
         is_over = not any(self._has_move(CPosition(*it)) for it in (last, last.passed()))
         discs = discs_of_black(final_score(*last), last.side) if is_over else None
         return Played(found[0], discs)
 
     def positions(self, game: Game) -> List[Position]:
-        """The positions of a game: its start, and that after each move. Raises Fault."""
+        """The positions of a game: its start, and that after each move. Raises GameRefused."""
         return self._played(game, range(START.empties + 1))[0]
 
     def _played(self, game: Game, wanted: range) -> Tuple[List[Position], Position]:
         """The positions of a game with the wanted numbers of empty squares, each the first one, and its last one."""
         if game.fault is not None:
-            raise Fault(game.fault)
+            raise GameRefused(game.fault, game.number)
         play, at, after, side, left = self._play, CPosition(*START), CPosition(), START.side, START.empties
         found = [START] if left in wanted else []
         for index, square in enumerate(game.moves):
@@ -172,7 +181,7 @@ class Player:
                 if square == PASS:
                     continue
                 if play(at, square, after):
-                    raise self._fault(at, game, index)
+                    raise self._refusal(at, game, index)
             at, after, side, left = after, at, OTHER[side], left - 1
             if left in wanted:
                 found.append(Position(at.own, at.opp, side))
@@ -181,7 +190,7 @@ class Player:
     def _passed(self, at: CPosition, game: Game, index: int) -> CPosition:
         """The position after the pass that a game has before a move, or as that."""
         if self._has_move(at):
-            raise self._fault(at, game, index)
+            raise self._refusal(at, game, index)
         return CPosition(at.opp, at.own)
 
     def _has_move(self, at: CPosition) -> bool:
@@ -189,13 +198,13 @@ class Player:
         self._moves(at, moves)
         return moves.value != 0
 
-    def _fault(self, at: CPosition, game: Game, index: int) -> Fault:
+    def _refusal(self, at: CPosition, game: Game, index: int) -> GameRefused:
+        """Why a move of a game is none."""
         square = game.moves[index]
-        number = sum(it != PASS for it in game.moves[: index + 1])
+        number = sum(it != PASS for it in game.moves[:index]) + 1
         if square == NO_SQUARE:
-            return Fault(f"{game.words[index]!r} is not a square", number)
+            return GameRefused(f"{game.words[index]!r} is not a square", game.number, number)
         if square == PASS:
-            return Fault("it passes where there is a legal move", number + 1)
-        if not self._has_move(at):
-            return Fault(f"{square_name(square)} comes after the end of the game", number)
-        return Fault(f"{square_name(square)} is not a legal move", number)
+            return GameRefused("it passes where there is a legal move", game.number, number)
+        why = "is not a legal move" if self._has_move(at) else "comes after the end of the game"
+        return GameRefused(f"{square_name(square)} {why}", game.number, number)

@@ -7,11 +7,11 @@ import re
 import signal
 import stat
 import sys
-from typing import Callable, Iterator, List, Optional, Tuple
+from typing import Callable, Iterator, List, Optional
 
 from . import __version__
 from ._fixed import Fixed, write_new
-from ._games import HEADER, MOST_DISCS, Fault, Game, NotGames, Played, Player, Wthor, is_wthor, transcripts
+from ._games import MOST_DISCS, Game, GameRefused, NotGames, Played, Player, games_in
 from ._library import MOST_EMPTIES, LibraryNotFound, load
 from ._published import Comparison, Unfit
 from ._solvers import Solver
@@ -85,9 +85,9 @@ FIX = "write the WTHOR file of LIST with the exact theoretical scores to FILE, w
 
 
 class Stop(Exception):
-    """Ends the program with a status and a line on standard error."""
+    """Ends the program with a line on standard error and a status."""
 
-    def __init__(self, status: int, reason: str) -> None:
+    def __init__(self, reason: str, status: int = UNREADABLE) -> None:
         super().__init__(reason)
         self.status = status
 
@@ -101,7 +101,7 @@ class Output:
 
     def __enter__(self) -> "Output":
         if sys.stdout is None:
-            raise Stop(UNREADABLE, "cannot write standard output: it is closed")
+            raise Stop("cannot write standard output: it is closed")
         sys.stdout = open(1, "w", closefd=False)  # PYTHONUNBUFFERED's loses what a write on a full disk leaves
         return self
 
@@ -120,11 +120,7 @@ class Output:
 
 
 def unwritable(name: str, error: OSError) -> Stop:
-    return Stop(UNREADABLE, f"cannot write {name}: {error.strerror}")
-
-
-def unreadable(name: str, error: OSError) -> FileRefused:
-    return FileRefused(UNREADABLE, f"cannot read {shown(name)}: {error.strerror}")
+    return Stop(f"cannot write {name}: {error.strerror}")
 
 
 def tell(reason: object, status: int) -> int:
@@ -139,12 +135,16 @@ def shown(name: str) -> str:
     return "standard input" if name == "-" else "".join(letter if letter >= " " else "?" for letter in name) or "''"
 
 
-def opened(name: str) -> io.BufferedReader:
-    """A file, or standard input for `-`, to be read. Raises FileRefused."""
+@contextlib.contextmanager
+def opened(name: str) -> Iterator[io.BufferedReader]:
+    """A file that is read, or standard input for `-`. What is wrong with it ends as FileRefused."""
     try:
-        return open(0 if name == "-" else name, "rb", closefd=name != "-")
+        with open(0 if name == "-" else name, "rb", closefd=name != "-") as file:
+            yield file
+    except (NotGames, NotText) as why:
+        raise FileRefused(str(why)) from None
     except OSError as error:
-        raise unreadable(name, error) from None
+        raise FileRefused(f"cannot read {shown(name)}: {error.strerror}") from None
 
 
 def number_of_empties(word: str) -> int:
@@ -218,40 +218,25 @@ def print_games(options: argparse.Namespace, find: Callable[[], Optional[str]], 
 def print_file(name: str, file: io.BufferedReader, wanted: Optional[int], player: Player, output: Output) -> int:
     """Prints the line of each game of a file, and on standard error why it has none, and which of its scores are wrong."""
     status = DONE
-    try:
-        games, empties = games_of(name, file, wanted)
-        for game in games:
-            try:
-                played = player.play(game, empties)
-            except Fault as fault:
-                move = "" if fault.move is None else f", move {fault.move}"
-                status = tell(f"{shown(name)}, game {game.number}{move}: {fault}", REMARKED)
-                continue
-            output.line(line_of(name, game, played))
-            for wrong in wrong_scores(game, played):
-                status = tell(f"{shown(name)}, game {game.number}: {wrong}", REMARKED)
-    except NotGames as why:
-        raise FileRefused(UNREADABLE, f"{shown(name)} is not a WTHOR file of games: {why}") from None
-    except NotText as why:
-        raise FileRefused(UNREADABLE, str(why)) from None
-    except OSError as error:
-        raise unreadable(name, error) from None
-    return status
-
-
-def games_of(name: str, file: io.BufferedReader, wanted: Optional[int]) -> Tuple[Iterator[Game], int]:
-    """The games of a file, and how many empty squares their positions have. Raises NotGames and FileRefused."""
-    if not is_wthor(name, file.peek(HEADER.size)):
-        if wanted is None:
-            raise FileRefused(MISUSED, f"{shown(name)} is a text: its games need --empties N")
-        return transcripts(file, shown(name)), wanted
-    wthor = Wthor(file)
-    if wanted is not None:
-        return wthor.games(has_scores=wthor.empties in (0, wanted)), wanted
-    if wthor.empties == 0:
+    games, of_scores = games_in(file, shown(name))
+    empties = of_scores if wanted is None else wanted
+    if empties is None:
+        raise FileRefused(f"{shown(name)} is a text: its games need --empties N", MISUSED)
+    if wanted is None and empties == 0:
         told = "does not say how many squares are empty at its theoretical scores; try --empties 22 or 24, the usual numbers"
-        raise FileRefused(MISUSED, f"{shown(name)} {told}")
-    return wthor.games(has_scores=True), wthor.empties
+        raise FileRefused(f"{shown(name)} {told}", MISUSED)
+    for game in games:
+        try:
+            played = player.play(game, empties)
+        except GameRefused as why:
+            status = tell(f"{shown(name)}, {why}", REMARKED)
+            continue
+        if game.empties not in (None, empties):
+            game = game._replace(score=None)
+        output.line(line_of(name, game, played))
+        for wrong in wrong_scores(game, played):
+            status = tell(f"{shown(name)}, game {game.number}: {wrong}", REMARKED)
+    return status
 
 
 def line_of(name: str, game: Game, played: Played) -> str:
@@ -279,7 +264,7 @@ def compare(options: argparse.Namespace, find: Callable[[], Optional[str]], outp
     try:
         found = Comparison(lines_of(options.list), lines_of(options.report), solver.moves)
     except Unfit as why:
-        raise Stop(UNREADABLE, f"{shown(options.report)} is not a report of {shown(options.list)}: {why}") from None
+        raise Stop(f"{shown(options.report)} is not a report of {shown(options.list)}: {why}") from None
     if options.fix is not None:
         fix(options.fix, found, Player(load(path)))
     for it in found.differences:
@@ -294,9 +279,9 @@ def fix(place: str, found: Comparison, player: Player) -> None:
     """Writes the WTHOR file of a comparison with exact scores."""
     files = list({it.file for it in found.compared})
     if not files:
-        raise Stop(UNREADABLE, "no theoretical score is compared, so --fix has none to write")
+        raise Stop("no theoretical score is compared, so --fix has none to write")
     if len(files) > 1:
-        raise Stop(UNREADABLE, f"--fix takes a list of one WTHOR file; this one has games of {len(files)}")
+        raise Stop(f"--fix takes a list of one WTHOR file; this one has games of {len(files)}")
     (name,) = files
     with opened_again(name) as source:
         fixed = Fixed(source, found.compared, player)
@@ -305,7 +290,7 @@ def fix(place: str, found: Comparison, player: Player) -> None:
         except FileExistsError:
             raise would_be_lost(place) from None
         except (NotGames, Unfit) as why:
-            raise Stop(UNREADABLE, f"{shown(name)} is not the WTHOR file of the list: {why}") from None
+            raise Stop(f"{shown(name)} is not the WTHOR file of the list: {why}") from None
         except OSError as error:
             raise unwritable(shown(place), error) from None
     tell(f"{shown(place)}: theoretical scores changed {fixed.changed} of {fixed.games}, not compared {fixed.others}", DONE)
@@ -315,21 +300,16 @@ def opened_again(name: str) -> io.BufferedReader:
     """The WTHOR file that a list names. Raises Stop."""
     try:
         if not stat.S_ISREG(os.stat(name).st_mode):
-            raise FileRefused(UNREADABLE, f"{shown(name)}, which the list names, is not a regular file")
+            raise Stop(f"{shown(name)}, which the list names, is not a regular file")
         return open(name, "rb")
     except OSError as error:
-        raise FileRefused(UNREADABLE, f"cannot read {shown(name)}, which the list names: {error.strerror}") from None
+        raise Stop(f"cannot read {shown(name)}, which the list names: {error.strerror}") from None
 
 
 def would_be_lost(name: str) -> Stop:
-    return Stop(UNREADABLE, f"{shown(name)} already exists and would be overwritten")
+    return Stop(f"{shown(name)} already exists and would be overwritten")
 
 
 def lines_of(name: str) -> Iterator[bytes]:
-    try:
-        with opened(name) as file:
-            yield from text_lines(file, shown(name))
-    except NotText as why:
-        raise FileRefused(UNREADABLE, str(why)) from None
-    except OSError as error:
-        raise unreadable(name, error) from None
+    with opened(name) as file:
+        yield from text_lines(file, shown(name))

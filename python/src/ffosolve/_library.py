@@ -23,11 +23,8 @@ class CAnswer(ctypes.Structure):
     _fields_ = [("score", ctypes.c_int32), ("kind", ctypes.c_int32), ("best", ctypes.c_uint64)]
 
 
-CScores = ctypes.c_int8 * 64
-
-
 class CMoveScores(ctypes.Structure):
-    _fields_ = [("scores", CScores), ("moves", ctypes.c_uint64)]
+    _fields_ = [("scores", ctypes.c_int8 * 64), ("moves", ctypes.c_uint64)]
 
 
 def places() -> List[str]:

@@ -1,26 +1,17 @@
 """Positions, and the lines of OBF text that hold them."""
 import re
 import reprlib
-from typing import Callable, Iterable, Iterator, Mapping, NamedTuple, Optional, Tuple, Union
+from typing import Any, Callable, Iterable, Iterator, Mapping, NamedTuple, Optional, Tuple, Union
 
 from ._answers import Answer
 from ._boards import OTHER, Board, checked_side
 from ._refusals import BadSide, BadSquare, LineRefused, NoMemory, NoPosition, ShortBoard
 from ._squares import NAMES
 
-BLANKS = b" \t"
-LINE = re.compile(rb"[ \t]*([Xx*BbOoWw.-]{64})[ \t]*([Xx*BbOoWw])([^%]*)")
-SQUARES = re.compile(rb"[Xx*BbOoWw.-]{0,64}")
+LINE = re.compile(rb"([ \t]*)([Xx*BbOoWw.-]{0,64})([ \t]*)([Xx*BbOoWw]?)([^%]*)")
 MOVES = {name.encode(): name for name in (*NAMES, "PS", "--")}
 LISTED = re.compile(rb"(?:\A|;)[ \t]*([A-Ha-h][1-8]|[Pp][Ss]|--):([+-]?(?:[0-5]?[0-9]|6[0-4]))[ \t]*(?=;|\Z)")
-
-
-def bits_of(letters: bytes) -> bytes:
-    """A table that makes 1 of these letters, and 0 of all others."""
-    return bytes(b"01"[byte in letters] for byte in range(256))
-
-
-BLACK, WHITE = bits_of(b"Xx*Bb"), bits_of(b"OoWw")
+BLACK, WHITE = (bytes.maketrans(b"Xx*BbOoWw-.", bits) for bits in (b"11111000000", b"00000111100"))
 
 
 class Masks(NamedTuple):
@@ -115,11 +106,10 @@ class Line(Position):
 def read_line(text: Union[str, bytes], number: Optional[int]) -> Line:
     """The position of a line of a number, of which the refusals tell."""
     try:
-        content = without_end(text)
-        found = LINE.match(content)
-        if found is None:
-            raise fault_of(content, number)
-        letters, side, rest = found.groups()
+        found: Any = LINE.match(without_end(text))
+        _, letters, _, side, rest = found.groups()
+        if len(letters) < 64 or not side:
+            raise fault_of(found, number)
         squares = letters[::-1]
         black, white = int(squares.translate(BLACK), 2), int(squares.translate(WHITE), 2)
         line = Line(black, white) if side in b"Xx*Bb" else Line(white, black, "O")
@@ -131,16 +121,14 @@ def read_line(text: Union[str, bytes], number: Optional[int]) -> Line:
         raise NoMemory() from None
 
 
-def fault_of(line: bytes, number: Optional[int]) -> LineRefused:
+def fault_of(found: "re.Match[bytes]", number: Optional[int]) -> LineRefused:
     """Why a line holds no position: the first fault from the left."""
-    content = line.lstrip(BLANKS)
+    content, squares = found.string[found.end(1):], len(found[2])
     if not content or content.startswith(b"%"):
         return NoPosition(0, number)
-    start = len(line) - len(content)
-    squares = SQUARES.match(content).end()  # type: ignore[union-attr]
-    if squares < 64:
-        return ShortBoard(squares, number) if squares == len(content) else BadSquare(start + squares + 1, number)
-    return BadSide(len(line) - len(content[64:].lstrip(BLANKS)) + 1, number)
+    if squares == 64:
+        return BadSide(found.end(3) + 1, number)
+    return ShortBoard(squares, number) if squares == len(content) else BadSquare(found.end(2) + 1, number)
 
 
 def without_end(text: Union[str, bytes]) -> bytes:

@@ -1,7 +1,7 @@
 """Published scores: the list of ffosolve-games is joined with the report of its solved positions."""
 import os
 import re
-from typing import Callable, Dict, Iterable, List, NamedTuple, Optional, Tuple
+from typing import Any, Callable, Dict, Iterable, List, NamedTuple, Optional, Tuple
 
 from ._games import discs_of_black, final_score
 from ._positions import Line, Position
@@ -56,7 +56,10 @@ class Comparison:
         self.compared: List[Compared] = []
         self.refused = self.unscored = 0
         for number in sorted(lines.keys() | rows.keys()):
-            line, row = fitting(number, lines.get(number), rows.get(number), moves)
+            why = misfit(lines.get(number), rows.get(number), moves)
+            if why:
+                raise Unfit(f"line {number} of the list {why}")
+            line, row = lines[number], rows[number]
             if line.score is None:
                 self.unscored += 1
             elif row.score is None or line.position is None:
@@ -80,11 +83,9 @@ def read_list(lines: Iterable[bytes]) -> Dict[int, Listed]:
         except LineRefused as why:
             found[number] = Listed(None, str(why))
             continue
-        found[number] = Listed(position)
         match = COMMENT.fullmatch(os.fsdecode(text.rstrip(b"\r\n")))
-        if match is not None:
-            published = int(match[3]) if match[3] else None
-            found[number] = Listed(position, "", match[1], int(match[2]), published)
+        told: Tuple[Any, ...] = match.groups() if match else ("", 0, None)
+        found[number] = Listed(position, "", told[0], int(told[1]), int(told[2]) if told[2] else None)
     return found
 
 
@@ -112,44 +113,25 @@ def read_report(lines: Iterable[bytes]) -> Dict[int, Row]:
     return found
 
 
-def fitting(
-    number: int, line: Optional[Listed], row: Optional[Row], moves: Callable[[Position], int]
-) -> Tuple[Listed, Row]:
-    """A line of a list and its row, of which nothing shows that they are of different lists. Raises Unfit."""
-    if line is None:
-        raise Unfit(f"line {number} of the list is not a position, but the report has a row for it")
-    if row is None:
-        raise Unfit(f"line {number} of the list has no row in the report")
-    if line.position is None or row.score is None:
-        why = other_refusal(line, row)
-    else:
-        why = other_answer(line.position, row.score, row, moves)
-    if why:
-        raise Unfit(f"line {number} of the list {why}")
-    return line, row
-
-
-def other_refusal(line: Listed, row: Row) -> str:
-    """What shows that a row is not of a line, one of which is refused; nothing where they fit."""
-    said = row.refusal or f"{row.score:+03} {','.join(row.best)}"
-    if line.position is None:
+def misfit(line: Optional[Listed], row: Optional[Row], moves: Callable[[Position], int]) -> str:
+    """What shows that a line of a list and a row of a report do not belong together; nothing where they may."""
+    if line is None or row is None:
+        return "has no row in the report" if row is None else "is not a position, but the report has a row for it"
+    position, said = line.position, row.refusal or f"{row.score:+03} {','.join(row.best)}"
+    if position is None:
         return "" if row.refusal == line.refusal else f"is refused ({line.refusal}), but the report says: {said}"
-    match = EMPTIES.fullmatch(said)
-    if match is not None and int(match[1]) == line.position.empties:
-        return ""
-    return f"has {line.position.empties} empty squares, but the report says: {said}"
-
-
-def other_answer(position: Line, score: int, row: Row, moves: Callable[[Position], int]) -> str:
-    """What shows that a row is not of a position; nothing where they fit."""
+    if row.score is None:
+        match = EMPTIES.fullmatch(said)
+        is_told = match is not None and int(match[1]) == position.empties
+        return "" if is_told else f"has {position.empties} empty squares, but the report says: {said}"
     legal = square_names(moves(position)) or (["PS"] if moves(position.passed()) else ["--"])
     for name in row.best:
         if name not in legal:
             return f"has no legal move {name}, which the report calls best"
     if (row.word == "unlisted") != (not position.listed):
         return f"lists {'a move' if position.listed else 'no move'}, but the report says {row.word}"
-    if score % 2 or abs(score) > 64:
-        return f"has the score {score:+03} in the report, which is of another scoring than winner"
-    if row.best == ["--"] and score != final_score(position.own, position.opp):
-        return f"is the end of a game with the score {final_score(position.own, position.opp):+03}, and not {score:+03}"
+    if row.score % 2 or abs(row.score) > 64:
+        return f"has the score {row.score:+03} in the report, which is of another scoring than winner"
+    if row.best == ["--"] and row.score != final_score(position.own, position.opp):
+        return f"is the end of a game with the score {final_score(position.own, position.opp):+03}, and not {row.score:+03}"
     return ""

@@ -2,25 +2,9 @@
 import contextlib
 import io
 import os
-from typing import Any, Callable, Iterator, Optional, Tuple, Type, Union
+from typing import Any, Callable, Iterator, Optional, Union
 
-from ._games import Fault, Game, NotGames, Wthor, is_wthor, transcripts
-from ._text import NotText
-
-
-class GameRefused(ValueError):
-    """A game can't be read or played. `game` is its number, and `move` the number of the wrong move, from 1, or None."""
-
-    def __init__(self, reason: str, game: int, move: Optional[int] = None) -> None:
-        super().__init__(f"game {game}" + ("" if move is None else f", move {move}") + f": {reason}")
-        self.reason, self.game, self.move = reason, game, move
-
-    def __reduce__(self) -> Tuple[Type["GameRefused"], Tuple[str, int, Optional[int]]]:
-        return type(self), (self.reason, self.game, self.move)
-
-
-def refusal_of_game(game: Game, fault: Fault) -> GameRefused:
-    return GameRefused(str(fault), game.number, fault.move)
+from ._games import Game, GameRefused, games_in
 
 
 def read_games(
@@ -42,20 +26,15 @@ def read_games(
     """
     with opened(source) as file:
         told = getattr(file, "name", None)
-        name = told if isinstance(told, str) else "the file"
-        try:
-            for game in games_in(file, name):
-                if game.fault is None:
-                    yield game
-                    continue
-                error = refusal_of_game(game, Fault(game.fault))
-                if refused is None:
-                    raise error
-                refused(error)
-        except NotGames as why:
-            raise ValueError(f"{name} is not a WTHOR file of games: {why}") from None
-        except NotText as why:
-            raise ValueError(str(why)) from None
+        games, _ = games_in(file, told if isinstance(told, str) else "the file")
+        for game in games:
+            if game.fault is None:
+                yield game
+                continue
+            error = GameRefused(game.fault, game.number)
+            if refused is None:
+                raise error
+            refused(error)
 
 
 @contextlib.contextmanager
@@ -74,10 +53,3 @@ def opened(source: Any) -> Iterator[Any]:
             reader.detach()
     else:
         raise TypeError(f"games are read from a path or from a file opened for bytes, not from {type(source).__name__}")
-
-
-def games_in(file: Any, name: str) -> Iterator[Game]:
-    if not is_wthor(name, file.peek(1)):
-        return transcripts(file, name)
-    wthor = Wthor(file)
-    return (game._replace(empties=wthor.empties or None) for game in wthor.games(has_scores=True))

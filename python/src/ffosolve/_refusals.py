@@ -22,11 +22,18 @@ class Status(enum.IntEnum):
     BAD_SIDE = 11
 
 
+REFUSALS: Dict[int, Type["Refused"]] = {}  # by their statuses
+
+
 class Refused(Exception):
     """A call was refused. `index` is that of the refused position, from 0, if the call was for a list, else None."""
 
     status: int  # a Status, except for an OtherRefusal
     reason: str
+
+    def __init_subclass__(cls) -> None:
+        if "status" in vars(cls):
+            REFUSALS.setdefault(cls.status, cls)
 
     def __init__(self, index: Optional[int] = None) -> None:
         super().__init__(self.reason if index is None else f"position at index {index}: {self.reason}")
@@ -129,24 +136,6 @@ class BadSide(LineRefused):
     """The side to move is missing: another byte stands in its place, or the line ends."""
 
     status, reason = Status.BAD_SIDE, "bad side at column {}"
-
-
-REFUSALS: Dict[int, Type[Refused]] = {
-    refusal.status: refusal
-    for refusal in (
-        UnknownScoring,
-        TooManyEntries,
-        UnequalLengths,
-        SharedSquare,
-        TooManyEmpties,
-        NoMove,
-        NoMemory,
-        NoPosition,
-        ShortBoard,
-        BadSquare,
-        BadSide,
-    )
-}
 
 
 def refusal_of(status: int, *told: Optional[int]) -> Refused:

@@ -12,11 +12,10 @@ from typing import TYPE_CHECKING, Any, Callable, Dict, Iterable, Iterator, List,
 
 from ._answers import Answer, Kind
 from ._boards import OTHER
-from ._bulk import Part, checked_threads, empties_of, in_order, parts_of
-from ._games import Fault, Game, Player
+from ._bulk import MOST_SECONDS, MOST_WEIGHT, Part, checked_threads, empties_of, in_order, parts_of
+from ._games import Game, Player
 from ._library import MOST_EMPTIES, MOST_ENTRIES, CAnswer, CMoveScores, CPosition, load
 from ._positions import Position
-from ._read_games import refusal_of_game
 from ._refusals import Refused, Status, TooManyEntries, UnknownScoring, refusal_of
 from ._squares import NAMES, square_number
 
@@ -89,10 +88,7 @@ class Solver:
     def solve(self, position: Position) -> Answer:
         """The answer for a position. Raises SharedSquare, TooManyEmpties and NoMemory, and ValueError for a mask that is
         not a number from 0 to 2**64 - 1."""
-        answer = CAnswer()
-        entries = self._entries_for(empties_of(position))
-        accept(self._library.ffosolve_solve(given(position), self._scoring, entries, answer))
-        return Answer(answer.score, KINDS[answer.kind], answer.best)
+        return self._answer(self._library.ffosolve_solve, position)
 
     def confirm(self, position: Position, claim: Answer) -> Answer:
         """The answer for a position; a claimed answer is tested first. The claim may be wrong: it is right if the result
@@ -100,10 +96,7 @@ class Solver:
         the same as `solve`."""
         if not isinstance(claim, Answer):
             raise TypeError(f"a claim is an Answer(score, kind, best), not {reprlib.repr(claim)}")
-        answer, claimed = CAnswer(), CAnswer(*claim)
-        entries = self._entries_for(empties_of(position))
-        accept(self._library.ffosolve_confirm(given(position), self._scoring, entries, claimed, answer))
-        return Answer(answer.score, KINDS[answer.kind], answer.best)
+        return self._answer(self._library.ffosolve_confirm, position, CAnswer(*claim))
 
     def move_scores(self, position: Position) -> Dict[str, int]:
         """The score of each legal move for the side to move, by the square's name, in the order A1, B1, .. H8. It is
@@ -117,10 +110,8 @@ class Solver:
         """The answers for positions, in their order. One thread uses one table; several use one for each part of the
         list. Raises the same as `solve`, before anything is solved. The `index` of SharedSquare and TooManyEmpties is that
         of the first position that is refused."""
-        if checked_threads(threads) > 1:
-            return list(one_by_one(in_order(self._solve_part, list(parts_of(positions, self._refuse)), threads)))
-        whole = next(parts_of(positions, self._refuse, math.inf, math.inf), Part(0, 0, []))
-        return list(one_by_one([self._solve_part(whole)]))
+        limits = (math.inf, math.inf) if checked_threads(threads) == 1 else (MOST_WEIGHT, MOST_SECONDS)
+        return list(one_by_one(in_order(self._solve_part, list(parts_of(positions, self._refuse, *limits)), threads)))
 
     def solve_iter(self, positions: Iterable[Position], *, threads: int = 1) -> Iterator[Answer]:
         """The answers for positions, in their order, as they come, on so many threads. It reads some positions ahead. A
@@ -174,13 +165,15 @@ class Solver:
         game = Game.of_text(game) if isinstance(game, str) else game
         if not isinstance(game, Game):
             raise TypeError(f"a game is a Game or the text of a transcript, not {reprlib.repr(game)}")
-        try:
-            return Player(self._library).positions(game)
-        except Fault as fault:
-            raise refusal_of_game(game, fault) from None
+        return Player(self._library).positions(game)
 
     def _entries_for(self, empties: int) -> int:
         return table_entries(empties) if self._entries is None else self._entries
+
+    def _answer(self, call: Any, position: Position, *claim: CAnswer) -> Answer:
+        answer, entries = CAnswer(), self._entries_for(empties_of(position))
+        accept(call(given(position), self._scoring, entries, *claim, answer))
+        return Answer(answer.score, KINDS[answer.kind], answer.best)
 
     def _refuse(self, index: int, position: Sequence[int]) -> None:
         """Raises what the library refuses a position for, if it does."""

@@ -5,7 +5,7 @@ MOST_BYTES = 1_048_576  # of a line with its end, as of a whole list of ffosolve
 MARKS = (b"\xef\xbb\xbf", b"\xff\xfe", b"\xfe\xff")  # of UTF-8 and UTF-16
 
 
-class NotText(Exception):
+class NotText(ValueError):
     """Why a text is refused, with its name."""
 
 
