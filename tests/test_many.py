@@ -5,7 +5,6 @@ In the environment, KILLS is the number of runs that are killed at random moment
 import contextlib
 import io
 import os
-import pty
 import random
 import re
 import resource
@@ -21,74 +20,55 @@ from pathlib import Path
 from unittest import mock
 
 from tests.support import (ROOT, SECONDS, InFolder, as_at_a_login, built, change_many, lay_many, link_to, need,
-                           processes_with, run, wait_until)
+                           processes_with, run, stored, wait_until)
 
 sys.path.insert(0, str(ROOT / "python/src"))
 import ffosolve._many.program  # noqa: E402
 
 many = ffosolve._many
+Part, Run = many.parts.Part, many.parts.Run
 
-CHECKOUT = ROOT / "bin/ffosolve-many"
 KILLS = int(os.environ.get("KILLS", 10))
 
 BOARD = b"-OXXXXX-XXXXXXXOXXXXXXXXXXXXXXXXXXXOXXXXXXXXXXXXXXXXXXXXXXXXXXXX"  # two empty squares
-# Takes a while for each part, and 45 seconds for each whose number is not below LAST.
-SLOW = """\
+# Stands before a program. It keeps the words in $WORDS, dies or fails as a part says, and takes $PAUSE seconds for each part,
+# or 45 from part $LAST on.
+ACTING = """\
 #!/bin/sh
 for part; do :; done
-seconds=0.15
-[ "${part##*/}" = null ] || [ "${part##*/}" -lt "${LAST:-999}" ] || seconds=45
-[ "$part" = /dev/null ] || sleep "$seconds"
-exec "@real@" "$@"
-"""
-DYING = """\
-#!/bin/sh
-for part; do :; done
+[ -z "$WORDS" ] || echo "$@" >>"$WORDS"
 ! grep -q DIE "$part" || kill -s KILL $$
 ! grep -q FAIL "$part" || { echo "ffosolve: out of memory" >&2; exit 1; }
+if [ "$part" != /dev/null ]; then
+    [ -z "$LAST" ] || [ "${part##*/}" -lt "$LAST" ] || PAUSE=45
+    sleep "${PAUSE:-0}"
+fi
 exec "@real@" "$@"
 """
-# Hands each line back, with a remark where it has a `?`, and ends as diff does.
-SCORES = """\
-#!/usr/bin/env python3
-import os, sys
-if not all(word.startswith(("--max-empties=", "--scoring=", "--table=", "--workers=", "--complete")) for word in sys.argv[1:-1]):
-    sys.exit(2)
-if "WORDS" in os.environ:
-    open(os.environ["WORDS"], "a").write(" ".join(sys.argv[1:-1]) + "\\n")
-text = open(sys.argv[-1], "rb").read()
-assert b"DIE" not in text
-for line in text.splitlines():
-    sys.stdout.buffer.write(b"%% refused: %s\\n" % line if b"?" in line else line + b"\\n")
-sys.exit(b"?" in text)
-"""
-# In place of ssh: runs what it is told in a folder of the machine.
+# In place of ssh: runs what it is told in a folder of the machine, after $SPOIL where that is to solve part 0000001.
 REACH = """\
 #!/bin/sh
 host=${1#*@}; shift
 [ -d "$HOSTS/$host" ] || { echo "ssh: connect to host $host port 22: Connection refused" >&2; exit 255; }
 [ ! -e "$HOSTS/$host/hangs" ] || exec sleep 50
-cd "$HOSTS/$host" && HOME=$PWD exec sh -c "$*"
-"""
-# Spoils the results of one part on the way.
-SPOILING = """\
-#!/bin/sh
-case "$*" in *"solve 0000001"*) eval "$SPOIL" ;; *) exec "$REAL" "$@" ;; esac
+cd "$HOSTS/$host" || exit
+case "$*" in *"solve 0000001 "*) eval "$SPOIL" ;; esac
+HOME=$PWD exec sh -c "$*"
 """
 
 
-def install(name, **programs):
-    """A prefix with ffosolve-many, the built ffosolve and these programs beside it."""
+def install(name, script=None):
+    """A prefix with ffosolve-many and the built programs beside it, behind a script if one is given."""
     many = lay_many(BASE / name)
-    folder = many.parent
-    for program in ("real", "ffosolve"):
-        shutil.copy(PROGRAM, folder / program)
-    for program, script in programs.items():
-        write(folder / program, script.replace("@real@", str(folder / "real")), 0o755)
+    for program, itself in PROGRAMS.items():
+        place = shutil.copy(itself, many.with_name(f"real-{program}" if script else program))
+        if script:
+            write(many.with_name(program), script.replace("@real@", str(place)), 0o755)
     return many
 
 
 def write(path, text, mode=0o644):
+    path = Path(path)
     path.write_bytes(text if isinstance(text, bytes) else text.encode())
     path.chmod(mode)
 
@@ -99,79 +79,83 @@ def positions(*words):
 
 
 def setUpModule():
-    global BASE, PROGRAM, MANY, SLOWLY, DYINGLY, SMALL
+    global BASE, PROGRAMS, MANY, ACTS, SMALL
+    need("parallel", "parallel")
+    PROGRAMS = {name: built(name) for name in ("ffosolve", "ffoscores")}
     folder = tempfile.TemporaryDirectory(prefix="ffosolve-many-tests-")
     unittest.addModuleCleanup(folder.cleanup)
     BASE = Path(folder.name)
-    for name in ("tmp", "python"):
-        (BASE / name).mkdir()
+    for name in ("tmp", "python", "home/.parallel"):
+        (BASE / name).mkdir(parents=True)
     os.symlink(sys.executable, BASE / "python/python3")  # at once, where python3 on the path is a wrapper
-    places = {"TMPDIR": str(BASE / "tmp"), "PATH": f"{BASE}/python:{os.environ['PATH']}"}
+    write(BASE / "home/.parallel/config", "--dry-run\n")  # what a user has for parallel changes nothing
+    places = {"TMPDIR": f"{BASE}/tmp", "PATH": f"{BASE}/python:{os.environ['PATH']}", "HOME": f"{BASE}/home",
+              "PARALLEL": "--dry-run", "SHELL": "/bin/false"}
     environment = mock.patch.dict(os.environ, places)
     environment.start()
     unittest.addModuleCleanup(environment.stop)
-    PROGRAM = built()
-    MANY = install("plain", ffoscores=SCORES)
-    SLOWLY = install("slow prefix", ffosolve=SLOW)
-    DYINGLY = install("dying", ffosolve=DYING, ffoscores=SCORES)
+    MANY, ACTS = install("plain"), install("acting prefix", ACTING)
     SMALL = positions(60, 1, 5)
 
 
 class Case(InFolder):
     """A test in a folder of its own, with a list of 60 positions and what ffosolve prints of it."""
 
-    TOOLS = ()  # which all tests of a class need; of Debian's packages of these names
+    WORDS = ("--lines=20", "work", "list.obf", "--book-out", "joined.book")
 
     def setUp(self):
-        for tool in self.TOOLS:
-            need(tool, tool)
         super().setUp()
-        write(Path("list.obf"), SMALL)
+        write("list.obf", SMALL)
         self.one = self.solve("list.obf")
 
     def solve(self, *words):
         """What one run of ffosolve prints, with the book in `one.book`."""
-        ran = run(BASE / "plain/bin/ffosolve", "--book-out", "one.book", *words)
+        ran = run(MANY.with_name("ffosolve"), "--book-out", "one.book", *words)
         self.assertEqual((ran.returncode, ran.stderr), (0, b""))
         return ran.stdout
 
-    def many(self, *words, by=None, **how):
-        return run(by or MANY, *words, **how)
+    def many(self, *words, by=None, places={}, **how):
+        """A run of the command, with places in its environment."""
+        return run(by or MANY, *words, env={**os.environ, **places}, **how)
 
-    def same(self, *words, text=None, told="", **how):
-        """A command that prints what one run does, quietly if it is told to be quiet."""
+    def ends(self, status, output, told, *words, **how):
+        """A command ends with a status and this on standard output; on standard error it tells this among others."""
         ran = self.many(*words, **how)
-        self.assertEqual(ran.returncode, 0, ran.stderr.decode())
-        self.assertEqual(ran.stdout, self.one if text is None else text)
+        self.assertEqual((ran.returncode, ran.stdout), (status, output), ran.stderr.decode())
         self.assertIn(told, ran.stderr.decode())
         return ran
+
+    def same(self, *words, text=None, told="", **how):
+        """A command that prints what one run does; gives what it tells."""
+        return self.ends(0, self.one if text is None else text, told, *words, **how).stderr.decode()
 
     def same_book(self, name="joined.book"):
         self.assertEqual(Path(name).read_bytes(), Path("one.book").read_bytes())
 
+    def files(self):
+        """All that is in the test's folder, and what the files hold."""
+        return {path: path.is_file() and path.read_bytes() for path in Path(".").rglob("*")}
+
     def refused(self, status, told, *words, **how):
-        """A command that ends with a status and one line, prints nothing else, and leaves no folder behind."""
-        before = sorted(os.listdir("."))
-        ran = self.many(*words, **how)
-        lines = ran.stderr.decode().splitlines()
-        self.assertEqual((ran.returncode, ran.stdout, len(lines)), (status, b"", 1), ran)
-        self.assertIn(told, lines[0])
-        self.assertTrue(lines[0].startswith("ffosolve-many: "), lines)
+        """A command that ends with a status and one line, prints nothing else, and leaves all files and folders as they are."""
+        before = self.files()
+        lines = self.ends(status, b"", told, *words, **how).stderr.decode().splitlines()
+        self.assertEqual((len(lines), lines[0].startswith("ffosolve-many: ")), (1, True), lines)
+        self.assertEqual(self.files(), before)
         if status == 2:
             self.assertRegex(lines[0], "Try 'ffosolve-many --help'|use |name |merged|no part can hold it")
-        self.assertEqual(sorted(os.listdir(".")), before)
 
-    def part(self, name, folder="work"):
-        """A file of a part."""
-        return next(Path(folder).glob("run-*")) / "parts" / name
-
-    def jobs(self, folder="work"):
-        """How many parts the last command began."""
-        return Path(folder, "log").read_text().rpartition("\twork\t")[2].count("\tbegin\t")
+    def place(self, name=""):
+        """A file of the run in the folder `work`."""
+        return next(Path("work").glob("run-*")) / name
 
 
 class Functions(InFolder):
     """What no output shows: limits, faults that programs and disks make, and the order in which files are written."""
+
+    def refuses(self, told, call, *words):
+        with self.assertRaisesRegex(many.messages.Refusal, told):
+            call(*words)
 
     def test_signals_after_the_first_are_ignored(self):
         with mock.patch.object(signal, "signal") as handled, self.assertRaises(KeyboardInterrupt):
@@ -180,24 +164,12 @@ class Functions(InFolder):
         self.assertEqual([words[0][1](0, None) for words in handled.call_args_list], [None] * len(many.jobs.SIGNALS))
 
     def test_processes_that_end_while_they_are_looked_at_are_passed_over(self):
-        gone = subprocess.Popen(["true"])
-        gone.wait()
-        process = subprocess.Popen(["sleep", "60"], start_new_session=True)
+        gone, process = (subprocess.Popen(["sleep", seconds], start_new_session=True) for seconds in ("0", "60"))
         self.addCleanup(process.kill)
-        found = ["self", str(gone.pid), str(process.pid)]
-        with mock.patch.object(os, "listdir", lambda _: found):
+        gone.wait()
+        with mock.patch.object(os, "listdir", lambda _: ["self", str(gone.pid), str(process.pid)]):
             many.jobs.end_session(process.pid)
         self.assertEqual(process.wait(timeout=SECONDS), -signal.SIGKILL)
-
-    def test_part_has_at_most_the_bytes_of_a_file(self):
-        half = b"%" * (many.files.MOST_BYTES // 2 - 1) + b"\n"
-
-        def read(text):
-            return list(many.parts.read_parts(io.BytesIO(text), 2, "LIST"))
-
-        self.assertEqual(len(read(half * 4)), 2)
-        with self.assertRaisesRegex(many.messages.Refusal, r"part 0000001 \(from line 3 of LIST on\).*such as --lines 1"):
-            read(b"\n\n" + (b"%" + half) * 2)
 
     def test_report_is_taken_where_it_is_whole(self):
         whole, numbers = b"[1]\n1 +02 A1 agree\n2 refused: bad side at column 65\nsolved 1 refused 1\n", [1, 2]
@@ -213,14 +185,11 @@ class Functions(InFolder):
         for others in ([1, 3], [1], [1, 2, 3]):
             self.assertIsNone(many.parts.read_report(whole, others))
 
-    def test_report_that_is_gone_when_it_is_printed_is_told(self):
-        run_of = many.parts.Run(self.folder, "run-1", [many.parts.Part("0000004", 81, 20, "")])
-        with self.assertRaisesRegex(many.messages.Refusal, r"part 0000004 \(lines 81 to 100\) was changed meanwhile"):
-            many.report.write_report(run_of, io.BytesIO())
-
-    def test_books_of_parts_that_are_not_in_order_are_told(self):
-        with self.assertRaisesRegex(many.messages.Refusal, "one line 3 is not in order"):
-            list(many.books.merged([[(b"2", b"b", ("one", 2)), (b"1", b"a", ("one", 3))]]))
+    def test_results_that_are_spoiled_meanwhile_are_told(self):
+        one = Run(self.folder, "run-1", [Part("0000004", 81, 20, "")])
+        self.refuses(r"part 0000004 \(lines 81 to 100\) was changed meanwhile", many.report.write_report, one, io.BytesIO())
+        write("one", BOARD + b" X; A1:+02;\n" + BOARD.replace(b"-", b"O", 1)[::-1] + b" X; A1:+02;\n")
+        self.refuses("one line 2 is not in order", lambda: [*many.books.merged([many.books.entries_of(Path("one"))])])
 
     def test_claim_of_a_line_is_the_greatest_score_and_its_moves(self):
         head = BOARD + b" X;"
@@ -228,14 +197,12 @@ class Functions(InFolder):
                               (b"H1:1;A2:1", b" H1:+01; A2:+01;"), (b" A1:-0; junk; A9:+3; A1:+65", b" A1:+00;"),
                               (b"PS:-4;", b" PS:-04;"), (b"--:4;PS:4", b" PS:+04;"), (b"--:4;A1:4", b" A1:+04;"),
                               (b" A1:-02; % B1:+64;", b" A1:-02;"), (b"A1:2; B1:4\r\r", b" A1:+02;")):
-            self.assertEqual(many.books.claim_in(head + fields + b"\n"), head + claim + b"\n", fields)
-        spelled = b" " + BOARD.replace(b"X", b"*").replace(b"O", b"w") + b"\tb;A1:1\r\n"
-        self.assertEqual(many.books.claim_in(spelled), head + b" A1:+01;\n")
-        write(Path("book"), b"\n \t\r\n% X\n" + spelled)
-        self.assertEqual([entry[1:] for entry in many.books.entries_of(Path("book"), "it")], [(head + b" A1:+01;\n", ("it", 4))])
+            write("book", b"\n \t\r\n% X\n" + head + fields + b"\n")
+            ((_, line, place),) = many.books.entries_of(Path("book"), "it")
+            self.assertEqual((line, place), (head + claim + b"\n", ("it", 4)), fields)
 
     def test_hosts_are_read(self):
-        write(Path("hosts"), "# all\n\n:\n 8/me@a \nssh -p 22 b # the third\n2 / c\n5/c\n::1\n4/ssh://me@d:22\n")
+        write("hosts", "# all\n\n:\n 8/me@a \nssh -p 22 b # the third\n2 / c\n5/c\n::1\n4/ssh://me@d:22\n")
         with contextlib.redirect_stderr(io.StringIO()) as told:
             machines = many.hosts.read_hosts("hosts")
         self.assertEqual(told.getvalue(), "ffosolve-many: hosts line 7: c is listed twice; this line counts\n")
@@ -249,33 +216,29 @@ class Functions(InFolder):
                            ("me@h2:2200", "a port goes before the name: ssh -p 2200 me@h2"), ("x/h2", "'x/h2' is not the name"),
                            ("-oProxyCommand=x", "it names no machine"), ("@h2", "'@h2' names no user before its @"),
                            ("me@", "it names no machine"), ("ssh://@h2", "names no user before its @")):
-            write(Path("hosts"), text)
-            with self.assertRaisesRegex(many.messages.Refusal, told):
-                many.hosts.read_hosts("hosts")
-
-    def test_command_in_place_of_ssh_is_told_by_its_name(self):
-        write(Path("hosts"), "h1\n")
+            write("hosts", text)
+            self.refuses(told, many.hosts.read_hosts, "hosts")
         for words, told in (("/none/ssh", "PARALLEL_SSH: '/none/ssh' is not a command"), ("ssh 'x", "PARALLEL_SSH: No closing")):
-            with mock.patch.dict(os.environ, {"PARALLEL_SSH": words}), self.assertRaisesRegex(many.messages.Refusal, told):
-                many.hosts.read_hosts("hosts")
+            with mock.patch.dict(os.environ, PARALLEL_SSH=words):
+                self.refuses(told, many.hosts.read_host, "h1", "")
         for words in ("", " "):
-            with mock.patch.dict(os.environ, {"PARALLEL_SSH": words}):
-                self.assertEqual(many.hosts.read_hosts("hosts")[0].command, ["ssh"])
+            with mock.patch.dict(os.environ, PARALLEL_SSH=words):
+                self.assertEqual(many.hosts.read_host("h1", "").command, ["ssh"])
 
-    def test_words_are_quoted_for_the_shell(self):
-        command = self.command("--table", "1;touch x", "--scoring=$(x)")
-        run_of = many.parts.Run(Path("work"), "run-1", [], "winner", False, True)
-        script = many.folder.filled("solve", run_of, command)
-        self.assertIn("'--table=1;touch x'", script)
-        self.assertIn("'--scoring=$(x)'", script)
-        self.assertNotIn("@", script)
+    def command(self, *words):
+        """A command that is whole but for its files."""
+        command = many.arguments.parse([*words, "LIST"])
+        command.max_empties, command.scoring = "20", command.scoring or "winner"
+        return command
 
-    def test_jobs_at_a_time_are_those_asked_for(self):
-        run_of = many.parts.Run(self.folder, "run-1", [])
-        for words, line, jobs in (((), ":", len(os.sched_getaffinity(0))), (("--jobs=3",), ":", 3), ((), "4/:", 4),
-                                  (("--jobs=3",), "4/:", 3)):
-            many.jobs.lay_round(run_of, self.command(*words), [many.hosts.read_host(line, "")], [])
-            self.assertEqual(len(os.listdir("run-1/jobs/here")), jobs, (words, line))
+    def test_scripts_quote_words_and_have_results_on_the_disk_before_they_count(self):
+        one = Run(Path("work"), "run-1", [], "winner", False, True)
+        for name, moved in (("solve", "for ending in .report .book .done"), ("job", "&& move")):
+            script = many.folder.filled(name, one, self.command("--table", "1;touch x", "--scoring=$(x)"))
+            self.assertGreater(script.index(moved), script.index('sync "$new.report" "$new.book" "$new.done"'))
+            if name == "solve":
+                self.assertIn("'--scoring=$(x)' --workers=0 '--table=1;touch x'", script)
+                self.assertNotIn("@", script)
 
     def test_file_is_on_the_disk_before_it_has_its_name(self):
         """And then its folder is."""
@@ -285,123 +248,116 @@ class Functions(InFolder):
         (is_folder, names), *others = synced
         self.assertEqual((is_folder, len(names), "it" in names, others), (False, 1, False, [(True, ["it"])]))
 
-    def test_results_are_on_the_disk_before_they_count(self):
-        for name in ("solve", "job"):
-            script = many.folder.filled(name, many.parts.Run(Path("work"), "run-1", [], "winner", False, True), self.command())
-            synced = script.index('sync "$new.report" "$new.book" "$new.done"')
-            self.assertGreater(script.index("&& move" if name == "job" else "for ending in .report .book .done"), synced)
-
-    def command(self, *words):
-        """A command that is whole but for its files."""
-        command = many.arguments.parse([*words, "LIST"])
-        command.max_empties, command.scoring = "20", command.scoring or "winner"
-        return command
+    def test_jobs_at_a_time_are_those_asked_for(self):
+        all_of_them = len(os.sched_getaffinity(0))
+        for words, line, jobs in (((), ":", all_of_them), (("--jobs=99",), ":", 99), ((), "98/:", 98), (("--jobs=99",), "98/:", 99)):
+            one = Run(self.folder, "run-1", [])
+            many.jobs.lay_round(one, self.command(*words), [many.hosts.read_host(line, "")], [])
+            self.assertEqual(len(os.listdir("run-1/jobs/here")), jobs, (words, line))
 
 
 class Results(Case):
     """What is printed is what one run prints."""
 
-    TOOLS = ("parallel",)
-
     def test_report_and_book_are_those_of_one_run(self):
-        self.same("--lines", 7, "work", "list.obf", "--book-out", "joined.book",
-                  told="60 lines in 9 parts, 0 of them solved before")
+        words = ("--lines", 7, "list.obf", "--book-out", "joined.book")
+        self.assertEqual(self.same(*words), "ffosolve-many: list.obf: 60 lines in 9 parts, 0 of them solved before; "
+                                            "folder list.obf.parts\n")
         self.same_book()
-        self.assertEqual(self.jobs(), 9)
+        self.assertEqual(Path("list.obf.parts/log").read_text().count("\tbegin\t"), 9)
+        self.assertEqual(self.same(*words, "--quiet"), "")
 
-    def test_bare_list_is_solved_in_a_folder_beside_it(self):
-        self.same("list.obf", told="folder list.obf.parts")
-        self.assertTrue(Path("list.obf.parts/asked.json").is_file())
+    def test_books_of_many_parts_are_merged_with_few_open_files(self):
+        header, *entries = Path("one.book").read_bytes().splitlines(keepends=True)
+        paths = [self.folder / f"{number}.book" for number in range(400)]
+        for number, path in enumerate(paths):
+            write(path, header + entries[number % len(entries)])
+        limits = resource.getrlimit(resource.RLIMIT_NOFILE)
+        self.addCleanup(resource.setrlimit, resource.RLIMIT_NOFILE, limits)
+        resource.setrlimit(resource.RLIMIT_NOFILE, (256, limits[1]))
+        write("joined.book", b"".join(many.books.whole_book("winner", paths, self.folder)))
+        self.same_book()
 
     def test_checkout_has_the_program_behind_a_wrapper(self):
-        self.same("list.obf", by=CHECKOUT)
-        built = next(Path("list.obf.parts").glob("run-*/program"))
-        self.assertEqual(built.read_bytes(), (ROOT / "out/ffosolve").read_bytes())
+        self.same("work", "list.obf", by=ROOT / "bin/ffosolve-many")
+        self.assertEqual(self.place("program").read_bytes(), stored("out/ffosolve"))
 
     def test_program_is_found_behind_a_link_and_by_blanks_in_names(self):
-        os.symlink(SLOWLY, "link")
+        os.symlink(ACTS, "link")
         os.rename("list.obf", "a  list;$x'.obf")
-        self.same("--lines=30", "a folder ;'$y", "a  list;$x'.obf", "--book-out", "a book;'",
-                  by=Path("link").absolute())
+        self.same("--lines=30", "a folder ;'$y", "a  list;$x'.obf", "--book-out", "a book;'", by=Path("link").absolute())
         self.same_book("a book;'")
 
     def test_options_stand_in_any_place(self):
         self.one = self.solve("--scoring", "sign", "--max-empties", "3", "list.obf")
-        self.same("--scoring=sign", "work", "--lines=9", "list.obf", "--max-empties", 3, "--jobs=2", "--table=100",
-                  "--workers", 1)
-        self.same("--scoring=sign", "--max-empties=3", "--lines=9", "--", "work", "list.obf")
+        self.same("--scoring=sign", "work", "--lines=9", "list.obf", "--max-empties", 3, "--book-out", "joined.book",
+                  "--jobs=2", "--table=100", "--workers", 1)
+        self.same_book()
         os.rename("list.obf", "-x")
         self.same("--scoring=sign", "--max-empties=3", "--", "work2", "-x")
 
-    def test_lines_that_leave_out_a_best_move(self):
-        write(Path("list.obf"), (ROOT / "tests/rows/best.obf").read_bytes())
-        self.one = (ROOT / "tests/rows/best.winner.complete").read_bytes()
-        self.same("--complete", "--lines=4", "work", "list.obf")
-        self.refused(2, "work was begun with --complete: use another folder", "--lines=4", "work", "list.obf")
+    def test_options_come_to_the_program_of_each_part(self):
+        """Each has one thread if no more are asked for."""
+        usual, others = "--max-empties=20 --scoring=winner --workers=0", "--max-empties=7 --scoring=discs --workers=1 --table=9"
+        for program, words, given in (("ffosolve", "", usual), ("ffoscores", "--complete", f"{usual} --complete"),
+                                      ("ffosolve", others, others)):
+            text = run(PROGRAMS[program], *words.split(), "list.obf").stdout
+            mode = ["--scores"] if program == "ffoscores" else []
+            self.same(*mode, *words.split(), "--lines=20", f"work {words}", "list.obf", text=text, by=ACTS,
+                      places={"WORDS": f"{self.folder}/words"})
+            told = [line.rpartition(" ")[0] for line in Path("words").read_text().splitlines()]
+            self.assertEqual(told, [given] * 4)  # one of them with an empty list
+            Path("words").unlink()
 
-    def test_read_book_changes_no_report_and_is_used_whole(self):
-        self.same("--lines=20", "work", "list.obf", "--book-in=one.book", "--book-out", "joined.book",
-                  "--scoring", "winner")
+    def test_lines_of_each_kind_and_none(self):
+        """Also lines that leave out a best move, with --complete."""
+        kinds, blank = stored("examples/kinds.obf"), b"\r\n \t\n\t % X\n% no end of the last line\n\r\r\n \r\n"
+        whole, best = kinds + blank + kinds.rstrip(b"\n"), stored("tests/rows/best.obf")
+        for text, lines, *words in (whole, 4), (whole, 1000), (b"", 4), (best, 4, "--complete"):
+            write("list.obf", text)
+            self.one = self.solve(*words, "list.obf")
+            self.same("--lines", lines, *words, f"work {len(text)} {lines}", "list.obf", "--book-out", "joined.book")
+            self.same_book()
+
+    def test_scores_and_status_are_those_of_one_run(self):
+        kinds = stored("examples/kinds.obf") + SMALL
+        for number, (words, text, status) in enumerate((((), SMALL + b"% remark\r\n\n" + SMALL.rstrip(b"\n"), 0),
+                                                        (("--complete",), kinds, 1))):
+            write("list.obf", text)
+            one = run(PROGRAMS["ffoscores"], *words, "list.obf")
+            self.assertEqual(one.returncode, status)
+            for before in (0, -(-len(text.splitlines()) // 50)):
+                self.ends(status, one.stdout, f", {before} of them solved before", "--scores", *words, "--lines=50",
+                          f"work{number}", "list.obf")
+
+    def test_cut_parts_are_solved_by_their_script(self):
+        """As another scheduler does, and joined without parallel."""
+        told = b"3 parts, 0 of them solved; sh work/run-*/solve NAME solves one, from 0000000 to 0000002\n"
+        self.same("--cut", *self.WORDS, text=told)
+        self.assertEqual([path.name for path in self.place("parts").iterdir() if "." in path.name], [])
+        self.assertFalse(Path("work/log").exists())
+        for name in ("0000000", "parts/0000002"):
+            self.assertEqual(self.same("-c", f"sh work/run-*/solve {name}", by="sh", text=b""), "")
+        self.same("--cut", *self.WORDS, text=told.replace(b" 0 of", b" 2 of"))
+        self.same(*self.WORDS, told="in 3 parts, 2 of them solved before")
+        Path("tools").mkdir()
+        os.symlink(sys.executable, "tools/python3")
+        self.same(*self.WORDS, places={"PATH": str(self.folder / "tools")})
         self.same_book()
-        self.assertEqual(next(Path("work").glob("run-*/book-in")).read_bytes(), Path("one.book").read_bytes())
-        self.assertIn("--book-in=book-in", next(Path("work").glob("run-*/solve")).read_text())
 
-    def test_book_has_the_header_of_its_scoring(self):
-        for scoring in ("discs", "sign"):
-            self.one = self.solve("--scoring", scoring, "list.obf")
-            self.same("--lines=20", "--scoring", scoring, scoring, "list.obf", "--book-out", "joined.book")
-            self.assertEqual(Path("joined.book").read_text().splitlines()[0], f"% ffobook 2 {scoring}")
-            self.same_book()
-
-    def test_lines_of_each_kind(self):
-        kinds = (ROOT / "examples/kinds.obf").read_bytes()
-        blank = b"\r\n \t\n\t % X\n% no end of the last line\n\r\r\n \r\n"
-        write(Path("list.obf"), kinds + blank + kinds.rstrip(b"\n"))
-        self.one = self.solve("list.obf")
-        for lines in (4, 1000):
-            self.same("--lines", lines, f"work{lines}", "list.obf", "--book-out", "joined.book")
-            self.same_book()
-
-    def test_empty_list(self):
-        write(Path("list.obf"), b"")
-        self.same("work", "list.obf", "--book-out", "book", text=b"[1]\nsolved 0 refused 0\n")
-        self.assertEqual(Path("book").read_text(), "% ffobook 2 winner\n")
-
-    def test_what_is_told(self):
-        told = self.same("--lines=20", "work", "list.obf").stderr.decode().splitlines()
-        self.assertEqual(told, ["ffosolve-many: list.obf: 60 lines in 3 parts, 0 of them solved before; folder work"])
-        self.part("0000001.done").unlink()
-        self.same("--lines=20", "work", "list.obf", told="in 3 parts, 2 of them solved before")
-        self.assertEqual(self.same("--lines=20", "work", "list.obf", "--quiet").stderr, b"")
-
-    def test_environment_of_parallel_changes_nothing(self):
-        Path(".parallel").mkdir()
-        write(Path(".parallel/config"), "--dry-run\n")
-        other = {"PARALLEL": "--dry-run", "HOME": str(self.folder), "SHELL": "/bin/false"}
-        self.same("work", "list.obf", env={**os.environ, **other})
-
-    def test_relative_link_to_a_book_is_kept_and_permissions_too(self):
-        write(Path("there"), "% ffobook 2 winner\n", 0o640)
+    def test_book_goes_through_a_link_or_into_a_pipe(self):
+        """A file keeps its permissions."""
+        write("there", "% ffobook 2 winner\n", 0o640)
         os.symlink("there", "joined.book")
-        self.same("work", "list.obf", "--book-out", "joined.book")
-        self.assertTrue(Path("joined.book").is_symlink())
-        self.assertEqual(stat.S_IMODE(os.stat("there").st_mode), 0o640)
+        self.same(*self.WORDS)
+        self.assertEqual((os.path.islink("joined.book"), stat.S_IMODE(os.stat("there").st_mode)), (True, 0o640))
         self.same_book("there")
-
-    def test_part_has_one_thread_if_no_more_are_asked_for(self):
-        by = install("threads", ffosolve='#!/bin/sh\necho "$@" >>"$WORDS"\nexec "@real@" "$@"\n')
-        self.same("--lines=20", "work", "list.obf", by=by, env={**os.environ, "WORDS": str(self.folder / "words")})
-        words = [line.rpartition(" ")[0] for line in Path("words").read_text().splitlines()]
-        self.assertEqual(words, ["--max-empties=20 --scoring=winner --workers=0"] * 4)
-
-    def test_pipe_for_the_book_is_written_to(self):
         os.mkfifo("pipe")
-        reader = subprocess.Popen(["cat", "pipe"], stdout=subprocess.PIPE)
-        self.addCleanup(reader.communicate)
-        self.addCleanup(reader.kill)
-        self.same("--lines=20", "work", "list.obf", "--book-out", "pipe")
+        with subprocess.Popen(["cat", "pipe"], stdout=subprocess.PIPE) as reader:
+            self.addCleanup(reader.kill)
+            self.same(*self.WORDS[:-1], "pipe")
+            self.assertEqual(reader.communicate(timeout=SECONDS)[0], Path("one.book").read_bytes())
         self.assertTrue(stat.S_ISFIFO(os.stat("pipe").st_mode))
-        self.assertEqual(reader.communicate(timeout=SECONDS)[0], Path("one.book").read_bytes())
 
     def test_book_that_cannot_be_written_is_told(self):
         try:
@@ -409,250 +365,153 @@ class Results(Case):
             open("full", "rb").close()
         except PermissionError:
             self.skipTest("devices are made by root alone, on a file system that takes them")
-        ran = self.many("work", "list.obf", "--book-out", "full")
-        self.assertEqual((ran.returncode, ran.stdout), (3, self.one))
-        self.assertIn(b"ffosolve-many: cannot write full: No space left on device\n", ran.stderr)
+        self.ends(3, self.one, "ffosolve-many: cannot write full: No space left on device\n", *self.WORDS[:-1], "full")
         self.assertTrue(stat.S_ISCHR(os.stat("full").st_mode))
 
-    def test_books_of_many_parts_are_merged_with_few_open_files(self):
-        lines = Path("one.book").read_bytes().splitlines(keepends=True)
-        paths = [self.folder / f"{number}.book" for number in range(400)]
-        for number, path in enumerate(paths):
-            write(path, lines[0] + lines[1 + number % (len(lines) - 1)])
-        limits = resource.getrlimit(resource.RLIMIT_NOFILE)
-        resource.setrlimit(resource.RLIMIT_NOFILE, (256, limits[1]))
-        try:
-            write(Path("joined.book"), b"".join(many.books.whole_book("winner", paths, self.folder)))
-        finally:
-            resource.setrlimit(resource.RLIMIT_NOFILE, limits)
-        self.same_book()
+    def test_count_rises_in_a_log_and_on_a_terminal(self):
+        by, line = install("often", ACTING), re.compile(r"\d+%, .*?\d machines? at work, parts \d+ of \d+, lines (\d+) of ")
+        change_many(by, "watch", "(1 if is_terminal else 60)", "(0.1 if is_terminal else 0.3)")
+        for place, shell in (("log", ("sh", "-c")), ("terminal", ("script", "/dev/null", "-qec"))):
+            command = f"'{by}' --jobs=2 --lines=6 {place} list.obf >report"
+            ran = run(*shell, command, env={**os.environ, "PAUSE": "0.3", "SHELL": "/bin/sh"})
+            self.assertEqual(Path("report").read_bytes(), self.one)
+            told = (ran.stderr or ran.stdout).decode()
+            counts = [int(found[1]) for found in line.finditer(told)]
+            is_one_line = "\033" in told and told.count("\n") == 1  # behind the first, over and over
+            self.assertEqual((counts, is_one_line), (sorted(counts), place == "terminal"))
+            self.assertGreater(len(set(counts)), 2, told)
+        self.assertEqual(self.same("--quiet", "--lines=6", "list.obf", by=by, places={"PAUSE": "0.3"}), "")
 
     def test_output_that_fails_is_told(self):
-        with open("/dev/full", "wb") as full:
-            ran = subprocess.run([MANY, "--quiet", "list.obf"], stdin=subprocess.DEVNULL, stdout=full,
-                                 stderr=subprocess.PIPE, timeout=SECONDS, check=False)
-        self.assertEqual(ran.returncode, 3)
-        self.assertEqual(ran.stderr, b"ffosolve-many: cannot write standard output: No space left on device\n")
-        ran = run("sh", "-c", f'"{MANY}" --quiet list.obf >&-')
-        told = b"ffosolve-many: cannot write standard output: it is closed\n"
-        self.assertEqual((ran.returncode, ran.stderr), (3, told))
-        self.same("list.obf", told=", 1 of them solved before")
-
-    def test_output_that_nobody_reads_any_more_ends_the_program_as_others(self):
+        """On a full disk, or closed. Where nobody reads it any more, it ends the program as others."""
         for words in (("list.obf",), ("--help",), ("--merge-books", "one.book")):
+            for output, why in ((">/dev/full", "No space left on device"), (">&-", "it is closed")):
+                ran = run("sh", "-c", f'exec "$0" --quiet "$@" {output}', MANY, *words)
+                told = f"ffosolve-many: cannot write standard output: {why}\n"
+                self.assertEqual((ran.returncode, ran.stderr.decode()), (3, told), words)
             reading, writing = os.pipe()
             os.close(reading)
-            ran = subprocess.run([MANY, "--quiet", *words], stdin=subprocess.DEVNULL, stdout=writing, stderr=subprocess.PIPE,
-                                 timeout=SECONDS, check=False)
+            ran = run(MANY, "--quiet", *words, capture_output=False, stdout=writing, stderr=subprocess.PIPE)
             os.close(writing)
             self.assertEqual((ran.returncode, ran.stderr), (-signal.SIGPIPE, b""), words)
         self.same("list.obf", told=", 1 of them solved before")
-
-    def test_help_that_cannot_be_written_is_told(self):
-        for word in ("--help", "--version"):
-            with open("/dev/full", "wb") as full:
-                ran = run(MANY, word, capture_output=False, stdout=full, stderr=subprocess.PIPE)
-            told = b"ffosolve-many: cannot write standard output: No space left on device\n"
-            self.assertEqual((ran.returncode, ran.stderr), (3, told), word)
-
-    def test_closed_streams_are_not_taken_for_files(self):
-        ran = run("sh", "-c", f'exec "{MANY}" list.obf <&- 2>&-')
-        self.assertEqual((ran.returncode, ran.stdout, ran.stderr), (0, self.one, b""))
-
-
-class Scores(Case):
-    """Parts solved by ffoscores, here by a program in its place."""
-
-    TOOLS = ("parallel",)
-
-    def test_parts_are_joined_and_the_status_is_that_of_diff(self):
-        text = SMALL + b"% remark\r\n\n" + SMALL.rstrip(b"\n")
-        write(Path("list.obf"), text)
-        self.one = text.replace(b"\r\n", b"\n") + b"\n"
-        self.same("--scores", "--lines=50", "work", "list.obf")
-        write(Path("other.obf"), b"?\n" + text)
-        for _ in range(2):
-            ran = self.many("--lines=50", "work2", "other.obf", "--scores")
-            self.assertEqual((ran.returncode, ran.stdout), (1, b"% refused: ?\n" + self.one))
-        self.assertIn(", 3 of them solved before", ran.stderr.decode())
-
-    def test_scores_with_a_lost_line_are_made_again(self):
-        self.one = SMALL
-        self.same("--scores", "--lines=20", "work", "list.obf")
-        scores = self.part("0000001.scores")
-        scores.write_bytes(scores.read_bytes().partition(b"\n")[2])
-        self.same("--scores", "--lines=20", "work", "list.obf", told=", 2 of them solved before")
-
-    def test_part_that_fails_is_no_remark(self):
-        write(Path("list.obf"), SMALL + b"DIE\n")
-        ran = self.many("--scores", "--lines=20", "work", "list.obf")
-        self.assertEqual((ran.returncode, ran.stdout), (3, b""))
-        self.assertIn("not solved: 1 of 4 parts: part 0000003 (lines 61 to 61)", ran.stderr.decode())
-
-    def test_program_whose_lines_are_fewer_is_not_believed(self):
-        part = many.parts.Part("0000000", 1, 3, "")
-        place = self.folder / "run-1/parts"
-        place.mkdir(parents=True)
-        one = many.parts.Run(self.folder, "run-1", [part], "winner", True, False)
-        for text, is_whole in ((b"a\nb\nc\n", True), (b"a\nb\n", False), (b"a\nb\nc", False), (b"a\nb\nc\nd\n", False)):
-            write(place / "0000000.scores", text)
-            self.assertEqual(one.is_whole(part), is_whole)
-
-    def test_books_are_refused(self):
-        for words in (("--book-in", "one.book"), ("--book-out", "b")):
-            self.refused(2, f"{words[0]} is not an option of ffoscores", "--scores", "list.obf", *words)
-
-    def test_options_come_to_the_program_of_each_part(self):
-        self.one = SMALL
-        how = {"env": {**os.environ, "WORDS": str(self.folder / "words")}}
-        for words, given in (((), "--max-empties=20 --scoring=winner --workers=0"),
-                             (("--complete",), "--max-empties=20 --scoring=winner --workers=0 --complete"),
-                             (("--max-empties=7", "--scoring=discs", "--table=9", "--workers=1"),
-                              "--max-empties=7 --scoring=discs --workers=1 --table=9")):
-            self.same("--scores", "--lines=20", f"work{len(words)}", "list.obf", *words, **how)
-            self.assertEqual(Path("words").read_text().splitlines(), [given] * 4)  # one of them with an empty list
-            Path("words").unlink()
-
-    def test_folder_is_kept_to_complete_or_not(self):
-        """An earlier version, which did not know --complete, began its folders without it."""
-        self.one = SMALL
-        self.same("--scores", "work", "list.obf")
-        self.refused(2, "work was begun without --complete: use another folder", "--scores", "--complete", "work", "list.obf")
-        self.same("--scores", "--complete", "work2", "list.obf")
-        self.refused(2, "work2 was begun with --complete: use another folder", "--scores", "work2", "list.obf")
-        asked = Path("work/asked.json").read_text()
-        Path("work/asked.json").write_text(asked.replace('  "--complete": false,\n', ""))
-        self.assertNotEqual(Path("work/asked.json").read_text(), asked)
-        self.same("--scores", "work", "list.obf", told=", 1 of them solved before")
-
-    def test_missing_program_is_told(self):
-        self.refused(4, "ffoscores is missing: it has to be next to ffosolve-many", "--scores", "list.obf", by=SLOWLY)
-
-    def test_scores_of_the_program_itself(self):
-        write(Path("list.obf"), SMALL + (ROOT / "examples/kinds.obf").read_bytes())
-        by = install("scoring")
-        itself = shutil.copy(built("ffoscores"), by.parent)
-        for words in ((), ("--complete",)):
-            one = run(itself, *words, "list.obf")
-            self.assertEqual(one.returncode, 1, one)
-            ran = self.many("--scores", *words, "--lines=10", f"work{len(words)}", "list.obf", by=by)
-            self.assertEqual((ran.returncode, ran.stdout), (one.returncode, one.stdout), ran.stderr)
+        self.same("-c", f'exec "{MANY}" list.obf <&- 2>&-', by="sh")  # closed streams are not taken for files
 
 
 class Resuming(Case):
     """Nothing is lost, and nothing is taken that is not whole."""
 
-    TOOLS = ("parallel",)
-
-    WORDS = ("--lines=20", "work", "list.obf", "--book-out", "joined.book")
-
-    def begin(self):
-        self.same(*self.WORDS)
+    def begin(self, *words):
+        self.same(*self.WORDS, *words)
         Path("joined.book").unlink()
 
-    def again(self, solved):
+    def again(self, solved, *words, **how):
         """The command again solves just the other parts, and gives what one run does."""
-        self.same(*self.WORDS, told=f"in 3 parts, {solved} of them solved before;")
+        self.same(*self.WORDS, *words, told=f"in 3 parts, {solved} of them solved before;", **how)
         self.same_book()
         Path("joined.book").unlink()
 
+    def begun(self):
+        """How many parts the last command began."""
+        return Path("work/log").read_text().rpartition("\twork\t")[2].count("\tbegin\t")
+
     def test_part_whose_results_are_not_whole_is_solved_again(self):
+        """Each of its files is spoiled in a part of its own: gone, or as a loss of power does."""
         self.begin()
         self.again(3)
-        for ending in ("report", "book", "done"):
-            path = self.part(f"0000001.{ending}")
-            whole = path.read_bytes()
-            self.spoil(path, whole)
+        paths = [self.place(name) for name in ("parts/0000000.report", "parts/0000001.book", "parts/0000002.done")]
+        wholes = [path.read_bytes() for path in paths]
+        for spoil in (None, lambda _: b"", lambda whole: whole[:whole[:-1].rindex(b"\n") + 1], lambda whole: bytes(len(whole))):
+            for path, whole in zip(paths, wholes):
+                path.write_bytes(spoil(whole)) if spoil else path.unlink()
+            self.again(0)
+            self.assertEqual([path.read_bytes() for path in paths], wholes)
 
-    def spoil(self, path, whole):
-        """Spoils a result as a loss of power does."""
-        lines = whole.splitlines(keepends=True)
-        for spoiled in (None, b"", b"".join(lines[:-1]), bytes(len(whole))):
-            if spoiled is None:
-                path.unlink()
-            else:
-                path.write_bytes(spoiled)
-            self.again(2)
-            self.assertEqual(path.read_bytes(), whole)
+    def test_scores_are_whole_with_a_line_for_each_of_the_part(self):
+        part = Part("0000000", 1, 3, "")
+        one = Run(self.folder, "run-1", [part], "winner", True, False)
+        Path("run-1/parts").mkdir(parents=True)
+        for text, is_whole in ((b"a\nb\nc\n", True), (b"a\nb\n", False), (b"a\nb\nc", False), (b"a\nb\nc\nd\n", False)):
+            write("run-1/parts/0000000.scores", text)
+            self.assertEqual(one.is_whole(part), is_whole)
 
     def test_results_of_another_part_or_another_run_are_not_taken(self):
         self.begin()
         for ending in ("report", "book", "done"):
-            shutil.copy(self.part(f"0000000.{ending}"), self.part(f"0000001.{ending}"))
+            shutil.copy(self.place(f"parts/0000000.{ending}"), self.place(f"parts/0000001.{ending}"))
         self.again(2)
-        done = self.part("0000002.done")
+        done = self.place("parts/0000002.done")
         done.write_bytes(done.read_bytes().replace(b"run-", b"run_"))
         self.again(2)
 
-    def test_whole_checksums_of_a_report_that_is_none_are_not_believed(self):
+    def test_whole_checksums_of_what_are_no_results_are_not_believed(self):
+        """A report of another line, and a book of another scoring."""
         self.begin()
-        part, report, book = (self.part(f"0000000{ending}") for ending in ("", ".report", ".book"))
-        report.write_bytes(report.read_bytes().replace(b"\n1 ", b"\n2 ", 1))
-        sums = "".join(f"{many.files.digest_of(path)}  -\n" for path in (part, report, book))
-        write(self.part("0000000.done"), f"{next(Path('work').glob('run-*')).name} 0\n{sums}")
-        self.again(2)
-
-    def test_book_of_another_scoring_is_not_believed(self):
-        self.begin()
-        part, report, book = (self.part(f"0000000{ending}") for ending in ("", ".report", ".book"))
-        book.write_bytes(book.read_bytes().replace(b"winner", b"discs", 1))
-        sums = "".join(f"{many.files.digest_of(path)}  -\n" for path in (part, report, book))
-        write(self.part("0000000.done"), f"{next(Path('work').glob('run-*')).name} 0\n{sums}")
-        self.again(2)
+        for name, ending, old, new in (("0000000", ".report", b"\n1 ", b"\n2 "), ("0000001", ".book", b"winner", b"discs")):
+            paths = {ending: self.place(f"parts/{name}{ending}") for ending in ("", ".report", ".book")}
+            paths[ending].write_bytes(paths[ending].read_bytes().replace(old, new, 1))
+            sums = "".join(f"{many.files.digest_of(path)}  -\n" for path in paths.values())
+            write(self.place(f"parts/{name}.done"), f"{self.place().name} 0\n{sums}")
+        self.again(1)
 
     def test_removed_run_is_solved_again(self):
         self.begin()
-        shutil.rmtree(next(Path("work").glob("run-*")))
+        shutil.rmtree(self.place())
         self.same(*self.WORDS, told="is gone: all parts are solved again")
         self.same_book()
 
     def test_folder_keeps_the_program_that_it_was_begun_with(self):
         self.begin()
-        kept = next(Path("work").glob("run-*")) / "program"
-        before = kept.read_bytes()
-        self.part("0000001.done").unlink()
-        self.same(*self.WORDS, by=install("another program", ffosolve='#!/bin/sh\nexec "@real@" "$@"\n'), told=", 2 of them solved before")
-        self.assertEqual(kept.read_bytes(), before)
+        before = self.place("program").read_bytes()
+        self.place("parts/0000001.done").unlink()
+        self.again(2, by=ACTS)
+        self.assertEqual(self.place("program").read_bytes(), before)
 
     def test_spoiled_parts_and_tools_are_laid_again(self):
-        self.begin()
-        for name in ("parts/0000001", "program", "solve"):
-            path = next(Path("work").glob("run-*")) / name
-            whole = path.read_bytes()
+        read = "--book-in=one.book"
+        self.begin(read)
+        self.assertIn("--book-in=book-in", self.place("solve").read_text())
+        before = {path: path.read_bytes() for path in map(self.place, ("parts/0000001", "program", "solve", "book-in"))}
+        for path, whole in before.items():
             write(path, whole[:-5])
-            self.again(3)
-            self.assertEqual(path.read_bytes(), whole)
-
-    def test_book_wanted_later_is_told(self):
-        self.same("--lines=20", "work", "list.obf")
-        self.refused(2, "work was begun without --book-out: use another folder, or the same options", *self.WORDS)
-        self.refused(2, "work was begun without --book-in and without --book-out: ", "--book-in=one.book", *self.WORDS)
-        self.same("--lines=20", "work", "list.obf", told=", 3 of them solved before")
+        self.again(3, read)
+        self.assertEqual({path: path.read_bytes() for path in before}, before)
 
     def test_other_options_are_told_by_name(self):
-        words = ("--lines=20", "--scoring=discs", "--max-empties=7", "--book-in=one.book", "work", "list.obf")
-        write(Path("other.book"), b"% ffobook 2 winner\n")
+        words = ("--lines=20", "--scoring=discs", "--max-empties=7", "--complete", "--book-in=one.book", "work", "list.obf")
+        write("other.book", b"% ffobook 2 winner\n")
         self.one = self.solve("--scoring=discs", "list.obf")
         self.same(*words)
         for old, new, told in (("--lines=20", "--lines=21", "with --lines 20"),
                                ("--scoring=discs", "--scoring=sign", "with --scoring discs"),
                                ("--max-empties=7", "--max-empties=8", "with --max-empties 7"),
+                               ("--complete", "--quiet", "with --complete"),
+                               ("--complete", "--book-out=new", "with --complete and without --book-out"),
                                ("--book-in=one.book", "--book-in=other.book", "with another book as --book-in"),
                                ("--book-in=one.book", "--quiet", "with --book-in")):
-            self.refused(2, f"begun {told}: use another folder, or the same options",
+            self.refused(2, f"work was begun {told}: use another folder, or the same options",
                          *(new if word == old else word for word in words))
         self.refused(2, "begun with --lines 20 and with --scoring discs and with --max-empties 7 and without --scores "
-                        "and with --book-in: use another folder", "--scores", "work", "list.obf")
+                        "and with --complete and with --book-in: use another folder", "--scores", "work", "list.obf")
         self.same(*words, "--table=9", "--workers=1", "--jobs=3", told=", 3 of them solved before")
+
+    def test_folder_of_an_earlier_version(self):
+        """Which did not know --complete."""
+        self.begin()
+        asked = Path("work/asked.json").read_text()
+        write("work/asked.json", asked.replace('  "--complete": false,\n', ""))
+        self.assertNotEqual(Path("work/asked.json").read_text(), asked)
+        self.refused(2, "work was begun without --complete and without --book-in: use another folder", *self.WORDS,
+                     "--complete", "--book-in=one.book")
+        self.again(3)
 
     def test_list_that_grew_at_its_end_goes_on(self):
         self.begin()
-        write(Path("list.obf"), SMALL + SMALL[:68 * 30])
-        self.one = self.solve("list.obf")
-        self.same(*self.WORDS, told="90 lines in 5 parts, 3 of them solved before")
-        write(Path("list.obf"), SMALL + SMALL[:68 * 30] + b"% more" + SMALL[:68 * 40])
-        self.one = self.solve("list.obf")
-        self.same(*self.WORDS, told="130 lines in 7 parts, 4 of them solved before")
+        for text, told in ((SMALL[:68 * 30], "90 lines in 5 parts, 3 of them"),
+                           (SMALL[:68 * 30] + b"% more" + SMALL[:68 * 40], "130 lines in 7 parts, 4 of them")):
+            write("list.obf", SMALL + text)
+            self.one = self.solve("list.obf")
+            self.same(*self.WORDS, told=told)
         self.same_book()
         self.same(*self.WORDS, told="130 lines in 7 parts, 7 of them solved before")
 
@@ -661,159 +520,108 @@ class Resuming(Case):
         lines = SMALL.splitlines(keepends=True)
         for text, line in ((b"".join(lines[:29] + [b"\n"] + lines[30:]), 30), (b"".join(lines[:-1]), 60),
                            (b"%\n" + SMALL, 1), (b"", 1)):
-            write(Path("list.obf"), text)
+            write("list.obf", text)
             self.refused(2, f"from line {line} on: use another folder, or the same list", *self.WORDS)
-        write(Path("list.obf"), SMALL)
+        write("list.obf", SMALL)
         self.again(3)
 
     def test_part_that_failed_is_solved_again_alone(self):
-        write(Path("list.obf"), SMALL + b"% FAIL\n" + SMALL + b"% DIE\n")
+        write("list.obf", SMALL + b"% FAIL\n" + SMALL + b"% DIE\n")
         self.one = self.solve("list.obf")
         for _ in range(2):
-            ran = self.many(*self.WORDS, by=DYINGLY)
-            self.assertEqual((ran.returncode, ran.stdout), (1, b""))
-            self.assertIn("ffosolve: out of memory\n", ran.stderr.decode())
-            self.assertIn("not solved: 2 of 7 parts: part 0000003 (lines 61 to 80), part 0000006 (lines 121 to 122); "
-                          "see work/log", ran.stderr.decode())
-            self.assertFalse(Path("joined.book").exists())
-        self.assertEqual(self.jobs(), 2)
-        shutil.copy(BASE / "plain/bin/ffosolve", next(Path("work").glob("run-*")) / "program")
+            ran = self.ends(1, b"", "not solved: 2 of 7 parts: part 0000003 (lines 61 to 80), part 0000006 (lines 121 to 122); "
+                                    "see work/log", *self.WORDS, by=ACTS)
+            self.assertIn(b"ffosolve: out of memory\n", ran.stderr)
+            self.assertEqual((Path("joined.book").exists(), len([*self.place("parts").glob("000000[36]*")])), (False, 2))
+        self.assertEqual(self.begun(), 2)
+        shutil.copy(PROGRAMS["ffosolve"], self.place("program"))
         self.same(*self.WORDS, told=", 5 of them solved before")
-        self.assertEqual(self.jobs(), 2)
+        self.assertEqual(self.begun(), 2)
         self.same_book()
-
-    def test_folder_without_its_log_goes_on(self):
-        self.begin()
-        self.part("0000002.report").unlink()
-        Path("work/log").unlink()
-        self.again(2)
+        self.ends(3, b"", "not solved: 2 of 7 parts: ", "--scores", "--lines=20", "work2", "list.obf", by=ACTS)
+        self.assertEqual(len([*Path("work2").glob("run-*/parts/0000006*")]), 1)
 
     def test_what_killed_runs_left_is_cleared_and_nothing_else(self):
+        """Also where the log is gone."""
         self.begin()
-        strays = [self.part(name) for name in ("0000001.host.12.new.report", "0000001.host.1.new.book.0.part",
-                                               "../program.0123abcd.new", "../../asked.json.0123abcd.new")]
-        kept = [self.part(name) for name in ("mine.new", "copy", "../notes", "../copy", "../../notes.new")]
+        self.place("parts/0000002.report").unlink()
+        Path("work/log").unlink()
+        strays = [self.place(name) for name in ("parts/0000001.host.12.new.report", "parts/0000001.host.1.new.book.0.part",
+                                                "program.0123abcd.new", "../asked.json.0123abcd.new")]
+        kept = [self.place(name) for name in ("parts/mine.new", "parts/copy", "notes", "copy", "../notes.new")]
         for path in strays + kept:
             write(path, "?")
-        self.again(3)
+        self.again(2)
         self.assertEqual([path.exists() for path in strays + kept], [False] * 4 + [True] * 5)
 
 
-class Pipes(Case):
-    """A list or a book that can be read once alone."""
+class Files(Case):
+    """What is read, also by a pipe, and whose folders are taken."""
 
-    TOOLS = ("parallel",)
-
-    def test_piped_list_is_solved(self):
-        self.same("--lines=20", "work", "/dev/stdin", told="60 lines in 3 parts", by=self.piped("list.obf"))
-        self.same("--lines=20", "work", "/dev/stdin", told=", 3 of them solved before", by=self.piped("list.obf"))
-        names = [path.name for path in Path("work").iterdir() if not path.is_dir()]
-        self.assertEqual(sorted(names), ["asked.json", "lock", "log"])
-        write(Path("list.obf"), SMALL[68:])
-        ran = self.many("--lines=20", "work", "/dev/stdin", by=self.piped("list.obf"))
-        self.assertEqual(ran.returncode, 2)
-        self.assertIn("/dev/stdin is not the list that work was begun with, from line 1 on", ran.stderr.decode())
-
-    def piped(self, name):
-        """A command of ffosolve-many that has a file on standard input, by a pipe."""
-        script = self.folder / "piped"
-        write(script, f'#!/bin/sh\ncat {name} | exec "{MANY}" "$@"\n', 0o755)
-        return script
-
-    def test_piped_book_is_read(self):
-        self.same("work", "fifo.obf", "--book-in", "fifo.book", "--book-out", "joined.book",
-                  by=self.fed("fifo.obf=list.obf", "fifo.book=one.book"))
-        self.same_book()
-        self.assertEqual(next(Path("work").glob("run-*/book-in")).read_bytes(), Path("one.book").read_bytes())
-        self.assertEqual(os.listdir(BASE / "tmp"), [])
-
-    def fed(self, *pairs):
-        """A command of ffosolve-many with named pipes that are fed with files."""
-        script = self.folder / "fed"
-        feeds = "".join("mkfifo {0}; cat {1} >{0} & ".format(*pair.split("=")) for pair in pairs)
-        write(script, f'#!/bin/sh\n{feeds}\n"{MANY}" "$@"\nstatus=$?\nwait\nexit $status\n', 0o755)
-        return script
-
-    def test_standard_input_from_a_file(self):
+    def test_list_on_standard_input(self):
+        self.same("--lines=20", "work", "-", told="/dev/stdin: 60 lines in 3 parts", input=SMALL)
+        self.same("--lines=20", "work", "/dev/stdin", told=", 3 of them solved before", input=SMALL)
+        self.assertEqual({path.name for path in Path("work").iterdir()}, {"asked.json", "lock", "log", self.place().name})
         with open("list.obf", "rb") as file:
-            ran = subprocess.run([MANY, "work", "/dev/stdin"], stdin=file, capture_output=True, timeout=SECONDS,
-                                 check=False)
-        self.assertEqual((ran.returncode, ran.stdout), (0, self.one))
+            self.same("--lines=20", "work", "-", told=", 3 of them solved before", stdin=file)
+        self.refused(2, "/dev/stdin is not the list that work was begun with, from line 1 on", "--lines=20", "work", "-",
+                     input=SMALL[68:])
 
-    def test_dash_is_standard_input(self):
-        self.same("--lines=20", "work", "-", told="/dev/stdin: 60 lines in 3 parts", by=self.piped("list.obf"))
-        ran = run("sh", "-c", f'cat one.book | "{MANY}" --merge-books -')
-        self.assertEqual((ran.returncode, ran.stdout), (0, Path("one.book").read_bytes()))
+    def test_piped_list_and_book_are_read(self):
+        self.same("-c", '"$0" work <(cat list.obf) --book-in <(cat one.book) --book-out joined.book', MANY, by="bash")
+        self.same_book()
+        self.assertEqual(self.place("book-in").read_bytes(), Path("one.book").read_bytes())
+        self.assertEqual(os.listdir(BASE / "tmp"), [])
 
     def test_texts_that_are_no_lists_are_refused(self):
         for text, told in ((b"\xef\xbb\xbf" + SMALL, "it begins with a byte-order mark"),
                            (SMALL.decode().encode("utf-16"), "it begins with a byte-order mark"),
                            (SMALL.replace(b"\r", b"").replace(b"\n", b"\r"), "its lines end with CR alone"),
                            (b"\r" + SMALL.partition(b"\n")[0].rstrip(), "its lines end with CR alone")):
-            write(Path("other.obf"), text)
+            write("other.obf", text)
             self.refused(3, f"cannot read other.obf: {told}", "other.obf")
             self.refused(3, f"cannot read /dev/stdin: {told}", "work", "-", input=text)
-        write(Path("list.obf"), SMALL.partition(b"\n")[0].rstrip() + b"\r")  # a line that lacks the end of its end
+        write("list.obf", SMALL.partition(b"\n")[0].rstrip() + b"\r")  # a line that lacks the end of its end
         self.same("list.obf", text=self.solve("list.obf"))
 
     def test_pipe_that_finds_no_room_is_told(self):
         limits = {"preexec_fn": lambda: resource.setrlimit(resource.RLIMIT_FSIZE, (1000, 1000)), "input": SMALL}
         self.refused(3, f"cannot copy /dev/stdin to {BASE}/tmp: File too large", "work", "-", **limits)
 
-    def test_pipe_without_a_folder_is_refused(self):
-        self.refused(2, "'/dev/stdin' has no folder of its own: name a FOLDER before it", "/dev/stdin", input=SMALL)
-
-    def test_refused_pipe_leaves_no_folder(self):
-        self.refused(2, "line 1 of /dev/stdin", "a/b/work", "/dev/stdin", input=b"%" * (many.files.MOST_BYTES + 1))
-        self.refused(2, "part 0000000", "--lines=2", "work", "/dev/stdin",
-                     input=(b"%" * (many.files.MOST_BYTES // 2) + b"\n") * 2)
-
-
-class Folders(Case):
-    """A folder is nobody else's."""
+    def test_part_has_at_most_the_bytes_of_a_file(self):
+        half, most = b"%" * (many.files.MOST_BYTES // 2 - 1) + b"\n", "has more than 1048576 bytes: "
+        Path("empty").mkdir()
+        for text, told in ((b"%" * (many.files.MOST_BYTES + 1), f"line 1 of /dev/stdin {most}no part can hold it"),
+                           (b"\n\n" + (b"%" + half) * 2, f"part 0000001 (from line 3 of /dev/stdin on) {most}use fewer lines, "
+                                                         "such as --lines 1")):
+            for folder in ("a/b/work", "empty"):
+                self.refused(2, told, "--lines=2", folder, "-", input=text)
+        self.assertEqual(self.many("--cut", "--lines=2", "work", "-", input=half * 4).stdout[:8], b"2 parts,")
 
     def test_list_that_changes_while_it_is_read(self):
         by = install("changing")
         laid = "    lay_parts(run, command, source)\n"
         change_many(by, "folder", laid, '    source.write_bytes(source.read_bytes().replace(b"X", b"O", 1))\n' + laid)
-        ran = self.many("--lines=6", "work", "list.obf", by=by)
-        self.assertEqual((ran.returncode, ran.stdout), (3, b""))
-        self.assertIn("list.obf changes while it is read", ran.stderr.decode())
-
-    def test_read_book_that_is_spoiled_in_the_folder_is_laid_anew(self):
-        read = ("--book-in=one.book", "--lines=20", "work", "list.obf")
-        self.same(*read)
-        for path in [*Path("work").glob("run-*/book-in"), *Path("work").glob("run-*/parts/0000001.*")]:
-            write(path, "spoiled\n")
-        self.same(*read, told=", 2 of them solved before")
+        self.ends(3, b"", "list.obf changes while it is read", "--lines=6", "work", "list.obf", by=by)
 
     def test_folder_with_other_files_is_refused_and_untouched(self):
         Path("mine/run-1").mkdir(parents=True)
         for name in ("log", "run-1/parts", "lock", "copy", "a.new"):
             write(Path("mine", name), "mine")
-        self.refused(2, "mine has files that are not ffosolve-many's, as a.new: name a new or an empty folder",
-                     "mine", "list.obf")
-        self.assertEqual(sorted(path.read_text() for path in Path("mine").rglob("*") if path.is_file()), ["mine"] * 5)
-        self.refused(2, "name a new or an empty folder", ".", "list.obf")
-        self.assertEqual(Path("list.obf").read_bytes(), SMALL)
+        told = "name a new or an empty folder"
+        self.refused(2, f"mine has files that are not ffosolve-many's, as a.new: {told}", "mine", "list.obf")
+        self.refused(2, told, ".", "list.obf")
         for asked in ("{}", "[]", "", '{"mark": "the work of ffosolve-many, form 1", "run": "; x"}'):
-            write(Path("mine/asked.json"), asked)
-            self.refused(2, "name a new or an empty folder", "mine", "list.obf")
-        for names in (("copy",), ("lock", "copy"), ("a.new",), ("lock", "a.new"), ("lock", "log")):
-            with tempfile.TemporaryDirectory(dir=".") as folder:
-                for name in names:
-                    write(Path(folder, name), "")
-                self.refused(2, "name a new or an empty folder", folder, "list.obf")
-                self.assertEqual(sorted(os.listdir(folder)), sorted(names))
+            write("mine/asked.json", asked)
+            self.refused(2, told, "mine", "list.obf")
+        for names in ("copy", "lock copy", "a.new", "lock a.new", "lock log"):
+            Path(names).mkdir()
+            for name in names.split():
+                write(Path(names, name), "")
+            self.refused(2, told, names, "list.obf")
 
-    def test_empty_folder_is_taken(self):
-        need("parallel", "parallel")
-        Path("work").mkdir()
-        self.same("work", "list.obf")
-
-    def test_folder_that_was_just_begun_is_taken(self):
-        need("parallel", "parallel")
-        for names in (("lock",), ("lock", "asked.json.0123abcd.new")):
+    def test_folder_that_is_empty_or_was_just_begun_is_taken(self):
+        for names in ((), ("lock",), ("lock", "asked.json.0123abcd.new")):
             Path("work").mkdir()
             for name in names:
                 write(Path("work", name), many.folder.MARK if len(names) > 1 else "")
@@ -821,202 +629,121 @@ class Folders(Case):
             self.assertEqual([*Path("work").glob("*.new")], [])
             shutil.rmtree("work")
 
-    def test_place_that_cannot_be_written_is_told(self):
-        self.refused(3, "cannot write /proc/work", "/proc/work", "list.obf")
-        self.refused(2, "'list.obf' is not a folder", "list.obf", "list.obf")
-        write(Path("list.obf.parts"), "")
-        self.refused(2, "'list.obf.parts' is not a folder", "list.obf")
-
-    def test_refused_command_leaves_an_empty_folder_empty(self):
-        Path("work").mkdir()
-        self.refused(2, "line 1 of /dev/stdin", "work", "/dev/stdin", input=b"%" * (many.files.MOST_BYTES + 1))
-        self.assertEqual(os.listdir("work"), [])
-
 
 class Words(Case):
     """What is refused, each by a line that names the word."""
 
     def test_command_lines(self):
-        write(Path("two.obf"), SMALL)
-        write(Path("bad.book"), b"?\n")
-        write(Path("empty.hosts"), b"# none\n")
-        for status, told, words in (
-                (2, "no list is named", ()),
-                (2, "'two.obf' is one word too many", ("work", "list.obf", "two.obf")),
-                (2, "'list.obf' is not a folder: name one FOLDER and one LIST", ("list.obf", "two.obf")),
-                (2, "'-x' is not an option; a file of that name is ./-x", ("-x",)),
-                (2, "'/dev/stdin' has no folder of its own", ("-",)),
-                (2, "'--joobs=2' is not an option", ("list.obf", "--joobs=2")),
-                (2, "'--line' is not an option", ("--line", "5", "list.obf")),
-                (2, "'-rf *' is not an option", ("-rf *", "list.obf")),
-                (2, "'' is not the name of a file", ("work", "")),
-                (2, "--jobs: takes a number from 1 to 999, not '0'", ("--jobs", "0", "list.obf")),
-                (2, "--jobs: takes a number from 1 to 999, not '1_0'", ("--jobs=1_0", "list.obf")),
-                (2, "--lines: takes a number from 1 to 10000, not '10001'", ("list.obf", "--lines", "10001")),
-                (2, "--lines: expected one argument", ("list.obf", "--lines")),
-                (2, "--lines is given twice", ("list.obf", "--lines=5", "--lines=6")),
-                (2, "--book-out is given twice", ("list.obf", "--book-out=a", "--book-out=b")),
-                (2, "--book-out '': the value is empty", ("list.obf", "--book-out", "")),
-                (2, "--book-in '': the value is empty", ("list.obf", "--book-in=")),
-                (2, "--book-out /dev/stdout is standard output", ("list.obf", "--book-out", "/dev/stdout")),
-                (2, "--book-out ./list.obf is the list", ("list.obf", "--book-out", "./list.obf")),
-                (3, "cannot write none/book", ("list.obf", "--book-out", "none/book")),
-                (3, "cannot write /proc/book", ("list.obf", "--book-out", "/proc/book")),
-                (3, "cannot write .", ("list.obf", "--book-out", ".")),
-                (3, "cannot read none.obf: it is not there", ("none.obf",)),
-                (3, "cannot read .: it is a folder", ("work", ".")),
-                (3, "cannot read none.book: it is not there", ("list.obf", "--book-in", "none.book")),
-                (3, "cannot read none: it is not there", ("list.obf", "--hosts", "none")),
-                (2, "empty.hosts names no machine", ("list.obf", "--hosts", "empty.hosts")),
-                (2, "part 0000000 (from line 1 of big.obf on) has more than 1048576 bytes: use fewer lines, "
-                    "such as --lines 2", ("big.obf",)),
-                (2, "--merge-books names no book", ("--merge-books",)),
-                (2, "--lines is not an option of --merge-books", ("--merge-books", "--lines=5", "one.book"))):
-            if "big.obf" in words:
-                write(Path("big.obf"), (b"%" * 400_000 + b"\n") * 3)
+        for name, text in (("two.obf", SMALL), ("two.obf.parts", ""), ("kept", SMALL), ("empty.hosts", "# none\n")):
+            write(name, text)
+        os.symlink("kept", "link")
+        read = "one.book is read and would be overwritten: write --book-out NEW, then ffosolve-many --merge-books one.book NEW"
+        for status, told, *words in (
+                (2, "no list is named"),
+                (2, "'two.obf' is one word too many", "work", "list.obf", "two.obf"),
+                (2, "'list.obf' is not a folder: name one FOLDER and one LIST", "list.obf", "two.obf"),
+                (2, "'two.obf.parts' is not a folder", "two.obf"),
+                (3, "cannot write /proc/work", "/proc/work", "list.obf"),
+                (2, "'-x' is not an option; a file of that name is ./-x", "-x"),
+                (2, "'/dev/stdin' has no folder of its own: name a FOLDER before it", "-"),
+                (2, "'--joobs=2' is not an option", "list.obf", "--joobs=2"),
+                (2, "'--line' is not an option", "--line", "5", "list.obf"),
+                (2, "'-rf *' is not an option", "-rf *", "list.obf"),
+                (2, "'' is not the name of a file", "work", ""),
+                (2, "--jobs: takes a number from 1 to 999, not '0'", "--jobs", "0", "list.obf"),
+                (2, "--jobs: takes a number from 1 to 999, not '1_0'", "--jobs=1_0", "list.obf"),
+                (2, "--lines: takes a number from 1 to 10000, not '10001'", "list.obf", "--lines", "10001"),
+                (2, "--lines: expected one argument", "list.obf", "--lines"),
+                (2, "--lines is given twice", "list.obf", "--lines=5", "--lines=6"),
+                (2, "--book-out is given twice", "list.obf", "--book-out=a", "--book-out=b"),
+                (2, "--book-out '': the value is empty", "list.obf", "--book-out", ""),
+                (2, "--book-in '': the value is empty", "list.obf", "--book-in="),
+                (2, "--book-in is not an option of ffoscores", "--scores", "list.obf", "--book-in=one.book"),
+                (2, "--book-out is not an option of ffoscores", "--scores", "list.obf", "--book-out=b"),
+                (2, "--book-out /dev/stdout is standard output", "list.obf", "--book-out", "/dev/stdout"),
+                (2, "--book-out ./list.obf is the list", "list.obf", "--book-out", "./list.obf"),
+                (3, "cannot write none/book", "list.obf", "--book-out", "none/book"),
+                (3, "cannot write /proc/book", "list.obf", "--book-out", "/proc/book"),
+                (3, "cannot write .", "list.obf", "--book-out", "."),
+                (3, "link is no book and would be overwritten", "list.obf", "--book-out", "link"),
+                (3, "kept is no book and would be overwritten", "--merge-books", "one.book", "--book-out", "kept"),
+                (3, read, "list.obf", "--book-in=one.book", "--book-out=one.book"),
+                (3, "cannot read none.obf: it is not there", "none.obf"),
+                (3, "cannot read .: it is a folder", "work", "."),
+                (3, "cannot read none.book: it is not there", "list.obf", "--book-in", "none.book"),
+                (3, "cannot read none: it is not there", "list.obf", "--hosts", "none"),
+                (2, "empty.hosts names no machine", "list.obf", "--hosts", "empty.hosts"),
+                (2, "--merge-books names no book", "--merge-books"),
+                (2, "--lines is not an option of --merge-books", "--merge-books", "--lines=5", "one.book"),
+                (3, "cannot read none.book", "--merge-books", "one.book", "none.book")):
             with self.subTest(words=words):
                 self.refused(status, told, *words)
 
-    def test_what_is_no_book_is_not_overwritten(self):
-        os.symlink("kept", "link")
-        for text, name in ((SMALL, "kept"), (b"\n", "link"), (b"% ffobook 3 winner\n", "kept")):
-            write(Path("kept"), text)
-            for words in (("list.obf",), ("--merge-books", "one.book")):
-                self.refused(3, f"{name} is no book and would be overwritten", *words, "--book-out", name)
-            self.assertEqual(Path("kept").read_bytes(), text)
-        for text in (b"", b"% ffobook 2 sign\r\nX"):
-            write(Path("taken"), text)
-            self.assertEqual(self.many("--merge-books", "one.book", "--book-out", "taken").returncode, 0)
-            self.same_book("taken")
-
-    def test_book_that_may_not_be_written_stays(self):
-        if os.geteuid() != 0:
-            self.skipTest("root alone becomes another user")
-        before = b"% ffobook 2 winner\n"
-        write(Path("kept"), before, 0o444)
-        for path in (self.folder, BASE, BASE / "tmp"):
-            path.chmod(0o777)
-        for words in (("list.obf",), ("--merge-books", "one.book")):
-            self.refused(3, "cannot write kept", *words, "--book-out", "kept", user=65534, group=65534)
-        self.assertEqual(Path("kept").read_bytes(), before)
-
-    def test_book_that_is_read_is_not_overwritten(self):
-        before = Path("one.book").read_bytes()
-        os.symlink("one.book", "link")
-        os.link("one.book", "twin")
-        for read, name in (("one.book", "one.book"), ("one.book", "./one.book"), ("link", "one.book"), ("one.book", "twin")):
-            self.refused(3, f"{name} is read and would be overwritten: write --book-out NEW, then ffosolve-many "
-                            f"--merge-books {name} NEW", "list.obf", "--book-in", read, "--book-out", name)
-        self.assertEqual(Path("one.book").read_bytes(), before)
-
     def test_what_the_program_refuses(self):
-        write(Path("bad.book"), b"?\n")
-        for status, told, words in ((2, "61", ("--max-empties", 61)), (2, "-1", ("--max-empties=-1",)),
-                                    (2, "a;b", ("--scoring", "a;b")), (2, "x", ("--workers=x",)),
-                                    (2, "--table", ("--table=5000000",)),
-                                    (3, "book line 1: bad square at column 1", ("--book-in", "bad.book"))):
-            ran = self.many("work", "list.obf", *words)
-            self.assertEqual((ran.returncode, ran.stdout), (status, b""), ran)
-            self.assertIn(told, ran.stderr.decode())
+        write("bad.book", b"?\n")
+        for status, told, *words in ((2, "'61'", "--max-empties", 61), (2, "'a;b'", "--scoring", "a;b"), (2, "'x'", "--workers=x"),
+                                     (2, "'5000000'", "--table=5000000"), (3, "book line 1: bad square", "--book-in=bad.book")):
+            self.ends(status, b"", told, "work", "list.obf", *words)
             self.assertFalse(Path("work").exists())
 
     def test_help_and_version_in_any_place(self):
         for words in (("--help",), ("-h",), ("list.obf", "--help"), ("work", "-h", "list.obf")):
-            ran = self.many(*words, env={**os.environ, "COLUMNS": "80"})
+            ran = self.many(*words, places={"COLUMNS": "80"})
             self.assertEqual((ran.returncode, ran.stderr), (0, b""))
-            self.assertTrue(ran.stdout.startswith(b"usage: ffosolve-many [OPTIONS] [FOLDER] LIST"), ran.stdout)
-            self.assertLessEqual(max(map(len, ran.stdout.splitlines())), 80)
-            self.assertEqual(ran.stdout.count(b"\n  ffosolve-many "), 2)
-            for option in ("--jobs N", "--lines N", "--hosts FILE", "--cut", "--scores", "--merge-books", "--quiet",
-                           "--book-out FILE"):
-                self.assertIn(option, ran.stdout.decode())
+            told = ran.stdout.decode()
+            self.assertTrue(told.startswith("usage: ffosolve-many [OPTIONS] [FOLDER] LIST"), told)
+            self.assertLessEqual(max(map(len, told.splitlines())), 80)
+            self.assertEqual(told.count("\n  ffosolve-many "), 2)
         self.assertFalse(Path("list.obf.parts").exists())
         by = install("versioned")
         write(by.parent.parent / "VERSION", "1.2.3\n")
         for word in ("-V", "--version"):
-            ran = self.many("list.obf", word, by=by)
-            self.assertEqual((ran.returncode, ran.stdout, ran.stderr), (0, b"ffosolve-many 1.2.3\n", b""))
+            self.assertEqual(self.same("list.obf", word, by=by, text=b"ffosolve-many 1.2.3\n"), "")
 
-    def test_program_that_is_another_is_told(self):
-        by = install("another", ffosolve="#!/bin/sh\n:\n")
+    def test_programs_and_tools_that_are_missing_or_others(self):
+        by = install("lacking", "#!/bin/sh\n:\n")
         self.refused(4, "is not the program ffosolve", "list.obf", by=by)
-        (by.parent / "ffosolve").unlink()
-        self.refused(4, "ffosolve is missing: it has to be next to ffosolve-many", "list.obf", by=by)
-
-    def test_missing_tools_are_told(self):
+        for name, words in (("ffosolve", ()), ("ffoscores", ("--scores",))):
+            by.with_name(name).unlink()
+            self.refused(4, f"{name} is missing: it has to be next to ffosolve-many", *words, "list.obf", by=by)
         Path("tools").mkdir()
         os.symlink(sys.executable, "tools/python3")
-        how = {"env": {**os.environ, "PATH": str(self.folder / "tools")}}
+        how = {"places": {"PATH": str(self.folder / "tools")}}
         self.refused(4, "parallel is not on the path: apt-get install parallel", "list.obf", **how)
-        write(Path("tools/parallel"), "#!/bin/sh\necho moreutils\n", 0o755)
+        write("tools/parallel", "#!/bin/sh\necho moreutils\n", 0o755)
         for tool in ("sha256sum", "flock"):
             os.symlink(shutil.which(tool), f"tools/{tool}")
         self.refused(4, "parallel on the path is not GNU parallel", "list.obf", **how)
 
     def test_output_onto_the_list_is_refused(self):
-        need("parallel", "parallel")
-        ran = run("sh", "-c", f'"{MANY}" work list.obf >>list.obf')
-        self.assertEqual(ran.returncode, 2)
-        self.assertIn("standard output is the list list.obf", ran.stderr.decode())
-        self.assertEqual(Path("list.obf").read_bytes(), SMALL)
-        ran = run("sh", "-c", f'"{MANY}" work list.obf --book-out both >both')
-        self.assertIn("--book-out both is standard output, where the report goes", ran.stderr.decode())
-
-
-class Cutting(Case):
-    """Parts that another scheduler solves."""
-
-    TOOLS = ("parallel",)
-
-    def test_cut_parts_are_solved_by_their_script(self):
-        words = ("--lines=20", "work", "list.obf", "--book-out", "joined.book")
-        ran = self.many("--cut", *words)
-        told = b"3 parts, 0 of them solved; sh work/run-*/solve NAME solves one, from 0000000 to 0000002\n"
-        self.assertEqual((ran.returncode, ran.stdout), (0, told))
-        self.assertEqual([path.name for path in Path("work").glob("run-*/parts/*") if "." in path.name], [])
-        self.assertFalse(Path("work/log").exists())
-        for name in ("0000000", "parts/0000002"):
-            ran = run("sh", "-c", f"sh work/run-*/solve {name}")
-            self.assertEqual((ran.returncode, ran.stdout, ran.stderr), (0, b"", b""))
-        self.assertTrue(self.many("--cut", *words).stdout.startswith(b"3 parts, 2 of them solved;"))
-        self.same(*words, told="in 3 parts, 2 of them solved before")
-        self.same_book()
-
-    def test_joining_needs_no_parallel(self):
-        words = ("work", "list.obf")
-        self.assertEqual(self.many("--cut", *words).returncode, 0)
-        self.assertEqual(run("sh", "-c", "sh work/run-*/solve 0000000").returncode, 0)
-        Path("tools").mkdir()
-        os.symlink(sys.executable, "tools/python3")
-        self.same(*words, env={**os.environ, "PATH": str(self.folder / "tools")})
-
-    def test_part_that_fails_has_no_results(self):
-        write(Path("list.obf"), b"% FAIL\n")
-        self.many("--cut", "work", "list.obf", by=DYINGLY)
-        ran = run("sh", "-c", "sh work/run-*/solve 0000000")
-        self.assertEqual((ran.returncode, ran.stdout, ran.stderr), (1, b"", b"ffosolve: out of memory\n"))
-        self.assertEqual([path.name for path in Path("work").glob("run-*/parts/*")], ["0000000"])
+        for output, told in (("list.obf", "standard output is the list list.obf"),
+                             ("joined.book", "--book-out joined.book is standard output, where the report goes")):
+            ran = run("sh", "-c", f'"$0" "$@" >>{output}', MANY, *self.WORDS)
+            self.assertEqual((ran.returncode, Path("list.obf").read_bytes()), (2, SMALL))
+            self.assertIn(told, ran.stderr.decode())
 
 
 class Signals(Case):
     """A signal ends all of a run; a lock is kept as long as anything works."""
 
-    TOOLS = ("parallel",)
+    WORDS = ("--jobs=2", "--lines=5", *Case.WORDS[1:])
 
-    WORDS = ("--jobs=2", "--lines=5", "work", "list.obf", "--book-out", "joined.book")
+    def open(self, *program, last="", **how):
+        """The command, which goes on meanwhile, in a session of its own; parts from the number `last` on take 45 seconds."""
+        return subprocess.Popen([*program, *self.WORDS], stdin=subprocess.DEVNULL, stdout=subprocess.PIPE,
+                                stderr=subprocess.PIPE, start_new_session=True, preexec_fn=as_at_a_login,
+                                env={**os.environ, "PAUSE": "0.15", "LAST": str(last)}, **how)
 
-    def start(self, done=2):
-        """A run of twelve parts, once so many are solved, and others that take 45 seconds are at work."""
-        ran = self.open(SLOWLY, env={**os.environ, "LAST": str(done)})
+    def start(self, done):
+        """A run of twelve parts, once so many are solved, and two others are at work."""
+        ran = self.open(ACTS, last=done)
         wait_until(lambda: self.done() >= done)
-        wait_until(lambda: [*self.workers().values()].count("sleep 45 ") == 2)  # both jobs, so that none is being started
+        self.wait_for_sleepers(2)  # both jobs, so that none is being started
         self.assertIsNone(ran.poll(), "it ended too early")
         return ran
 
-    def open(self, *program, **how):
-        """The command, which goes on meanwhile, in a session of its own."""
-        return subprocess.Popen([*program, *self.WORDS], stdin=subprocess.DEVNULL, stdout=subprocess.PIPE,
-                                stderr=subprocess.PIPE, start_new_session=True, preexec_fn=as_at_a_login, **how)
+    def wait_for_sleepers(self, count):
+        wait_until(lambda: [*self.workers().values()].count("sleep 45 ") == count)
 
     def done(self):
         """How many parts are solved."""
@@ -1025,6 +752,14 @@ class Signals(Case):
     def workers(self):
         """The command lines, by their numbers, of processes that work in the test's folder, or that have the lock."""
         return processes_with("cwd", str(self.folder)) | processes_with("fd", str(self.folder / "work/lock"))
+
+    def kill_workers(self):
+        """Kills all that works; gives whether nothing did."""
+        workers = self.workers()
+        for process in workers:
+            with contextlib.suppress(ProcessLookupError):
+                os.kill(process, signal.SIGKILL)
+        return not workers
 
     def tearDown(self):
         wait_until(self.kill_workers)
@@ -1036,457 +771,338 @@ class Signals(Case):
         wait_until(lambda: not self.workers())
         return output, told.decode()
 
+    def whole_at_last(self, told=""):
+        """The command gives what one run does; then the folder is removed."""
+        self.same(*self.WORDS, by=ACTS, told=told)
+        self.same_book()
+        shutil.rmtree("work")
+        Path("joined.book").unlink()
+
     def test_signals_end_all_of_it_and_it_goes_on(self):
-        for number in (signal.SIGTERM, signal.SIGINT, signal.SIGHUP):
-            ran = self.start()
-            self.assertGreater(len(self.workers()), 2)
-            before = self.done()
+        for at, number in enumerate((signal.SIGTERM, signal.SIGINT, signal.SIGHUP, signal.SIGKILL), 1):
+            ran = self.start(2 * at)
             ran.send_signal(number)
-            output, told = ran.communicate(timeout=SECONDS)
-            self.assertEqual(self.workers(), {})
-            self.assertEqual((ran.returncode, output), (-number, b""))
-            self.assertIn(b"interrupted; the same command goes on with what is solved", told)
-            again = self.same(*self.WORDS, by=SLOWLY)
-            self.same_book()
-            told = again.stderr.decode()
-            self.assertGreaterEqual(int(told.partition(" of them solved before")[0].rpartition(" ")[2]), before)
-            shutil.rmtree("work")
+            if number == signal.SIGKILL:
+                self.assertEqual(self.ended(ran)[0], b"")
+            else:
+                output, told = ran.communicate(timeout=SECONDS)
+                self.assertEqual((self.workers(), ran.returncode, output), ({}, -number, b""))
+                self.assertIn(b"interrupted; the same command goes on with what is solved", told)
+        self.whole_at_last("lines in 12 parts, 8 of them solved before")
 
     def test_two_signals_together_end_it_without_a_traceback(self):
-        for one, other in ((signal.SIGINT, signal.SIGTERM), (signal.SIGTERM, signal.SIGINT), (signal.SIGHUP, signal.SIGINT)) * 2:
-            ran = self.start(0)
-            ran.send_signal(signal.SIGSTOP)  # so that both come at once
-            ran.send_signal(one)
-            ran.send_signal(other)
-            ran.send_signal(signal.SIGCONT)
-            _, told = self.ended(ran)
-            self.assertIn(ran.returncode, (-one, -other))
-            self.assertEqual(told.count("\n"), 2, told)
-            self.assertTrue(told.endswith("ffosolve-many: interrupted; the same command goes on with what is solved\n"), told)
+        pairs = [(signal.SIGINT, signal.SIGTERM), (signal.SIGTERM, signal.SIGINT), (signal.SIGHUP, signal.SIGINT)] * 2
+        runs = []
+        for number in range(len(pairs)):
+            Path(f"{number}").mkdir()
+            shutil.copy("list.obf", f"{number}")
+            runs.append(self.open(ACTS, last=0, cwd=f"{number}"))
+        self.wait_for_sleepers(2 * len(runs))
+        for ran, pair in zip(runs, pairs):
+            for one in (signal.SIGSTOP, *pair, signal.SIGCONT):  # so that both come at once
+                ran.send_signal(one)
+        for ran, pair in zip(runs, pairs):
+            _, told = ran.communicate(timeout=SECONDS)
+            self.assertIn(-ran.returncode, pair)
+            self.assertRegex(told.decode(), "^.*\n.*: interrupted; the same command goes on with what is solved\n$")
 
     def test_interrupt_at_the_start_prints_no_traceback(self):
-        by = install("starting", ffosolve=SLOW)
+        by = install("starting")
         change_many(by, "program", "import contextlib\n", "import contextlib, time\nopen('begun', 'w').close()\ntime.sleep(40)\n")
         ran = self.open(by)
         wait_until(Path("begun").exists)
         ran.send_signal(signal.SIGINT)
         self.assertEqual((ran.communicate(timeout=SECONDS), ran.returncode), ((b"", b""), -signal.SIGINT))
 
-    def test_killed_run_leaves_nothing_at_work(self):
-        ran = self.start()
-        ran.kill()
-        output, _ = self.ended(ran)
-        self.assertEqual(output, b"")
-        self.same(*self.WORDS, by=SLOWLY)
-        self.same_book()
-
     def test_killed_parallel_leaves_nothing_at_work(self):
-        ran = self.start()
+        ran = self.start(2)
         parallel = [number for number, words in self.workers().items() if "/parallel --plain" in words]
         self.assertEqual(len(parallel), 1)
         os.kill(parallel[0], signal.SIGKILL)
         output, told = self.ended(ran)
-        self.assertEqual((ran.returncode, output), (1, b""))
-        self.assertIn("not solved: ", told)
-        self.same(*self.WORDS, by=SLOWLY)
-        self.same_book()
-
-    def test_one_run_in_a_folder(self):
-        ran = self.start(0)
-        self.refused(3, "another run works in work", *self.WORDS, by=SLOWLY)
-        self.assertIsNone(ran.poll())
-        ran.terminate()
-        self.ended(ran)
+        self.assertEqual((ran.returncode, output, "not solved: " in told), (1, b"", True))
+        self.whole_at_last()
 
     def test_lock_is_kept_as_long_as_a_part_is_solved(self):
         ran = self.start(1)
+        self.refused(3, "another run works in work", *self.WORDS, by=ACTS)
+        self.assertIsNone(ran.poll())
         guards = [int(name) for name in Path(f"/proc/{ran.pid}/task/{ran.pid}/children").read_text().split()
                   if Path(link_to(f"/proc/{name}/exe")).name.startswith("python")]
         self.assertEqual(len(guards), 1)
         os.kill(guards[0], signal.SIGKILL)
         ran.kill()
         ran.wait(timeout=SECONDS)
-        self.refused(3, "another run works in work", *self.WORDS, by=SLOWLY)
+        self.refused(3, "another run works in work", *self.WORDS, by=ACTS)
         wait_until(self.kill_workers)
         ran.communicate(timeout=SECONDS)
-        self.same(*self.WORDS, by=SLOWLY)
-
-    def kill_workers(self):
-        """Kills all that works; gives whether nothing did."""
-        workers = self.workers()
-        for process in workers:
-            with contextlib.suppress(ProcessLookupError):
-                os.kill(process, signal.SIGKILL)
-        return not workers
+        self.whole_at_last()
 
     def test_ignored_interrupt_is_ignored(self):
-        ran = self.open("sh", "-c", 'trap "" INT; exec "$@"', "sh", SLOWLY)
+        ran = self.open("sh", "-c", 'trap "" INT; exec "$@"', "sh", ACTS)
         wait_until(lambda: self.done() > 0)
         ran.send_signal(signal.SIGINT)
         self.assertEqual((ran.communicate(timeout=SECONDS)[0], ran.returncode), (self.one, 0))
 
     def test_kills_at_random_moments_lose_nothing(self):
+        """Of the program, of its group, or of one process that works for it."""
         rng = random.Random(1)
-        kinds = {"script": 0, "group": 0, "worker": 0, "late": 0}
-        for at in range(KILLS):
-            ran = self.open(SLOWLY)
+        for _ in range(KILLS):
+            ran = self.open(ACTS)
             time.sleep(rng.uniform(0, 1.2))
-            kinds[self.kill(ran, rng)] += 1
+            worker = rng.choice([*self.workers()] or [ran.pid])
+            kill, one = rng.choice(((os.killpg, ran.pid), (os.kill, ran.pid), (os.kill, worker)))
+            with contextlib.suppress(ProcessLookupError):
+                kill(one, signal.SIGKILL)
             output, _ = ran.communicate(timeout=SECONDS)
             self.assertIn(ran.returncode, (0, -9) if output else (1, 3, 4, -9))
             self.assertIn(output, (self.one, b""))
             if ran.returncode == 0 or rng.randrange(4) == 0:
+                wait_until(lambda: not self.workers())
                 self.whole_at_last()
-        self.whole_at_last()
-        self.assertEqual(sum(kinds.values()), KILLS)
-
-    def kill(self, ran, rng):
-        """Kills the program, its group, or one process that works for it; gives which."""
-        if ran.poll() is not None:
-            return "late"
-        kind = rng.choice(("script", "group", "worker"))
-        workers = self.workers()
-        with contextlib.suppress(ProcessLookupError):
-            if kind == "script":
-                ran.kill()
-            elif kind == "group" or not workers:
-                os.killpg(ran.pid, signal.SIGKILL)
-            else:
-                os.kill(rng.choice([*workers]), signal.SIGKILL)
-        return kind
-
-    def whole_at_last(self):
-        """The command gives what one run does; then the folder is removed."""
-        wait_until(lambda: not self.workers())
-        self.same(*self.WORDS, by=SLOWLY)
-        self.same_book()
-        shutil.rmtree("work")
-        Path("joined.book").unlink()
 
 
 class Hosts(Case):
-    """Other machines, reached by a program in place of ssh that runs what it is told in a folder of each."""
-
-    TOOLS = ("parallel",)
+    """Other machines, reached by a program in place of ssh that runs what it is told in a folder of each. tests/test_hosts.py
+    has machines with a real ssh."""
 
     def setUp(self):
         super().setUp()
         for name in ("near", "far", "hanging"):
             Path("hosts", name).mkdir(parents=True)
-        write(Path("hosts/hanging/hangs"), "")
-        write(Path("reach"), REACH, 0o755)
-        self.how = {"env": {**os.environ, "HOSTS": str(self.folder / "hosts"), "PARALLEL_SSH": str(self.folder / "reach")}}
+        write("hosts/hanging/hangs", "")
+        write("reach", REACH, 0o755)
 
-    def by(self, *hosts, lines=20):
-        write(Path("list.hosts"), "".join(f"{host}\n" for host in hosts))
-        return ("--hosts", "list.hosts", f"--lines={lines}", "work", "list.obf", "--book-in=one.book",
-                "--book-out", "joined.book")
+    def on(self, *hosts, lines=20, **places):
+        """The words and places for these machines."""
+        write("list.hosts", "".join(f"{host}\n" for host in hosts))
+        words = ("--hosts", "list.hosts", f"--lines={lines}", *Case.WORDS[1:], "--book-in=one.book")
+        return words, {"HOSTS": f"{self.folder}/hosts", "PARALLEL_SSH": f"{self.folder}/reach", **places}
 
-    def solvers(self):
-        """The machine of each part that was solved."""
+    def same_on(self, *hosts, told="", by=None, **how):
+        """Parts solved on these machines, as one run solves them; gives what is told, and who solved them."""
+        words, places = self.on(*hosts, **how)
+        all_told = self.same(*words, told=told, by=by, places=places)
+        self.same_book()
         events = [line.split("\t") for line in Path("work/log").read_text().splitlines()]
-        return [event[2] for event in events if event[1] == "done"]
+        return all_told, [event[2] for event in events if event[1] == "done"]
 
     def test_parts_are_solved_elsewhere_and_nothing_is_left_there(self):
-        self.same(*self.by("2/near", "1/me@far", lines=6), told="on near, me@far", **self.how)
-        self.same_book()
-        self.assertEqual(set(self.solvers()), {"near", "me@far"})
+        told, solvers = self.same_on("2/near", "dead", "1/me@far", lines=6, told="on near, me@far")
+        self.assertIn("dead is left out: ssh: connect to host dead port 22: Connection refused\n", told)
+        self.assertEqual(set(solvers), {"near", "me@far"})
         self.assertEqual([path.name for host in ("near", "far") for path in Path("hosts", host).iterdir()], [])
 
     def test_all_jobs_of_all_machines_work_at_a_time(self):
-        by = install("slow anywhere", ffosolve='#!/bin/sh\nsleep 1.5\nexec "@real@" "$@"\n')
-        self.same(*self.by("3/near", "2/far", lines=2), by=by, **self.how)
+        self.same_on("3/near", "2/far", lines=3, by=ACTS, PAUSE="1.5")
         running = most = 0
         for line in Path("work/log").read_text().splitlines():
             running += {"begin": 1, "done": -1}.get(line.split("\t")[1], 0)
             most = max(most, running)
         self.assertEqual(most, 5)
 
-    def test_machines_that_do_not_answer_are_left_out_by_name(self):
-        ran = self.same(*self.by("dead", "2/near", "8/me@dead"), **self.how,
-                        told="dead is left out: ssh: connect to host dead port 22: Connection refused")
-        self.assertIn("me@dead is left out", ran.stderr.decode())
-        self.assertEqual(self.solvers(), ["near"] * 3)
-        self.same_book()
-
-    def test_no_machine_answers(self):
-        ran = self.many(*self.by("dead", "9/dead"), **self.how)
-        self.assertEqual((ran.returncode, ran.stdout), (3, b""))
-        self.assertIn("no machine can be reached", ran.stderr.decode())
-        self.assertFalse(Path("work/hosts").exists())
-        self.same(*self.by(":"), **self.how)
-
     def test_this_machine_alone_needs_no_ssh(self):
-        write(Path("reach"), "#!/bin/sh\ntouch called\nexit 255\n", 0o755)
+        write("reach", "#!/bin/sh\ntouch called\nexit 255\n", 0o755)
         for line in (":", "2/:"):
-            ran = self.same(*self.by(line), told="on this machine", **self.how)
-            self.assertEqual(len(ran.stderr.decode().splitlines()), 2, ran.stderr)
+            told, _ = self.same_on(line, told="on this machine")
+            self.assertEqual(told.count("\n"), 2, told)
             shutil.rmtree("work")
         self.assertFalse(Path("called").exists())
 
     def test_machine_of_a_lower_level_has_the_program_for_all(self):
         root = BASE / "checkout"
-        by = install("checkout", ffosolve='#!/bin/sh\nexec "${0%/*}/../out/ffosolve" "$@"\n')
+        by = install("checkout", '#!/bin/sh\nexec "${0%/*}/../out/ffosolve" "$@"\n')
         (root / "out/x86-64-v2").mkdir(parents=True)
         write(root / "crates.txt", "")
-        write(root / "out/x86-64-v2/ffosolve", PROGRAM.read_bytes(), 0o755)
-        write(root / "out/ffosolve", f'#!/bin/sh\n[ ! -e "$HOME/old" ] || exit 127\nexec "{PROGRAM}" "$@"\n', 0o755)
-        write(Path("hosts/near/old"), "")
-        self.same(*self.by("near", lines=6), by=by, **self.how)
-        self.assertEqual(self.solvers(), ["near"] * 10)
+        shutil.copy(PROGRAMS["ffosolve"], root / "out/x86-64-v2/ffosolve")
+        write(root / "out/ffosolve", f'#!/bin/sh\n[ ! -e "$HOME/old" ] || exit 127\nexec "{MANY.parent}/ffosolve" "$@"\n', 0o755)
+        write("hosts/near/old", "")
+        self.assertEqual(self.same_on("near", by=by)[1], ["near"] * 3)
         (root / "out/x86-64-v2/ffosolve").unlink()
         shutil.rmtree("work")
-        ran = self.many(*self.by("near"), by=by, **self.how)
-        self.assertEqual(ran.returncode, 1)
-        self.assertIn("near is left out: it can't solve: status 127", ran.stderr.decode())
+        words, places = self.on("near")
+        self.ends(1, b"", "near is left out: it can't solve: status 127", *words, by=by, places=places)
 
-    def test_what_a_shell_prints_comes_into_no_report(self):
-        write(Path("reach"), REACH.replace("cd ", "echo Welcome\ncd ", 1), 0o755)
-        ran = self.many(*self.by("near"), **self.how)
-        self.assertEqual((ran.returncode, ran.stdout), (3, b""))
-        told = ran.stderr.decode()
-        self.assertIn("near is left out: its shell prints 'Welcome', where results are read", told)
-        self.assertIn("no machine can work", told)
-
-    def test_machine_that_hangs_is_left_out(self):
-        by = install("hasty")
+    def test_machine_that_hangs_is_left_out_while_others_work(self):
+        by = install("hasty", ACTING)
         change_many(by, "folder", "HOST_SECONDS = 30", "HOST_SECONDS = 5")
-        ran = self.many(*self.by("hanging"), by=by, **self.how)
-        self.assertEqual(ran.returncode, 3)
-        self.assertIn("hanging is left out: no answer in 5 seconds", ran.stderr.decode())
+        self.same_on("1/:", "hanging", told="hanging is left out: no answer in 5 seconds", by=by, PAUSE="3")
+        self.assertIn("\tdone\tthis machine", Path("work/log").read_text().partition("\tout\thanging")[0])
         self.assertFalse(Path("work/hosts").exists())  # since nothing can lie there
-
-    def test_machine_that_hangs_is_not_waited_for(self):
-        begun = time.monotonic()
-        self.same(*self.by("hanging", "near"), told="on near\n", **self.how)
-        self.assertLess(time.monotonic() - begun, 25)
-        self.assertEqual(self.solvers(), ["near"] * 3)
-
-    def test_hosts_work_while_others_are_asked(self):
-        write(Path("reach"), REACH.replace("exec sleep 50", "sleep 12"), 0o755)
-        self.same(*self.by(":", "1/hanging", lines=1), told="on this machine", **self.how)
-        self.assertIn("\tdone\tthis machine", Path("work/log").read_text().partition("\tready\thanging")[0])
 
     def test_results_that_come_back_spoiled_are_not_taken(self):
         """Cut, and behind words of the machine's shell, which it did not print when it was asked."""
-        write(Path("spoiling"), SPOILING, 0o755)
-        for spoil in ('"$REAL" "$@" | head -c 20', 'echo Welcome; exec "$REAL" "$@"'):
+        for spoil in ('sh -c "$*" | head -c 20; exit', "echo Welcome"):
             with self.subTest(spoil=spoil):
-                spoiled = {"env": {**self.how["env"], "REAL": str(self.folder / "reach"), "SPOIL": spoil,
-                                   "PARALLEL_SSH": str(self.folder / "spoiling")}}
-                ran = self.many(*self.by("near"), **spoiled)
-                self.assertEqual((ran.returncode, ran.stdout), (1, b""))
-                self.assertIn("not solved: 1 of 3 parts: part 0000001 (lines 21 to 40)", ran.stderr.decode())
-                self.same(*self.by("near"), told=", 2 of them solved before", **self.how)
-                self.same_book()
+                words, places = self.on("near", SPOIL=spoil)
+                self.ends(1, b"", "not solved: 1 of 3 parts: part 0000001 (lines 21 to 40)", *words, places=places)
+                self.same_on("near", told=", 2 of them solved before")
                 shutil.rmtree("work")
 
 
-class Progress(Case):
-    """How far the work is, and how long it will take."""
-
-    TOOLS = ("parallel",)
-    LINE = re.compile(r"\d+%, (?:(?:\d+ h )?(?:\d+ min|\d+ s) left, )?(?:no|\d+) machines? at work, parts (\d+) of \d+, lines (\d+) of \d+")
+class Progress(InFolder):
+    """How far the work is, and how long it will take, by a clock of the test."""
 
     # Seconds that bench/peer.rs took for the parts of six lines of 264 positions of 8 to 18 empty squares.
     TOOK = (0.010, 0.278, 0.010, 0.223, 0.028, 0.331, 0.060, 0.105, 0.138, 1.174, 0.240, 0.010, 0.173, 0.014, 0.264,
             0.031, 0.364, 0.055, 0.342, 0.058, 0.181, 0.220, 0.007, 0.177, 0.009, 0.164, 0.016, 0.148, 0.026, 0.172,
             0.156, 0.481, 0.305, 0.008, 0.222, 0.007, 0.472, 0.008, 0.220, 0.029, 0.158, 0.201, 0.105, 0.263)
 
-    def test_count_rises_on_a_terminal(self):
-        by = install("terminal", ffosolve=SLOW)
-        change_many(by, "watch", "(1 if is_terminal", "(0.1 if is_terminal")
-        reading, writing = pty.openpty()
-        text = b""
-        with subprocess.Popen([by, "--jobs=2", "--lines=6", "work", "list.obf"], stdin=subprocess.DEVNULL, stdout=subprocess.PIPE,
-                              stderr=writing) as ran:
-            os.close(writing)
-            with contextlib.suppress(OSError):  # the terminal ends with the command
-                while some := os.read(reading, 65536):
-                    text += some
-            os.close(reading)
-            self.assertEqual(ran.stdout.read(), self.one)
-        solved = [int(line[1]) for line in self.LINE.finditer(text.decode())]
-        self.assertEqual(solved, sorted(solved))
-        self.assertGreater(len(set(solved)), 2)
+    def setUp(self):
+        super().setUp()
+        self.now = 0.0
+        clock, self.told = mock.patch.object(time, "monotonic", lambda: self.now), io.StringIO()
+        for one in (clock, contextlib.redirect_stderr(self.told)):
+            one.__enter__()
+            self.addCleanup(one.__exit__, None, None, None)
 
-    def test_time_that_is_left_is_known_from_a_tenth_of_the_work_on(self):
-        lines = positions(264, 8, 18, 3).splitlines(keepends=True)
-        parts = [many.parts.Part(f"{number:07d}", number * 6 + 1, 6, "") for number in range(44)]
-        took, ends = {part.name: seconds for part, seconds in zip(parts, self.TOOK)}, []
-        with mock.patch.object(time, "monotonic", lambda: now):
-            now = 0.0
-            progress = many.progress.Progress(many.parts.Run(self.folder, "run-1", parts), [], 20)
-            progress.weights = {part.name: many.progress.weight_of(b"".join(lines[part.first - 1:part.first + 5]), 20) for part in parts}
-            whole, waiting = sum(progress.weights.values()), list(took)
-            while progress.weights:
-                while waiting and len(progress.running) < 2:
-                    progress.running[waiting.pop(0)] = ("here", now)
-                now, name = min((since + took[name], name) for name, (_, since) in progress.running.items())
-                progress.end(name, True)
-                if progress.weight < whole / 10:
-                    self.assertNotIn("left", progress.text())
-                elif progress.weights:
-                    ends.append(now + progress.left())
-                    self.assertRegex(progress.text(), r"^[0-9]+%, [0-9]+ s left, ")
-        self.assertGreater(len(ends), 30)
-        for end in ends:
-            self.assertTrue(0.5 < end / now < 2, (end, now))
+    def progress(self, parts, lines=1, weight=1.0):
+        """Of so many unsolved parts, each of so many lines and of a weight."""
+        run_of = Run(self.folder, "run-1", [Part(f"{number:07d}", number * lines + 1, lines, "") for number in range(parts)])
+        progress = many.progress.Progress(run_of, [], 20)
+        progress.weights = {part.name: weight for part in run_of.parts}
+        return progress
 
-    def test_log_has_a_line_now_and_then_and_none_if_it_shall_be_quiet(self):
-        by = install("often", ffosolve=SLOW)
-        change_many(by, "watch", "else 60", "else 0.3")
-        told = self.same("--jobs=1", "--lines=6", "work", "list.obf", by=by).stderr.decode()
-        lines = [int(line[2]) for line in self.LINE.finditer(told)]
-        self.assertGreater(len(set(lines)), 2, told)
-        self.assertEqual(lines, sorted(lines))
-        self.assertNotIn("\033", told)
-        self.assertEqual(self.same("--jobs=1", "--lines=6", "--quiet", "work2", "list.obf", by=by).stderr, b"")
-
-    def test_work_grows_with_the_empty_squares(self):
-        self.assertEqual(many.progress.weight_of(BOARD + b" X\n\n% -----\n" + b"-" * 30 + b"X" * 34 + b" X\n", 20), many.progress.GROWTH ** 2 + 1)
-        for growth, seconds in ((6, 0.666 / 0.0042), (8, 8.76 / 0.0042)):  # 20 and 22 empty squares, and 14
-            self.assertTrue(0.5 < many.progress.GROWTH ** growth / seconds < 2)
-
-    def test_times_in_words(self):
-        for seconds, words in ((0, "0 s"), (119, "119 s"), (120, "2 min"), (3599, "1 h 0 min"), (7500, "2 h 5 min")):
-            self.assertEqual(many.progress.span_of(seconds), words)
-
-    def test_part_whose_results_are_not_whole_is_not_solved(self):
-        part = many.parts.Part("0000000", 1, 3, "")
-        watch = self.watch(part)
-        with contextlib.redirect_stderr(io.StringIO()) as told:
-            watch.see(0.0, "done", "h1", part.name, "")
-        self.assertEqual((watch.progress.weights, watch.fails), ({part.name: 1.0}, {"h1": 1}))
-        self.assertIn("h1 failed part 0000000 (lines 1 to 3): its results are not whole", told.getvalue())
-
-    def watch(self, *parts):
-        """A watch of unsolved parts, of one line's weight each, on machines h1 and h2."""
-        run_of = many.parts.Run(self.folder, "run-1", [*parts])
+    def watch(self, parts, lines=1):
+        """A watch of unsolved parts, on machines h1 and h2."""
+        progress = self.progress(parts, lines)
+        run_of = Run(self.folder, "run-1", [*progress.parts.values()])
         for name in ("jobs/1", "jobs/2", "out", "asking"):
             (run_of.place / name).mkdir(parents=True)
         watch = many.watch.Watch(run_of, many.arguments.parse([]), [])
         self.addCleanup(watch.log.close)
-        watch.progress.weights = {part.name: 1.0 for part in parts}
+        watch.progress = progress
         watch.begin([])
         watch.keys = {"h1": "1", "h2": "2"}
         return watch
 
-    def test_machine_is_left_out_after_three_failures_in_a_row(self):
-        """And not after three in all."""
-        part = many.parts.Part("0000000", 1, 3, "")
-        watch = self.watch(part)
-        with contextlib.redirect_stderr(io.StringIO()) as told, mock.patch.object(many.parts.Run, "status", lambda *_: 0):
-            for event in ("failed", "failed", "done", "failed", "failed"):
-                watch.see(0.0, event, "h1", part.name, "out of memory")
-                self.assertTrue((watch.run.place / "jobs/1").is_dir(), event)
-            watch.see(0.0, "failed", "h1", part.name, "out of memory")
-        self.assertTrue((watch.run.place / "out/1").is_dir())
-        self.assertIn("h1 is left out: 3 parts failed in a row: out of memory", told.getvalue())
+    def test_time_that_is_left_is_known_from_a_tenth_of_the_work_on(self):
+        """Within a factor of two."""
+        lines, progress, ends = positions(264, 8, 18, 3).splitlines(keepends=True), self.progress(44, 6), []
+        progress.weights = {name: many.progress.weight_of(b"".join(lines[part.first - 1:part.first + 5]), 20)
+                            for name, part in progress.parts.items()}
+        whole, waiting, took = sum(progress.weights.values()), list(progress.parts), dict(zip(progress.parts, self.TOOK))
+        while progress.weights:
+            while waiting and len(progress.running) < 2:
+                progress.running[waiting.pop(0)] = ("here", self.now)
+            self.now, name = min((since + took[name], name) for name, (_, since) in progress.running.items())
+            progress.end(name, True)
+            if progress.weight < whole / 10:
+                self.assertNotIn("left", progress.text())
+            elif progress.weights:
+                ends.append(self.now + progress.left())
+                self.assertRegex(progress.text(), r"^[0-9]+%, [0-9]+ s left, ")
+        self.assertGreater(len(ends), 30)
+        for end in ends:
+            self.assertTrue(0.5 < end / self.now < 2, (end, self.now))
 
-    def test_part_of_a_lost_machine_waits_again(self):
-        parts = [many.parts.Part(f"{number:07d}", number + 1, 1, "") for number in range(4)]
-        with mock.patch.object(time, "monotonic", lambda: now), contextlib.redirect_stderr(io.StringIO()):
-            now = 0.0
-            watch = self.watch(*parts)
-            watch.progress.running = {"0000000": ("h1", 0.0)}
-            now = 100.0
-            watch.progress.end("0000000", True)
-            for name, machine in (("0000001", "h1"), ("0000002", "h2")):
-                watch.see(now, "begin", machine, name, "")
-            self.assertEqual(watch.progress.left(), 150)
-            now = 190.0
-            watch.see(now, "lost", "h2", "0000002", "")  # with a part that had 10 seconds left, and has 100 again
-            self.assertEqual(watch.progress.left(), 210)
-            self.assertIn("210 s left, 1 machine at work, ", watch.progress.text().replace("4 min", "210 s"))
-            watch.see(now, "lost", "h1", "0000001", "")
-            self.assertTrue(watch.progress.text().startswith("25%, no machine at work, parts 1 of 4"), watch.progress.text())
+    def test_work_grows_with_the_empty_squares(self):
+        growth = many.progress.GROWTH
+        text = BOARD + b" X\n\n% -----\n" + b"-" * 30 + b"X" * 34 + b" X\n"
+        self.assertEqual(many.progress.weight_of(text, 20), growth ** 2 + 1)
+        for empties, seconds in ((6, 0.666 / 0.0042), (8, 8.76 / 0.0042)):  # 20 and 22 empty squares, and 14
+            self.assertTrue(0.5 < growth ** empties / seconds < 2)
 
-    def test_line_of_progress_fits(self):
-        parts = [many.parts.Part(f"{number:07d}", number * 200 + 1, 200, "") for number in range(1200)]
-        with mock.patch.object(time, "monotonic", lambda: now):
-            now = 0.0
-            progress = many.progress.Progress(many.parts.Run(self.folder, "run-1", parts), [], 20)
-            progress.weights = {part.name: 1.0 for part in parts}
-            progress.running = {part.name: ("h1", 0.0) for part in parts[:659]} | {parts[659].name: ("h2", 0.0)}
-            now = 55.4
-            for part in parts[:659]:
-                progress.end(part.name, True)
-            whole = progress.text()
-        self.assertEqual(whole, "54%, 8 h 19 min left, 1 machine at work, parts 659 of 1200, lines 131800 of 240000, 2379 lines a second")
-        for columns, shown in ((80, "54%, 8 h 19 min left, 1 machine at work, parts 659 of 1200"), (50, "54%, 8 h 19 min left"),
-                               (200, whole)):
-            size = mock.patch.object(os, "get_terminal_size", lambda _, columns=columns: os.terminal_size((columns, 24)))
-            stream = mock.Mock(**{"fileno.return_value": 2})
-            with size, mock.patch.object(sys, "stderr", stream), mock.patch("builtins.print") as printed:
-                many.messages.show(whole)
-            self.assertEqual(printed.call_args[0][0], f"\r\033[Kffosolve-many: {shown}")
+    def test_times_and_rates_in_words(self):
+        for seconds, words in ((0, "0 s"), (119, "119 s"), (120, "2 min"), (3599, "1 h 0 min"), (7500, "2 h 5 min")):
+            self.assertEqual(many.progress.span_of(seconds), words)
         for lines, seconds, words in ((0, 1, "0 lines an hour"), (1, 100, "36 lines an hour"), (10, 40, "15 lines a minute"),
                                       (10, 1, "10 lines a second"), (123456, 1, "123456 lines a second")):
             self.assertEqual(many.progress.rate_of(lines, seconds), words)
 
+    def test_machine_is_left_out_after_three_failures_in_a_row(self):
+        """And not after three in all. A part whose results are not whole failed too."""
+        watch = self.watch(1, 3)
+        for event, status in (("done", None), ("failed", None), ("done", 0), ("failed", 0), ("failed", 0), ("failed", 0)):
+            self.assertTrue(Path("run-1/jobs/1").is_dir(), event)
+            with mock.patch.object(Run, "status", lambda *_, status=status: status):
+                watch.see(0.0, event, "h1", "0000000", "" if status is None else "out of memory")
+            self.assertEqual(bool(watch.progress.weights), status is None)
+        self.assertTrue(Path("run-1/out/1").is_dir())
+        for told in ("h1 failed part 0000000 (lines 1 to 3): its results are not whole",
+                     "h1 is left out: 3 parts failed in a row: out of memory"):
+            self.assertIn(f"ffosolve-many: {told}\n", self.told.getvalue())
+
+    def test_part_of_a_lost_machine_waits_again(self):
+        watch = self.watch(4)
+        progress = watch.progress
+        progress.running = {"0000000": ("h1", 0.0)}
+        self.now = 100.0
+        progress.end("0000000", True)
+        for name, machine in (("0000001", "h1"), ("0000002", "h2")):
+            watch.see(self.now, "begin", machine, name, "")
+        self.assertEqual(progress.left(), 150)
+        self.now = 190.0
+        watch.see(self.now, "lost", "h2", "0000002", "")  # with a part that had 10 seconds left, and has 100 again
+        self.assertEqual(progress.left(), 210)
+        self.assertIn("4 min left, 1 machine at work, ", progress.text())
+        watch.see(self.now, "lost", "h1", "0000001", "")
+        self.assertTrue(progress.text().startswith("25%, no machine at work, parts 1 of 4"), progress.text())
+
+    def test_line_of_progress_fits(self):
+        progress = self.progress(1200, 200)
+        names = [*progress.parts]
+        progress.running = {name: ("h1", 0.0) for name in names[:659]} | {names[659]: ("h2", 0.0)}
+        self.now = 55.4
+        for name in names[:659]:
+            progress.end(name, True)
+        whole = "54%, 8 h 19 min left, 1 machine at work, parts 659 of 1200, lines 131800 of 240000, 2379 lines a second"
+        self.assertEqual(progress.text(), whole)
+        for columns, shown in ((80, "54%, 8 h 19 min left, 1 machine at work, parts 659 of 1200"), (50, "54%, 8 h 19 min left"),
+                               (200, whole)):
+            size = mock.patch.object(os, "get_terminal_size", lambda _, columns=columns: os.terminal_size((columns, 24)))
+            with size, mock.patch.object(sys, "stderr", mock.Mock()), mock.patch("builtins.print") as printed:
+                many.messages.show(whole)
+            self.assertEqual(printed.call_args[0][0], f"\r\033[Kffosolve-many: {shown}")
+
     def test_part_that_runs_long_is_named(self):
-        parts = [many.parts.Part(f"{number:07d}", number * 3 + 1, 3, "") for number in range(4)]
-        run_of = many.parts.Run(self.folder, "run-1", parts)
-        with mock.patch.object(time, "monotonic", lambda: 0):
-            progress = many.progress.Progress(run_of, parts, 20)
-        progress.weights = {part.name: 2.0 for part in parts}
+        progress = self.progress(4, 3)
         progress.running = {"0000000": ("h1", 0), "0000001": ("h2", 0)}
-        with mock.patch.object(time, "monotonic", lambda: 100):
-            progress.end("0000000", True)
-            progress.running["0000002"] = ("h1", 100)
-            # One that has run for its time, one that begins, and one that waits, by two at a time: 100 seconds each.
-            self.assertEqual(progress.text(), "25%, 100 s left, 2 machines at work, parts 1 of 4, lines 3 of 12, 108 lines an hour")
-        with mock.patch.object(time, "monotonic", lambda: 720):
-            self.assertRegex(progress.text(), r"; part 0000001 \(lines 4 to 6\) runs for 12 min on h2$")
+        self.now = 100.0
+        progress.end("0000000", True)
+        progress.running["0000002"] = ("h1", 100)
+        # One that has run for its time, one that begins, and one that waits, by two at a time: 100 seconds each.
+        self.assertEqual(progress.text(), "25%, 100 s left, 2 machines at work, parts 1 of 4, lines 3 of 12, 108 lines an hour")
+        self.now = 720.0
+        self.assertRegex(progress.text(), r"; part 0000001 \(lines 4 to 6\) runs for 12 min on h2$")
 
 
 class Merging(Case):
     """Books of one scoring merged into one."""
 
-    def books(self):
-        """Two books that overlap."""
-        for name, text in (("a", SMALL[:68 * 40]), ("b", SMALL[68 * 20:])):
-            write(Path(f"{name}.obf"), text)
-            run(BASE / "plain/bin/ffosolve", "--book-out", f"{name}.book", f"{name}.obf")
-
     def test_merged_books_are_the_book_of_all(self):
-        self.books()
-        ran = self.many("--merge-books", "a.book", "b.book")
-        self.assertEqual((ran.returncode, ran.stdout, ran.stderr), (0, Path("one.book").read_bytes(), b""))
-        self.assertEqual(self.many("b.book", "a.book", "a.book", "--merge-books", "--book-out", "a.book").returncode, 0)
+        whole = Path("one.book").read_bytes()
+        header, *entries = whole.splitlines(keepends=True)
+        first, other = (header + b"".join(some) for some in (entries[:40], entries[20:]))
+        write("a.book", first)
+        write("b.book", other)
+        self.assertEqual(self.same("--merge-books", "a.book", "b.book", text=whole), "")
+        for name in ("/dev/stdin", "-"):
+            self.same("--merge-books", name, "a.book", text=whole, input=other)
+        self.same("b.book", "a.book", "a.book", "--merge-books", "--book-out", "a.book", text=b"")
         self.same_book("a.book")
-        ran = run("sh", "-c", f'cat b.book | "{MANY}" --merge-books /dev/stdin a.book')
-        self.assertEqual((ran.returncode, ran.stdout), (0, Path("one.book").read_bytes()))
-        self.assertEqual(run(BASE / "plain/bin/ffosolve", "--book-in=a.book", "list.obf").stdout, self.one)
+        self.assertEqual(run(PROGRAMS["ffosolve"], "--book-in=a.book", "list.obf").stdout, self.one)
 
     def test_book_in_another_spelling_is_merged(self):
         board = "XXXXXXXXXXXXXXXXXXXXXXXXXXXXOXXXXXXXXXXXXXXXXXXXOXXXXXXX-XXXXXO-"
-        write(Path("mine.book"), f"% my own\n\n {board.lower()}\tb; h8:+52; a8:62 % why\r\n")
-        ran = self.many("--merge-books", "mine.book", ROOT / "examples/first.book")
-        self.assertEqual((ran.returncode, ran.stdout), (0, (ROOT / "examples/first.book").read_bytes()))
-
-    def test_entries_that_disagree_are_refused_by_their_lines(self):
-        self.refused(3, f"{ROOT}/examples/first.book line 2 and {ROOT}/examples/lying.book line 2 disagree: -XOOOOO-",
-                     "--merge-books", ROOT / "examples/first.book", ROOT / "examples/lying.book")
+        write("mine.book", f"% my own\n\n {board.lower()}\tb; h8:+52; a8:62 % why\r\n")
+        first = ROOT / "examples/first.book"
+        self.same("--merge-books", "mine.book", first, text=first.read_bytes())
 
     def test_merged_book_is_read_before_it_is_handed_over(self):
-        self.books()
         by = install("misprinting")
         header = "whole.write(header_of(scoring))"
         change_many(by, "books", header, f"{header}; whole.write(b'no entry\\n')")
-        ran = self.many("--merge-books", "a.book", "b.book", by=by)
-        self.assertEqual((ran.returncode, ran.stdout), (3, b""), ran.stderr)
+        self.ends(3, b"", "bad square", "--merge-books", "one.book", by=by)
 
-    def test_books_of_two_scorings_are_refused(self):
-        write(Path("discs.book"), b"% ffobook 2 discs\r\n")
+    def test_books_that_are_refused(self):
+        """Of two scorings, by their first lines that disagree, and where one is no book."""
+        write("discs.book", b"% ffobook 2 discs\r\n")
         for others in (["discs.book"], ["discs.book", "one.book"]):
             self.refused(2, "one.book has the scoring winner and discs.book discs", "--merge-books", "one.book", *others)
-        ran = self.many("--merge-books", "discs.book", "discs.book")
-        self.assertEqual(ran.stdout, b"% ffobook 2 discs\n")
-
-    def test_what_is_no_book_is_refused_by_its_line(self):
+        self.same("--merge-books", "discs.book", "discs.book", text=b"% ffobook 2 discs\n")
+        first, lying = ROOT / "examples/first.book", ROOT / "examples/lying.book"
+        self.refused(3, f"{first} line 2 and {lying} line 2 disagree: -XOOOOO-", "--merge-books", first, lying)
         lines = Path("one.book").read_bytes().splitlines(keepends=True)
-        write(Path("bad.book"), b"".join([lines[0], lines[2], lines[1]]))
+        write("bad.book", b"".join([lines[0], lines[2], lines[1]]))
         self.refused(3, "bad.book: book line 3: not in order", "--merge-books", "one.book", "bad.book")
-        self.refused(3, "cannot read none.book", "--merge-books", "one.book", "none.book")
