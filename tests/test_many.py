@@ -187,7 +187,7 @@ class Functions(InFolder):
 
     def test_results_that_are_spoiled_meanwhile_are_told(self):
         one = Run(self.folder, "run-1", [Part("0000004", 81, 20, "")])
-        self.refuses(r"part 0000004 \(lines 81 to 100\) was changed meanwhile", many.report.write_report, one, io.BytesIO())
+        self.refuses(r"part 0000004 \(lines 81 to 100\) was changed meanwhile", lambda: [*one.rows()])
         write("one", BOARD + b" X; A1:+02;\n" + BOARD.replace(b"-", b"O", 1)[::-1] + b" X; A1:+02;\n")
         self.refuses("one line 2 is not in order", lambda: [*many.books.merged([many.books.entries_of(Path("one"))])])
 
@@ -252,7 +252,7 @@ class Functions(InFolder):
         all_of_them = len(os.sched_getaffinity(0))
         for words, line, jobs in (((), ":", all_of_them), (("--jobs=99",), ":", 99), ((), "98/:", 98), (("--jobs=99",), "98/:", 99)):
             one = Run(self.folder, "run-1", [])
-            many.jobs.lay_round(one, self.command(*words), [many.hosts.read_host(line, "")], [])
+            many.jobs.lay_round(one, self.command(*words), [many.hosts.read_host(line, "")])
             self.assertEqual(len(os.listdir("run-1/jobs/here")), jobs, (words, line))
 
 
@@ -394,6 +394,8 @@ class Results(Case):
             ran = run(MANY, "--quiet", *words, capture_output=False, stdout=writing, stderr=subprocess.PIPE)
             os.close(writing)
             self.assertEqual((ran.returncode, ran.stderr), (-signal.SIGPIPE, b""), words)
+        ran = run("sh", "-c", 'ulimit -f 1; PYTHONUNBUFFERED=1 exec "$0" --quiet list.obf >short', MANY)
+        self.assertEqual((ran.returncode, ran.stderr), (3, b"ffosolve-many: cannot write standard output: File too large\n"))
         self.same("list.obf", told=", 1 of them solved before")
         self.same("-c", f'exec "{MANY}" list.obf <&- 2>&-', by="sh")  # closed streams are not taken for files
 
