@@ -178,7 +178,8 @@ class Prefix:
         """The folder into which the package for Python is installed, as pip does it without a network."""
         need_module("pip", "python3-pip")
         shutil.copytree(self.shipped / "python", self.work / "python", dirs_exist_ok=True)
-        shutil.copy2(self.shipped / "VERSION", self.work)
+        for name in ("VERSION", "LICENSE"):
+            shutil.copy2(self.shipped / name, self.work)
         self.make(*PIP, "--target", self.work / "site", self.work / "python")
         return self.work / "site"
 
