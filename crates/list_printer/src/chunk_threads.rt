@@ -66,8 +66,8 @@ impl ChunkWork {
     }
 }
 
-/// What is printed for a chunk: pending on its thread, which works with this, or ready where the
-/// chunk has no thread.
+/// What is printed for a chunk: pending on its thread, beside what that works with; or ready, where
+/// the chunk has no thread.
 #[derive(Drop)]
 pub enum ChunkOutput<'a> {
     Pending(PromisedHandle<Result<LinesText, AllocError>, ChunkPromise<'a>>, Arc<ChunkWork>),
