@@ -3,8 +3,7 @@ use ffosolve::{
     library_version, raw, table_entries, Answer, Best, Error, Line, Listed, ObfError, Position, Scoring, Side, Solver,
     Square, Squares,
 };
-use std::collections::hash_map::DefaultHasher;
-use std::hash::{Hash, Hasher};
+use std::collections::HashSet;
 use std::thread;
 
 const LINE: &str = "-OXXXXX-XXXXXXXOXXXXXXXXXXXXXXXXXXXOXXXXXXXXXXXXXXXXXXXXXXXXXXXX X; H1:+62;";
@@ -100,35 +99,15 @@ fn says_why() {
 }
 
 #[test]
-fn answers_and_positions_differ_in_each_member() {
-    for other in [
-        Answer { score: 61, ..ANSWER },
-        Answer { best: Best::Pass, ..ANSWER },
-        Answer { best: Best::Over, ..ANSWER },
-        Answer { best: Best::Moves(Squares(0x81)), ..ANSWER },
-    ] {
-        assert!(other != ANSWER);
-    }
-    for other in [position(1, 4), position(3, 0), position(2, 1)] {
-        assert!(other != position(1, 2));
-    }
-}
-
-fn is_hashed_alike<T: Hash + Eq>(pair: [T; 2]) -> bool {
-    let [first, second] = [0, 1].map(|at| {
-        let mut hasher = DefaultHasher::new();
-        pair[at].hash(&mut hasher);
-        hasher.finish()
-    });
-    pair[0] == pair[1] && first == second
-}
-
-#[test]
-fn equals_have_one_hash() {
-    assert!(is_hashed_alike([position(1, 2), position(1, 2)]));
-    assert!(is_hashed_alike([ANSWER, Solver::new().solve(corners()).expect("an answer")]));
-    assert!(is_hashed_alike([Line::from_obf(LINE), LINE.parse()].map(|line| line.expect("a line"))));
-    assert!(is_hashed_alike([Squares(1), Squares(1)]) && is_hashed_alike([square("B1"), square("b1")]));
+fn equals_have_one_hash_and_others_differ() {
+    let positions = [(1, 2), (1, 2), (1, 4), (4, 2)].map(|(own, opp)| position(own, opp));
+    assert_eq!(HashSet::from(positions).len(), 3);
+    let others = [Best::Pass, Best::Over, Best::Moves(Squares(0x81))].map(|best| Answer { best, ..ANSWER });
+    let answers = [ANSWER, Solver::new().solve(corners()).expect("an answer"), Answer { score: 61, ..ANSWER }];
+    assert_eq!(answers.into_iter().chain(others).collect::<HashSet<_>>().len(), 5);
+    let lines = [Line::from_obf(LINE), LINE.parse()].map(|line| line.expect("a line"));
+    assert_eq!((HashSet::from(lines).len(), HashSet::from([Squares(1), Squares(1), Squares(2)]).len()), (1, 2));
+    assert_eq!(HashSet::from(["B1", "b1", "A2"].map(square)).len(), 2);
 }
 
 #[test]
@@ -146,38 +125,33 @@ fn tells_the_discs_of_positions_and_the_squares_of_sets() {
     assert_eq!([0, 1, 2].map(Scoring::try_from), [Ok(Scoring::Winner), Ok(Scoring::Discs), Ok(Scoring::Sign)]);
 }
 
+/// The repository's tests have many lines, as each of its languages reads them.
 #[test]
 fn reads_obf() {
     assert_eq!(Position::from_obf(LINE), Ok(corners()));
     assert_eq!(format!("  {}", LINE.replace('X', "*").replace('O', "w").replace('-', ".")).parse(), Ok(corners()));
     assert_eq!(Position::from_obf(&corners().passed().to_obf()), Ok(corners().passed()));
     for (text, error) in [
-        ("\r\n".to_string(), ObfError::NoPosition),
-        (LINE[..63].to_string(), ObfError::ShortBoard { squares: 63 }),
-        (LINE.replace('O', "ö"), ObfError::BadSquare { column: 2 }),
-        (LINE[..64].to_string(), ObfError::BadSide { column: 65 }),
+        (&b"\r\n"[..], ObfError::NoPosition),
+        (&LINE.as_bytes()[..63], ObfError::ShortBoard { squares: 63 }),
+        (b"\xff", ObfError::BadSquare { column: 1 }),
+        (&LINE.as_bytes()[..64], ObfError::BadSide { column: 65 }),
     ] {
-        assert_eq!(Position::from_obf(&text), Err(error));
-        assert_eq!(Line::from_obf(&text), Err(error));
+        assert_eq!(Position::from_obf(text), Err(error));
+        assert_eq!(Line::from_obf(text), Err(error));
     }
-}
-
-#[test]
-fn keeps_what_a_line_lists() {
     let line = |text: &str| Line::from_obf(&format!("{}{text}", &LINE[..64])).expect("a position");
     let listed = vec![(Listed::Move(square("H1")), 62)];
-    assert_eq!(LINE.parse(), Ok(Line { position: corners(), side: Side::Black, listed: listed.clone() }));
-    assert_eq!(line(" O"), Line { position: corners().passed(), side: Side::White, listed: Vec::new() });
-    assert_eq!(line("X; h1:+62 \r\n").listed, listed);
-    let told = line("X; PS:-4;--:0; A1:-64;").listed;
-    assert_eq!(told, [(Listed::Pass, -4), (Listed::Over, 0), (Listed::Move(square("A1")), -64)]);
+    assert_eq!(LINE.parse(), Ok(Line { position: corners(), side: Side::Black, listed }));
+    let listed = vec![(Listed::Pass, -4), (Listed::Over, 0), (Listed::Move(square("A1")), -64)];
+    let found = line("O; PS:-4;--:0; a1:-64 \r\n");
+    assert_eq!(found, Line { position: corners().passed(), side: Side::White, listed });
     for count in [0, 16, 17, 1000] {
         let scores: Vec<i8> = (0..count).map(|at| (at % 129 - 64) as i8).collect();
         let fields: String = scores.iter().map(|score| format!("B1:{score};")).collect();
-        let told = line(&format!("X;{fields}"));
-        assert_eq!(told.listed, scores.iter().map(|score| (Listed::Move(square("B1")), *score)).collect::<Vec<_>>());
+        let listed: Vec<_> = scores.iter().map(|score| (Listed::Move(square("B1")), *score)).collect();
+        assert_eq!(line(&format!("X;{fields}")).listed, listed);
     }
-    assert_eq!(Line::from_obf(&b"\xff"[..]), Err(ObfError::BadSquare { column: 1 }));
 }
 
 #[test]
