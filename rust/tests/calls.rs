@@ -9,12 +9,12 @@ use std::thread;
 const LINE: &str = "-OXXXXX-XXXXXXXOXXXXXXXXXXXXXXXXXXXOXXXXXXXXXXXXXXXXXXXXXXXXXXXX X; H1:+62;";
 const ANSWER: Answer = Answer { score: 62, best: Best::Moves(Squares(0x80)) };
 
-fn corners() -> Position {
-    Position::new(0xffff_fff7_ffff_7f7c, 0x8_0000_8002).expect("masks apart")
-}
-
 fn position(own: u64, opp: u64) -> Position {
     Position::new(own, opp).expect("masks apart")
+}
+
+fn corners() -> Position {
+    position(0xffff_fff7_ffff_7f7c, 0x8_0000_8002)
 }
 
 fn square(name: &str) -> Square {
@@ -57,7 +57,6 @@ fn plays() {
 fn refuses() {
     let wide = position(1, 6);
     assert_eq!(Position::new(3, 2), Err(Error::SharedSquare));
-    assert_eq!(Scoring::try_from(3), Err(Error::UnknownScoring));
     let solver = Solver::new();
     assert_eq!(solver.solve(wide), Err(Error::TooManyEmpties { index: 0 }));
     assert_eq!(solver.confirm(wide, ANSWER), Err(Error::TooManyEmpties { index: 0 }));
@@ -69,32 +68,22 @@ fn refuses() {
     assert_eq!(large.move_scores(corners()), Err(Error::TooManyEntries));
     assert_eq!(large.solve_all(&[]), Err(Error::TooManyEntries));
     assert_eq!(Solver::new().entries(ffosolve::MOST_ENTRIES).solve(corners()), Ok(ANSWER));
-    let told: Box<dyn std::error::Error + Send + Sync> = Error::TooManyEmpties { index: 1 }.into();
-    assert!(told.to_string().starts_with("position at index 1: more than "));
 }
 
 #[test]
 fn says_why() {
-    for (error, why) in [
-        (Error::UnknownScoring, "no scoring has the number"),
-        (Error::SharedSquare, "the masks share a square"),
-        (Error::NoMove, "no move"),
-        (Error::NoMemory, "out of memory"),
-    ] {
-        assert_eq!(error.to_string(), why);
-    }
-    for (error, why) in [
-        (ObfError::ShortBoard { squares: 3 }, "board has 3 of 64 squares"),
-        (ObfError::BadSquare { column: 4 }, "bad square at column 4"),
-        (ObfError::BadSide { column: 65 }, "bad side at column 65"),
-        (ObfError::NoPosition, "no position: the line is blank or a comment"),
-        (ObfError::NoMemory, "out of memory"),
-    ] {
-        assert_eq!(error.to_string(), why);
-    }
+    let said = [Error::UnknownScoring, Error::SharedSquare, Error::NoMove, Error::NoMemory].map(|it| it.to_string());
+    assert_eq!(said, ["no scoring has the number", "the masks share a square", "no move", "out of memory"]);
+    let [squares, column] = [3, 65];
+    let said = [ObfError::ShortBoard { squares }, ObfError::BadSquare { column }, ObfError::BadSide { column }];
+    let wanted = ["board has 3 of 64 squares", "bad square at column 65", "bad side at column 65"];
+    assert_eq!(said.map(|it| it.to_string()), wanted);
+    let said = [ObfError::NoPosition, ObfError::NoMemory].map(|it| it.to_string());
+    assert_eq!(said, ["no position: the line is blank or a comment", "out of memory"]);
     let numbers = [ffosolve::MOST_ENTRIES, ffosolve::MOST_EMPTIES].map(|number| format!("more than {number} "));
     assert_eq!(Error::TooManyEntries.to_string(), format!("{}table entries", numbers[0]));
-    assert_eq!(Error::TooManyEmpties { index: 0 }.to_string(), format!("position at index 0: {}empty squares", numbers[1]));
+    let told: Box<dyn std::error::Error + Send + Sync> = Error::TooManyEmpties { index: 1 }.into();
+    assert_eq!(told.to_string(), format!("position at index 1: {}empty squares", numbers[1]));
     assert_eq!("?".parse::<Square>().map_err(|error| error.to_string()), Err("no square has the name".to_string()));
 }
 
@@ -122,7 +111,8 @@ fn tells_the_discs_of_positions_and_the_squares_of_sets() {
     assert!(set.contains(square("A1")) && set.contains(square("H1")));
     assert_eq!((set.size_hint(), format!("{set:?} {:?}", square("B1"))), ((2, Some(2)), "Squares(A1,H1) B1".to_string()));
     assert_eq!((Squares(0).len(), Squares(0).is_empty(), Squares(0).to_string()), (0, true, String::new()));
-    assert_eq!([0, 1, 2].map(Scoring::try_from), [Ok(Scoring::Winner), Ok(Scoring::Discs), Ok(Scoring::Sign)]);
+    let scorings = [Ok(Scoring::Winner), Ok(Scoring::Discs), Ok(Scoring::Sign), Err(Error::UnknownScoring)];
+    assert_eq!([0, 1, 2, 3].map(Scoring::try_from), scorings);
 }
 
 /// The repository's tests have many lines, as each of its languages reads them.
@@ -181,20 +171,14 @@ fn threads_call_at_once() {
 }
 
 #[test]
-fn tells_versions_and_sizes() {
+fn tells_versions_sizes_and_limits() {
     let parts = include_str!("../../VERSION").trim().split('.').map(|part| part.parse::<u32>().expect("a number"));
     assert_eq!(parts.fold(0, |number, part| 100 * number + part), library_version());
     let sizes: Vec<usize> = (0..=ffosolve::MOST_EMPTIES).map(table_entries).collect();
     assert!(sizes.windows(2).all(|pair| pair[0] <= pair[1]) && sizes[ffosolve::MOST_EMPTIES] <= ffosolve::MOST_ENTRIES);
     let at = [0, 10, 11, 14, 15, 19, 20, 60].map(|empties| sizes[empties]); // as ffosolve.h says
     assert_eq!(at, [0, 0, 1024, 1024, 65536, 65536, 1000000, 1000000]);
-}
-
-#[test]
-fn has_the_limits_of_the_library() {
     // SAFETY: the call takes a number.
-    let limit = |number| unsafe { raw::ffosolve_limit(number) };
-    assert_eq!([limit(0), limit(1)], [ffosolve::MOST_ENTRIES, ffosolve::MOST_EMPTIES]);
-    let scorings = limit(2) as u32;
-    assert!(Scoring::try_from(scorings - 1).is_ok() && Scoring::try_from(scorings).is_err());
+    let limits = [0, 1, 2].map(|number| unsafe { raw::ffosolve_limit(number) });
+    assert_eq!(limits, [ffosolve::MOST_ENTRIES, ffosolve::MOST_EMPTIES, 3]);
 }
