@@ -373,30 +373,21 @@ class Boards(InFolder):
 
 
 class Package(InFolder):
-    """The wheel and the source archive, as they are to be published."""
-
-    def setUp(self):
-        super().setUp()
+    def test_the_wheel_and_the_source_archive(self):
+        """As they are to be published."""
         words = "import ffosolve_wheel as made; made.build_wheel('{0}'), made.build_sdist('{0}')".format(self.folder)
         run(sys.executable, "-Bc", words, cwd=ROOT / "python/backend", check=True)
-        self.head = f"ffosolve-{stored('VERSION').decode().strip()}"
-        with zipfile.ZipFile(f"{self.head}-py3-none-any.whl") as wheel:
-            self.wheel = {name: wheel.read(name) for name in wheel.namelist()}
-        with tarfile.open(f"{self.head}.tar.gz") as archive:
-            self.archive = {it.name: archive.extractfile(it).read() for it in archive.getmembers()}
-
-    def test_twine_passes_both(self):
-        need("twine", "twine")
-        ran = run("twine", "check", "--strict", f"{self.head}-py3-none-any.whl", f"{self.head}.tar.gz")
-        self.assertEqual((ran.returncode, ran.stdout.count(b"PASSED")), (0, 2), ran)
-
-    def test_licence_author_and_description(self):
-        for name in (self.wheel[f"{self.head}.dist-info/LICENSE"], self.archive[f"{self.head}/LICENSE"]):
-            self.assertEqual(name, stored("LICENSE"))
-        metadata = self.wheel[f"{self.head}.dist-info/METADATA"].decode()
-        self.assertEqual(self.archive[f"{self.head}/PKG-INFO"].decode(), metadata)
-        told = email.message_from_string(metadata)
+        head = f"ffosolve-{stored('VERSION').decode().strip()}"
+        names = f"{head}-py3-none-any.whl", f"{head}.tar.gz"
+        with zipfile.ZipFile(names[0]) as wheel, tarfile.open(names[1]) as archive:
+            licence, metadata = (wheel.read(f"{head}.dist-info/{name}") for name in ("LICENSE", "METADATA"))
+            of_archive = [archive.extractfile(f"{head}/{name}").read() for name in ("LICENSE", "PKG-INFO")]
+        self.assertEqual((licence, of_archive), (stored("LICENSE"), [licence, metadata]))
+        told = email.message_from_string(metadata.decode())
         for field in ("Summary", "Home-page", "Author", "Author-email", "License", "Project-URL", "Requires-Python"):
             self.assertTrue(told[field], field)
         self.assertEqual((told["Version"], told["Description-Content-Type"]), (ffosolve.__version__, "text/markdown"))
         self.assertEqual(told.get_payload(), inspect.getdoc(ffosolve) + "\n")
+        need("twine", "twine")
+        ran = run("twine", "check", "--strict", *names)
+        self.assertEqual((ran.returncode, ran.stdout.count(b"PASSED")), (0, 2), ran)

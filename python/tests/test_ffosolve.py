@@ -8,7 +8,6 @@ import io
 import os
 import pathlib
 import pickle
-import re
 import sys
 import tempfile
 import tracemalloc
@@ -66,16 +65,13 @@ class Calls(unittest.TestCase):
 
     def test_a_position_keeps_its_colours(self):
         """After f5 d6 c3, the colours by hand: Black has turned E5, White D5, and Black D4."""
-        board, positions = "".join(
-            "--------" "--------" "--X-----" "---XX---" "---OXX--" "---O----" "--------" "--------"), [START]
-        for square in ("f5", "d6", "c3"):
-            positions.append(self.solver.play(positions[-1], square))
-        self.assertEqual([position.side for position in positions], ["X", "O", "X", "O"])
-        self.assertEqual(positions[-1].to_obf(), board + " O;")
-        self.assertEqual("".join(re.findall("^[1-8] (.*)$", str(positions[-1]), re.M)).replace(" ", ""), board)
-        self.assertEqual(str(positions[-1]).splitlines()[-1], "O is to move")
-        self.assertEqual(positions[-1]._repr_svg_(), Position.from_obf(board + " O;")._repr_svg_())
-        self.assertEqual(positions[-1].passed().to_obf(), board + " X;")
+        board, at = "-" * 18 + "X" + "-" * 8 + "XX" + "-" * 6 + "OXX" + "-" * 5 + "O" + "-" * 20, START
+        for square, side in (("f5", "O"), ("d6", "X"), ("c3", "O")):
+            at = self.solver.play(at, square)
+            self.assertEqual(at.side, side)
+        read = Position.from_obf(board + " O;")
+        self.assertEqual((at.to_obf(), str(at), at._repr_svg_()), (board + " O;", str(read), read._repr_svg_()))
+        self.assertEqual(at.passed().to_obf(), board + " X;")
         self.assertEqual(self.solver.play(tuple(START), "f5").side, "O")
         white = Position(1, 2, "O")
         for copied in (pickle.loads(pickle.dumps(white)), copy.deepcopy(white), white._replace(own=4)):
@@ -107,12 +103,11 @@ class Calls(unittest.TestCase):
             self.assertEqual(told, (0xFF0, 0xF, -3, Kind.OVER, 4))
 
     def test_keeps_nothing(self):
+        solver, many = self.solver, [POSITION] * 9
         calls = (
-            lambda: self.solver.solve(POSITION), lambda: self.solver.confirm(POSITION, ANSWER),
-            lambda: self.solver.solve_all([POSITION] * 9), lambda: list(self.solver.solve_iter([POSITION] * 9)),
-            lambda: self.solver.move_scores(POSITION), lambda: self.solver.move_scores_all([POSITION] * 9),
-            lambda: self.solver.moves(POSITION), lambda: self.solver.play(START, "d3"),
-            lambda: Position.from_obf(CORNERS), lambda: list(ffosolve.read_lines([CORNERS] * 9)),
+            lambda: solver.solve(POSITION), lambda: solver.confirm(POSITION, ANSWER), lambda: solver.solve_all(many),
+            lambda: list(solver.solve_iter(many)), lambda: solver.move_scores(POSITION), lambda: solver.move_scores_all(many),
+            lambda: solver.moves(POSITION), lambda: solver.play(START, "d3"), lambda: list(ffosolve.read_lines([CORNERS] * 9)),
         )
         for call in calls:
             call()

@@ -74,12 +74,8 @@ fn refuses() {
 fn says_why() {
     let said = [Error::UnknownScoring, Error::SharedSquare, Error::NoMove, Error::NoMemory].map(|it| it.to_string());
     assert_eq!(said, ["no scoring has the number", "the masks share a square", "no move", "out of memory"]);
-    let [squares, column] = [3, 65];
-    let said = [ObfError::ShortBoard { squares }, ObfError::BadSquare { column }, ObfError::BadSide { column }];
-    let wanted = ["board has 3 of 64 squares", "bad square at column 65", "bad side at column 65"];
-    assert_eq!(said.map(|it| it.to_string()), wanted);
-    let said = [ObfError::NoPosition, ObfError::NoMemory].map(|it| it.to_string());
-    assert_eq!(said, ["no position: the line is blank or a comment", "out of memory"]);
+    let said = [ObfError::NoPosition, ObfError::NoMemory, ObfError::BadSide { column: 65 }].map(|it| it.to_string());
+    assert_eq!(said, ["no position: the line is blank or a comment", "out of memory", "bad side at column 65"]);
     let numbers = [ffosolve::MOST_ENTRIES, ffosolve::MOST_EMPTIES].map(|number| format!("more than {number} "));
     assert_eq!(Error::TooManyEntries.to_string(), format!("{}table entries", numbers[0]));
     let told: Box<dyn std::error::Error + Send + Sync> = Error::TooManyEmpties { index: 1 }.into();
