@@ -21,6 +21,7 @@ import zipfile
 
 try:
     import numpy
+    import PIL.Image
 except ImportError:
     numpy = None
 
@@ -37,6 +38,11 @@ from ffosolve import Answer, Position, Solver  # noqa: E402
 
 SHARED, WIDE = Position(3, 2), Position(1, 6)
 BOARD = "--XXXXX--OOOXX-O-OOOXXOX-OXOXOXXOXXXOXXX--XOXOXX-XXXOOO--OOOOO-- X;"
+
+
+def need_modules():
+    if numpy is None:
+        lack("numpy or PIL (Debian: python3-numpy, python3-pil)")
 
 
 def random_positions(count, empties, seed=1):
@@ -277,8 +283,7 @@ class Games(InFolder):
 
 class Arrays(unittest.TestCase):
     def setUp(self):
-        if numpy is None:
-            lack("numpy (Debian: python3-numpy)")
+        need_modules()
         self.solver, self.positions = Solver(), random_positions(400, range(11))
         self.own, self.opp = numpy.array(self.positions, numpy.uint64).T
 
@@ -325,7 +330,7 @@ class Arrays(unittest.TestCase):
         self.assertEqual(run(sys.executable, "-c", words, env={**os.environ, "PYTHONPATH": str(SOURCES)}).returncode, 0)
 
 
-class Boards(InFolder):
+class Boards(unittest.TestCase):
     SCORES = {"A2": 38, "b1": 36, "H8": -12, "A1": 38, "H1": 0}
 
     def test_text(self):
@@ -343,15 +348,11 @@ class Boards(InFolder):
 
     def picture(self, svg):
         """The picture's colours at a place from the left and from the top, in pixels."""
-        try:
-            import PIL.Image
-        except ImportError:
-            lack("PIL (Debian: python3-pil)")
+        need_modules()
         need("rsvg-convert", "librsvg2-bin")
         xml.etree.ElementTree.fromstring(svg)
-        (self.folder / "board.svg").write_text(svg)
-        run("rsvg-convert", "board.svg", "-o", "board.png", check=True)
-        picture = PIL.Image.open("board.png").convert("RGB")
+        png = run("rsvg-convert", input=svg.encode(), check=True).stdout
+        picture = PIL.Image.open(io.BytesIO(png)).convert("RGB")
         return lambda x, y: "".join(f"{part:02x}" for part in picture.getpixel((x, y)))
 
     def test_pixels(self):
