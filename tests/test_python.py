@@ -78,21 +78,16 @@ class Many(unittest.TestCase):
         cls.scores = [cls.solver.move_scores(position) for position in cls.positions]
 
     def test_all_and_as_they_come(self):
-        for threads in (1, 2, 4):
-            for given in (list, iter, tuple):
-                self.assertEqual(self.solver.solve_all(given(self.positions), threads=threads), self.answers)
-                self.assertEqual(list(self.solver.solve_iter(given(self.positions), threads=threads)), self.answers)
-                self.assertEqual(self.solver.move_scores_all(given(self.positions), threads=threads), self.scores)
-                self.assertEqual(list(self.solver.move_scores_iter(given(self.positions), threads=threads)), self.scores)
-            for call in (self.solver.solve_all, self.solver.move_scores_all, self.solver.solve_iter):
+        """The first one takes long, and keeps its place; some ten parts follow."""
+        long = random_positions(1, [13])
+        positions = long + 5 * self.positions
+        answers = [self.solver.solve(*long), *5 * self.answers]
+        scores = [self.solver.move_scores(*long), *5 * self.scores]
+        for threads, given in ((1, list), (2, iter), (4, tuple), (3, iter), (1, iter)):
+            for call, wanted in ((self.solver.solve_all, answers), (self.solver.solve_iter, answers),
+                                 (self.solver.move_scores_all, scores), (self.solver.move_scores_iter, scores)):
+                self.assertEqual(list(call(given(positions), threads=threads)), wanted)
                 self.assertEqual(list(call([], threads=threads)), [])
-
-    def test_one_that_takes_long_keeps_its_place(self):
-        long = random_positions(1, [13])[0]
-        positions = [long, *self.positions * 5]  # in some ten parts
-        answers = [self.solver.solve(long), *self.answers * 5]
-        for threads in (1, 3):
-            self.assertEqual(list(self.solver.solve_iter(positions, threads=threads)), answers)
 
     def test_results_come_while_positions_do(self):
         """Of an endless iterable, and of a slow one."""
