@@ -159,11 +159,10 @@ class RandomGames(Case):
     def setUpClass(cls):
         rng = random.Random(53)
         cls.played = [random_game(rng) for _ in range(1000)]
-        cls.texts = map(transcript, cls.played)
         cls.known = [(squares, positions_of(squares)) for squares in map(squares_of, cls.played)]
 
     def test_transcripts_and_records_give_the_positions_of_the_plain_player(self):
-        self.write("games.txt", "\n".join(self.texts))
+        self.write("games.txt", "\n".join(map(transcript, self.played)))
         self.write("games.wtb", wthor([record(squares, real=real_score(positions)) for squares, positions in self.known]))
         for empties in (22, 9):
             for name, score in (("games.txt", ""), ("games.wtb", ", theoretical score 33" * (empties == 22))):

@@ -1,7 +1,6 @@
 """The package for Python: many positions, games, arrays, pictures of boards, and what is published of it."""
 import contextlib
 import email
-import functools
 import gzip
 import inspect
 import io
@@ -158,19 +157,19 @@ class Many(unittest.TestCase):
         """The first position would take hours. It is in one part with the wrong one, and in another."""
         hopeless = random_positions(1, [34])
         for (bad, error), threads, before, call in itertools.product(
-            ((SHARED, ffosolve.SharedSquare), (WIDE, ffosolve.TooManyEmpties)), (1, 2), (hopeless, hopeless + self.positions),
-            (self.solver.solve_all, self.solver.move_scores_all),
+            ((SHARED, ffosolve.SharedSquare), (WIDE, ffosolve.TooManyEmpties)), (1, 2),
+            (hopeless, hopeless + self.positions), (self.solver.solve_all, self.solver.move_scores_all),
         ):
             with self.assertRaises(error) as refused:
                 call([*before, bad, SHARED], threads=threads)
             self.assertEqual(refused.exception.index, len(before))
 
     def test_numbers_of_threads(self):
-        for call in (self.solver.solve_all, self.solver.solve_iter, self.solver.move_scores_all, self.solver.move_scores_iter,
-                     *(functools.partial(call, []) for call in (self.solver.solve_arrays, self.solver.move_scores_arrays))):
+        of_lists = "solve_all", "solve_iter", "move_scores_all", "move_scores_iter"
+        for name, given in (*((name, [[]]) for name in of_lists), ("solve_arrays", [[], []]), ("move_scores_arrays", [[], []])):
             for threads in (0, -1):
                 with self.assertRaisesRegex(ValueError, "at least one thread"):
-                    call([], threads=threads)
+                    getattr(self.solver, name)(*given, threads=threads)
 
 
 class Games(InFolder):
@@ -212,8 +211,9 @@ class Games(InFolder):
     def test_what_is_no_transcript(self):
         """test_games has more of it."""
         for text, move, why in (
-            ("1. f5 2. d5 3. c3", 2, "D5 is not a legal move"), ("f5d6c33d3", 4, "'3d' is not a square"), ("f5d6c33-31", 4, "'3-' is not a square"),
-            ("f5 d6 33-31 c3", 3, "'33' is not a square"), ("f5 d6 100-3", 3, "'10' is not a square"),
+            ("1. f5 2. d5 3. c3", 2, "D5 is not a legal move"), ("f5d6c33d3", 4, "'3d' is not a square"),
+            ("f5d6c33-31", 4, "'3-' is not a square"), ("f5 d6 33-31 c3", 3, "'33' is not a square"),
+            ("f5 d6 100-3", 3, "'10' is not a square"),
         ):
             with self.assertRaisesRegex(ffosolve.GameRefused, f"^game 7, move {move}: {why}$") as refused:
                 self.solver.positions(ffosolve.Game.of_text(text, 7))

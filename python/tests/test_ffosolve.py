@@ -3,6 +3,7 @@
     python3 -m unittest discover python/tests
 """
 import copy
+import functools
 import gc
 import io
 import os
@@ -102,12 +103,12 @@ class Calls(unittest.TestCase):
             self.assertEqual(told, (0xFF0, 0xF, -3, Kind.OVER, 4))
 
     def test_keeps_nothing(self):
-        solver, many = self.solver, [POSITION] * 9
-        calls = (
-            lambda: solver.solve(POSITION), lambda: solver.confirm(POSITION, ANSWER), lambda: solver.solve_all(many),
-            lambda: list(solver.solve_iter(many)), lambda: solver.move_scores(POSITION), lambda: solver.move_scores_all(many),
-            lambda: solver.moves(POSITION), lambda: solver.play(START, "d3"), lambda: list(ffosolve.read_lines([CORNERS] * 9)),
-        )
+        solver, one, many = self.solver, (POSITION,), ([POSITION] * 9,)
+        calls = [functools.partial(call, *it) for call, it in (
+            (solver.solve, one), (solver.confirm, (POSITION, ANSWER)), (solver.solve_all, many), (solver.moves, one),
+            (lambda *them: list(solver.solve_iter(*them)), many), (solver.move_scores, one), (solver.move_scores_all, many),
+            (solver.play, (START, "d3")), (lambda: list(ffosolve.read_lines([CORNERS] * 9)), ()),
+        )]
         for call in calls:
             call()
         tracemalloc.start()
@@ -173,7 +174,8 @@ class Refusals(unittest.TestCase):
                 with self.assertRaises(refusal) as refused:
                     Position.from_obf(line)
                 for told in (refused.exception, pickle.loads(pickle.dumps(refused.exception))):
-                    self.assertEqual((told.status, str(told), told.at, told.column, told.line), (number, reason, at, column, None))
+                    self.assertEqual((told.status, str(told), told.at), (number, reason, at))
+                    self.assertEqual((told.column, told.line), (column, None))
             for told in (refusal(at, 3), pickle.loads(pickle.dumps(refusal(at, 3)))):
                 self.assertEqual((str(told), told.at, told.line), (f"line 3: {reason}", at, 3))
 
@@ -196,13 +198,6 @@ class Refusals(unittest.TestCase):
             listed.findall.side_effect = MemoryError
             for read in (Position.from_obf, lambda line: next(ffosolve.read_lines([line], refused=print))):
                 self.refused(ffosolve.NoMemory, read, CORNERS)
-
-    def test_squares(self):
-        for square in ("A1", 0, 64, 255, 256, -1, 256 + 19):
-            self.refused(ffosolve.NoMove, Solver().play, START, square)
-        for name in ("", "I1", "A9", "A11"):
-            with self.assertRaises(ValueError):
-                Solver().play(START, name)
 
     def test_what_is_no_position(self):
         solver = Solver()
@@ -267,7 +262,8 @@ class Refusals(unittest.TestCase):
 
 class Obf(unittest.TestCase):
     def test_a_line(self):
-        text = "  " + CORNERS.translate(str.maketrans("XO-", "w*.")).replace(" w;", "\tW") + " note; ps:-4; --:0 % A1:1;\r\n"
+        text = "  " + CORNERS.translate(str.maketrans("XO-", "w*.")).replace(" w;", "\tW")
+        text += " note; ps:-4; --:0 % A1:1;\r\n"
         listed = ("H1", 62), ("PS", -4), ("--", 0)
         for line in (Position.from_obf(text), pickle.loads(pickle.dumps(Position.from_obf(text.encode())))):
             self.assertEqual((line, line.side, line.number, line.listed), (POSITION, "O", None, listed))
@@ -296,8 +292,11 @@ class Obf(unittest.TestCase):
         self.assertEqual((names[0], names[1], names[7], names[8], names[63]), ("A1", "B1", "H1", "A2", "H8"))
         self.assertEqual([ffosolve.square_number(name.lower()) for name in names], list(range(64)))
         for wrong in (-1, 64):
-            with self.assertRaises(ValueError):
-                ffosolve.square_name(wrong)
+            self.assertRaises(ValueError, ffosolve.square_name, wrong)
+        for name in ("", "I1", "A9", "A11"):
+            self.assertRaises(ValueError, Solver().play, START, name)
+        for square in ("A1", 0, 64, 255, 256, -1, 256 + 19):
+            self.assertRaises(ffosolve.NoMove, Solver().play, START, square)
 
     def test_table_entries(self):
         sizes = [ffosolve.table_entries(empties) for empties in range(ffosolve.MOST_EMPTIES + 1)]

@@ -107,10 +107,10 @@ impl Solver {
     pub fn solve_all(&self, positions: &[Position]) -> Result<Vec<Answer>, Error> {
         let asked: Vec<raw::Position> = positions.iter().map(|position| position.raw()).collect();
         let mut answers = vec![raw::Answer::default(); asked.len()];
-        let (count, entries, mut at) = (asked.len(), self.table(positions), 0);
+        let (count, scoring, entries, mut at) = (asked.len(), self.scoring as u32, self.table(positions), 0);
         let (from, to) = (asked.as_ptr(), answers.as_mut_ptr());
         // SAFETY: there are so many positions, and room for so many answers, in lists of this call's own.
-        let status = unsafe { raw::ffosolve_solve_all(from, count, self.scoring as u32, entries, to, count, &mut at) };
+        let status = unsafe { raw::ffosolve_solve_all(from, count, scoring, entries, to, count, &mut at) };
         Error::of_status(status, at)?;
         Ok(answers.into_iter().map(Answer::of_raw).collect())
     }
