@@ -165,11 +165,10 @@ class Many(unittest.TestCase):
             self.assertEqual(refused.exception.index, len(before))
 
     def test_numbers_of_threads(self):
-        of_lists = "solve_all", "solve_iter", "move_scores_all", "move_scores_iter"
-        for name, given in (*((name, [[]]) for name in of_lists), ("solve_arrays", [[], []]), ("move_scores_arrays", [[], []])):
+        for name in ("solve_all", "solve_iter", "move_scores_all", "move_scores_iter"):
             for threads in (0, -1):
                 with self.assertRaisesRegex(ValueError, "at least one thread"):
-                    getattr(self.solver, name)(*given, threads=threads)
+                    getattr(self.solver, name)([], threads=threads)
 
 
 class Games(InFolder):
@@ -319,6 +318,8 @@ class Arrays(unittest.TestCase):
             for own in (self.own[:-1], self.own.reshape(20, 20)):
                 with self.assertRaises(ValueError):
                     call(own, self.opp)
+            with self.assertRaisesRegex(ValueError, "at least one thread"):
+                call(self.own, self.opp, threads=0)
 
     def test_no_program_needs_numpy(self):
         words = "import sys, ffosolve; ffosolve.Solver().solve_all([], threads=2); sys.exit('numpy' in sys.modules)"
