@@ -20,7 +20,6 @@ PROGRAM = ROOT / "bin/ffosolve-games"
 UNREADABLE = "ffosolve-games: {}: {}\n"
 NAMES = [column + row for row in "12345678" for column in "ABCDEFGH"]
 SQUARE_BYTES = [10 * row + column for row in range(1, 9) for column in range(1, 9)]  # A1, B1, .. H8 in a WTHOR file
-PASSES = ("pass", "ps", "--", "PS", "Pass")
 MOST_BYTES = limit("MOST_BYTES")  # of a line
 
 
@@ -99,15 +98,9 @@ def best_moves(position):
 # Games as files have them.
 
 
-def transcript(game, rng=None):
-    """A game's line; in many ways of writing, by chance."""
-    if rng is None:
-        return "".join(NAMES[square].lower() for square in game if square is not None)
-    passes = rng.choice(((), PASSES))
-    words = [NAMES[square] if square is not None else rng.choice(passes) for square in game if square is not None or passes]
-    words = [rng.choice((str, str.lower, str.upper))(word) for word in words]
-    between = rng.choice(("", "", " ", "\t", "  "))
-    return rng.choice(("", " ")) + between.join(words) + rng.choice(("", " ", "\r", "  % a comment"))
+def transcript(game):
+    """A game's line; test_python has other ways of writing it."""
+    return "".join(NAMES[square].lower() for square in game if square is not None)
 
 
 def record(game, theoretical=33, real=None):
@@ -166,11 +159,10 @@ class RandomGames(Case):
     def setUpClass(cls):
         rng = random.Random(53)
         cls.played = [random_game(rng) for _ in range(1000)]
-        cls.texts = [transcript(game, rng) for game in cls.played]
         cls.known = [(squares, positions_of(squares)) for squares in map(squares_of, cls.played)]
 
     def test_transcripts_and_records_give_the_positions_of_the_plain_player(self):
-        self.write("games.txt", "\n".join(self.texts))
+        self.write("games.txt", "\n".join(map(transcript, self.played)))
         self.write("games.wtb", wthor([record(squares, real=real_score(positions)) for squares, positions in self.known]))
         for empties in (22, 9):
             for name, score in (("games.txt", ""), ("games.wtb", ", theoretical score 33" * (empties == 22))):

@@ -445,9 +445,6 @@ class PythonPackage(unittest.TestCase):
             self.assertTrue(is_told if why else told.returncode == 0, told)
         named = {**PREFIX.environment, "FFOSOLVE_LIBRARY": str(PREFIX.shared), "LD_LIBRARY_PATH": ""}
         PREFIX.make(sys.executable, "-c", "import ffosolve; ffosolve.Solver()", env=named)
-        bare = {**PREFIX.environment, "LD_LIBRARY_PATH": ""}
-        reads = f"import ffosolve; ffosolve.Solver({str(PREFIX.shared)!r}); ffosolve.Position.from_obf('-' * 64 + 'X')"
-        PREFIX.make(sys.executable, "-c", reads, env=bare)  # by the library that the solver was given
 
     def test_from_its_archive(self):
         """The source archive has all that an installation takes, and an editable one leads to the sources."""

@@ -13,9 +13,16 @@ import tarfile
 import textwrap
 import threading
 import time
+import types
 import unittest
 import xml.etree.ElementTree
 import zipfile
+
+try:
+    import numpy
+    import PIL.Image
+except ImportError:
+    numpy = None
 
 from bench import player
 
@@ -32,6 +39,11 @@ SHARED, WIDE = Position(3, 2), Position(1, 6)
 BOARD = "--XXXXX--OOOXX-O-OOOXXOX-OXOXOXXOXXXOXXX--XOXOXX-XXXOOO--OOOOO-- X;"
 
 
+def need_modules():
+    if numpy is None:
+        lack("numpy or PIL (Debian: python3-numpy, python3-pil)")
+
+
 def random_positions(count, empties, seed=1):
     """Positions of random games, with so many empty squares in turn."""
     rng, found = random.Random(seed), []
@@ -39,6 +51,21 @@ def random_positions(count, empties, seed=1):
         at = positions_of(squares_of(random_game(rng))).get(empties[len(found) % len(empties)])
         found += [Position(*at[:2])] if at else []
     return found
+
+
+class Meeting:
+    """A library of which three calls have to be at work at once; the scoring and the entries of each are kept."""
+
+    def __init__(self, real):
+        self.real, self.at_once, self.asked = real, threading.Barrier(3), []
+
+    def __getattr__(self, name):
+        def call(*words):
+            self.at_once.wait(SECONDS)
+            self.asked.append((int(words[2]), words[3]))
+            return getattr(self.real, name)(*words)
+
+        return call
 
 
 class Many(unittest.TestCase):
@@ -50,76 +77,54 @@ class Many(unittest.TestCase):
         cls.scores = [cls.solver.move_scores(position) for position in cls.positions]
 
     def test_all_and_as_they_come(self):
-        for threads in (1, 2, 4):
-            for given in (list, iter, tuple):
-                self.assertEqual(self.solver.solve_all(given(self.positions), threads=threads), self.answers)
-                self.assertEqual(list(self.solver.solve_iter(given(self.positions), threads=threads)), self.answers)
-                self.assertEqual(self.solver.move_scores_all(given(self.positions), threads=threads), self.scores)
-                self.assertEqual(list(self.solver.move_scores_iter(given(self.positions), threads=threads)), self.scores)
-            for call in (self.solver.solve_all, self.solver.move_scores_all, self.solver.solve_iter):
+        """The first one takes long, and keeps its place; some ten parts follow."""
+        long = random_positions(1, [13])
+        positions = long + 5 * self.positions
+        answers = [self.solver.solve(*long), *5 * self.answers]
+        scores = [self.solver.move_scores(*long), *5 * self.scores]
+        for threads, given in ((1, list), (2, iter), (4, tuple), (3, iter), (1, iter)):
+            for call, wanted in ((self.solver.solve_all, answers), (self.solver.solve_iter, answers),
+                                 (self.solver.move_scores_all, scores), (self.solver.move_scores_iter, scores)):
+                self.assertEqual(list(call(given(positions), threads=threads)), wanted)
                 self.assertEqual(list(call([], threads=threads)), [])
 
-    def test_one_that_takes_long_keeps_its_place(self):
-        long = random_positions(1, [13])[0]
-        positions = [long, *self.positions * 5]  # in some ten parts
-        answers = [self.solver.solve(long), *self.answers * 5]
-        for threads in (1, 3):
-            self.assertEqual(list(self.solver.solve_iter(positions, threads=threads)), answers)
+    def test_results_come_while_positions_do(self):
+        """Of an endless iterable, and of a slow one."""
+        def slow():
+            for position in self.positions[:50]:
+                time.sleep(0.02)
+                taken.append(position)
+                yield position
 
-    def test_an_endless_iterable(self):
         for threads in (1, 4):
-            counter = itertools.count()
-            endless = (self.positions[number % 300] for number in counter)
-            told = self.solver.solve_iter(endless, threads=threads)
+            counter, taken = itertools.count(), []
+            told = self.solver.solve_iter((self.positions[number % 300] for number in counter), threads=threads)
             self.assertIs(iter(told), told)
             self.assertEqual(list(itertools.islice(told, 400)), self.answers + self.answers[:100])
             told.close()
             self.assertLess(next(counter), 100_000)
-
-    def test_results_come_while_positions_do(self):
-        for threads in (1, 2):
-            taken = []
-
-            def slow():
-                for position in self.positions[:50]:
-                    time.sleep(0.02)
-                    taken.append(position)
-                    yield position
-
             told = self.solver.solve_iter(slow(), threads=threads)
             self.assertEqual(next(told), self.answers[0])
             self.assertLess(len(taken), 50)
             self.assertEqual(list(told), self.answers[1:50])
 
     def test_threads_call_at_once(self):
-        meeting = threading.Barrier(3)
-        solver, real = Solver(), self.solver._library
-
-        class Library:
-            ffosolve_solve = real.ffosolve_solve
-
-            def __getattr__(self, name):
-                def call(*words):
-                    meeting.wait(SECONDS)  # fails where no three calls are at work at once
-                    return getattr(real, name)(*words)
-
-                return call
-
-        solver._library = Library()
-        positions = random_positions(3, [16])  # each is a part of its own
-        answers, scores = self.solver.solve_all(positions), self.solver.move_scores_all(positions)
+        """With the scoring of the solver, and its number of table entries."""
+        solver, positions = Solver(scoring=2, entries=7), random_positions(3, [16])  # each is a part of its own
+        answers, scores = solver.solve_all(positions), solver.move_scores_all(positions)
+        library = solver._library = Meeting(solver._library)
         for call, wanted in ((solver.solve_all, answers), (solver.solve_iter, answers),
                              (solver.move_scores_all, scores), (solver.move_scores_iter, scores)):
             self.assertEqual(list(call(positions, threads=3)), wanted)
+        self.assertEqual(library.asked, [(2, 7)] * 12)
 
     def test_a_close_waits_for_nothing_and_no_other_part_is_solved(self):
         calls, ended, asked, closed = [], [], threading.Event(), threading.Event()
 
-        class Library:
-            def ffosolve_solve_all(self, *words):
-                calls.append(words)
-                ended.append((closed if len(calls) > 1 else asked).wait(SECONDS))
-                return 0
+        def solve_all(*words):
+            calls.append(words)
+            ended.append((closed if len(calls) > 1 else asked).wait(SECONDS))
+            return 0
 
         def positions():
             for number, position in enumerate(random_positions(20, [20])):
@@ -128,7 +133,7 @@ class Many(unittest.TestCase):
                 yield position
 
         solver = Solver()
-        solver._library = Library()
+        solver._library = types.SimpleNamespace(ffosolve_solve_all=solve_all)
         told = solver.solve_iter(positions(), threads=2)
         next(told)
         told.close()
@@ -149,26 +154,21 @@ class Many(unittest.TestCase):
                 self.assertEqual((found, refused.exception.index), (wanted[:place], place))
 
     def test_refusals_come_before_anything_is_solved(self):
-        """The first position would take hours."""
-        hopeless = random_positions(1, [34])[0]
-        for bad, error in ((SHARED, ffosolve.SharedSquare), (WIDE, ffosolve.TooManyEmpties)):
-            for threads in (1, 2):
-                for call in (self.solver.solve_all, self.solver.move_scores_all):
-                    for before in ([hopeless], [hopeless, *self.positions]):  # in one part, and in some
-                        with self.assertRaises(error) as refused:
-                            call([*before, bad, SHARED], threads=threads)
-                        self.assertEqual(refused.exception.index, len(before))
+        """The first position would take hours. It is in one part with the wrong one, and in another."""
+        hopeless = random_positions(1, [34])
+        for (bad, error), threads, before, call in itertools.product(
+            ((SHARED, ffosolve.SharedSquare), (WIDE, ffosolve.TooManyEmpties)), (1, 2),
+            (hopeless, hopeless + self.positions), (self.solver.solve_all, self.solver.move_scores_all),
+        ):
+            with self.assertRaises(error) as refused:
+                call([*before, bad, SHARED], threads=threads)
+            self.assertEqual(refused.exception.index, len(before))
 
-    def test_what_is_wrong_with_the_words(self):
-        for call in (self.solver.solve_all, self.solver.solve_iter, self.solver.move_scores_all, self.solver.move_scores_iter):
+    def test_numbers_of_threads(self):
+        for name in ("solve_all", "solve_iter", "move_scores_all", "move_scores_iter"):
             for threads in (0, -1):
                 with self.assertRaisesRegex(ValueError, "at least one thread"):
-                    call([], threads=threads)
-            for masks in ((-1, 0), (0, 2**64)):
-                with self.assertRaisesRegex(ValueError, "a mask is a number from 0"):
-                    list(call([Position(*masks)], threads=2))
-            with self.assertRaises(TypeError):
-                list(call([(0.5, 1)]))
+                    getattr(self.solver, name)([], threads=threads)
 
 
 class Games(InFolder):
@@ -208,10 +208,11 @@ class Games(InFolder):
                 self.assertEqual(self.shown(self.solver.positions(text + end)), self.expected(game), text + end)
 
     def test_what_is_no_transcript(self):
+        """test_games has more of it."""
         for text, move, why in (
-            ("f5d6d5", 3, "D5 is not a legal move"), ("1. f5 2. d5 3. c3", 2, "D5 is not a legal move"), ("f5,d6,z9", 3, "'z9' is not a square"),
-            ("f5d6c33d3", 4, "'3d' is not a square"), ("f5d6c33-31", 4, "'3-' is not a square"), ("f5 d6 33-31 c3", 3, "'33' is not a square"),
-            ("f5 d6 100-3", 3, "'10' is not a square"), ("f5--d6", 2, "it passes where there is a legal move"),
+            ("1. f5 2. d5 3. c3", 2, "D5 is not a legal move"), ("f5d6c33d3", 4, "'3d' is not a square"),
+            ("f5d6c33-31", 4, "'3-' is not a square"), ("f5 d6 33-31 c3", 3, "'33' is not a square"),
+            ("f5 d6 100-3", 3, "'10' is not a square"),
         ):
             with self.assertRaisesRegex(ffosolve.GameRefused, f"^game 7, move {move}: {why}$") as refused:
                 self.solver.positions(ffosolve.Game.of_text(text, 7))
@@ -253,6 +254,7 @@ class Games(InFolder):
         self.assertEqual(told.getvalue(), f"4 {published[3]}\n12 {published[11]}\n")
 
     def test_what_is_refused(self):
+        """A game is, and those before it are read; or the file, of which test_games has more."""
         whole = record(self.played[0])
         for count, why in ((2, "the file ends"), (0, "the file goes on")):
             (self.folder / "it.wtb").write_bytes(wthor([whole], count=count))
@@ -261,62 +263,47 @@ class Games(InFolder):
             self.assertEqual([(it.game, it.move) for it in wrong], [(count or 1, None)])
             with self.assertRaisesRegex(ffosolve.GameRefused, f"^game {count or 1}: {why}"):
                 list(ffosolve.read_games("it.wtb"))
-        for content in (b"", b"f5d6c3" * 20, wthor([whole], board=10)):
-            (self.folder / "it.wtb").write_bytes(content)
-            with self.assertRaisesRegex(ValueError, "^it.wtb is not a WTHOR file of games: "):
-                list(ffosolve.read_games("it.wtb"))
-        with self.assertRaisesRegex(ValueError, "its line 1 has more than [0-9]+ bytes$"):
-            list(ffosolve.read_games(io.BytesIO(b"f5" * 1_000_000)))
-        for source in (5, b"f5d6c3", io.StringIO("f5d6c3"), ["f5d6c3"], None):
-            with self.assertRaisesRegex(TypeError, "^games are read from a path or from a file opened for bytes, not from "):
+        (self.folder / "it.wtb").write_bytes(wthor([whole], board=10))
+        for source, error, why in (
+            ("it.wtb", ValueError, "it.wtb is not a WTHOR file of games: "),
+            (io.BytesIO(b"f5" * 1_000_000), ValueError, "cannot read the file: its line 1 has more than [0-9]+ bytes$"),
+            ("nowhere", FileNotFoundError, ""),
+            *((it, TypeError, "games are read from a path or from a file opened for bytes, not from ")
+              for it in (5, b"f5d6c3", io.StringIO("f5d6c3"), ["f5d6c3"], None)),
+        ):
+            with self.assertRaisesRegex(error, f"^{why}"):
                 list(ffosolve.read_games(source))
-        with self.assertRaises(FileNotFoundError):
-            list(ffosolve.read_games("nowhere"))
 
 
 class Arrays(unittest.TestCase):
     def setUp(self):
-        try:
-            import numpy
-        except ImportError:
-            lack("numpy (Debian: python3-numpy)")
-        self.numpy, self.solver = numpy, Solver()
-        self.positions = random_positions(400, range(11))
+        need_modules()
+        self.solver, self.positions = Solver(), random_positions(400, range(11))
         self.own, self.opp = numpy.array(self.positions, numpy.uint64).T
 
+    def as_lists(self, solver, positions, threads):
+        """The answers and the scores of the calls for arrays, as those for lists give them."""
+        own, opp = numpy.array(positions, numpy.uint64).reshape(-1, 2).T
+        answers, scores = (call(own, opp, threads=threads) for call in (solver.solve_arrays, solver.move_scores_arrays))
+        self.assertEqual([str(array.dtype) for array in (*answers, scores)], ["int32", "int32", "uint64", "int8"])
+        self.assertEqual(scores.shape, (len(positions), 64))
+        return [Answer(*its) for its in zip(*(array.tolist() for array in answers))], [
+            {ffosolve.square_name(at): score for at, score in enumerate(row) if score != ffosolve.NO_SCORE}
+            for row in scores.tolist()]
+
     def test_as_lists(self):
-        """Answers and scores are those of the calls for lists, on one thread and on some, under each scoring, and of nothing."""
+        """On one thread and on some, under each scoring, and of nothing."""
         for scoring, threads, count in (*((scoring, 1, 90) for scoring in ffosolve.Scoring), (0, 3, 400), (0, 2, 0)):
             solver, positions = Solver(scoring=scoring), self.positions[:count]
-            found = solver.solve_arrays(self.own[:count], self.opp[:count], threads=threads)
-            self.assertEqual([str(array.dtype) for array in found], ["int32", "int32", "uint64"])
-            self.assertEqual([Answer(*its) for its in zip(*(array.tolist() for array in found))], solver.solve_all(positions))
-            found = solver.move_scores_arrays(self.own[:count], self.opp[:count], threads=threads)
-            self.assertEqual((str(found.dtype), found.shape), ("int8", (count, 64)))
-            told = [{ffosolve.square_name(at): score for at, score in enumerate(row) if score != ffosolve.NO_SCORE}
-                    for row in found.tolist()]
-            self.assertEqual(told, solver.move_scores_all(positions))
+            wanted = solver.solve_all(positions), solver.move_scores_all(positions)
+            self.assertEqual(self.as_lists(solver, positions, threads), wanted)
 
-    def test_what_is_asked(self):
-        """The scoring of the solver, its number of table entries, and calls of three threads at once."""
-        meeting, asked = threading.Barrier(3), []
-
-        class Library:
-            def __getattr__(self, name):
-                def call(positions, count, scoring, entries, *others):
-                    meeting.wait(SECONDS)
-                    asked.append((name, int(scoring), entries))
-                    return 0
-
-                return call
-
-        solver = Solver(scoring=ffosolve.Scoring.SIGN, entries=7)
-        solver._library = Library()
-        own, opp = self.numpy.array(random_positions(3, [17]), self.numpy.uint64).T
-        for call, name in ((solver.solve_arrays, "solve_all"), (solver.move_scores_arrays, "move_scores_all")):
-            asked.clear()
-            call(own, opp, threads=3)
-            self.assertEqual(asked, [(f"ffosolve_{name}", 2, 7)] * 3)
+    def test_threads_call_at_once(self):
+        solver, positions = Solver(scoring=2, entries=7), random_positions(3, [16])
+        wanted = solver.solve_all(positions), solver.move_scores_all(positions)
+        library = solver._library = Meeting(solver._library)
+        self.assertEqual(self.as_lists(solver, positions, threads=3), wanted)
+        self.assertEqual(library.asked, [(2, 7)] * 6)
 
     def test_refusals(self):
         for call in (self.solver.solve_arrays, self.solver.move_scores_arrays):
@@ -327,7 +314,7 @@ class Arrays(unittest.TestCase):
                     call(own, opp, threads=2)
                 self.assertEqual(refused.exception.index, 57)
             with self.assertRaises(TypeError):
-                call(self.own.astype(self.numpy.int64), self.opp)
+                call(self.own.astype(numpy.int64), self.opp)
             for own in (self.own[:-1], self.own.reshape(20, 20)):
                 with self.assertRaises(ValueError):
                     call(own, self.opp)
@@ -339,7 +326,7 @@ class Arrays(unittest.TestCase):
         self.assertEqual(run(sys.executable, "-c", words, env={**os.environ, "PYTHONPATH": str(SOURCES)}).returncode, 0)
 
 
-class Boards(InFolder):
+class Boards(unittest.TestCase):
     SCORES = {"A2": 38, "b1": 36, "H8": -12, "A1": 38, "H1": 0}
 
     def test_text(self):
@@ -357,64 +344,47 @@ class Boards(InFolder):
 
     def picture(self, svg):
         """The picture's colours at a place from the left and from the top, in pixels."""
-        try:
-            import PIL.Image
-        except ImportError:
-            lack("PIL (Debian: python3-pil)")
+        need_modules()
         need("rsvg-convert", "librsvg2-bin")
         xml.etree.ElementTree.fromstring(svg)
-        (self.folder / "board.svg").write_text(svg)
-        run("rsvg-convert", "board.svg", "-o", "board.png", check=True)
-        picture = PIL.Image.open("board.png").convert("RGB")
+        png = run("rsvg-convert", input=svg.encode(), check=True).stdout
+        picture = PIL.Image.open(io.BytesIO(png)).convert("RGB")
         return lambda x, y: "".join(f"{part:02x}" for part in picture.getpixel((x, y)))
 
     def test_pixels(self):
         """Squares are of 44 pixels behind a margin of 22: in their middle a disc, and in a corner what is below it."""
-        position = Position.from_obf(BOARD)
+        position, corners = Position.from_obf(BOARD), [(22 + 44 * (at % 8), 22 + 44 * (at // 8)) for at in range(64)]
         black, white, green, yellow = "111111", "fafafa", "2f8f5b", "ffd54a"
         for svg, mover, other in ((position._repr_svg_(), black, white), (position.show(side="O")._repr_svg_(), white, black)):
             at = self.picture(svg)
             colours = {"X": mover, "O": other, "-": green}
-            for place, letter in enumerate(BOARD[:64]):
-                x, y = 22 + 44 * (place % 8), 22 + 44 * (place // 8)
-                self.assertEqual((at(x + 22, y + 22), at(x + 4, y + 4)), (colours[letter], green), place)
-            self.assertEqual(at(32, 391), mover)
+            self.assertEqual([at(x + 22, y + 22) for x, y in corners], [colours[letter] for letter in BOARD[:64]])
+            self.assertEqual(({at(x + 4, y + 4) for x, y in corners}, at(32, 391)), ({green}, mover))
         at = self.picture(position.show(self.SCORES)._repr_svg_())
-        marked = [place for place in range(64) if at(22 + 44 * (place % 8) + 4, 22 + 44 * (place // 8) + 4) == yellow]
-        self.assertEqual(marked, [0, 8])
-        for place in range(64):
-            x, y = 22 + 44 * (place % 8), 22 + 44 * (place // 8)
+        for place, (x, y) in enumerate(corners):
+            name = ffosolve.square_name(place)
+            self.assertEqual(at(x + 4, y + 4), yellow if name in ("A1", "A2") else green, name)
             colours = {at(x + right, y + down) for right in range(8, 36) for down in range(14, 30)}
-            is_scored = ffosolve.square_name(place) in ("A1", "A2", "B1", "H1", "H8")
             if BOARD[place] == "-":
-                self.assertEqual(len(colours) > 3, is_scored, place)
+                self.assertEqual(len(colours) > 3, name in ("A1", "A2", "B1", "H1", "H8"), name)
 
 
 class Package(InFolder):
-    """The wheel and the source archive, as they are to be published."""
-
-    def setUp(self):
-        super().setUp()
+    def test_the_wheel_and_the_source_archive(self):
+        """As they are to be published."""
         words = "import ffosolve_wheel as made; made.build_wheel('{0}'), made.build_sdist('{0}')".format(self.folder)
         run(sys.executable, "-Bc", words, cwd=ROOT / "python/backend", check=True)
-        self.head = f"ffosolve-{stored('VERSION').decode().strip()}"
-        with zipfile.ZipFile(f"{self.head}-py3-none-any.whl") as wheel:
-            self.wheel = {name: wheel.read(name) for name in wheel.namelist()}
-        with tarfile.open(f"{self.head}.tar.gz") as archive:
-            self.archive = {it.name: archive.extractfile(it).read() for it in archive.getmembers()}
-
-    def test_twine_passes_both(self):
-        need("twine", "twine")
-        ran = run("twine", "check", "--strict", f"{self.head}-py3-none-any.whl", f"{self.head}.tar.gz")
-        self.assertEqual((ran.returncode, ran.stdout.count(b"PASSED")), (0, 2), ran)
-
-    def test_licence_author_and_description(self):
-        for name in (self.wheel[f"{self.head}.dist-info/LICENSE"], self.archive[f"{self.head}/LICENSE"]):
-            self.assertEqual(name, stored("LICENSE"))
-        metadata = self.wheel[f"{self.head}.dist-info/METADATA"].decode()
-        self.assertEqual(self.archive[f"{self.head}/PKG-INFO"].decode(), metadata)
-        told = email.message_from_string(metadata)
+        head = f"ffosolve-{stored('VERSION').decode().strip()}"
+        names = f"{head}-py3-none-any.whl", f"{head}.tar.gz"
+        with zipfile.ZipFile(names[0]) as wheel, tarfile.open(names[1]) as archive:
+            licence, metadata = (wheel.read(f"{head}.dist-info/{name}") for name in ("LICENSE", "METADATA"))
+            of_archive = [archive.extractfile(f"{head}/{name}").read() for name in ("LICENSE", "PKG-INFO")]
+        self.assertEqual((licence, of_archive), (stored("LICENSE"), [licence, metadata]))
+        told = email.message_from_string(metadata.decode())
         for field in ("Summary", "Home-page", "Author", "Author-email", "License", "Project-URL", "Requires-Python"):
             self.assertTrue(told[field], field)
         self.assertEqual((told["Version"], told["Description-Content-Type"]), (ffosolve.__version__, "text/markdown"))
         self.assertEqual(told.get_payload(), inspect.getdoc(ffosolve) + "\n")
+        need("twine", "twine")
+        ran = run("twine", "check", "--strict", *names)
+        self.assertEqual((ran.returncode, ran.stdout.count(b"PASSED")), (0, 2), ran)

@@ -62,10 +62,6 @@ def tag():
     return "py3-none-manylinux_2_34_x86_64" if LIBRARIES else "py3-none-any"
 
 
-def tags():
-    return f"Wheel-Version: 1.0\nGenerator: ffosolve\nRoot-Is-Purelib: {str(not LIBRARIES).lower()}\nTag: {tag()}\n"
-
-
 def libraries():
     """The shared library for each level of processors, from the folder in which make has built them."""
     for level in ("x86-64-v2", "x86-64-v3") if LIBRARIES else ():
@@ -97,7 +93,8 @@ def write_wheel(folder, files):
 
 def dist_info():
     yield f"{head()}.dist-info/METADATA", metadata().encode()
-    yield f"{head()}.dist-info/WHEEL", tags().encode()
+    tags = f"Wheel-Version: 1.0\nGenerator: ffosolve\nRoot-Is-Purelib: {str(not LIBRARIES).lower()}\nTag: {tag()}\n"
+    yield f"{head()}.dist-info/WHEEL", tags.encode()
     yield from licences(f"{head()}.dist-info/LICENSE")
     program = f"[console_scripts]\nffosolve-games = {settings('ffosolve-games')[0]}\n"
     yield f"{head()}.dist-info/entry_points.txt", program.encode()

@@ -3,133 +3,75 @@
     python3 -m unittest discover python/tests
 """
 import copy
+import functools
 import gc
 import io
 import os
 import pathlib
 import pickle
-import re
-import subprocess
 import sys
-import tempfile
 import tracemalloc
 import unittest
 from unittest import mock
 
 import ffosolve
-from ffosolve import Answer, Kind, Position, Scoring, Solver
+from ffosolve import START, Answer, Kind, Position, Scoring, Solver
 from ffosolve._library import places
 
 CORNERS = "-OXXXXX-XXXXXXXOXXXXXXXXXXXXXXXXXXXOXXXXXXXXXXXXXXXXXXXXXXXXXXXX X; H1:+62;"
 POSITION = Position(0xFFFFFFF7FFFF7F7C, 0x0000000800008002)
 ANSWER = Answer(62, Kind.MOVES, 0x80)
-START = Position(0x0000000810000000, 0x0000001008000000)
-SMALL = """
-import resource, sys, ffosolve
-def limit(more):
-    pages = int(open("/proc/self/statm").read().split()[0])
-    limit = pages * resource.getpagesize() + more
-    resource.setrlimit(resource.RLIMIT_AS, (limit, limit))
-solver = ffosolve.Solver(entries=ffosolve.MOST_ENTRIES)
-limit(100_000_000)
-line = b"-" * 64 + b"X;" + b"B1:1;" * 2_000_000
-position = ffosolve.Position(0xFFFFFFF7FFFF7F7C, 0x0000000800008002)
-claim = ffosolve.Answer(62, ffosolve.Kind.MOVES, 0x80)
-for call, word in (
-    (solver.solve, (position,)),
-    (solver.confirm, (position, claim)),
-    (solver.solve_all, ([position],)),
-    (solver.move_scores, (position,)),
-    (ffosolve.Position.from_obf, (line,)),
-    (next, (ffosolve.read_lines([line], refused=print),)),
-):
-    if word[0] is line:
-        limit(4_000_000)
-    try:
-        call(*word)
-        sys.exit(f"{call} has memory")
-    except ffosolve.NoMemory as refused:
-        if not isinstance(refused, MemoryError) or str(refused) != "out of memory":
-            sys.exit(repr(refused))
-if ffosolve.Solver(entries=0).solve(position) != claim:
-    sys.exit("without a table no memory is wanted")
-"""
-LATER = """
-import sys, ffosolve
-position = ffosolve.Position.from_obf(sys.argv[1])
-line, = ffosolve.read_lines([position.to_obf()])
-position.show()
-print(ffosolve.Solver(sys.argv[2]).solve(position).squares)
-"""
+SHARED, WIDE, AT_PASS = Position(3, 2), Position(1, 6), Position(0x7E, ~0x7F & 2**64 - 1)
+
+
+class Library:
+    """In place of the library: each call gives a status, and its arguments are kept."""
+
+    def __init__(self, status):
+        self.status, self.asked = status, []
+
+    def __getattr__(self, name):
+        return lambda *asked: self.asked.append(asked) or self.status
 
 
 class Calls(unittest.TestCase):
     def setUp(self):
         self.solver = Solver()
 
-    def test_solve(self):
-        self.assertEqual(self.solver.solve(POSITION), ANSWER)
-        self.assertEqual(self.solver.solve(POSITION).squares, ["H1"])
-        self.assertEqual(self.solver.solve(POSITION.passed()).score, -40)
-        self.assertEqual(Solver(scoring=Scoring.DISCS).solve(POSITION.passed()).score, -39)
-        self.assertEqual(Solver(scoring=2, entries=64).solve(POSITION.passed()).score, -1)
-
-    def test_pass_and_end(self):
-        self.assertEqual(self.solver.solve(Position(0x7E, ~0x7F & 2**64 - 1)), Answer(-64, Kind.PASS, 0))
-        self.assertEqual(self.solver.solve(Position(0xFFFFFFFF, 0xFFFF << 48)), Answer(32, Kind.OVER, 0))
-        told = [self.solver.solve(POSITION), self.solver.confirm(POSITION, ANSWER), *self.solver.solve_all([POSITION])]
-        self.assertEqual([type(answer.kind) for answer in told], [Kind] * 3)
-
-    def test_equals_have_one_hash_and_are_printed_as_they_are(self):
-        line = Position.from_obf(CORNERS)
-        self.assertEqual(len({POSITION, Position(*POSITION), line, POSITION.passed()}), 2)
-        self.assertEqual(len({ANSWER, Answer(*ANSWER), self.solver.solve(POSITION)}), 1)
-        self.assertEqual(repr(POSITION), f"Position(own={POSITION.own}, opp={POSITION.opp})")
-        self.assertEqual(repr(line), f"Line(own={POSITION.own}, opp={POSITION.opp})")
-        self.assertEqual(repr(Position(1, 2, "O")), "Position(own=1, opp=2, side='O')")
-        self.assertEqual((Position(1, 2, "O"), hash(Position(1, 2, "O"))), (Position(1, 2), hash(Position(1, 2))))
-        self.assertEqual(repr(POSITION.show()), str(POSITION))
-
-    def test_answers_and_positions_differ_in_each_member(self):
-        for one, others in (
-            (ANSWER, (Answer(61, Kind.MOVES, 0x80), Answer(62, Kind.PASS, 0x80), Answer(62, Kind.MOVES, 0x81))),
-            (POSITION, (POSITION.passed(), Position(POSITION.own ^ 1, POSITION.opp), Position(POSITION.own, POSITION.opp ^ 2))),
-        ):
-            self.assertTrue(one == type(one)(*one) and not one != type(one)(*one))
-            for other in others:
-                self.assertTrue(one != other and not one == other)
-
-    def test_confirm(self):
-        for claim in (ANSWER, Answer(0, Kind.OVER, 0), Answer(1000, 7, 3)):
-            self.assertEqual(self.solver.confirm(POSITION, claim), ANSWER)
-
-    def test_solve_all(self):
-        self.assertEqual(self.solver.solve_all([]), [])
-        answers = self.solver.solve_all(position for position in (POSITION, POSITION.passed()))
-        self.assertEqual([answer.score for answer in answers], [62, -40])
-
-    def test_move_scores(self):
+    def test_each_call(self):
+        told = [self.solver.solve(POSITION), self.solver.confirm(POSITION, ANSWER)]
+        told += self.solver.solve_all([POSITION, AT_PASS, Position(0xFFFFFFFF, 0xFFFF << 48)])
+        self.assertEqual(told, [ANSWER] * 3 + [Answer(-64, Kind.PASS, 0), Answer(32, Kind.OVER, 0)])
+        self.assertEqual(({type(answer.kind) for answer in told}, ANSWER.squares), ({Kind}, ["H1"]))
+        self.assertEqual(self.solver.confirm(POSITION, Answer(1000, 7, 3)), ANSWER)
+        scores = [Solver(scoring=number, entries=64).solve(POSITION.passed()).score for number in range(3)]
+        self.assertEqual(scores, [-40, -39, -1])
         self.assertEqual(list(self.solver.move_scores(POSITION).items()), [("A1", 52), ("H1", 62)])
-        self.assertEqual(self.solver.move_scores(Position(0x7E, ~0x7F & 2**64 - 1)), {})
-
-    def test_moves_and_play(self):
+        self.assertEqual(self.solver.move_scores(AT_PASS), {})
         self.assertEqual(ffosolve.square_names(self.solver.moves(START)), ["D3", "C4", "F5", "E6"])
         after = Position(0x0000001000000000, 0x0000000818080000)
-        self.assertEqual(self.solver.play(START, "d3"), after)
-        self.assertEqual(self.solver.play(START, 19), after)
+        self.assertEqual([self.solver.play(START, square) for square in ("d3", 19)], [after] * 2)
+
+    def test_equals_have_one_hash_and_are_printed_as_they_are(self):
+        line, white, (own, opp) = Position.from_obf(CORNERS), Position(1, 2, "O"), POSITION
+        equal = POSITION, Position(own, opp), line, Position(own, opp, "O")
+        self.assertEqual(len({*equal, Position(own ^ 1, opp), Position(own, opp ^ 2)}), 3)
+        others = (ANSWER._replace(**it) for it in ({"score": 61}, {"kind": Kind.PASS}, {"best": 0x81}))
+        self.assertEqual(len({ANSWER, Answer(*ANSWER), self.solver.solve(POSITION), *others}), 4)
+        self.assertEqual(repr(POSITION), f"Position(own={own}, opp={opp})")
+        self.assertEqual(repr(line), f"Line(own={own}, opp={opp})")
+        self.assertEqual(repr(white), "Position(own=1, opp=2, side='O')")
+        self.assertEqual(repr(POSITION.show()), str(POSITION))
 
     def test_a_position_keeps_its_colours(self):
         """After f5 d6 c3, the colours by hand: Black has turned E5, White D5, and Black D4."""
-        board, positions = "".join(
-            "--------" "--------" "--X-----" "---XX---" "---OXX--" "---O----" "--------" "--------"), [START]
-        for square in ("f5", "d6", "c3"):
-            positions.append(self.solver.play(positions[-1], square))
-        self.assertEqual([position.side for position in positions], ["X", "O", "X", "O"])
-        self.assertEqual(positions[-1].to_obf(), board + " O;")
-        self.assertEqual("".join(re.findall("^[1-8] (.*)$", str(positions[-1]), re.M)).replace(" ", ""), board)
-        self.assertEqual(str(positions[-1]).splitlines()[-1], "O is to move")
-        self.assertEqual(positions[-1]._repr_svg_(), Position.from_obf(board + " O;")._repr_svg_())
-        self.assertEqual(positions[-1].passed().to_obf(), board + " X;")
+        board, at = "-" * 18 + "X" + "-" * 8 + "XX" + "-" * 6 + "OXX" + "-" * 5 + "O" + "-" * 20, START
+        for square, side in (("f5", "O"), ("d6", "X"), ("c3", "O")):
+            at = self.solver.play(at, square)
+            self.assertEqual(at.side, side)
+        read = Position.from_obf(board + " O;")
+        self.assertEqual((at.to_obf(), str(at), at._repr_svg_()), (board + " O;", str(read), read._repr_svg_()))
+        self.assertEqual(at.passed().to_obf(), board + " X;")
         self.assertEqual(self.solver.play(tuple(START), "f5").side, "O")
         white = Position(1, 2, "O")
         for copied in (pickle.loads(pickle.dumps(white)), copy.deepcopy(white), white._replace(own=4)):
@@ -148,40 +90,25 @@ class Calls(unittest.TestCase):
         self.assertEqual([limit(0), limit(1), limit(2)], [ffosolve.MOST_ENTRIES, ffosolve.MOST_EMPTIES, len(Scoring)])
         self.assertEqual(self.solver.library_version, ffosolve.__version__)
 
-    def test_table_is_for_the_most_empty_squares(self):
-        asked = []
-
-        class Library:
-            def ffosolve_solve_all(self, positions, count, scoring, entries, *others):
-                asked.append(entries)
-                return 0
-
-        for solver in (self.solver, Solver(entries=7)):
-            solver._library = Library()
+    def test_what_the_library_is_asked(self):
+        """The scoring, a table for the most empty squares or of the size that is named, and a claim as it is."""
+        for settings, scoring, entries in (({}, 0, ffosolve.table_entries(52)), ({"scoring": 2, "entries": 7}, 2, 7)):
+            solver, library = Solver(**settings), Library(0)
+            solver._library = library
             solver.solve_all([POSITION, Position(0xFFF, 0), POSITION])
-        self.assertEqual(asked, [ffosolve.table_entries(52), 7])
-
-    def test_a_claim_is_handed_on(self):
-        asked = []
-
-        class Library:
-            def ffosolve_confirm(self, position, scoring, entries, claim, answer):
-                asked.append((position.own, position.opp, scoring, entries, claim.score, claim.kind, claim.best))
-                return 0
-
-        solver = Solver(scoring=Scoring.SIGN, entries=7)
-        solver._library = Library()
-        solver.confirm(Position(1, 2), Answer(-3, Kind.OVER, 4))
-        self.assertEqual(asked, [(1, 2, Scoring.SIGN, 7, -3, Kind.OVER, 4)])
+            solver.confirm(Position(0xFF0, 0xF), Answer(-3, Kind.OVER, 4))
+            (_, _, *of_all), (position, *of_one, claim, _) = library.asked
+            self.assertEqual((of_all[:2], of_one), ([scoring, entries], [scoring, entries]))
+            told = position.own, position.opp, claim.score, claim.kind, claim.best
+            self.assertEqual(told, (0xFF0, 0xF, -3, Kind.OVER, 4))
 
     def test_keeps_nothing(self):
-        calls = (
-            lambda: self.solver.solve(POSITION), lambda: self.solver.confirm(POSITION, ANSWER),
-            lambda: self.solver.solve_all([POSITION] * 9), lambda: list(self.solver.solve_iter([POSITION] * 9)),
-            lambda: self.solver.move_scores(POSITION), lambda: self.solver.move_scores_all([POSITION] * 9),
-            lambda: self.solver.moves(POSITION), lambda: self.solver.play(START, "d3"),
-            lambda: Position.from_obf(CORNERS), lambda: list(ffosolve.read_lines([CORNERS] * 9)),
-        )
+        solver, one, many = self.solver, (POSITION,), ([POSITION] * 9,)
+        calls = [functools.partial(call, *it) for call, it in (
+            (solver.solve, one), (solver.confirm, (POSITION, ANSWER)), (solver.solve_all, many), (solver.moves, one),
+            (lambda *them: list(solver.solve_iter(*them)), many), (solver.move_scores, one), (solver.move_scores_all, many),
+            (solver.play, (START, "d3")), (lambda: list(ffosolve.read_lines([CORNERS] * 9)), ()),
+        )]
         for call in calls:
             call()
         tracemalloc.start()
@@ -202,15 +129,13 @@ class Refusals(unittest.TestCase):
         self.assertEqual(told.exception.index, index)
 
     def test_positions(self):
-        solver, shared, wide = Solver(), Position(3, 2), Position(1, 6)
+        solver = Solver()
         for call in (solver.solve, solver.move_scores, lambda position: solver.confirm(position, ANSWER)):
-            self.refused(ffosolve.SharedSquare, call, shared)
-            self.refused(ffosolve.TooManyEmpties, call, wide)
-        self.refused(ffosolve.SharedSquare, solver.moves, shared)
-        self.refused(ffosolve.SharedSquare, solver.play, shared, 0)
-        self.refused(ffosolve.TooManyEmpties, solver.solve_all, [POSITION, wide, shared], index=1)
-        with self.assertRaisesRegex(ffosolve.SharedSquare, "^position at index 2: the masks share a square$"):
-            solver.solve_all([POSITION, POSITION, shared])
+            self.refused(ffosolve.SharedSquare, call, SHARED)
+            self.refused(ffosolve.TooManyEmpties, call, WIDE)
+        self.refused(ffosolve.SharedSquare, solver.moves, SHARED)
+        self.refused(ffosolve.SharedSquare, solver.play, SHARED, 0)
+        self.refused(ffosolve.TooManyEmpties, solver.solve_all, [POSITION, WIDE, SHARED], index=1)
 
     def test_settings(self):
         self.refused(ffosolve.UnknownScoring, lambda: Solver(scoring=3))
@@ -236,47 +161,43 @@ class Refusals(unittest.TestCase):
             again = pickle.loads(pickle.dumps(refusal(1)))
             self.assertEqual((type(again), str(again), again.index), (refusal, f"position at index 1: {reason}", 1))
 
-    def test_reasons_of_lines(self):
-        """The numbers of ffosolve.h, and the texts of a report."""
-        for refusal, number, reason, column in (
-            (ffosolve.NoPosition, 8, "no position: the line is blank or a comment", None),
-            (ffosolve.ShortBoard, 9, "board has 5 of 64 squares", None),
-            (ffosolve.BadSquare, 10, "bad square at column 5", 5),
-            (ffosolve.BadSide, 11, "bad side at column 5", 5),
+    def test_lines(self):
+        """The numbers of ffosolve.h, and the texts of a report. A line is a text or bytes, with its end or without."""
+        for refusal, number, text, reason, at, column in (
+            (ffosolve.NoPosition, 8, " % X", "no position: the line is blank or a comment", 0, None),
+            (ffosolve.ShortBoard, 9, CORNERS[:63], "board has 63 of 64 squares", 63, None),
+            (ffosolve.BadSquare, 10, " " + CORNERS[:3] + "\ud800", "bad square at column 5", 5, 5),
+            (ffosolve.BadSide, 11, CORNERS[:64] + " -;", "bad side at column 66", 66, 66),
         ):
             self.assertTrue(issubclass(refusal, ffosolve.LineRefused) and issubclass(refusal, ValueError))
-            for told in (refusal(5), pickle.loads(pickle.dumps(refusal(5)))):
-                self.assertEqual((told.status, str(told), told.at, told.column, told.line), (number, reason, 5, column, None))
-            for told in (refusal(5, 3), pickle.loads(pickle.dumps(refusal(5, 3)))):
-                self.assertEqual((str(told), told.at, told.line), (f"line 3: {reason}", 5, 3))
+            for line in (text, text.encode("utf-8", "surrogatepass"), text + "\n", text + "\r\n"):
+                with self.assertRaises(refusal) as refused:
+                    Position.from_obf(line)
+                for told in (refused.exception, pickle.loads(pickle.dumps(refused.exception))):
+                    self.assertEqual((told.status, str(told), told.at), (number, reason, at))
+                    self.assertEqual((told.column, told.line), (column, None))
+            for told in (refusal(at, 3), pickle.loads(pickle.dumps(refusal(at, 3)))):
+                self.assertEqual((str(told), told.at, told.line), (f"line 3: {reason}", at, 3))
 
-    def test_status_of_a_newer_library(self):
-        """A status that this package does not know is told by its number."""
-        class Library:
-            def ffosolve_solve(self, *asked):
-                return 12
-
-            ffosolve_solve_all = ffosolve_solve
+    def test_statuses_that_only_some_libraries_give(self):
+        """Want of memory, and what this package does not know. A solver hands on what each of its calls gives."""
         solver = Solver()
-        solver._library = Library()
-        for call in (lambda: solver.solve(POSITION), lambda: solver.solve_all([POSITION])):
-            with self.assertRaisesRegex(ffosolve.OtherRefusal, "^refused with status 12$") as told:
-                call()
-            again = pickle.loads(pickle.dumps(told.exception))
-            self.assertEqual((again.status, str(again), again.index), (12, "refused with status 12", None))
+        for status, refusal, reason in (
+            (7, ffosolve.NoMemory, "out of memory"), (12, ffosolve.OtherRefusal, "refused with status 12"),
+        ):
+            solver._library = Library(status)
+            for call in (solver.solve, lambda it: solver.confirm(it, ANSWER), solver.move_scores, solver.moves,
+                         lambda it: solver.play(it, 0), lambda it: solver.solve_all([it])):
+                with self.assertRaisesRegex(refusal, f"^{reason}$") as told:
+                    call(POSITION)
+                again = pickle.loads(pickle.dumps(told.exception))
+                self.assertEqual((type(again), again.status, str(again), again.index), (refusal, status, reason, None))
 
-    def test_squares(self):
-        for square in ("A1", 0, 64, 255, 256, -1, 256 + 19):
-            self.refused(ffosolve.NoMove, Solver().play, START, square)
-        for name in ("", "I1", "A9", "A11"):
-            with self.assertRaises(ValueError):
-                Solver().play(START, name)
-
-    def test_masks_of_no_64_bits(self):
-        for mask in (-1, 2**64):
-            for call in (Solver().solve, Solver().moves, Solver().move_scores, lambda p: Solver().solve_all([p])):
-                with self.assertRaisesRegex(ValueError, "mask"):
-                    call(Position(mask, 0))
+    def test_no_memory_for_what_a_line_lists(self):
+        with mock.patch("ffosolve._positions.LISTED") as listed:
+            listed.findall.side_effect = MemoryError
+            for read in (Position.from_obf, lambda line: next(ffosolve.read_lines([line], refused=print))):
+                self.refused(ffosolve.NoMemory, read, CORNERS)
 
     def test_what_is_no_position(self):
         solver = Solver()
@@ -284,9 +205,12 @@ class Refusals(unittest.TestCase):
                lambda it: solver.confirm(it, ANSWER))
         many = (solver.solve_all, solver.move_scores_all, lambda them: list(solver.solve_iter(them)),
                 lambda them: list(solver.move_scores_iter(them)))
-        for it in ("x", "ab", None, 5, ANSWER, (1,), (1, 2, 3), (0.5, 1), Position("a", "b"), CORNERS):
-            for call in (*one, *(lambda it, call=call: call([POSITION, it]) for call in many)):
+        for call in (*one, *(lambda it, call=call: call([POSITION, it]) for call in many)):
+            for it in ("x", "ab", None, 5, ANSWER, (1,), (1, 2, 3), (0.5, 1), Position("a", "b"), CORNERS):
                 with self.assertRaisesRegex(TypeError, r"^a position is two masks, as Position\(own, opp\) and .* not "):
+                    call(it)
+            for it in (Position(-1, 0), Position(0, 2**64)):
+                with self.assertRaisesRegex(ValueError, r"^a mask is a number from 0 to 2\*\*64 - 1$"):
                     call(it)
         for call in many:
             with self.assertRaisesRegex(TypeError, "^a position is two masks, .* not [0-9.]+$"):
@@ -307,30 +231,23 @@ class Refusals(unittest.TestCase):
             with self.assertRaisesRegex(TypeError, "^a line of OBF text is of the type str or bytes, not "):
                 Position.from_obf(it)
 
-    def test_no_memory(self):
-        told = subprocess.run([sys.executable, "-c", SMALL], capture_output=True, text=True, timeout=100)
-        self.assertEqual(told.returncode, 0, told.stderr)
-
     def test_library(self):
-        with self.assertRaisesRegex(ffosolve.LibraryNotFound, "nowhere"):
-            Solver("/nowhere/libffosolve.so")
-        with tempfile.NamedTemporaryFile(suffix=".so") as empty:
-            with self.assertRaises(ffosolve.LibraryNotFound):
-                Solver(empty.name)
-        with self.assertRaisesRegex(ffosolve.LibraryNotFound, "ffosolve_solve"):
-            Solver("libc.so.6" if os.path.exists("libc.so.6") else loaded("/libc.so.6", "/libc-"))
+        """test_library of the repository has libraries that lack a call, or are of another version."""
+        for path in ("/nowhere/libffosolve.so", pathlib.Path("/nowhere/libffosolve.so"), __file__):
+            with self.assertRaisesRegex(ffosolve.LibraryNotFound, f"^{path}: "):
+                Solver(path)
         with self.assertRaisesRegex(ffosolve.LibraryNotFound, f"^{os.getcwd()}/libc.so.6: "):
             Solver("libc.so.6")  # a file of this folder, and not the system's
-        with self.assertRaisesRegex(ffosolve.LibraryNotFound, "nowhere"):
-            Solver(pathlib.Path("/nowhere/libffosolve.so"))
 
     def test_a_library_that_only_a_solver_names(self):
         """README's order: the position is read, shown and written before."""
         Solver()
-        words = [sys.executable, "-c", LATER, CORNERS, loaded("/libffosolve.so")]
-        told = subprocess.run(words, capture_output=True, text=True, timeout=100,
-                              env={**os.environ, "FFOSOLVE_LIBRARY": "/nowhere/libffosolve.so"})
-        self.assertEqual((told.returncode, told.stdout), (0, "['H1']\n"), told.stderr)
+        with open("/proc/self/maps") as maps:
+            named = next(line.split(maxsplit=5)[5].strip() for line in maps if "/libffosolve.so" in line)
+        with mock.patch.dict(os.environ, {"FFOSOLVE_LIBRARY": "/nowhere/libffosolve.so"}):
+            self.assertRaises(ffosolve.LibraryNotFound, Solver)
+            line, = ffosolve.read_lines([Position.from_obf(CORNERS).to_obf()])
+            self.assertEqual((str(line.show()), Solver(named).solve(line)), (str(POSITION), ANSWER))
 
     def test_places(self):
         with mock.patch.dict(os.environ, {"FFOSOLVE_LIBRARY": "/of/mine.so"}):
@@ -343,49 +260,15 @@ class Refusals(unittest.TestCase):
             self.assertEqual(places(), [*of_package, name, *others])
 
 
-def loaded(*words):
-    """The path of a library of this process, which has one of these words."""
-    with open("/proc/self/maps") as maps:
-        return next(line.split(maxsplit=5)[5].strip() for line in maps if any(word in line for word in words))
-
-
 class Obf(unittest.TestCase):
-    def test_reads_a_line(self):
-        self.assertEqual(Position.from_obf(CORNERS), POSITION)
-        self.assertEqual(Position.from_obf("  " + CORNERS.translate(str.maketrans("XO-", "w*.")).replace(" w;", "\tW")), POSITION)
+    def test_a_line(self):
+        text = "  " + CORNERS.translate(str.maketrans("XO-", "w*.")).replace(" w;", "\tW")
+        text += " note; ps:-4; --:0 % A1:1;\r\n"
+        listed = ("H1", 62), ("PS", -4), ("--", 0)
+        for line in (Position.from_obf(text), pickle.loads(pickle.dumps(Position.from_obf(text.encode())))):
+            self.assertEqual((line, line.side, line.number, line.listed), (POSITION, "O", None, listed))
         self.assertEqual(Position.from_obf(POSITION.passed().to_obf()), POSITION.passed())
-        self.assertEqual(Position(1, 2).to_obf(), "XO" + "-" * 62 + " X;")
-
-    def test_refuses(self):
-        for text, error, told in (
-            ("", ffosolve.NoPosition, "no position: the line is blank or a comment"),
-            (" % X", ffosolve.NoPosition, "no position: the line is blank or a comment"),
-            (CORNERS[:63], ffosolve.ShortBoard, "board has 63 of 64 squares"),
-            (CORNERS[:3] + "?" + CORNERS[4:], ffosolve.BadSquare, "bad square at column 4"),
-            (" " + CORNERS[:3] + "?", ffosolve.BadSquare, "bad square at column 5"),
-            (CORNERS[:3] + "\ud800", ffosolve.BadSquare, "bad square at column 4"),
-            (CORNERS[:64], ffosolve.BadSide, "bad side at column 65"),
-            (CORNERS[:64] + " -;", ffosolve.BadSide, "bad side at column 66"),
-        ):
-            for line in (text, text.encode("utf-8", "surrogatepass"), text + "\n", text + "\r\n"):
-                with self.assertRaisesRegex(error, f"^{told}$"):
-                    Position.from_obf(line)
-
-    def test_listed_moves(self):
-        line = Position.from_obf(CORNERS)
-        self.assertEqual((line.listed, line.side, line.number), ((("H1", 62),), "X", None))
-        self.assertEqual(Solver().solve(line), ANSWER)
-        for text, side, listed in (
-            (" O", "O", ()),
-            ("w;PS:-4;--:0; a1:-64", "O", (("PS", -4), ("--", 0), ("A1", -64))),
-            ("X;H1:65;I1:1;note; h8:+07 % A1:1;", "X", (("H8", 7),)),
-            *(("X" + "B1:1;" * count + "\r\n", "X", (("B1", 1),) * count) for count in (31, 32, 33, 34, 1000)),
-        ):
-            line = Position.from_obf(CORNERS[:64] + text)
-            self.assertEqual((line.side, line.listed), (side, listed))
-        again = pickle.loads(pickle.dumps(line))
-        self.assertEqual((again, again.listed, again.side), (line, line.listed, line.side))
-        self.assertEqual((line, line.passed(), type(line.passed())), (POSITION, POSITION.passed(), Position))
+        self.assertEqual((line.passed(), type(line.passed())), (POSITION.passed(), Position))
 
     def test_many_lines(self):
         lines = ["", CORNERS, "% H1", CORNERS[:63], CORNERS[:64] + " O;", "?" + CORNERS]
@@ -393,17 +276,15 @@ class Obf(unittest.TestCase):
             text = end.join(lines) + end
             for given in (text, text.encode(), lines, [line + end for line in lines], io.StringIO(text), io.BytesIO(text.encode())):
                 wrong = []
-                told = list(ffosolve.read_lines(given, refused=wrong.append))
-                self.assertEqual([(line, line.number, line.side) for line in told], [(POSITION, 2, "X"), (POSITION.passed(), 5, "O")])
-                again = pickle.loads(pickle.dumps(told[0]))
-                self.assertEqual((told[0].listed, again.number, again), ((("H1", 62),), 2, told[0]))
-                self.assertEqual([str(error) for error in wrong], ["line 4: board has 63 of 64 squares", "line 6: bad square at column 1"])
-                self.assertEqual([(type(error), error.line, error.column) for error in wrong],
-                                 [(ffosolve.ShortBoard, 4, None), (ffosolve.BadSquare, 6, 1)])
+                told = pickle.loads(pickle.dumps(list(ffosolve.read_lines(given, refused=wrong.append))))
+                self.assertEqual([(line, line.number, line.side, line.listed) for line in told],
+                                 [(POSITION, 2, "X", (("H1", 62),)), (POSITION.passed(), 5, "O", ())])
+                self.assertEqual([(type(error), str(error), error.line) for error in wrong],
+                                 [(ffosolve.ShortBoard, "line 4: board has 63 of 64 squares", 4),
+                                  (ffosolve.BadSquare, "line 6: bad square at column 1", 6)])
         read = ffosolve.read_lines(lines)
         self.assertEqual(next(read), POSITION)
-        with self.assertRaisesRegex(ffosolve.ShortBoard, "^line 4: board has 63 of 64 squares$"):
-            next(read)
+        self.assertRaises(ffosolve.ShortBoard, next, read)
         self.assertEqual([list(ffosolve.read_lines(nothing)) for nothing in ("", b"", [], "\n", b"% X")], [[]] * 5)
 
     def test_squares(self):
@@ -411,8 +292,11 @@ class Obf(unittest.TestCase):
         self.assertEqual((names[0], names[1], names[7], names[8], names[63]), ("A1", "B1", "H1", "A2", "H8"))
         self.assertEqual([ffosolve.square_number(name.lower()) for name in names], list(range(64)))
         for wrong in (-1, 64):
-            with self.assertRaises(ValueError):
-                ffosolve.square_name(wrong)
+            self.assertRaises(ValueError, ffosolve.square_name, wrong)
+        for name in ("", "I1", "A9", "A11"):
+            self.assertRaises(ValueError, Solver().play, START, name)
+        for square in ("A1", 0, 64, 255, 256, -1, 256 + 19):
+            self.assertRaises(ffosolve.NoMove, Solver().play, START, square)
 
     def test_table_entries(self):
         sizes = [ffosolve.table_entries(empties) for empties in range(ffosolve.MOST_EMPTIES + 1)]

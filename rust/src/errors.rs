@@ -104,9 +104,10 @@ impl fmt::Display for ObfError {
 
 impl std::error::Error for ObfError {}
 
-/// No call that a test can make runs out of memory, or meets a newer library.
+/// No call of the tests runs out of memory, or meets a newer library.
 #[test]
 fn tells_statuses_that_no_call_gives() {
+    assert_eq!(Error::of_status(7, 5), Err(Error::NoMemory));
     assert_eq!(ObfError::of_status(7, 5), Err(ObfError::NoMemory));
     let (refused, unread) = (Error::of_status(12, 0), ObfError::of_status(12, 0));
     assert_eq!((refused, unread), (Err(Error::Other { status: 12 }), Err(ObfError::Other { status: 12 })));

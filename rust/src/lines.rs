@@ -52,16 +52,9 @@ impl Line {
     /// `NoPosition` where the line is blank or a comment, else the first fault from the left; `NoMemory`.
     pub fn from_obf<T: AsRef<[u8]> + ?Sized>(text: &T) -> Result<Line, ObfError> {
         let text = without_end(text.as_ref());
-        let mut listed = [raw::Listed::default(); 16];
+        let mut listed = vec![raw::Listed::default(); text.len() / 4]; // a move has four bytes at least, as `A1:0`
         let line = read_line(text, &mut listed)?;
-        let listed = match listed.get(..line.listed) {
-            Some(listed) => listed.iter().map(listed_of).collect(),
-            None => {
-                let mut listed = vec![raw::Listed::default(); line.listed];
-                read_line(text, &mut listed)?;
-                listed.iter().map(listed_of).collect()
-            }
-        };
+        let listed = listed.iter().take(line.listed).map(listed_of).collect();
         let side = if line.side == 0 { Side::Black } else { Side::White };
         Ok(Line { position: Position::of_raw(line.position), side, listed })
     }

@@ -45,48 +45,18 @@ pub struct MoveScores {
 
 extern "C" {
     pub fn ffosolve_solve(position: Position, scoring: u32, entries: usize, answer: *mut Answer) -> i32;
-    pub fn ffosolve_confirm(
-        position: Position,
-        scoring: u32,
-        entries: usize,
-        claim: Answer,
-        answer: *mut Answer,
-    ) -> i32;
-    pub fn ffosolve_solve_all(
-        positions: *const Position,
-        count: usize,
-        scoring: u32,
-        entries: usize,
-        answers: *mut Answer,
-        room: usize,
-        at: *mut usize,
-    ) -> i32;
-    pub fn ffosolve_move_scores(
-        position: Position,
-        scoring: u32,
-        entries: usize,
-        scores: *mut [i8; 64],
-        moves: *mut u64,
-    ) -> i32;
-    pub fn ffosolve_move_scores_all(
-        positions: *const Position,
-        count: usize,
-        scoring: u32,
-        entries: usize,
-        found: *mut MoveScores,
-        room: usize,
-        at: *mut usize,
-    ) -> i32;
+    pub fn ffosolve_confirm(position: Position, scoring: u32, entries: usize, claim: Answer,
+        answer: *mut Answer) -> i32;
+    pub fn ffosolve_solve_all(positions: *const Position, count: usize, scoring: u32, entries: usize,
+        answers: *mut Answer, room: usize, at: *mut usize) -> i32;
+    pub fn ffosolve_move_scores(position: Position, scoring: u32, entries: usize, scores: *mut [i8; 64],
+        moves: *mut u64) -> i32;
+    pub fn ffosolve_move_scores_all(positions: *const Position, count: usize, scoring: u32, entries: usize,
+        found: *mut MoveScores, room: usize, at: *mut usize) -> i32;
     pub fn ffosolve_moves(position: Position, moves: *mut u64) -> i32;
     pub fn ffosolve_play(position: Position, square: u8, after: *mut Position) -> i32;
-    pub fn ffosolve_read_line(
-        text: *const u8,
-        length: usize,
-        line: *mut Line,
-        listed: *mut Listed,
-        room: usize,
-        at: *mut usize,
-    ) -> i32;
+    pub fn ffosolve_read_line(text: *const u8, length: usize, line: *mut Line, listed: *mut Listed,
+        room: usize, at: *mut usize) -> i32;
     pub fn ffosolve_limit(limit: u32) -> usize;
     pub fn ffosolve_version() -> u32;
 }

@@ -107,12 +107,10 @@ impl Solver {
     pub fn solve_all(&self, positions: &[Position]) -> Result<Vec<Answer>, Error> {
         let asked: Vec<raw::Position> = positions.iter().map(|position| position.raw()).collect();
         let mut answers = vec![raw::Answer::default(); asked.len()];
-        let (count, entries, mut at) = (asked.len(), self.table(positions), 0);
+        let (count, scoring, entries, mut at) = (asked.len(), self.scoring as u32, self.table(positions), 0);
         let (from, to) = (asked.as_ptr(), answers.as_mut_ptr());
         // SAFETY: there are so many positions, and room for so many answers, in lists of this call's own.
-        let status = unsafe {
-            raw::ffosolve_solve_all(from, count, self.scoring as u32, entries, to, count, &mut at)
-        };
+        let status = unsafe { raw::ffosolve_solve_all(from, count, scoring, entries, to, count, &mut at) };
         Error::of_status(status, at)?;
         Ok(answers.into_iter().map(Answer::of_raw).collect())
     }
@@ -126,8 +124,7 @@ impl Solver {
         let (mut scores, mut moves, entries) = ([0; 64], 0, self.table(&[position]));
         let scoring = self.scoring as u32;
         // SAFETY: the pointers are to 64 scores and a number of this call's own.
-        let status =
-            unsafe { raw::ffosolve_move_scores(position.raw(), scoring, entries, &mut scores, &mut moves) };
+        let status = unsafe { raw::ffosolve_move_scores(position.raw(), scoring, entries, &mut scores, &mut moves) };
         Error::of_status(status, 0)?;
         let score_at = |square: Square| (square, scores[usize::from(square.number())]);
         Ok(Squares(moves).map(score_at).collect())

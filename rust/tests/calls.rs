@@ -3,19 +3,18 @@ use ffosolve::{
     library_version, raw, table_entries, Answer, Best, Error, Line, Listed, ObfError, Position, Scoring, Side, Solver,
     Square, Squares,
 };
-use std::collections::hash_map::DefaultHasher;
-use std::hash::{Hash, Hasher};
+use std::collections::HashSet;
 use std::thread;
 
 const LINE: &str = "-OXXXXX-XXXXXXXOXXXXXXXXXXXXXXXXXXXOXXXXXXXXXXXXXXXXXXXXXXXXXXXX X; H1:+62;";
 const ANSWER: Answer = Answer { score: 62, best: Best::Moves(Squares(0x80)) };
 
-fn corners() -> Position {
-    Position::new(0xffff_fff7_ffff_7f7c, 0x8_0000_8002).expect("masks apart")
-}
-
 fn position(own: u64, opp: u64) -> Position {
     Position::new(own, opp).expect("masks apart")
+}
+
+fn corners() -> Position {
+    position(0xffff_fff7_ffff_7f7c, 0x8_0000_8002)
 }
 
 fn square(name: &str) -> Square {
@@ -58,7 +57,6 @@ fn plays() {
 fn refuses() {
     let wide = position(1, 6);
     assert_eq!(Position::new(3, 2), Err(Error::SharedSquare));
-    assert_eq!(Scoring::try_from(3), Err(Error::UnknownScoring));
     let solver = Solver::new();
     assert_eq!(solver.solve(wide), Err(Error::TooManyEmpties { index: 0 }));
     assert_eq!(solver.confirm(wide, ANSWER), Err(Error::TooManyEmpties { index: 0 }));
@@ -70,65 +68,31 @@ fn refuses() {
     assert_eq!(large.move_scores(corners()), Err(Error::TooManyEntries));
     assert_eq!(large.solve_all(&[]), Err(Error::TooManyEntries));
     assert_eq!(Solver::new().entries(ffosolve::MOST_ENTRIES).solve(corners()), Ok(ANSWER));
-    let told: Box<dyn std::error::Error + Send + Sync> = Error::TooManyEmpties { index: 1 }.into();
-    assert!(told.to_string().starts_with("position at index 1: more than "));
 }
 
 #[test]
 fn says_why() {
-    for (error, why) in [
-        (Error::UnknownScoring, "no scoring has the number"),
-        (Error::SharedSquare, "the masks share a square"),
-        (Error::NoMove, "no move"),
-        (Error::NoMemory, "out of memory"),
-    ] {
-        assert_eq!(error.to_string(), why);
-    }
-    for (error, why) in [
-        (ObfError::ShortBoard { squares: 3 }, "board has 3 of 64 squares"),
-        (ObfError::BadSquare { column: 4 }, "bad square at column 4"),
-        (ObfError::BadSide { column: 65 }, "bad side at column 65"),
-        (ObfError::NoPosition, "no position: the line is blank or a comment"),
-        (ObfError::NoMemory, "out of memory"),
-    ] {
-        assert_eq!(error.to_string(), why);
-    }
+    let said = [Error::UnknownScoring, Error::SharedSquare, Error::NoMove, Error::NoMemory].map(|it| it.to_string());
+    assert_eq!(said, ["no scoring has the number", "the masks share a square", "no move", "out of memory"]);
+    let said = [ObfError::NoPosition, ObfError::NoMemory, ObfError::BadSide { column: 65 }].map(|it| it.to_string());
+    assert_eq!(said, ["no position: the line is blank or a comment", "out of memory", "bad side at column 65"]);
     let numbers = [ffosolve::MOST_ENTRIES, ffosolve::MOST_EMPTIES].map(|number| format!("more than {number} "));
     assert_eq!(Error::TooManyEntries.to_string(), format!("{}table entries", numbers[0]));
-    assert_eq!(Error::TooManyEmpties { index: 0 }.to_string(), format!("position at index 0: {}empty squares", numbers[1]));
+    let told: Box<dyn std::error::Error + Send + Sync> = Error::TooManyEmpties { index: 1 }.into();
+    assert_eq!(told.to_string(), format!("position at index 1: {}empty squares", numbers[1]));
     assert_eq!("?".parse::<Square>().map_err(|error| error.to_string()), Err("no square has the name".to_string()));
 }
 
 #[test]
-fn answers_and_positions_differ_in_each_member() {
-    for other in [
-        Answer { score: 61, ..ANSWER },
-        Answer { best: Best::Pass, ..ANSWER },
-        Answer { best: Best::Over, ..ANSWER },
-        Answer { best: Best::Moves(Squares(0x81)), ..ANSWER },
-    ] {
-        assert!(other != ANSWER);
-    }
-    for other in [position(1, 4), position(3, 0), position(2, 1)] {
-        assert!(other != position(1, 2));
-    }
-}
-
-fn is_hashed_alike<T: Hash + Eq>(pair: [T; 2]) -> bool {
-    let [first, second] = [0, 1].map(|at| {
-        let mut hasher = DefaultHasher::new();
-        pair[at].hash(&mut hasher);
-        hasher.finish()
-    });
-    pair[0] == pair[1] && first == second
-}
-
-#[test]
-fn equals_have_one_hash() {
-    assert!(is_hashed_alike([position(1, 2), position(1, 2)]));
-    assert!(is_hashed_alike([ANSWER, Solver::new().solve(corners()).expect("an answer")]));
-    assert!(is_hashed_alike([Line::from_obf(LINE), LINE.parse()].map(|line| line.expect("a line"))));
-    assert!(is_hashed_alike([Squares(1), Squares(1)]) && is_hashed_alike([square("B1"), square("b1")]));
+fn equals_have_one_hash_and_others_differ() {
+    let positions = [(1, 2), (1, 2), (1, 4), (4, 2)].map(|(own, opp)| position(own, opp));
+    assert_eq!(HashSet::from(positions).len(), 3);
+    let others = [Best::Pass, Best::Over, Best::Moves(Squares(0x81))].map(|best| Answer { best, ..ANSWER });
+    let answers = [ANSWER, Solver::new().solve(corners()).expect("an answer"), Answer { score: 61, ..ANSWER }];
+    assert_eq!(answers.into_iter().chain(others).collect::<HashSet<_>>().len(), 5);
+    let lines = [Line::from_obf(LINE), LINE.parse()].map(|line| line.expect("a line"));
+    assert_eq!((HashSet::from(lines).len(), HashSet::from([Squares(1), Squares(1), Squares(2)]).len()), (1, 2));
+    assert_eq!(HashSet::from(["B1", "b1", "A2"].map(square)).len(), 2);
 }
 
 #[test]
@@ -143,41 +107,33 @@ fn tells_the_discs_of_positions_and_the_squares_of_sets() {
     assert!(set.contains(square("A1")) && set.contains(square("H1")));
     assert_eq!((set.size_hint(), format!("{set:?} {:?}", square("B1"))), ((2, Some(2)), "Squares(A1,H1) B1".to_string()));
     assert_eq!((Squares(0).len(), Squares(0).is_empty(), Squares(0).to_string()), (0, true, String::new()));
-    assert_eq!([0, 1, 2].map(Scoring::try_from), [Ok(Scoring::Winner), Ok(Scoring::Discs), Ok(Scoring::Sign)]);
+    let scorings = [Ok(Scoring::Winner), Ok(Scoring::Discs), Ok(Scoring::Sign), Err(Error::UnknownScoring)];
+    assert_eq!([0, 1, 2, 3].map(Scoring::try_from), scorings);
 }
 
+/// The repository's tests have many lines, as each of its languages reads them.
 #[test]
 fn reads_obf() {
     assert_eq!(Position::from_obf(LINE), Ok(corners()));
     assert_eq!(format!("  {}", LINE.replace('X', "*").replace('O', "w").replace('-', ".")).parse(), Ok(corners()));
     assert_eq!(Position::from_obf(&corners().passed().to_obf()), Ok(corners().passed()));
     for (text, error) in [
-        ("\r\n".to_string(), ObfError::NoPosition),
-        (LINE[..63].to_string(), ObfError::ShortBoard { squares: 63 }),
-        (LINE.replace('O', "ö"), ObfError::BadSquare { column: 2 }),
-        (LINE[..64].to_string(), ObfError::BadSide { column: 65 }),
+        (&b"\r\n"[..], ObfError::NoPosition),
+        (&LINE.as_bytes()[..63], ObfError::ShortBoard { squares: 63 }),
+        (b"\xff", ObfError::BadSquare { column: 1 }),
+        (&LINE.as_bytes()[..64], ObfError::BadSide { column: 65 }),
     ] {
-        assert_eq!(Position::from_obf(&text), Err(error));
-        assert_eq!(Line::from_obf(&text), Err(error));
+        assert_eq!(Position::from_obf(text), Err(error));
+        assert_eq!(Line::from_obf(text), Err(error));
     }
-}
-
-#[test]
-fn keeps_what_a_line_lists() {
     let line = |text: &str| Line::from_obf(&format!("{}{text}", &LINE[..64])).expect("a position");
     let listed = vec![(Listed::Move(square("H1")), 62)];
-    assert_eq!(LINE.parse(), Ok(Line { position: corners(), side: Side::Black, listed: listed.clone() }));
-    assert_eq!(line(" O"), Line { position: corners().passed(), side: Side::White, listed: Vec::new() });
-    assert_eq!(line("X; h1:+62 \r\n").listed, listed);
-    let told = line("X; PS:-4;--:0; A1:-64;").listed;
-    assert_eq!(told, [(Listed::Pass, -4), (Listed::Over, 0), (Listed::Move(square("A1")), -64)]);
-    for count in [0, 16, 17, 1000] {
-        let scores: Vec<i8> = (0..count).map(|at| (at % 129 - 64) as i8).collect();
-        let fields: String = scores.iter().map(|score| format!("B1:{score};")).collect();
-        let told = line(&format!("X;{fields}"));
-        assert_eq!(told.listed, scores.iter().map(|score| (Listed::Move(square("B1")), *score)).collect::<Vec<_>>());
-    }
-    assert_eq!(Line::from_obf(&b"\xff"[..]), Err(ObfError::BadSquare { column: 1 }));
+    assert_eq!(LINE.parse(), Ok(Line { position: corners(), side: Side::Black, listed }));
+    let listed = vec![(Listed::Pass, -4), (Listed::Over, 0), (Listed::Move(square("A1")), -64)];
+    let found = line("O; PS:-4;--:0; a1:-64 \r\n");
+    assert_eq!(found, Line { position: corners().passed(), side: Side::White, listed });
+    let listed = line(&format!("X;{}", "B1:7;".repeat(1000))).listed;
+    assert_eq!(listed, [(Listed::Move(square("B1")), 7); 1000]);
 }
 
 #[test]
@@ -207,20 +163,14 @@ fn threads_call_at_once() {
 }
 
 #[test]
-fn tells_versions_and_sizes() {
+fn tells_versions_sizes_and_limits() {
     let parts = include_str!("../../VERSION").trim().split('.').map(|part| part.parse::<u32>().expect("a number"));
     assert_eq!(parts.fold(0, |number, part| 100 * number + part), library_version());
     let sizes: Vec<usize> = (0..=ffosolve::MOST_EMPTIES).map(table_entries).collect();
     assert!(sizes.windows(2).all(|pair| pair[0] <= pair[1]) && sizes[ffosolve::MOST_EMPTIES] <= ffosolve::MOST_ENTRIES);
     let at = [0, 10, 11, 14, 15, 19, 20, 60].map(|empties| sizes[empties]); // as ffosolve.h says
     assert_eq!(at, [0, 0, 1024, 1024, 65536, 65536, 1000000, 1000000]);
-}
-
-#[test]
-fn has_the_limits_of_the_library() {
     // SAFETY: the call takes a number.
-    let limit = |number| unsafe { raw::ffosolve_limit(number) };
-    assert_eq!([limit(0), limit(1)], [ffosolve::MOST_ENTRIES, ffosolve::MOST_EMPTIES]);
-    let scorings = limit(2) as u32;
-    assert!(Scoring::try_from(scorings - 1).is_ok() && Scoring::try_from(scorings).is_err());
+    let limits = [0, 1, 2].map(|number| unsafe { raw::ffosolve_limit(number) });
+    assert_eq!(limits, [ffosolve::MOST_ENTRIES, ffosolve::MOST_EMPTIES, 3]);
 }

@@ -24,13 +24,9 @@ class Part(NamedTuple):
     positions: List[Sequence[int]]
 
 
-def ones_of(mask: int) -> int:
-    return bin(mask).count("1")
-
-
-size_of: Callable[[int], int] = ones_of  # how many squares a mask has
-if hasattr(int, "bit_count"):  # as Python 3.10 and later have it
-    size_of = operator.methodcaller("bit_count")
+# How many squares a mask has, as Python 3.10 and later count them, and as earlier ones can.
+size_of: Callable[[int], int]
+size_of = operator.methodcaller("bit_count") if hasattr(int, "bit_count") else lambda mask: bin(mask).count("1")
 
 
 def no_position(it: object) -> TypeError:

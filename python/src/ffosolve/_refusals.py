@@ -1,6 +1,7 @@
 """Why a call is refused. Nothing is lost by a refusal: the arguments are as they were."""
+import copyreg
 import enum
-from typing import Dict, Optional, Tuple, Type
+from typing import Any, Dict, Optional, Tuple, Type
 
 from ._library import MOST_EMPTIES, MOST_ENTRIES
 
@@ -39,8 +40,9 @@ class Refused(Exception):
         super().__init__(self.reason if index is None else f"position at index {index}: {self.reason}")
         self.index = index
 
-    def __reduce__(self) -> Tuple[Type["Refused"], Tuple[Optional[int], ...]]:
-        return type(self), (self.index,)
+    def __reduce__(self) -> Tuple[Any, ...]:
+        """Copies its members: not all that it was made with is among its arguments."""
+        return copyreg.__newobj__, (type(self), *self.args), vars(self)  # type: ignore[attr-defined]
 
 
 class UnknownScoring(Refused, ValueError):
@@ -92,9 +94,6 @@ class OtherRefusal(Refused):
         self.status, self.reason = status, f"refused with status {status}"
         super().__init__()
 
-    def __reduce__(self) -> Tuple[Type["Refused"], Tuple[Optional[int], ...]]:
-        return type(self), (self.status,)
-
 
 class LineRefused(Refused, ValueError):
     """A line of OBF text is refused. `line` is its number, from 1, if many were read, else None. `at` is the column, from 1
@@ -109,9 +108,6 @@ class LineRefused(Refused, ValueError):
     def column(self) -> Optional[int]:
         """The column of the wrong byte, or of the end of the line, from 1 in bytes; None if there is none."""
         return self.at if self.status in (Status.BAD_SQUARE, Status.BAD_SIDE) else None
-
-    def __reduce__(self) -> Tuple[Type["Refused"], Tuple[Optional[int], ...]]:
-        return type(self), (self.at, self.line)
 
 
 class NoPosition(LineRefused):

@@ -103,7 +103,7 @@ class Solver:
         empty if there is no legal move. One table serves all moves. Raises the same as `solve`."""
         found, refusal = self._score_part(Part(0, empties_of(position), [position]))
         if refusal is not None:
-            raise type(refusal)()
+            raise refusal_of(refusal.status)
         return found[0]
 
     def solve_all(self, positions: Iterable[Position], *, threads: int = 1) -> List[Answer]:
