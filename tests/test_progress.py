@@ -5,7 +5,7 @@ import select
 import subprocess
 import time
 
-from tests.support import ROOT, SECONDS, InFolder, built, run
+from tests.support import SECONDS, InFolder, built, positions, run
 
 LINE = re.compile(rb"ffosolve: solved (\d+) of (\d+) in (\d+) s\r?\n")
 
@@ -13,11 +13,7 @@ LINE = re.compile(rb"ffosolve: solved (\d+) of (\d+) in (\d+) s\r?\n")
 def setUpModule():
     global program, LONG, SHORT
     program = built()
-    LONG, SHORT = positions(500, 18), positions(20, 10)
-
-
-def positions(count, empties):
-    return run(ROOT / "bench/positions", count, empties, empties, 1, check=True).stdout
+    LONG, SHORT = positions(500, 18, 18, 1), positions(20, 10, 10, 1)
 
 
 def end(started):
