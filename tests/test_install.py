@@ -1,13 +1,12 @@
 """make install and make uninstall, from a copy of the checkout and of what it has built, and the texts that they lay."""
 import ctypes
-import functools
 import os
 import re
 import shutil
 import stat
 from pathlib import Path
 
-from tests.checkouts import FIRST, LEVELS, VERSION, copied_checkout, make_all, names_of_files, path_without
+from tests.checkouts import FIRST, LEVELS, NUMBER, VERSION, copied_checkout, make_all, names_of_files, path_without
 from tests.support import NOBODY, ROOT, InFolder, is_v3, lack, module_folder, need, run, write
 
 PREFIX = "/opt/a prefix"
@@ -247,18 +246,17 @@ class Installed(Case):
         """That of the file VERSION, in the programs, their pages, the library and all that names it."""
         self.install()
         self.assertRegex(VERSION, r"\A\d+\.\d+\.\d+\Z")
-        number = functools.reduce(lambda number, part: 100 * number + int(part), VERSION.split("."), 0)
-        self.assertEqual(ctypes.CDLL(self.root / "lib/libffosolve.so").ffosolve_version(), number)
+        self.assertEqual(ctypes.CDLL(self.root / "lib/libffosolve.so").ffosolve_version(), NUMBER)
         for name in COMMANDS:
             ran = run(self.root / "bin" / name, "--version", env=self.places, text=True)
             self.assertEqual((ran.returncode, ran.stdout), (0, f"{name} {VERSION}\n"), ran)
         for place, text in (
             *((self.root / f"share/man/man1/{name}.1", f'"ffosolve {VERSION}"') for name in COMMANDS),
-            (self.root / "include/ffosolve.h", f'#define FFOSOLVE_VERSION_TEXT "{VERSION}"\n#define FFOSOLVE_VERSION {number}\n'),
+            (self.root / "include/ffosolve.h", f'#define FFOSOLVE_VERSION_TEXT "{VERSION}"\n#define FFOSOLVE_VERSION {NUMBER}\n'),
             (self.root / "lib/pkgconfig/ffosolve.pc", f"Version: {VERSION}\n"),
             (self.root / "lib/cmake/ffosolve/ffosolve-config-version.cmake", f'set(PACKAGE_VERSION "{VERSION}")\n'),
             (ROOT / "rust/Cargo.toml", f'\nversion = "{VERSION}"\n'),
-            (ROOT / "crates/ffosolve_c/src/calls.rt", f"\nconst VERSION: u32 = {number:_};\n"),
+            (ROOT / "crates/ffosolve_c/src/calls.rt", f"\nconst VERSION: u32 = {NUMBER:_};\n"),
             (ROOT / "CHANGELOG.md", f"\n## [{VERSION}] - "),
         ):
             self.assertIn(text, place.read_text(), place)

@@ -858,14 +858,10 @@ class Hosts(Case):
         events = [line.split("\t") for line in Path("work/log").read_text().splitlines()]
         return all_told, [event[2] for event in events if event[1] == "done"]
 
-    def test_parts_are_solved_elsewhere_and_nothing_is_left_there(self):
-        told, solvers = self.same_on("2/near", "dead", "1/me@far", lines=6, told="on near, me@far")
+    def test_all_jobs_of_all_machines_work_at_a_time_and_nothing_is_left_there(self):
+        told, _ = self.same_on("3/near", "dead", "2/me@far", lines=3, told="on near, me@far", by=ACTS, PAUSE="1.5")
         self.assertIn("dead is left out: ssh: connect to host dead port 22: Connection refused\n", told)
-        self.assertEqual(set(solvers), {"near", "me@far"})
         self.assertEqual([path.name for host in ("near", "far") for path in Path("hosts", host).iterdir()], [])
-
-    def test_all_jobs_of_all_machines_work_at_a_time(self):
-        self.same_on("3/near", "2/far", lines=3, by=ACTS, PAUSE="1.5")
         running = most = 0
         for line in Path("work/log").read_text().splitlines():
             running += {"begin": 1, "done": -1}.get(line.split("\t")[1], 0)
