@@ -78,6 +78,12 @@ def limited(what, size):
     return lambda: resource.setrlimit(getattr(resource, what), (size, size))
 
 
+def shorter_than(size):
+    """Has a write fail that makes a file longer, as on a full disk; for `preexec_fn`."""
+    signal.signal(signal.SIGXFSZ, signal.SIG_IGN)
+    limited("RLIMIT_FSIZE", size)()
+
+
 def built(name="ffosolve"):
     """The path of a built program, which the wrapper in bin/ builds where it isn't built of these sources; or of that in
     the folder that TEST_PROGRAMS names."""

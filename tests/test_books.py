@@ -5,13 +5,12 @@ Run as root, it gives up its rights for the files that may not be written.
 """
 import os
 import shutil
-import signal
 import stat
 import subprocess
 from pathlib import Path
 
-from tests.support import (NOBODY, SECONDS, InFolder, built, lay_many, limit, limited, module_folder, positions, preload, run,
-                           stored, write)
+from tests.support import (NOBODY, SECONDS, InFolder, built, lay_many, limit, module_folder, positions, preload, run,
+                           shorter_than, stored, write)
 
 TEXT = stored("examples", "first.obf")
 BOOK = stored("examples", "first.book")
@@ -35,12 +34,6 @@ def give_up_rights():
         os.setgroups([])
         os.setgid(NOBODY)
         os.setuid(NOBODY)
-
-
-def short_files():
-    """A write fails that makes a file longer than a hundred bytes, as on a full disk."""
-    signal.signal(signal.SIGXFSZ, signal.SIG_IGN)
-    limited("RLIMIT_FSIZE", 100)()
 
 
 def content(name):
@@ -116,7 +109,7 @@ class Files(Books):
         return {**os.environ, "LD_PRELOAD": str(preload("watch", place)), "WATCHED": str(place / "watched"), **more}
 
     def test_disk_that_is_full_or_does_not_keep_it(self):
-        for how in ({"prepare": short_files}, {"env": self.watched(NO_SYNC="1")}):
+        for how in ({"prepare": lambda: shorter_than(100)}, {"env": self.watched(NO_SYNC="1")}):
             for old in ({"it.book": OLD}, {}):
                 for name, text in old.items():
                     write(name, text)

@@ -536,7 +536,3 @@ class Swept(Case):
         self.h3.boot()
         self.assertEqual(self.sweep(), (0, []))
         self.nothing_left(self.h2, self.h3)
-
-
-if __name__ == "__main__":
-    unittest.main()
