@@ -40,10 +40,6 @@ def content(name):
     return Path(name).read_bytes()
 
 
-def mode(name):
-    return stat.S_IMODE(os.lstat(name).st_mode)
-
-
 class Books(InFolder):
     def solves(self, wanted, name="it.book", *words, prepare=None, **how):
         """A run with a book in this place ends as wanted. The report goes to a pipe."""
@@ -83,7 +79,7 @@ class Files(Books):
         write("it.book", OLD, 0o640)
         os.link("it.book", "twin.book")
         self.solves(DONE)
-        self.assertEqual(mode("it.book"), 0o640)
+        self.assertEqual(stat.S_IMODE(os.lstat("it.book").st_mode), 0o640)
         self.left({"it.book": BOOK, "twin.book": OLD})
 
     def test_what_nobody_may_write(self):

@@ -224,9 +224,9 @@ class Gone(Case):
         wait_until(lambda: list(self.h2.processes().values()).count("sleep 50 ") == 2)
         self.h2.lose_power()
         wait_until(lambda: self.is_told("h2 is lost"))  # TCP alone would take a quarter of an hour
-        self.whole(ran)
-        self.assertTrue(self.is_told("h2 is lost: "), self.told())
-        self.assertRegex("\n".join(self.told()), "h2 is lost: Timeout, server .* not responding.; its parts go to others")
+        told = self.whole(ran)
+        self.assertTrue(self.is_told("h2 is lost: "), told)
+        self.assertRegex("\n".join(told), "h2 is lost: Timeout, server .* not responding.; its parts go to others")
 
     def test_machine_that_is_up_again_at_once(self):
         self.LINES = 2

@@ -302,15 +302,14 @@ class Results(Case):
             self.same_book()
 
     def test_scores_and_status_are_those_of_one_run(self):
-        kinds = stored("examples/kinds.obf") + SMALL
-        for number, (words, text, status) in enumerate((((), SMALL + b"% remark\r\n\n" + SMALL.rstrip(b"\n"), 0),
-                                                        (("--complete",), kinds, 1))):
+        remarked, kinds = SMALL + b"% remark\r\n\n" + SMALL.rstrip(b"\n"), stored("examples/kinds.obf") + SMALL
+        for status, parts, text, *words in (0, 3, remarked), (1, 2, kinds, "--complete"):
             write("list.obf", text)
             one = run(PROGRAMS["ffoscores"], *words, "list.obf")
             self.assertEqual(one.returncode, status)
-            for before in (0, -(-len(text.splitlines()) // 50)):
+            for before in (0, parts):
                 self.ends(status, one.stdout, f", {before} of them solved before", "--scores", *words, "--lines=50",
-                          f"work{number}", "list.obf")
+                          f"work{status}", "list.obf")
 
     def test_cut_parts_are_solved_by_their_script(self):
         """As another scheduler does, and joined without parallel."""
