@@ -1,5 +1,5 @@
-/* The inline forms of ffosolve.h, by the names of the calls, over stand-ins for these: no null pointer may reach those, and any
-   other pointer is handed on. Prints the numbers that reached them, and how each pointer did. */
+/* The inline forms of ffosolve.h, by the names of the calls, over stand-ins for these: no null pointer may reach those, and
+   any other pointer is handed on. Prints the numbers that reached them, and how each pointer did. */
 #include "ffosolve.h"
 
 #include <stdio.h>

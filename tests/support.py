@@ -138,7 +138,7 @@ class InFolder(unittest.TestCase):
         return ran
 
     def cannot_write(self, *words):
-        """A command tells that standard output is full or closed; where nobody reads it any more, it ends as others do."""
+        """A command tells that standard output is full or closed; where nobody reads it, it ends as others do."""
         for output, why in ((">/dev/full", "No space left on device"), (">&-", "it is closed")):
             ran = run("sh", "-c", f'exec "$0" "$@" {output}', *words)
             told = f"{Path(words[0]).name}: cannot write standard output: {why}\n"

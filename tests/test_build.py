@@ -7,8 +7,8 @@ import subprocess
 import time
 from pathlib import Path
 
-from tests.support import (NOBODY, ROOT, SECONDS, InFolder, as_at_a_login, is_v3, lack, need, processes_with, run, wait_until,
-                           write)
+from tests.support import (NOBODY, ROOT, SECONDS, InFolder, as_at_a_login, is_v3, lack, need, processes_with, run,
+                           wait_until, write)
 
 # It tells each start, what it is handed and what it reads in files, and waits, fails or changes a source where the environment
 # says so.
@@ -58,7 +58,7 @@ class Case(InFolder):
             write(self.root / f"crates/{name}/src/main.rt", "1\n")
         self.source = self.root / "crates/ffosolve/src/main.rt"
         write(self.root / "crates.txt", "# low first\nothello_rules: std\nother: othello_rules\nffosolve: othello_rules\n"
-                   "ffoscores: othello_rules\nffosolve_c staticlib: othello_rules\n")
+              "ffoscores: othello_rules\nffosolve_c staticlib: othello_rules\n")
         for name in ("bin", "packaging", "include", "scripts"):
             shutil.copytree(ROOT / name, self.root / name)
         for name in ("Makefile", "VERSION"):

@@ -374,7 +374,8 @@ class Use(Case):
         game = transcript(self.game).encode()
         for content, why in (
             (b"\xef\xbb\xbf" + game + b"\n", "it begins with a byte-order mark"),
-            *((("\ufeff" + game.decode()).encode(utf), "it begins with a byte-order mark") for utf in ("utf-16-le", "utf-16-be")),
+            *((("\ufeff" + game.decode()).encode(name), "it begins with a byte-order mark")
+              for name in ("utf-16-le", "utf-16-be")),
             (b"% games\r" + game + b"\r" + game + b"\r", "its lines end with CR alone"),
             (b"\r" + game, "its lines end with CR alone"),
         ):

@@ -36,7 +36,8 @@ class Runs(InFolder):
             usual = run(PROGRAMS[name], "--workers", "0", input=KINDS)
             for words, wanted in (((), usual), (("--table", str(limit("MOST_ENTRIES"))), None)):
                 with self.subTest(name=name, words=words):
-                    ran = run(PROGRAMS[name], "--workers", "0", *words, input=KINDS, preexec_fn=limited("RLIMIT_AS", LIMIT))
+                    how = {"input": KINDS, "preexec_fn": limited("RLIMIT_AS", LIMIT)}
+                    ran = run(PROGRAMS[name], "--workers", "0", *words, **how)
                     found = ran.returncode, ran.stdout, ran.stderr
                     self.assertEqual(found, (usual.returncode, usual.stdout, usual.stderr) if wanted else wanting)
 

@@ -9,8 +9,8 @@ import time
 from pathlib import Path
 
 from tests import support
-from tests.support import (ROOT, SECONDS, InFolder, as_at_a_login, built, limited, processes_with, refuse_threads, run, stored,
-                           wait_until)
+from tests.support import (ROOT, SECONDS, InFolder, as_at_a_login, built, limited, processes_with, refuse_threads, run,
+                           stored, wait_until)
 from tests.test_threads import threads_of
 
 WORKERS = ("0", "1", "3", "64")
