@@ -9,7 +9,7 @@
        moves OWN OPP, play OWN OPP SQUARE             masks
        read_line ROOM TEXT                            at INDEX, OWN OPP SIDE LISTED, and each listed KIND/SQUARE/SCORE
        long_line                                      a line of 8,000,000 listed moves
-       names, nulls                                   the names of the header; null pointers where they are allowed
+       names                                          the names of the header
 
    With a word, the calls are made on a thread whose stack has so many bytes. */
 #include "ffosolve.h"
@@ -153,22 +153,6 @@ static void long_line(void) {
     free(text);
 }
 
-static void nulls(void) {
-    const ffosolve_position shared = {3, 1};
-    ffosolve_answer answer = answer_of(UNTOLD, UNTOLD, UNTOLD);
-    ffosolve_line line = {{UNTOLD, UNTOLD}, UNTOLD, UNTOLD};
-    size_t at = UNTOLD;
-    printf("%" PRId32, ffosolve_solve_all(NULL, 0, FFOSOLVE_WINNER, 64, NULL, 0, NULL));
-    printf(" %" PRId32, ffosolve_solve_all(NULL, 0, FFOSOLVE_WINNER, 64, NULL, 0, &at));
-    printf(" %" PRId32, ffosolve_solve_all(NULL, 0, FFOSOLVE_WINNER, 64, &answer, 1, NULL));
-    printf(" %" PRId32, ffosolve_solve_all(&shared, 1, FFOSOLVE_WINNER, 64, NULL, 0, NULL));
-    printf(" %" PRId32, ffosolve_solve_all(&shared, 1, FFOSOLVE_WINNER, 64, &answer, 1, NULL));
-    printf(" %" PRId32, ffosolve_read_line(NULL, 0, &line, NULL, 0, NULL));
-    printf(" %" PRId32, ffosolve_read_line("-", 1, &line, NULL, 0, NULL));
-    show_index(at);
-    show_answer(answer);
-}
-
 static void names(void) {
     const int values[] = {
         FFOSOLVE_DONE, FFOSOLVE_UNKNOWN_SCORING, FFOSOLVE_TOO_MANY_ENTRIES, FFOSOLVE_UNEQUAL_LENGTHS, FFOSOLVE_SHARED_SQUARE,
@@ -195,7 +179,6 @@ static void *make_calls(void *nothing) {
             read_bytes(word ? word : "");
         } else if (strcmp(call, "long_line") == 0) long_line();
         else if (strcmp(call, "names") == 0) names();
-        else if (strcmp(call, "nulls") == 0) nulls();
         else if (strstr(call, "_all")) solve_list(call);
         else if (strcmp(call, "moves") == 0 || strcmp(call, "play") == 0) moves_or_play(call);
         else solve_one(call);

@@ -1,12 +1,8 @@
-/* The inline forms of ffosolve.h over stand-ins for the library's calls: no null pointer may reach those, and any other pointer
-   is handed on. Prints the numbers that reached them, and how each pointer did. */
+/* The inline forms of ffosolve.h, by the names of the calls, over stand-ins for these: no null pointer may reach those, and
+   any other pointer is handed on. Prints the numbers that reached them, and how each pointer did. */
 #include "ffosolve.h"
 
 #include <stdio.h>
-
-#undef ffosolve_solve_all
-#undef ffosolve_move_scores_all
-#undef ffosolve_read_line
 
 /* Whether a pointer is given to each call, and how much stands at it or has room there. */
 static const struct {
@@ -23,21 +19,6 @@ static int32_t tell(size_t count, unsigned scoring, size_t entries, size_t room,
     return FFOSOLVE_NO_MEMORY;
 }
 
-int32_t ffosolve_solve_all(const ffosolve_position *positions, size_t count, uint32_t scoring, size_t entries,
-                           ffosolve_answer *answers, size_t room, size_t *at) {
-    return tell(count, scoring, entries, room, positions, answers, at);
-}
-
-int32_t ffosolve_move_scores_all(const ffosolve_position *positions, size_t count, uint32_t scoring, size_t entries,
-                                 ffosolve_move_scores_of *found, size_t room, size_t *at) {
-    return tell(count, scoring, entries, room, positions, found, at);
-}
-
-int32_t ffosolve_read_line(const char *text, size_t length, ffosolve_line *line, ffosolve_listed *listed, size_t room,
-                           size_t *at) {
-    return line ? tell(length, 2, 65, room, text, listed, at) : FFOSOLVE_DONE;
-}
-
 int main(void) {
     ffosolve_position position = {1, 2};
     ffosolve_answer answer = {0, 0, 0};
@@ -51,14 +32,33 @@ int main(void) {
         const size_t count = ways[i].count, room = ways[i].room;
         size_t *const where = ways[i].has_at ? &at : NULL;
         given[0] = &position, given[1] = &answer, given[2] = &at;
-        known &= ffosolve_solve_all_or_null(ways[i].has_from ? &position : NULL, count, 2, 65,
-                                            ways[i].has_to ? &answer : NULL, room, where) == FFOSOLVE_NO_MEMORY;
+        known &= ffosolve_solve_all(ways[i].has_from ? &position : NULL, count, 2, 65,
+                                    ways[i].has_to ? &answer : NULL, room, where) == FFOSOLVE_NO_MEMORY;
         given[1] = &found;
-        known &= ffosolve_move_scores_all_or_null(ways[i].has_from ? &position : NULL, count, 2, 65,
-                                                  ways[i].has_to ? &found : NULL, room, where) == FFOSOLVE_NO_MEMORY;
+        known &= ffosolve_move_scores_all(ways[i].has_from ? &position : NULL, count, 2, 65,
+                                          ways[i].has_to ? &found : NULL, room, where) == FFOSOLVE_NO_MEMORY;
         given[0] = text, given[1] = &listed;
-        known &= ffosolve_read_line_or_null(ways[i].has_from ? text : NULL, count, &line, ways[i].has_to ? &listed : NULL,
-                                            room, where) == FFOSOLVE_NO_MEMORY;
+        known &= ffosolve_read_line(ways[i].has_from ? text : NULL, count, &line, ways[i].has_to ? &listed : NULL,
+                                    room, where) == FFOSOLVE_NO_MEMORY;
     }
     return !known;
+}
+
+#undef ffosolve_solve_all
+#undef ffosolve_move_scores_all
+#undef ffosolve_read_line
+
+int32_t ffosolve_solve_all(const ffosolve_position *positions, size_t count, uint32_t scoring, size_t entries,
+                           ffosolve_answer *answers, size_t room, size_t *at) {
+    return tell(count, scoring, entries, room, positions, answers, at);
+}
+
+int32_t ffosolve_move_scores_all(const ffosolve_position *positions, size_t count, uint32_t scoring, size_t entries,
+                                 ffosolve_move_scores_of *found, size_t room, size_t *at) {
+    return tell(count, scoring, entries, room, positions, found, at);
+}
+
+int32_t ffosolve_read_line(const char *text, size_t length, ffosolve_line *line, ffosolve_listed *listed, size_t room,
+                           size_t *at) {
+    return line ? tell(length, 2, 65, room, text, listed, at) : FFOSOLVE_DONE;
 }

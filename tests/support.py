@@ -4,12 +4,14 @@ import resource
 import shutil
 import signal
 import subprocess
+import sys
 import tempfile
 import time
 import unittest
 from pathlib import Path
 
 ROOT = Path(__file__).resolve().parent.parent
+NOBODY = 65534
 SECONDS = 55  # the longest that a test waits for anything, where it names no other time
 
 
@@ -42,6 +44,44 @@ def run(*words, **how):
         how.setdefault("stdin", subprocess.DEVNULL)
     how = {"capture_output": True, "timeout": SECONDS, **how}
     return subprocess.run([word if isinstance(word, bytes) else str(word) for word in words], **how)
+
+
+def write(path, text, mode=None):
+    """Writes a file and the folders that it lies in; a script may be run, where no other mode is given."""
+    path, text = Path(path), text if isinstance(text, bytes) else text.encode()
+    path.parent.mkdir(parents=True, exist_ok=True)
+    path.write_bytes(text)
+    path.chmod(mode or (0o755 if text.startswith(b"#!") else 0o644))
+    return path
+
+
+def positions(*words):
+    """Lines of generated positions."""
+    return run(sys.executable, ROOT / "bench/positions", *words, check=True).stdout
+
+
+def module_folder(place=None):
+    """A folder until the tests of the module are over, which everybody may read; for setUpModule."""
+    folder = tempfile.TemporaryDirectory(prefix="ffosolve-tests-", dir=place)
+    unittest.addModuleCleanup(folder.cleanup)
+    os.chmod(folder.name, 0o755)
+    return Path(folder.name)
+
+
+def is_v3():
+    """Whether this machine's programs are of the level x86-64-v3."""
+    return b"x86-64-v3 (supported" in run("/lib64/ld-linux-x86-64.so.2", "--help").stdout
+
+
+def limited(what, size):
+    """Sets a limit of a program, as RLIMIT_FSIZE; for `preexec_fn`."""
+    return lambda: resource.setrlimit(getattr(resource, what), (size, size))
+
+
+def shorter_than(size):
+    """Has a write fail that makes a file longer, as on a full disk; for `preexec_fn`."""
+    signal.signal(signal.SIGXFSZ, signal.SIG_IGN)
+    limited("RLIMIT_FSIZE", size)()
 
 
 def built(name="ffosolve"):
@@ -89,6 +129,25 @@ class InFolder(unittest.TestCase):
         """A command ends with this status, and prints this on standard output and standard error."""
         ran = run(*words, **how)
         self.assertEqual((ran.returncode, ran.stdout, ran.stderr), wanted, words)
+
+    def start(self, *words, **how):
+        """Begins a command, with its output caught, which ends with the test."""
+        how = {"stdin": subprocess.DEVNULL, "stdout": subprocess.PIPE, "stderr": subprocess.PIPE, **how}
+        ran = subprocess.Popen(list(map(str, words)), **how)
+        self.addCleanup(lambda: (ran.poll() is None and ran.kill(), ran.communicate()))
+        return ran
+
+    def cannot_write(self, *words):
+        """A command tells that standard output is full or closed; where nobody reads it, it ends as others do."""
+        for output, why in ((">/dev/full", "No space left on device"), (">&-", "it is closed")):
+            ran = run("sh", "-c", f'exec "$0" "$@" {output}', *words)
+            told = f"{Path(words[0]).name}: cannot write standard output: {why}\n"
+            self.assertEqual((ran.returncode, ran.stderr.decode()), (3, told), words)
+        reading, writing = os.pipe()
+        os.close(reading)
+        ran = run(*words, capture_output=False, stdout=writing, stderr=subprocess.PIPE)
+        os.close(writing)
+        self.assertEqual((ran.returncode, ran.stderr), (-signal.SIGPIPE, b""), words)
 
 
 def wait_until(holds, seconds=SECONDS):

@@ -4,23 +4,18 @@ destroys no other file: not what is not a book, and not the book that is read.
 Run as root, it gives up its rights for the files that may not be written.
 """
 import os
-import resource
 import shutil
-import signal
 import stat
 import subprocess
-import sys
-import tempfile
-import unittest
 from pathlib import Path
 
-from tests.support import ROOT, SECONDS, InFolder, built, lay_many, limit, preload, run, stored
+from tests.support import (NOBODY, SECONDS, InFolder, built, lay_many, limit, module_folder, positions, preload, run,
+                           shorter_than, stored, write)
 
 TEXT = stored("examples", "first.obf")
 BOOK = stored("examples", "first.book")
 OLD = BOOK + b"% an old book, longer than the new one\n" * 99
 NOTES = b"notes, and no book\n"
-NOBODY = 65534
 # The status, whether anything is printed, and what is told: before anything is solved, and behind the reports.
 REFUSED = (3, False, b"ffosolve: cannot write it.book\n")
 UNWRITTEN = (3, True, b"ffosolve: cannot write it.book\n")
@@ -31,10 +26,7 @@ DONE = (0, True, b"")
 
 def setUpModule():
     global PROGRAM
-    folder = tempfile.TemporaryDirectory(prefix="ffosolve-books-")
-    unittest.addModuleCleanup(folder.cleanup)
-    os.chmod(folder.name, 0o755)  # nobody may not be let into the checkout
-    PROGRAM = shutil.copy(built(), folder.name)
+    PROGRAM = shutil.copy(built(), module_folder())  # nobody may not be let into the checkout
 
 
 def give_up_rights():
@@ -44,23 +36,8 @@ def give_up_rights():
         os.setuid(NOBODY)
 
 
-def short_files():
-    """A write fails that makes a file longer than a hundred bytes, as on a full disk."""
-    signal.signal(signal.SIGXFSZ, signal.SIG_IGN)
-    resource.setrlimit(resource.RLIMIT_FSIZE, (100, 100))
-
-
-def put(name, content, mode=0o644):
-    Path(name).write_bytes(content)
-    os.chmod(name, mode)
-
-
 def content(name):
     return Path(name).read_bytes()
-
-
-def mode(name):
-    return stat.S_IMODE(os.lstat(name).st_mode)
 
 
 class Books(InFolder):
@@ -69,10 +46,6 @@ class Books(InFolder):
         ran = run(PROGRAM, "--book-out", name, *words, input=TEXT, preexec_fn=prepare, **how)
         self.assertTrue(ran.stdout == b"" or ran.stdout.startswith(b"[1]\n"), ran)
         self.assertEqual((ran.returncode, ran.stdout != b"", ran.stderr), wanted)
-
-    def has(self, **files):
-        """The folder has these files alone, named without their ending, with these contents."""
-        self.assertEqual({name: content(name) for name in os.listdir()}, {f"{name}.book": it for name, it in files.items()})
 
     def left(self, files):
         """The folder has these files alone, which then go."""
@@ -87,7 +60,7 @@ class Files(Books):
         list_of_one = b"--OOOOO" + b"X" * 57 + b" X\n"
         for scoring, score in (("discs", b"+63"), ("winner", b"+64"), ("sign", b"+01")):
             with self.subTest(scoring=scoring):
-                put("read.book", BOOK)
+                write("read.book", BOOK)
                 words = ("--scoring", scoring, "--book-in", "read.book", "--book-out", "it.book", "--workers", "64")
                 run(PROGRAM, *words, input=list_of_one, check=True)
                 book = b"%% ffobook 2 %s\n%s X; G8:%s;\n" % (scoring.encode(), b"X" * 57 + b"OOOOO--", score)
@@ -95,7 +68,7 @@ class Files(Books):
 
     def test_book_of_many_positions(self):
         """A thousand random positions, no two of which are alike; the book is read again."""
-        put("list", run(sys.executable, ROOT / "bench/positions", 1000, 3, 6, check=True).stdout)
+        write("list", positions(1000, 3, 6))
         run(PROGRAM, "--book-out", "it.book", "list", check=True)
         self.assertEqual(len(content("it.book").splitlines()), 1 + 1000)
         run(PROGRAM, "--book-in", "it.book", "--book-out", "again.book", "list", check=True)
@@ -103,11 +76,11 @@ class Files(Books):
 
     def test_old_file_keeps_its_permissions(self):
         """A new file takes its place: a second name of it has what it had."""
-        put("it.book", OLD, 0o640)
+        write("it.book", OLD, 0o640)
         os.link("it.book", "twin.book")
         self.solves(DONE)
-        self.has(it=BOOK, twin=OLD)
-        self.assertEqual(mode("it.book"), 0o640)
+        self.assertEqual(stat.S_IMODE(os.lstat("it.book").st_mode), 0o640)
+        self.left({"it.book": BOOK, "twin.book": OLD})
 
     def test_what_nobody_may_write(self):
         """The folder, the file or where a link leads. One that may be written and not read may be no book; where each may replace
@@ -118,7 +91,7 @@ class Files(Books):
             ("it.book", 0o777, 0o222, UNREAD), *[("it.book", 0o1777, 0o666, UNWRITTEN)] * (os.getuid() == 0),
         ):
             with self.subTest(place=place, folder=oct(folder_mode), file=oct(file_mode)):
-                put(place, OLD, file_mode)
+                write(place, OLD, file_mode)
                 place == "it.book" or os.symlink(place, "it.book")
                 os.chmod(".", folder_mode)
                 self.solves(wanted, prepare=give_up_rights)
@@ -126,54 +99,42 @@ class Files(Books):
                 os.chmod(place, 0o644)
                 self.left({place: OLD, "it.book": OLD})
 
-    def test_full_disk(self):
-        put("it.book", OLD)
-        self.solves(UNWRITTEN, prepare=short_files)
-        self.has(it=OLD)
-        os.remove("it.book")
-        self.solves(UNWRITTEN, prepare=short_files)
-        self.has()
-
     def watched(self, **more):
         """An environment in which the calls that put a file into its place are told in the file `watched`."""
-        return {**os.environ, "LD_PRELOAD": str(preload("watch", ".")), "WATCHED": str(self.folder / "watched"), **more}
+        place = Path(PROGRAM).parent
+        return {**os.environ, "LD_PRELOAD": str(preload("watch", place)), "WATCHED": str(place / "watched"), **more}
+
+    def test_disk_that_is_full_or_does_not_keep_it(self):
+        for how in ({"prepare": lambda: shorter_than(100)}, {"env": self.watched(NO_SYNC="1")}):
+            for old in ({"it.book": OLD}, {}):
+                for name, text in old.items():
+                    write(name, text)
+                self.solves(UNWRITTEN, **how)
+                self.left(old)
 
     def test_new_file_is_synced_before_it_takes_the_old_ones_place(self):
+        told = Path(self.watched()["WATCHED"])
+        told.unlink(missing_ok=True)
         for _ in range(2):
             self.solves(DONE, env=self.watched())
-        self.assertEqual(Path("watched").read_text(), "sync rename " * 2)
-
-    def test_disk_that_does_not_keep_it(self):
-        put("it.book", OLD)
-        self.solves(UNWRITTEN, env=self.watched(NO_SYNC="1"))
-        self.assertEqual(content("it.book"), OLD)
-        os.remove("it.book")
-        self.solves(UNWRITTEN, env=self.watched(NO_SYNC="1"))
-        self.assertEqual(sorted(os.listdir()), ["watch.so", "watched"])
+        self.assertEqual(told.read_text(), "sync rename " * 2)
 
     def test_files_beside_are_left_alone(self):
-        others = dict.fromkeys((f"it.book.{number}.part" for number in range(3)), b"of another")
+        """Also where they have all names; a new file takes one that is free."""
+        others = dict.fromkeys(("it.book.part", *(f"it.book.{number}.part" for number in range(100))), b"of another")
         for name, text in {"it.book": OLD, **others}.items():
-            put(name, text)
-        self.solves(DONE)
-        self.left({"it.book": BOOK, **others})
-
-    def test_all_names_beside_are_taken(self):
-        put("it.book", OLD)
-        for name in ("it.book.part", *(f"it.book.{number}.part" for number in range(100))):
-            put(name, b"of another")
+            write(name, text)
         self.solves(REFUSED)
-        self.assertEqual((content("it.book"), content("it.book.part")), (OLD, b"of another"))
+        self.assertEqual((content("it.book"), content("it.book.99.part")), (OLD, b"of another"))
         os.remove("it.book.99.part")
         self.solves(DONE)
-        self.assertEqual((content("it.book"), os.path.exists("it.book.99.part")), (BOOK, False))
+        del others["it.book.99.part"]
+        self.left({"it.book": BOOK, **others})
 
     def changed_meanwhile(self, place, change):
         """A run that may not put its book there, since something changes once it prints: its report is more than a pipe holds."""
-        put("list", TEXT * 2000)
-        pipes = {"stdout": subprocess.PIPE, "stderr": subprocess.PIPE}
-        program = subprocess.Popen([PROGRAM, "--book-out", place, "list"], preexec_fn=give_up_rights, **pipes)
-        self.addCleanup(program.kill)
+        write("list", TEXT * 2000)
+        program = self.start(PROGRAM, "--book-out", place, "list", preexec_fn=give_up_rights)
         begun = program.stdout.read(1)
         change()
         report, told = program.communicate(timeout=SECONDS)
@@ -186,8 +147,8 @@ class Files(Books):
         for name, new, new_mode in (("it.book", NOTES, 0o666), ("it.book", BOOK, 0o444),
                                     ("it.book", OLD, 0o222), ("it.book.0.part", b"of another", 0o666)):
             with self.subTest(name=name, new=new[:9]):
-                put("it.book", OLD, 0o666)
-                self.changed_meanwhile("it.book", lambda: put(name, new, new_mode))
+                write("it.book", OLD, 0o666)
+                self.changed_meanwhile("it.book", lambda: write(name, new, new_mode))
                 os.chmod(name, 0o644)
                 self.left({"list": TEXT * 2000, "it.book": OLD, name: new})
 
@@ -197,17 +158,17 @@ class Files(Books):
         for old in ({}, {"it.book": OLD}):
             os.chmod("there", 0o777)
             for name, text in old.items():
-                put(f"there/{name}", text, 0o666)
+                write(f"there/{name}", text, 0o666)
             self.changed_meanwhile("there/it.book", lambda: os.chmod("there", 0))
             os.chmod("there", 0o755)
             self.assertEqual({name: content(f"there/{name}") for name in os.listdir("there")}, old)
 
     def test_places_of_no_file(self):
         """A name that is too long, a folder that is missing, a folder that is a file, and a folder."""
-        put("some.book", OLD)
+        write("some.book", OLD)
         for name in ("b" * 251, "no/it.book", "some.book/it.book"):
             self.solves((3, False, f"ffosolve: cannot write {name}\n".encode()), name)
-            self.has(some=OLD)
+            self.assertEqual((os.listdir(), content("some.book")), (["some.book"], OLD))
         os.mkdir("it.book")
         self.solves(REFUSED)
         self.assertEqual(os.listdir("it.book"), [])
@@ -216,11 +177,10 @@ class Files(Books):
 class Links(Books):
     def test_link_to_a_file_and_to_none(self):
         os.symlink("there", "it.book")
-        self.solves(DONE)
-        self.assertTrue(content("there") == BOOK and os.path.islink("it.book"))
-        put("there", OLD)
-        self.solves(DONE)
-        self.assertTrue(content("there") == BOOK and os.path.islink("it.book"))
+        for _ in range(2):
+            self.solves(DONE)
+            self.assertTrue(content("there") == BOOK and os.path.islink("it.book"))
+            write("there", OLD)
         os.remove("it.book")
         os.symlink("no/there", "it.book")
         self.solves(REFUSED)
@@ -261,7 +221,7 @@ class Lists(Books):
     def test_list_that_is_read(self):
         """By its name, another form of its name, a second name and a link."""
         for name in ("list", "other"):
-            put(name, TEXT)
+            write(name, TEXT)
         os.link("list", "twin")
         os.symlink("list", "link")
         for name in ("list", "./list", "twin", "link"):
@@ -272,9 +232,9 @@ class Lists(Books):
 
     def test_what_cannot_be_read(self):
         """The book is read before the lists, and all lists before anything is printed."""
-        put("list", TEXT)
-        put("bad.book", b"?\n")
-        put("large.book", b" " * (limit("MOST_BYTES") + 1) + b"\n?")
+        write("list", TEXT)
+        write("bad.book", b"?\n")
+        write("large.book", b" " * (limit("MOST_BYTES") + 1) + b"\n?")
         folder = os.open(".", os.O_RDONLY)
         self.addCleanup(os.close, folder)
         for words, told in (
@@ -292,10 +252,10 @@ class Lists(Books):
     def test_order_of_what_is_tried(self):
         """Files are counted and measured first, then the place of the book is tried, and then hours of work begin. A pipe as the
         66th file, whose writer writes nothing, is not read; nor is a position of 60 empty squares solved."""
-        put("list", TEXT)
-        put("notes", NOTES)
-        put("large", b" " * (limit("MOST_BYTES") + 1))
-        put("long", b"-" * 27 + b"OX" + b"-" * 6 + b"XO" + b"-" * 27 + b" X\n")
+        write("list", TEXT)
+        write("notes", NOTES)
+        write("large", b" " * (limit("MOST_BYTES") + 1))
+        write("long", b"-" * 27 + b"OX" + b"-" * 6 + b"XO" + b"-" * 27 + b" X\n")
         os.mkfifo("pipe")
         self.addCleanup(os.close, os.open("pipe", os.O_RDWR))
         too_large = b"ffosolve: file 2 is larger than %d bytes\n" % limit("MOST_BYTES")
@@ -317,7 +277,7 @@ class Overwrites(Books):
             for old, wanted in mine:
                 for of in (0o644, 0o444)[:2 if wanted == NO_BOOK else 1]:
                     with self.subTest(old=old[:40], place=place, mode=of):
-                        put(place, old, of)
+                        write(place, old, of)
                         place == "it.book" or os.symlink(place, "it.book")
                         self.solves(wanted)
                         self.left(dict.fromkeys((place, "it.book"), BOOK if wanted == DONE else old))
@@ -326,7 +286,7 @@ class Overwrites(Books):
         """As /dev/stdout leads to it: where it is that of earlier runs, and where nothing is but the report that the run puts there."""
         os.symlink("/proc/self/fd/1", "out")
         for old, told in ((NOTES, b"out is not a book and would be overwritten"), (b"", b"cannot write out")):
-            put("log", old)
+            write("log", old)
             with self.subTest(old=old), open("log", "ab") as log:
                 ran = run(PROGRAM, "--book-out", "out", input=TEXT, capture_output=False, stdout=log, stderr=subprocess.PIPE)
                 self.assertEqual((ran.returncode, ran.stderr), (3, b"ffosolve: " + told + b"\n"))
@@ -334,7 +294,7 @@ class Overwrites(Books):
 
     def test_book_that_is_read(self):
         """By its name, other forms of it, a link and a second name; and the way that is told instead."""
-        put("it.book", b"% ffobook 2 winner\n" + b"X" * 64 + b" X; --:+64;\n")
+        write("it.book", b"% ffobook 2 winner\n" + b"X" * 64 + b" X; --:+64;\n")
         read = content("it.book")
         os.symlink("it.book", "link")
         os.link("it.book", "twin")
@@ -351,13 +311,13 @@ class Overwrites(Books):
         self.assertEqual(set(merged.splitlines()), set(BOOK.splitlines() + read.splitlines()))
 
     def test_two_at_once(self):
-        put("first", TEXT)
-        put("other", TEXT.splitlines(keepends=True)[1])
+        write("first", TEXT)
+        write("other", TEXT.splitlines(keepends=True)[1])
         self.assertEqual(run(PROGRAM, "--book-out", "other.book", "other").returncode, 0)
         books = (BOOK, content("other.book"))
         self.assertNotEqual(*books)
         for _ in range(20):
-            runs = [subprocess.Popen([PROGRAM, "--book-out", "it.book", name], stdout=subprocess.DEVNULL) for name in ("first", "other")]
+            runs = [self.start(PROGRAM, "--book-out", "it.book", name) for name in ("first", "other")]
             self.assertLessEqual({one.wait(timeout=SECONDS) for one in runs}, {0, 3})
             self.assertIn(content("it.book"), books)
             self.assertEqual(sorted(os.listdir()), ["first", "it.book", "other", "other.book"])

@@ -7,7 +7,8 @@ import subprocess
 import time
 from pathlib import Path
 
-from tests.support import ROOT, SECONDS, InFolder, as_at_a_login, lack, need, processes_with, run, wait_until
+from tests.support import (NOBODY, ROOT, SECONDS, InFolder, as_at_a_login, is_v3, lack, need, processes_with, run,
+                           wait_until, write)
 
 # It tells each start, what it is handed and what it reads in files, and waits, fails or changes a source where the environment
 # says so.
@@ -39,9 +40,7 @@ END
 """
 LINK = '#!/bin/sh\nwhile [ "$1" != -o ]; do shift; done\ncp "$3" "$2" && chmod +x "$2"\n'
 ASSEMBLE = '#!/bin/sh\nwhile [ "$1" != -o ]; do shift; done\n: >"$2"\n'
-NOBODY = 65534
-IS_V3 = b"x86-64-v3 (supported" in run("/lib64/ld-linux-x86-64.so.2", "--help").stdout
-LEVEL = "x86-64-v3" if IS_V3 else "x86-64-v2"
+LEVEL = "x86-64-v3" if is_v3() else "x86-64-v2"
 
 
 def setUpModule():
@@ -56,26 +55,20 @@ class Case(InFolder):
         super().setUp()
         self.root, self.tools, self.kit = self.folder / "a checkout", self.folder / "tools", self.folder / "kit"
         for name in ("ffosolve", "ffoscores", "othello_rules", "ffosolve_c"):
-            self.write(self.root / f"crates/{name}/src/main.rt", "1\n")
+            write(self.root / f"crates/{name}/src/main.rt", "1\n")
         self.source = self.root / "crates/ffosolve/src/main.rt"
-        self.write(self.root / "crates.txt", "# low first\nothello_rules: std\nother: othello_rules\nffosolve: othello_rules\n"
-                   "ffoscores: othello_rules\nffosolve_c staticlib: othello_rules\n")
+        write(self.root / "crates.txt", "# low first\nothello_rules: std\nother: othello_rules\nffosolve: othello_rules\n"
+              "ffoscores: othello_rules\nffosolve_c staticlib: othello_rules\n")
         for name in ("bin", "packaging", "include", "scripts"):
             shutil.copytree(ROOT / name, self.root / name)
         for name in ("Makefile", "VERSION"):
             shutil.copy(ROOT / name, self.root)
         self.rt, self.link = self.tools / "rt", self.kit / "bin/rattle-link"
         for path, text in ((self.rt, RT), (self.link, LINK), (self.kit / "toolchain/bin/clang", ASSEMBLE)):
-            self.write(path, text)
+            write(path, text)
         self.starts = self.folder / "starts"
         self.script = self.root / "bin/ffosolve"
         self.log = self.root / "out" / LEVEL / "ffosolve.o.log"
-
-    @staticmethod
-    def write(path, text):
-        path.parent.mkdir(parents=True, exist_ok=True)
-        path.write_text(text)
-        path.chmod(0o755 if text.startswith("#!") else 0o644)
 
     def how(self, path=None, **environment):
         places = {"PATH": str(path or f"{self.tools}:/usr/bin:/bin"), "STARTS": str(self.starts), "KIT_FOLDER": str(self.kit)}
@@ -86,12 +79,9 @@ class Case(InFolder):
         who = {"user": user, "group": user, "extra_groups": []} if user and os.getuid() == 0 else {}
         return run(self.script, *(words or ("w",)), input="read\n", **self.how(path, **environment), **who)
 
-    def start(self, **environment):
+    def begin(self, **environment):
         """A run that goes on meanwhile; with WAITS, the stand-in waits until it is let go."""
-        how = {"stdin": subprocess.DEVNULL, "stdout": subprocess.PIPE, "stderr": subprocess.PIPE, **self.how(**environment)}
-        ran = subprocess.Popen([self.script, "w"], **how)
-        self.addCleanup(lambda: (ran.poll() is None and ran.kill(), ran.communicate()))
-        return ran
+        return self.start(self.script, "w", **self.how(**environment))
 
     def builds(self):
         return self.starts.read_text().count("start") if self.starts.exists() else 0
@@ -126,7 +116,7 @@ class Builds(Case):
             self.assertEqual(ran.stderr.count(words), 1, ran.stderr)
         self.assertFalse("34 of 83" in ran.stderr or "\r" in ran.stderr, ran.stderr)
         self.assertIn("functions checked", self.log.read_text())
-        self.write(self.root / "crates/ffoscores/src/main.rt", "scores\n")
+        write(self.root / "crates/ffoscores/src/main.rt", "scores\n")
         for name, builds, text in (("ffosolve", 2, 1), ("ffosolve", 2, 1), ("ffoscores", 3, "scores")):
             self.script = self.folder / f"{name}-{builds}"
             self.script.exists() or self.script.symlink_to(self.root / "bin" / name)
@@ -140,15 +130,15 @@ class Builds(Case):
         """rt gets nothing to read, and neither it nor what tells how far it is gets the lock; the program gets the caller's three
         streams alone, and his process."""
         below = self.root / "scripts/below"
-        self.write(below, below.read_text().replace("\n", '\nls -l /proc/$$/fd >>"$STARTS.rt"\n', 1))
-        ran = self.start()
+        write(below, below.read_text().replace("\n", '\nls -l /proc/$$/fd >>"$STARTS.rt"\n', 1))
+        ran = self.begin()
         ran.communicate(timeout=SECONDS)
         to_rt, to_program = Path(f"{self.starts}.rt").read_text(), Path(f"{self.starts}.program").read_text()
         self.assertIn("/dev/null\n", to_rt)
         self.assertNotIn("/crates\n", to_rt + to_program)
         self.assertEqual(re.findall(r" (\d) -> ", to_program), ["0", "1", "2"])
         self.assertIn(f"process {ran.pid}\n", to_program)
-        self.write(self.source, "2\n")
+        write(self.source, "2\n")
         run("make", "-C", self.root, f"out/{LEVEL}/ffosolve.o", input="read\n", **self.how())
         self.assertEqual((self.builds(), Path(f"{self.starts}.read").read_text()), (2, ""))
 
@@ -156,43 +146,43 @@ class Builds(Case):
         """A change, an older text under its old time, a new file, another name, a file that went and a crate below; no other
         time, and no file that is no source. Where nothing changed, no source is read."""
         for name in ("out/kept.rt", "must-fail/one.rt"):
-            self.write(self.root / "crates/ffosolve" / name, "")
+            write(self.root / "crates/ffosolve" / name, "")
         self.use()
         os.link(self.root / "out/ffosolve", self.folder / "old")
         old = os.stat(self.source)
-        self.write(self.source, "2\n")
+        write(self.source, "2\n")
         self.ran(self.use(), 2, builds=2)
         self.assertIn("made of 1", (self.folder / "old").read_text())  # as one that runs meanwhile keeps its own
-        self.write(self.source, "1\n")
+        write(self.source, "1\n")
         os.utime(self.source, ns=(old.st_atime_ns, old.st_mtime_ns))
         self.ran(self.use(), 1, builds=3)
         one, other = self.source.with_name("one.rt"), self.source.with_name("other.rt")
-        changes = (lambda: self.write(one, ""), lambda: one.rename(other), other.unlink,
-                   lambda: self.write(self.root / "crates/ffosolve/specs/Lib.antt", ""),
-                   lambda: self.write(self.root / "crates/othello_rules/src/main.rt", "2\n"))
+        changes = (lambda: write(one, ""), lambda: one.rename(other), other.unlink,
+                   lambda: write(self.root / "crates/ffosolve/specs/Lib.antt", ""),
+                   lambda: write(self.root / "crates/othello_rules/src/main.rt", "2\n"))
         for builds, change in enumerate(changes, 4):
             change()
             self.ran(self.use(), 1, builds=builds)
         time.sleep(2.1)  # until the times of the sources are older than the build
         self.use()
         for name in ("out/two.rt", "must-fail/two.rt"):
-            self.write(self.root / "crates/ffosolve" / name, "")
-        self.write(self.tools / "sha256sum", "#!/bin/sh\nexit 9\n")
+            write(self.root / "crates/ffosolve" / name, "")
+        write(self.tools / "sha256sum", "#!/bin/sh\nexit 9\n")
         self.ran(self.use(), 1, builds=8)
         (self.tools / "sha256sum").unlink()
-        self.write(self.root / "crates/ffosolve/stdin", "")
+        write(self.root / "crates/ffosolve/stdin", "")
         os.utime(self.source)
         ran = self.use()
         self.ran(ran, 1, builds=8)
         self.assertEqual(ran.stderr, "")
-        self.write(self.root / "crates.txt", (self.root / "crates.txt").read_text() + "\n")
+        write(self.root / "crates.txt", (self.root / "crates.txt").read_text() + "\n")
         self.ran(self.use(), 1, builds=9)
 
     def test_a_disk_whose_clock_is_behind(self):
         """By less than a second, as the times of files are."""
-        self.write(self.tools / "date", '#!/bin/sh\necho $(($(/usr/bin/date "$@") + 1))\n')
+        write(self.tools / "date", '#!/bin/sh\necho $(($(/usr/bin/date "$@") + 1))\n')
         self.use()
-        self.write(self.source, "2\n")
+        write(self.source, "2\n")
         self.ran(self.use(), 2, builds=2)
 
     def test_a_change_during_a_build(self):
@@ -209,11 +199,11 @@ class Builds(Case):
         """The second tells that it waits, builds where the first fails, and runs what the first built."""
         go = Path(f"{self.starts}.go")
         for number, fails, wanted in ((1, {"FAILS": "yes"}, (4, "")), (2, {}, (3, "made of 2\n<w>/\n"))):
-            self.write(self.source, f"{number}\n")
+            write(self.source, f"{number}\n")
             begun = self.builds()
-            first = self.start(WAITS="yes", **fails)
+            first = self.begin(WAITS="yes", **fails)
             wait_until(lambda: self.builds() > begun)
-            second = self.start()
+            second = self.begin()
             self.assertIn(f"waiting for another build; its log is in {self.root}/out\n", second.stderr.readline())
             go.touch()
             self.assertEqual((first.communicate(timeout=SECONDS)[0], first.returncode), wanted[::-1])
@@ -223,7 +213,7 @@ class Builds(Case):
             go.unlink()
 
     def test_many_at_once(self):
-        for ran in [self.start() for _ in range(8)]:
+        for ran in [self.begin() for _ in range(8)]:
             self.assertEqual(ran.communicate(timeout=SECONDS)[0], "made of 1\n<w>/\n")
         self.assertEqual(self.builds(), 1)
         self.assertEqual(sorted(os.listdir(self.root / "out")), ["ffosolve", LEVEL])
@@ -241,7 +231,7 @@ class Failures(Case):
         self.assertEqual((ran.returncode, ran.stdout, ran.stderr.count("\n")), (4, "", 1), ran)
         self.assertIn("make", ran.stderr)
         for builds, kit in enumerate(("rattle-kit-13b", "rattle-kit-13f", "rattle-kit-14a", "rattle-kit-13"), 1):
-            self.write(self.source, f"{builds}\n")
+            write(self.source, f"{builds}\n")
             ran = self.use(KIT=kit)
             self.ran(ran, builds, builds=builds)
             told = f"ffosolve: rt is {kit} logic 0123; this checkout was proved with rattle-kit-13b and 13f; trying anyway\n"
@@ -250,47 +240,47 @@ class Failures(Case):
     def test_a_build_that_fails(self):
         """The first error is told; a program that was built before counts for its own sources alone."""
         self.use()
-        self.write(self.source, "2\n")
+        write(self.source, "2\n")
         for _ in range(2):
             self.refused(self.use(FAILS="yes"), f"src/main.rt:1:2: error: a goal is open; see {self.log}")
-        self.write(self.source, "1\n")
+        write(self.source, "1\n")
         self.ran(self.use(), 1, builds=3)
-        self.write(self.source, "2\n")
+        write(self.source, "2\n")
         self.ran(self.use(), 2, builds=4)
 
     def test_a_link_that_fails(self):
         """Its first line is told; what a link tells where it succeeds is not."""
-        self.write(self.link, "#!/bin/sh\necho 'ld.lld: error: no room' >&2\nexit 1\n")
+        write(self.link, "#!/bin/sh\necho 'ld.lld: error: no room' >&2\nexit 1\n")
         ran = self.use()
         self.assertEqual((ran.returncode, ran.stdout, ran.stderr.splitlines()[-1]), (4, "", "ld.lld: error: no room"), ran)
-        self.write(self.link, LINK + "echo linked >&2\n")
+        write(self.link, LINK + "echo linked >&2\n")
         ran = self.use()
         self.ran(ran, 1, builds=1)
         self.assertEqual(ran.stderr, "")
 
     def test_kept_work_that_cannot_be_used(self):
         for name in ("othello_rules/out/kept", "ffosolve/out/spoiled"):
-            self.write(self.root / "crates" / name, "")
+            write(self.root / "crates" / name, "")
         ran = self.use()
         self.ran(ran, 1, builds=2)
         self.assertIn("dropped the old work on ffosolve", ran.stderr)
         self.assertTrue((self.root / "crates/othello_rules/out/kept").exists())
-        self.write(self.source, "2\n")
+        write(self.source, "2\n")
         self.refused(self.use(SPOILS="yes"), "cannot be used")
         self.assertLess(self.builds(), 15)
 
     def test_a_program_that_cannot_be_kept(self):
         """Nothing is left beside it, and an old one is not taken for it."""
         self.use()
-        self.write(self.source, "2\n")
-        self.write(self.tools / "mv", "#!/bin/sh\nexit 1\n")
+        write(self.source, "2\n")
+        write(self.tools / "mv", "#!/bin/sh\nexit 1\n")
         kept = self.root / "out" / LEVEL / "ffosolve.o"
         self.refused(self.use(), f"{kept} can't be written")
         self.assertEqual([name for name in os.listdir(kept.parent) if ".new" in name], [])
-        self.write(self.tools / "mv", '#!/bin/sh\n/usr/bin/mv "$@"\nexit 1\n')  # as where it is ended behind that
+        write(self.tools / "mv", '#!/bin/sh\n/usr/bin/mv "$@"\nexit 1\n')  # as where it is ended behind that
         self.refused(self.use(), f"{kept} can't be written")
         (self.tools / "mv").unlink()
-        self.write(self.source, "1\n")
+        write(self.source, "1\n")
         self.ran(self.use(), 1, builds=4)
 
     def test_a_full_disk(self):
@@ -300,7 +290,7 @@ class Failures(Case):
         space = ["unshare", "-m"] if os.getuid() == 0 else ["unshare", "-r", "-m"]
         if run(*space, "mount", "-t", "tmpfs", "none", self.root / "out").returncode:
             lack("a right to mount a disk")
-        self.write(self.rt, RT + 'head -c 30000 /dev/zero >>out/${PWD##*/}.o\n')
+        write(self.rt, RT + 'head -c 30000 /dev/zero >>out/${PWD##*/}.o\n')
         for filled in (40960, 20000):
             words = [*space, "sh", "-c", small, "sh", filled, self.script]
             self.refused(run(*words, **{**self.how(), "cwd": self.root}), "written")
@@ -328,16 +318,16 @@ class Failures(Case):
             self.ran(ran, 1, builds=1)
             self.assertEqual(ran.stderr, "")
         self.assertEqual(closed(out=0o777, **{"crates/ffosolve/src/main.rt": 0}).returncode, 4)
-        self.write(self.source, "2\n")
+        write(self.source, "2\n")
         self.refused(closed(), "can't be written", lines=1)
 
 
 class Signals(Case):
     def test_nothing_is_left(self):
         for count, number in enumerate((signal.SIGTERM, signal.SIGHUP, signal.SIGINT, signal.SIGKILL), 1):
-            ran = self.start(WAITS="yes")
+            ran = self.begin(WAITS="yes")
             wait_until(lambda: self.builds() >= count)
-            waits = self.start()
+            waits = self.begin()
             wait_until(lambda: any(words.startswith("flock 9") for words in processes_with("cwd", self.root).values()))
             for one in (waits, ran):
                 one.send_signal(number)
@@ -348,8 +338,7 @@ class Signals(Case):
     def on_a_terminal(self, keys, shown, go=False, columns=80):
         """What it prints on a terminal, and its status. Once it has shown how far it is, the keys are typed."""
         words = ["script", "-qec", f"stty cols {columns}; exec '{self.script}' w", "/dev/null"]
-        ran = subprocess.Popen(words, stdin=subprocess.PIPE, stdout=subprocess.PIPE, **{**self.how(WAITS="yes"), "text": False})
-        self.addCleanup(ran.kill)
+        ran = self.start(*words, stdin=subprocess.PIPE, **{**self.how(WAITS="yes"), "text": False})
         told, end = b"", time.monotonic() + SECONDS
         while shown not in told and time.monotonic() < end:
             told += os.read(ran.stdout.fileno(), 4096)
@@ -363,7 +352,7 @@ class Signals(Case):
         told, status = self.on_a_terminal(b"\x04", b" functions", go=True)
         self.assertIn("\r\x1b[Kffosolve: 0 min, crate 1 of 2, othello_rules: 34 of 83 functions\r\x1b[K", told)
         self.assertEqual(("made of 1" in told, status), (True, 3), told)
-        self.write(self.source, "2\n")
+        write(self.source, "2\n")
         Path(f"{self.starts}.go").unlink()
         told, _ = self.on_a_terminal(b"\x04", b"crate 1", go=True, columns=30)
         shown = [line for line in re.split(r"\r\n?|\x1b\[K", told) if "crate 1" in line]
@@ -387,7 +376,7 @@ class Targets(Case):
         for level in ("x86-64-v2", "x86-64-v3"):
             self.assertEqual(self.make(f"CPU={level}").returncode, 0)
             self.assertIn(f"start run --cpu={level}\nstart lib --cpu={level}\n", self.starts.read_text())
-        self.write(self.root / "VERSION", "2.3.4\n")
+        write(self.root / "VERSION", "2.3.4\n")
         self.assertEqual(self.make("library").returncode, 0)
         shared = run("readelf", "-d", self.root / "out/library/libffosolve.so", text=True).stdout
         self.assertIn("soname: [libffosolve.so.2]", shared)
@@ -396,7 +385,7 @@ class Targets(Case):
         ran = self.make("CPU=x86-64-v4")
         self.assertEqual(ran.returncode, 2)
         self.assertIn("CPU is x86-64-v4, but has to be one of: x86-64-v2 x86-64-v3", ran.stderr)
-        self.write(self.tools / "objcopy", "#!/bin/sh\necho 'objcopy: no room' >&2\nexit 1\n")
+        write(self.tools / "objcopy", "#!/bin/sh\necho 'objcopy: no room' >&2\nexit 1\n")
         (self.root / "out" / LEVEL / "libffosolve.o").unlink()
         self.assertIn("objcopy: no room", self.make("library").stderr)
         (self.tools / "objcopy").unlink()
@@ -407,14 +396,14 @@ class Targets(Case):
 
     def test_look(self):
         """Prints what `rt try` does of the report, and what is not proved; else why there is none."""
-        self.write(self.root / "crates/ffosolve/stdin", "")
-        self.write(self.rt, '#!/bin/sh\nshift\necho "$@" >"$STARTS"\necho report\necho "checked: ended status=3" >&2\necho "run=ended status=3" >&2\nexit 3\n')
-        self.write(self.folder / "a list", "")
+        write(self.root / "crates/ffosolve/stdin", "")
+        write(self.rt, '#!/bin/sh\nshift\necho "$@" >"$STARTS"\necho report\necho "checked: ended status=3" >&2\necho "run=ended status=3" >&2\nexit 3\n')
+        write(self.folder / "a list", "")
         for words, told in (((), "\n"), ((f"LIST={self.folder}/a list",), f"--data list.obf={self.folder}/a list -- list.obf\n")):
             ran = self.make("look", *words)
             self.assertEqual(ran.stdout, "report\nnothing is proved yet: bin/ffosolve proves the program, and then runs it\n", ran)
             self.assertEqual(self.starts.read_text(), told)
         self.assertIn("no such list", self.make("look", "LIST=no such list").stderr)
-        self.write(self.rt, "#!/bin/sh\necho 'rt: no answer' >&2\nexit 6\n")
+        write(self.rt, "#!/bin/sh\necho 'rt: no answer' >&2\nexit 6\n")
         ran = self.make("look")
         self.assertEqual((ran.returncode, ran.stdout, ran.stderr.split("\n")[0]), (2, "", "rt: no answer"), ran)

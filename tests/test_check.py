@@ -7,7 +7,7 @@ import subprocess
 import unittest
 from pathlib import Path
 
-from tests.support import ROOT, SECONDS, InFolder, as_at_a_login, need, processes_with, run, wait_until
+from tests.support import ROOT, SECONDS, InFolder, as_at_a_login, need, processes_with, run, wait_until, write
 
 MODULE = "import os, time, unittest\nfrom tests.support import *\n\n\nclass Some(InFolder):\n"
 PASSES = "    def test_a(self):\n        pass\n"
@@ -30,7 +30,7 @@ class Check(InFolder):
 
     @staticmethod
     def module(name, tests):
-        Path(f"tests/test_{name}.py").write_text(MODULE + tests)
+        write(f"tests/test_{name}.py", MODULE + tests)
 
     def ends(self, status, last, *told, words=MAKE, **places):
         ran = run(*words, env={**self.place, **places}, text=True)
@@ -70,10 +70,9 @@ class Modules(Check):
     def test_signal_ends_all(self):
         """An interrupt to the whole group of processes, as typed on a terminal, and one that ends make alone."""
         self.module("one", f"    def test_a(self):\n        run('sh', '-c', 'echo >{self.folder}/begun; exec sleep 50')\n")
-        how = {"stdin": subprocess.DEVNULL, "stdout": subprocess.PIPE, "stderr": subprocess.STDOUT}
         for kill, number in ((os.killpg, signal.SIGINT), (os.kill, signal.SIGTERM)):
             Path("begun").unlink(missing_ok=True)
-            make = subprocess.Popen(MAKE, preexec_fn=as_at_a_login, start_new_session=True, **how)
+            make = self.start(*MAKE, stderr=subprocess.STDOUT, preexec_fn=as_at_a_login, start_new_session=True)
             wait_until(Path("begun").exists)
             kill(make.pid, number)
             make.communicate(timeout=SECONDS)
@@ -94,8 +93,7 @@ class Modules(Check):
 class Gate(Check):
     def test_both_are_run_and_summed(self):
         """.ci/run, by what rt ci and make check print and how they end; one that counts nothing fails."""
-        tools, all_pass = Path("tools"), ("7 passed, 0 failed", 0)
-        tools.mkdir()
+        all_pass = ("7 passed, 0 failed", 0)
         for status, last, ci, check in (
             (0, "14 passed, 0 failed", all_pass, all_pass),
             (1, "13 passed, 1 failed", ("6 passed, 1 failed", 1), all_pass),
@@ -107,9 +105,8 @@ class Gate(Check):
             (1, "14 passed, 1 failed", (all_pass[0], 1), all_pass),
         ):
             for name, (text, ends) in (("rt", ci), ("make", check)):
-                (tools / name).write_text(f'#!/bin/sh\n[ "$CI" = true ] || exit 9\necho "{name} $*"; printf "{text}\\n"; exit {ends}\n')
-                (tools / name).chmod(0o755)
-            self.ends(status, last, "rt ci\n", "make check", words=(".ci/run",), PATH=f"{tools.resolve()}:{os.environ['PATH']}")
+                write(f"tools/{name}", f'#!/bin/sh\n[ "$CI" = true ] || exit 9\necho "{name} $*"; printf "{text}\\n"; exit {ends}\n')
+            self.ends(status, last, "rt ci\n", "make check", words=(".ci/run",), PATH=f"{self.folder}/tools:{os.environ['PATH']}")
 
     def test_any_word_is_refused(self):
         for words in (["--help"], [""], ["ci", "check"]):

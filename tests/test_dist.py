@@ -4,16 +4,13 @@ import os
 import re
 import shutil
 import tarfile
-import tempfile
 import unittest
 from pathlib import Path
 
-from tests.checkouts import FIRST, WITHOUT_GIT, copied_checkout, make_all, path_without
-from tests.support import ROOT, InFolder, lack, need, run
+from tests.checkouts import FIRST, LEVELS, VERSION, WITHOUT_GIT, copied_checkout, make_all, path_without
+from tests.support import ROOT, InFolder, is_v3, lack, module_folder, need, run, write
 
-VERSION = (ROOT / "VERSION").read_text().strip()
 NAME = f"ffosolve-{VERSION}-linux-x86-64"
-LEVELS = ["x86-64-v2", "x86-64-v3"]
 WHO = {f"GIT_{who}_{what}": text for who in ("AUTHOR", "COMMITTER")
        for what, text in (("NAME", "a"), ("EMAIL", "a@b"), ("DATE", "1700000000 +0000"))}
 
@@ -30,23 +27,25 @@ def make(target, folder, *before, **places):
     return run(*before, "make", "-s", "-C", folder, target, env={**WITHOUT_GIT, **places}, text=True, timeout=300)
 
 
+def made(target, file, *where, **places):
+    """Makes a file, and nothing else is told."""
+    ran = make(target, *where, **places)
+    if (ran.returncode, ran.stdout, ran.stderr) != (0, f"made: {file}\n", ""):
+        raise AssertionError(ran)
+
+
 def setUpModule():
     """Two checkouts, at places of other lengths, that make the archive at other times, by another umask and locale."""
     global FIRST_ONE, SECOND_ONE, UNPACKED, WITHOUT_RT
     for tool in ("make", "git", "rt"):
         need(tool, tool)
     make_all("levels")
-    folder = tempfile.TemporaryDirectory(prefix="ffosolve-dist-")
-    unittest.addModuleCleanup(folder.cleanup)
-    work = Path(folder.name)
-    work.chmod(0o755)
+    work = module_folder()
     FIRST_ONE, SECOND_ONE = git_checkout(work / "a"), git_checkout(work / "another place")
     os.utime(SECOND_ONE / "README.md", (0, 0))
     for checkout, before, places in ((FIRST_ONE, (), {}),
                                      (SECOND_ONE, ("sh", "-c", 'umask 077; exec "$@"', "sh"), {"LC_ALL": "C", "TZ": "UTC+9"})):
-        ran = make("dist", checkout, *before, **places)
-        if (ran.returncode, ran.stdout, ran.stderr) != (0, f"made: {archive(checkout)}\n", ""):
-            raise AssertionError(ran)
+        made("dist", archive(checkout), checkout, *before, **places)
     UNPACKED = work / "a folder with blanks" / NAME
     UNPACKED.parent.mkdir()
     run("tar", "-xzf", archive(FIRST_ONE), "-C", UNPACKED.parent, check=True)
@@ -158,13 +157,9 @@ class Unpacked(InFolder):
         start = top / "bin/ffosolve"
         start.write_text(start.read_text().replace("/lib64/ld-linux-x86-64.so.2", str(self.folder / "loader")))
         for level in LEVELS:
-            program = top / "libexec/ffosolve" / level / "ffosolve"
-            program.parent.mkdir(parents=True)
-            program.write_text(f'#!/bin/sh\necho {level} "$#" "$@"\nexit 3\n')
-            program.chmod(0o755)
+            write(top / "libexec/ffosolve" / level / "ffosolve", f'#!/bin/sh\necho {level} "$#" "$@"\nexit 3\n')
         for told, level in (("  x86-64-v3 (supported, searched)", LEVELS[1]), ("  x86-64-v3", LEVELS[0])):
-            (self.folder / "loader").write_text(f"#!/bin/sh\necho '{told}'\n")
-            (self.folder / "loader").chmod(0o755)
+            write("loader", f"#!/bin/sh\necho '{told}'\n")
             (self.folder / "linked").unlink(missing_ok=True)
             (self.folder / "linked").symlink_to(start)
             for words in (start, "./linked"):
@@ -184,7 +179,7 @@ class Unpacked(InFolder):
         words = ["/usr/sbin/chroot"] if os.getuid() == 0 else ["unshare", "-r", "/usr/sbin/chroot"]
         if run(*words, "/", "/bin/true").returncode:
             lack("a right to change the root")
-        for level in LEVELS[:1 + (b"x86-64-v3 (supported" in run("/lib64/ld-linux-x86-64.so.2", "--help").stdout)]:
+        for level in LEVELS[:1 + is_v3()]:
             self.ends((0, FIRST, ""), *words, empty, f"/opt/ffosolve/{level}/ffosolve", "/first.obf", env={}, text=True)
 
 
@@ -217,9 +212,7 @@ class Debian(InFolder):
     def setUpClass(cls):
         need("dpkg-deb", "dpkg")
         cls.package = FIRST_ONE / "out" / f"ffosolve_{VERSION}_amd64.deb"
-        ran = make("deb", FIRST_ONE)
-        if (ran.returncode, ran.stdout, ran.stderr) != (0, f"made: {cls.package}\n", ""):
-            raise AssertionError(ran)
+        made("deb", cls.package, FIRST_ONE)
 
     def test_what_lintian_finds(self):
         """No error, no warning, and no override of what it does not find."""
@@ -275,8 +268,7 @@ class Debian(InFolder):
         for name, text in (("debian/control", "Source: one\n\nPackage: one\nArchitecture: any\n"),
                            ("one/DEBIAN/control", f"Package: one\nVersion: 1\nArchitecture: all\nMaintainer: A <a@b>\nDescription: a\n"
                                                   f"Depends: {needs}, libffosolve-dev, python3-ffosolve\n")):
-            Path(name).parent.mkdir(parents=True)
-            Path(name).write_text(text)
+            write(name, text)
         self.assertIn(needs, self.apart("dpkg-shlibdeps", "-O", "-eanswers").stdout)
         run("dpkg-deb", "--build", "one", check=True)
         self.apart("dpkg", "-i", self.folder / "one.deb")
@@ -289,8 +281,7 @@ class Wheel(InFolder):
     def test_installed(self):
         need("readelf", "binutils")
         wheel = FIRST_ONE / "out" / f"ffosolve-{VERSION}-py3-none-manylinux_2_34_x86_64.whl"
-        ran = make("wheel", FIRST_ONE)
-        self.assertEqual((ran.returncode, ran.stdout, ran.stderr), (0, f"made: {wheel}\n", ""))
+        made("wheel", wheel, FIRST_ONE)
         if run("/usr/bin/python3", "-m", "venv", "empty", timeout=300).returncode:
             lack("venv for /usr/bin/python3 (Debian: python3-venv)")
         run("empty/bin/pip", "--disable-pip-version-check", "install", "--no-index", "-q", wheel, timeout=300, check=True)
@@ -303,7 +294,7 @@ class Wheel(InFolder):
         say = ("from ffosolve import Position, Solver, __version__; solver = Solver(); print(__version__, solver.library_version, "
                "solver.solve(Position.from_obf('-OXXXXX-XXXXXXXO' + 19 * 'X' + 'O' + 28 * 'X' + ' X;')).squares); "
                "import re; print(re.findall('ffosolve/(.*)/libffosolve', open('/proc/self/maps').read())[0])")
-        best = LEVELS[b"x86-64-v3 (supported" in run("/lib64/ld-linux-x86-64.so.2", "--help").stdout]
+        best = LEVELS[is_v3()]
         ran = run("empty/bin/python", "-c", say, env={}, text=True)
         self.assertEqual((ran.returncode, ran.stdout), (0, f"{VERSION} {VERSION} ['H1']\n{best}\n"), ran)
         (package / LEVELS[1] / "libffosolve.so.1").unlink()  # as where the processor is of less

@@ -2,7 +2,7 @@
 import re
 from pathlib import Path
 
-from tests.support import ROOT, SECONDS, InFolder, built, run, stored
+from tests.support import ROOT, SECONDS, InFolder, built, run, stored, write
 
 HEAD = "position\tempties\tscore\tmoves\tseconds\tprogram\tprocessor\n"
 KEPT = "41\t22\t+00\tH4\t2.00\tffosolve 1.0.0\tsome processor\n"
@@ -27,8 +27,7 @@ class Results(InFolder):
 
     def test_no_result(self):
         """A solver that refuses, and a position that is not in the list."""
-        Path("ffosolve").write_text("#!/bin/sh\n[ x$1 = x--version ] && echo ffosolve 1 || printf '[1]\\n1 refused: limit 19\\n'\n")
-        Path("ffosolve").chmod(0o755)
+        write("ffosolve", "#!/bin/sh\n[ x$1 = x--version ] && echo ffosolve 1 || printf '[1]\\n1 refused: limit 19\\n'\n")
         for number, status, why in ((40, 1, "limit 19"), (39, 2, "40 to 46")):
             ran, kept = self.ffo("solve", number, programs=self.folder)
             self.assertEqual((ran.returncode, kept), (status, HEAD + KEPT))

@@ -3,7 +3,6 @@ import functools
 import os
 import random
 import re
-import resource
 import signal
 import stat
 import struct
@@ -11,10 +10,11 @@ import subprocess
 import sys
 import unittest
 import unittest.mock
+from pathlib import Path
 
 from bench import player
 
-from .support import ROOT, SECONDS, InFolder, built, limit, need, run, stored, wait_until
+from .support import ROOT, SECONDS, InFolder, built, limit, limited, need, run, stored, wait_until, write
 
 PROGRAM = ROOT / "bin/ffosolve-games"
 UNREADABLE = "ffosolve-games: {}: {}\n"
@@ -139,9 +139,6 @@ def expected(name, games, empties, more=""):
 class Case(InFolder):
     maxDiff = 2000
 
-    def write(self, name, content):
-        (self.folder / name).write_bytes(content if isinstance(content, bytes) else content.encode())
-
     def games(self, *words, status=0, out=None, told=None, **how):
         """Runs the program, and gives what it prints and tells."""
         ran = run(sys.executable, PROGRAM, *words, **how)
@@ -162,19 +159,18 @@ class RandomGames(Case):
         cls.known = [(squares, positions_of(squares)) for squares in map(squares_of, cls.played)]
 
     def test_transcripts_and_records_give_the_positions_of_the_plain_player(self):
-        self.write("games.txt", "\n".join(map(transcript, self.played)))
-        self.write("games.wtb", wthor([record(squares, real=real_score(positions)) for squares, positions in self.known]))
+        """Games with passes, and short ones, are among them."""
+        self.assertGreater(sum(None in game for game in self.played), 100)
+        self.assertLess(min(map(len, self.played)), 60 - 22)
+        write("games.txt", "\n".join(map(transcript, self.played)))
+        write("games.wtb", wthor([record(squares, real=real_score(positions)) for squares, positions in self.known]))
         for empties in (22, 9):
             for name, score in (("games.txt", ""), ("games.wtb", ", theoretical score 33" * (empties == 22))):
                 out, told = expected(name, self.known, empties, score)
                 self.games("--empties", empties, name, status=1 if told else 0, out=out, told=told)
 
-    def test_games_have_passes_and_short_ones_are_among_them(self):
-        self.assertGreater(sum(None in game for game in self.played), 100)
-        self.assertLess(min(map(len, self.played)), 60 - 22)
-
     def test_each_number_of_empty_squares(self):
-        self.write("games.wtb", wthor([record(game) for game in self.played[:5]], empties=0))
+        write("games.wtb", wthor([record(game) for game in self.played[:5]], empties=0))
         for empties in range(61):
             out, told = expected("games.wtb", self.known[:5], empties, ", theoretical score 33")
             self.games("games.wtb", f"--empties={empties}", status=1 if told else 0, out=out, told=told)
@@ -185,7 +181,7 @@ class Faults(Case):
 
     def reads(self, content, out, *why, name="it.wtb", words=(), status=None):
         """Compares what is printed of one file, and what is told of it behind its name."""
-        self.write(name, content)
+        write(name, content)
         told = "".join(f"ffosolve-games: {name}{it}\n" for it in why)
         self.games(*words, name, status=len(why) > 0 if status is None else status, out=out, told=told)
 
@@ -297,7 +293,7 @@ class Faults(Case):
             (b"f5d6c3d3c4f4c5b3c2\n", "it begins like a text"),
         ):
             self.reads(content, "", f" is not a WTHOR file of games: {why}", name="none.wtb", status=3)
-        self.write("it.wtb", wthor([whole]))
+        write("it.wtb", wthor([whole]))
         self.games("none.wtb", "it.wtb", status=3, out=line)
 
     def test_the_number_of_empty_squares(self):
@@ -321,7 +317,7 @@ class Faults(Case):
             for byte in {whole[place] ^ 255, whole[place] + 1 & 255, 0, rng.choice(SQUARE_BYTES)} - {whole[place]}:
                 files[f"{place}-{byte}.wtb"] = whole[:place] + bytes([byte]) + whole[place + 1:]
         for name, content in files.items():
-            self.write(name, content)
+            write(name, content)
         ran = run(sys.executable, PROGRAM, *files)
         self.assertEqual(ran.returncode, 3)
         for told in ran.stderr.decode().splitlines():
@@ -340,7 +336,7 @@ class Use(Case):
         super().setUp()
         self.game = squares_of(random_game(random.Random(3)))
         self.line = line_of(positions_of(self.game)[20], "{}, game 1")
-        self.write("text", transcript(self.game))
+        write("text", transcript(self.game))
 
     def test_standard_input(self):
         for words in ((), ("-",)):
@@ -352,7 +348,7 @@ class Use(Case):
 
     def test_names_of_files(self):
         for name, shown in (("a b%c, game 7", "a b%c, game 7"), ("new\nline", "new?line")):
-            self.write(name, transcript(self.game))
+            write(name, transcript(self.game))
             self.games("--empties=20", name, out=self.line.format(shown), told="")
         name = b"\xff.WTB"
         with open(name, "wb") as file:
@@ -370,12 +366,12 @@ class Use(Case):
         game = transcript(self.game).encode()
         for content, why in (
             (b"\xef\xbb\xbf" + game + b"\n", "it begins with a byte-order mark"),
-            ("\ufeff".encode("utf-16-le") + game.decode().encode("utf-16-le"), "it begins with a byte-order mark"),
-            ("\ufeff".encode("utf-16-be") + game.decode().encode("utf-16-be"), "it begins with a byte-order mark"),
+            *((("\ufeff" + game.decode()).encode(name), "it begins with a byte-order mark")
+              for name in ("utf-16-le", "utf-16-be")),
             (b"% games\r" + game + b"\r" + game + b"\r", "its lines end with CR alone"),
             (b"\r" + game, "its lines end with CR alone"),
         ):
-            self.write("bad", content)
+            write("bad", content)
             self.games("--empties=20", "bad", "text", status=3, out=self.line.format("text"),
                        told=UNREADABLE.format("cannot read bad", why))
             for words in (("--empties=20",), ("compare", "-", "text")):
@@ -385,7 +381,7 @@ class Use(Case):
     def test_a_text_with_a_nul(self):
         """It is no WTHOR file: those have a name, or a beginning, that no text has. An archive is neither."""
         for content in (b"f5\0d6\n" + transcript(self.game).encode(), b"PK\3\4\24\0\0\0"):
-            self.write("bad", content)
+            write("bad", content)
             told = UNREADABLE.format("cannot read bad", "its line 1 has a NUL byte, so it is not a text")
             self.games("--empties=20", "bad", "text", status=3, out=self.line.format("text"), told=told)
 
@@ -398,14 +394,14 @@ class Use(Case):
             (("compare", "-", "text"), listed, ""),
             (("compare", "listed", "-"), "[1]\n", ""),
         ):
-            self.write("listed", listed)
-            self.write("long", before + "f5")
+            write("listed", listed)
+            write("long", before + "f5")
             os.truncate("long", 300_000_000)
             with open("long", "rb") as file:
                 self.games(*words, stdin=file, status=3, out=out, told=UNREADABLE.format("cannot read standard input", why),
-                           preexec_fn=lambda: resource.setrlimit(resource.RLIMIT_AS, (500_000_000,) * 2))
+                           preexec_fn=limited("RLIMIT_AS", 500_000_000))
                 self.assertLess(os.lseek(file.fileno(), 0, os.SEEK_CUR), 2 * MOST_BYTES)
-        self.write("longest", (transcript(self.game) + "%").ljust(MOST_BYTES - 1, "x") + "\n")
+        write("longest", (transcript(self.game) + "%").ljust(MOST_BYTES - 1, "x") + "\n")
         self.games("--empties=20", "longest", out=self.line.format("longest"), told="")
 
     def test_the_command_line(self):
@@ -423,40 +419,29 @@ class Use(Case):
             self.assertLessEqual(max(map(len, told.splitlines())), 80)
 
     def test_standard_output_that_fails(self):
-        """As on a full disk, and where it is closed; of a short output, of a long one, and of what is printed of the program."""
-        self.write("many", (transcript(self.game) + "\n") * 1000)
+        """Of a short output, of a long one, and of what is printed of the program; also where a byte finds room."""
+        write("many", (transcript(self.game) + "\n") * 1000)
+        told = UNREADABLE.format("cannot write standard output", "File too large")
         for words in (("--empties=20", "text"), ("--empties=20", "many"), ("--help",), ("--version",), ("compare", "--help")):
-            for size, is_unbuffered in ((0, ""), (1, ""), (1, "1")):
+            self.cannot_write(PROGRAM, *words)
+            for is_unbuffered in ("", "1"):
                 with open("out", "wb") as out:
-                    ran = run(PROGRAM, *words, stdout=out, stderr=subprocess.PIPE, capture_output=False,
-                              env={**os.environ, "PYTHONUNBUFFERED": is_unbuffered},
-                              preexec_fn=lambda: resource.setrlimit(resource.RLIMIT_FSIZE, (size, size)))
-                told = UNREADABLE.format("cannot write standard output", "File too large")
+                    how = {"stdout": out, "stderr": subprocess.PIPE, "preexec_fn": limited("RLIMIT_FSIZE", 1)}
+                    places = {**os.environ, "PYTHONUNBUFFERED": is_unbuffered}
+                    ran = run(PROGRAM, *words, capture_output=False, env=places, **how)
                 self.assertEqual((ran.returncode, ran.stderr.decode()), (3, told), words)
-            ran = run("sh", "-c", '"$0" "$@" >&-', PROGRAM, *words)
-            told = UNREADABLE.format("cannot write standard output", "it is closed")
-            self.assertEqual((ran.returncode, ran.stdout, ran.stderr.decode()), (3, b"", told), words)
 
     def test_standard_error_that_fails(self):
         """It changes no status, and nothing that is printed."""
-        self.write("wrong", "a1\n" + transcript(self.game))
+        write("wrong", "a1\n" + transcript(self.game))
         out = self.line.format("wrong").replace("game 1", "game 2").encode() + self.line.format("text").encode()
         for words, status, out in ((("wrong", "text"), 1, out), (("none", "text"), 3, self.line.format("text").encode())):
             with open("told", "wb") as told:
                 ran = run(PROGRAM, "--empties=20", *words, stdout=subprocess.PIPE, stderr=told, capture_output=False,
-                          preexec_fn=lambda: resource.setrlimit(resource.RLIMIT_FSIZE, (1, 1)))
+                          preexec_fn=limited("RLIMIT_FSIZE", 1))
             self.assertEqual((ran.returncode, ran.stdout), (status, out))
             ran = run("sh", "-c", '"$0" "$@" 2>&-', PROGRAM, "--empties=20", *words)
             self.assertEqual((ran.returncode, ran.stdout), (status, out))
-
-    def test_a_pipe_that_nobody_reads(self):
-        self.write("many", (transcript(self.game) + "\n") * 1000)
-        for words in (("--empties=20", "text"), ("--empties=20", "many"), ("--help",), ("--version",), ("compare", "--help")):
-            reader, writer = os.pipe()
-            os.close(reader)
-            ran = run(PROGRAM, *words, stdout=writer, stderr=subprocess.PIPE, capture_output=False)
-            os.close(writer)
-            self.assertEqual((ran.returncode, ran.stderr), (-signal.SIGPIPE, b""), words)
 
     def test_without_the_library(self):
         for words in (("--empties=20", "text"), ("compare", "text", "text")):
@@ -483,8 +468,8 @@ class Compare(Case):
     REPORT = "[1]\n2 +62 H1 unlisted\n3 +62 H1 unlisted\n4 -64 PS unlisted\n6 +32 -- unlisted\n7 -32 -- unlisted\nsolved 5 refused 0\n"
 
     def compare(self, listed, report, **expected):
-        self.write("list", listed)
-        self.write("report", report)
+        write("list", listed)
+        write("report", report)
         self.games("compare", "list", "report", **expected)
 
     def unfit(self, listed, report, why):
@@ -571,11 +556,11 @@ class Compare(Case):
         rng = random.Random(11)
         known = [positions_of(squares_of(random_game(rng))) for _ in range(60)]
         mine, others = ([at[5] for at in known if 5 in at][start::2][:20] for start in (0, 1))
-        self.write("list", "".join(line_of(at, f"x.wtb, game {number}, theoretical score 32") for number, at in enumerate(mine, 1)))
+        write("list", "".join(line_of(at, f"x.wtb, game {number}, theoretical score 32") for number, at in enumerate(mine, 1)))
         for listed, status in ((mine, 1), (others, 3)):
             best = [best_moves(at) for at in listed]
             rows = [f"{number} {score(at):+03} {','.join(names)} unlisted\n" for number, (at, names) in enumerate(zip(listed, best), 1)]
-            self.write("report", "[1]\n" + "".join(rows) + "solved 20 refused 0\n")
+            write("report", "[1]\n" + "".join(rows) + "solved 20 refused 0\n")
             out, told = self.games("compare", "list", "report", status=status)
         wrong = [(number, name) for number, (at, names) in enumerate(zip(mine, best), 1) for name in names
                  if name not in moves_of(at)]
@@ -586,6 +571,8 @@ class Compare(Case):
 class Fix(Case):
     """The WTHOR file with exact scores, which `compare --fix` writes."""
 
+    FIX = (sys.executable, PROGRAM, "compare", "list", "report", "--fix", "new.wtb")
+
     def setUp(self):
         super().setUp()
         rng = random.Random(7)
@@ -594,25 +581,22 @@ class Fix(Case):
         self.exact = [discs_of_black(positions_of(game)[5]) for game in self.games_of_file]
         published = [it + {2: -2, 5: 7}.get(number, 0) for number, it in enumerate(self.exact)]
         self.records = [record(*both) for both in zip(self.games_of_file, published)]
-        self.write("it.wtb", wthor(self.records, empties=5) + b"more")
+        write("it.wtb", wthor(self.records, empties=5) + b"more")
         self.write_list("it.wtb")
-        self.whole = self.content("it.wtb")
+        self.whole = Path("it.wtb").read_bytes()
         self.wanted = wthor([record(*both) for both in zip(self.games_of_file, self.exact)], empties=5) + b"more"
         self.told = f"new.wtb: theoretical scores changed 2 of {len(self.exact)}, not compared 0"
 
     def write_list(self, *names, skipped=()):
         ran = run(PROGRAM, *names)
-        self.write("list", ran.stdout)
+        write("list", ran.stdout)
         rows = ""
         for number, line in enumerate(ran.stdout.decode().splitlines(), 1):
             black, white = (sum(1 << square for square in range(64) if line[square] == letter) for letter in "XO")
             at = (black, white, True) if line[65] == "X" else (white, black, False)
             said = "refused: 5 empties, limit 4" if number in skipped else f"{score(at):+03} {','.join(best_moves(at))} unlisted"
             rows += f"{number} {said}\n"
-        self.write("report", f"[1]\n{rows}solved {number - len(skipped)} refused {len(skipped)}\n")
-
-    def content(self, name):
-        return (self.folder / name).read_bytes()
+        write("report", f"[1]\n{rows}solved {number - len(skipped)} refused {len(skipped)}\n")
 
     def fix(self, status, told, place="new.wtb", **how):
         """Runs the program, which may make the new file and no other one, and leaves the one that is read as it is."""
@@ -620,29 +604,29 @@ class Fix(Case):
         out, _ = self.games("compare", "list", "report", "--fix", place, status=status, told=f"ffosolve-games: {told}\n", **how)
         self.assertEqual(set(os.listdir()), before | ({place} if status < 3 else set()))
         if "it.wtb" in before:
-            self.assertEqual(self.content("it.wtb"), self.whole)
+            self.assertEqual(Path("it.wtb").read_bytes(), self.whole)
         return out
 
     def test_the_scores_that_are_wrong_are_changed_and_no_other_byte(self):
         out = self.fix(1, self.told)
-        self.assertEqual(self.content("new.wtb"), self.wanted)
+        self.assertEqual(Path("new.wtb").read_bytes(), self.wanted)
         self.assertEqual(out, self.games("compare", "list", "report", status=1)[0])
         self.assertEqual(stat.S_IMODE(os.stat("new.wtb").st_mode), 0o644)
         self.write_list("new.wtb")
         self.games("compare", "list", "report", out=f"compared {len(self.exact)} differ 0 refused 0 unscored 0\n", told="")
         again = f"again.wtb: theoretical scores changed 0 of {len(self.exact)}, not compared 0"
         self.fix(0, again, place="again.wtb")
-        self.assertEqual(self.content("again.wtb"), self.wanted)
+        self.assertEqual(Path("again.wtb").read_bytes(), self.wanted)
 
     def test_games_that_are_not_compared_stay(self):
         """One whose position is refused in the report, and one with a move that is not legal, which is not in the list."""
         self.records[0] = self.records[0][:8] + b"\x63" + self.records[0][9:]
         self.whole = wthor(self.records, empties=5)
-        self.write("it.wtb", self.whole)
+        write("it.wtb", self.whole)
         self.write_list("it.wtb", skipped=[2])
         self.fix(1, f"new.wtb: theoretical scores changed 1 of {len(self.exact)}, not compared 2")
         self.records[5] = record(self.games_of_file[5], self.exact[5])
-        self.assertEqual(self.content("new.wtb"), wthor(self.records, empties=5))
+        self.assertEqual(Path("new.wtb").read_bytes(), wthor(self.records, empties=5))
 
     def test_no_file_is_written_over(self):
         """Neither the one that is read, by any of its names, nor another."""
@@ -650,16 +634,15 @@ class Fix(Case):
         os.link("it.wtb", "twin.wtb")
         os.symlink("nowhere", "broken.wtb")
         os.mkdir("folder.wtb")
-        self.write("other.wtb", "other")
+        write("other.wtb", "other")
         for name in ("it.wtb", "./it.wtb", "link.wtb", "twin.wtb", "broken.wtb", "folder.wtb", "other.wtb", "list", "report"):
             self.fix(3, f"{name} already exists and would be overwritten", place=name)
-        self.assertEqual(self.content("other.wtb"), b"other")
+        self.assertEqual(Path("other.wtb").read_bytes(), b"other")
         self.assertEqual(os.readlink("broken.wtb"), "nowhere")
 
     def test_a_full_disk(self):
         for size in (0, 1, 16, len(self.whole) - 1):
-            self.fix(3, "cannot write new.wtb: File too large",
-                     preexec_fn=lambda: resource.setrlimit(resource.RLIMIT_FSIZE, (size, size)))
+            self.fix(3, "cannot write new.wtb: File too large", preexec_fn=limited("RLIMIT_FSIZE", size))
 
     def test_a_place_that_is_not_there(self):
         self.fix(3, "cannot write none/new.wtb: No such file or directory", place="none/new.wtb")
@@ -673,29 +656,24 @@ class Fix(Case):
 
         with unittest.mock.patch("os.link", side_effect=PermissionError):
             write_new("new.wtb", [b"new", b"file"])
-        self.assertEqual(self.content("new.wtb"), b"newfile")
+        self.assertEqual(Path("new.wtb").read_bytes(), b"newfile")
         with self.assertRaises(FileExistsError):
             write_new("new.wtb", [b"other"])
-        self.assertEqual(self.content("new.wtb"), b"newfile")
+        self.assertEqual(Path("new.wtb").read_bytes(), b"newfile")
         self.assertEqual(sorted(os.listdir()), ["it.wtb", "list", "new.wtb", "report"])
 
     def test_a_file_that_is_not_that_of_the_list(self):
         why = "it.wtb is not the WTHOR file of the list: "
         another = record(self.games_of_file[0], self.records[3][7])
-        for records, told in (
-            (self.records[:3] + [another] + self.records[4:], why + "its game 4 has another position or theoretical score"),
-            (self.records[:3] + [record([], self.records[3][7])] + self.records[4:],
-             why + "its game 4 has another position or theoretical score"),
-            (self.records[:3] + [record(self.games_of_file[3], self.exact[3] + 1)] + self.records[4:],
-             why + "its game 4 has another position or theoretical score"),
-            (self.records[:3], why + "it has no game 4"),
+        fourth = another, record([], self.records[3][7]), record(self.games_of_file[3], self.exact[3] + 1)
+        for self.whole, told in (
+            *((wthor(self.records[:3] + [it] + self.records[4:], empties=5),
+               "its game 4 has another position or theoretical score") for it in fourth),
+            (wthor(self.records[:3], empties=5), "it has no game 4"),
+            (b"text", "it ends within its header of 16 bytes"),
         ):
-            self.whole = wthor(records, empties=5)
-            self.write("it.wtb", self.whole)
-            self.fix(3, told)
-        self.whole = b"text"
-        self.write("it.wtb", self.whole)
-        self.fix(3, why + "it ends within its header of 16 bytes")
+            write("it.wtb", self.whole)
+            self.fix(3, why + told)
         os.remove("it.wtb")
         self.fix(3, "cannot read it.wtb, which the list names: No such file or directory")
         os.mkfifo("it.wtb")
@@ -703,35 +681,32 @@ class Fix(Case):
                          "ffosolve-games: it.wtb, which the list names, is not a regular file\n")
 
     def test_a_list_that_names_no_one_file(self):
-        self.write("other.wtb", self.whole)
+        write("other.wtb", self.whole)
         self.write_list("it.wtb", "other.wtb")
         self.fix(3, "--fix takes a list of one WTHOR file; this one has games of 2")
         self.write_list("it.wtb", skipped=range(1, len(self.exact) + 1))
         self.fix(3, "no theoretical score is compared, so --fix has none to write")
-        self.write("list", run(PROGRAM, "-", input=self.whole).stdout)
+        write("list", run(PROGRAM, "-", input=self.whole).stdout)
         self.write_list("it.wtb")
-        self.write("list", self.content("list").replace(b"it.wtb", b"standard input"))
+        write("list", Path("list").read_bytes().replace(b"it.wtb", b"standard input"))
         self.fix(3, "cannot read standard input, which the list names: No such file or directory")
 
     def test_two_at_once(self):
         """One of them writes the file, whole, and the others are told that it is there."""
-        words = [sys.executable, PROGRAM, "compare", "list", "report", "--fix", "new.wtb"]
-        runs = [subprocess.Popen(words, stdout=subprocess.PIPE, stderr=subprocess.PIPE) for _ in range(6)]
+        runs = [self.start(*self.FIX) for _ in range(6)]
         told = sorted(it.communicate(timeout=SECONDS)[1].decode() for it in runs)
         lost = "ffosolve-games: new.wtb already exists and would be overwritten\n"
         self.assertEqual(told, sorted([f"ffosolve-games: {self.told}\n"] + 5 * [lost]))
         self.assertEqual(sorted(it.returncode for it in runs), [1] + 5 * [3])
-        self.assertEqual(self.content("new.wtb"), self.wanted)
+        self.assertEqual(Path("new.wtb").read_bytes(), self.wanted)
         self.assertEqual(sorted(os.listdir()), ["it.wtb", "list", "new.wtb", "report"])
 
     def test_a_run_that_is_ended_in_the_middle(self):
         """It leaves no new file under the name; by Ctrl-C nothing at all. The same command then writes it."""
         rest = bytes(68 * 2_000_000)
-        self.write("it.wtb", wthor(self.records, empties=5, count=len(self.records) + 2_000_000) + rest)
+        write("it.wtb", wthor(self.records, empties=5, count=len(self.records) + 2_000_000) + rest)
         for number in (signal.SIGINT, signal.SIGKILL):
-            words = [sys.executable, PROGRAM, "compare", "list", "report", "--fix", "new.wtb"]
-            child = subprocess.Popen(words, stdout=subprocess.PIPE, stderr=subprocess.PIPE)
-            self.addCleanup(child.kill)
+            child = self.start(*self.FIX)
             wait_until(lambda: list(self.folder.glob("new.wtb.*.new")))
             child.send_signal(number)
             child.communicate(timeout=SECONDS)
@@ -740,7 +715,7 @@ class Fix(Case):
         self.assertEqual(self.games("compare", "list", "report", "--fix", "new.wtb", status=1)[1],
                          f"ffosolve-games: new.wtb: theoretical scores changed 2 of {len(self.records) + 2_000_000}, "
                          "not compared 2000000\n")
-        self.assertEqual(self.content("new.wtb")[16:][:68 * len(self.records)], self.wanted[16:-4])
+        self.assertEqual(Path("new.wtb").read_bytes()[16:][:68 * len(self.records)], self.wanted[16:-4])
         self.assertEqual(os.stat("new.wtb").st_size, os.stat("it.wtb").st_size)
 
 
@@ -759,9 +734,8 @@ class Recipe(Case):
         for place, commands, count in (("guide", guide, 4), ("help", of_help, 3)):
             self.assertEqual(len(commands.splitlines()), count)
             name, new = re.search(r"\S+\.wtb", commands)[0], commands.split()[-1]
-            os.mkdir(place)
+            write(f"{place}/{name}", wthor([record(*both) for both in zip(games, published)], empties=6))
             os.symlink(ROOT / "bin", f"{place}/bin")
-            self.write(f"{place}/{name}", wthor([record(*both) for both in zip(games, published)], empties=6))
             ran = run("sh", "-c", commands, timeout=300, cwd=place, env={**os.environ, "PATH": f"{ROOT}/bin:{os.environ['PATH']}"})
             rows = "".join(f"{name}, game {at + 1}: published {published[at]}, exact {exact[at]}, difference {less}\n"
                            for at, less in ((4, "-2"), (13, "+7")))

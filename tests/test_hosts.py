@@ -15,7 +15,7 @@ from pathlib import Path
 
 from tests import support
 from tests.hosts import Room, child_of
-from tests.support import ROOT, SECONDS, built, change_many, lay_many, need, run
+from tests.support import SECONDS, built, change_many, lay_many, module_folder, need, positions, run
 
 SIDE_BY_SIDE = 6  # tests, each on machines of its own: most of them wait
 # Stands in the program's place on the machines, in each of which files of the home folder say what it does.
@@ -47,10 +47,7 @@ def setUpModule():
         raise unittest.SkipTest("machines are made by root alone")
     for tool, package in (("parallel", "parallel"), ("ip", "iproute2"), ("sshd", "openssh-server"), ("nsenter", "util-linux")):
         need(tool, package)
-    folder = tempfile.TemporaryDirectory(prefix="ffosolve-hosts-", dir="/var/tmp")  # which the machines see
-    unittest.addModuleCleanup(folder.cleanup)
-    BASE = Path(folder.name)
-    BASE.chmod(0o755)
+    BASE = module_folder("/var/tmp")  # which the machines see
     for name in ("plain", "slow", "hasty"):
         program = lay_many(BASE / name).with_name("ffosolve")
         shutil.copy(built(), program)
@@ -58,8 +55,8 @@ def setUpModule():
             program.write_text(PROGRAM.replace("@real@", str(BASE / "plain/bin/ffosolve")))
     for module, old, new in (("watch", "LOST_SECONDS = 60", "LOST_SECONDS = 3"), ("folder", "HOST_SECONDS = 30", "HOST_SECONDS = 10")):
         change_many(BASE / "hasty/bin/ffosolve-many", module, old, new)
-    LIST = run(ROOT / "bench/positions", 60, 1, 5).stdout.decode()
-    (BASE / "list.obf").write_text(LIST)
+    LIST = positions(60, 1, 5)
+    support.write(BASE / "list.obf", LIST)
     ONE = run(BASE / "plain/bin/ffosolve", "--book-out", BASE / "one.book", BASE / "list.obf").stdout.decode()
     BOOK = (BASE / "one.book").read_bytes()
 
@@ -118,11 +115,8 @@ class Case(unittest.TestCase):
         self.h1, self.h2, self.h3 = self.room.hosts.values()
         self.write("list.obf", LIST)
 
-    def write(self, name, text, home=None, mode=0o644):
-        path = (home or self.room.home) / name
-        path.write_text(text)
-        path.chmod(mode)
-        self.room.give(path)
+    def write(self, name, text, home=None):
+        self.room.give(support.write((home or self.room.home) / name, text))
 
     def slow(self, seconds, *hosts):
         """Has parts take so long on machines, so that all is not solved before the others were asked."""
@@ -230,9 +224,9 @@ class Gone(Case):
         wait_until(lambda: list(self.h2.processes().values()).count("sleep 50 ") == 2)
         self.h2.lose_power()
         wait_until(lambda: self.is_told("h2 is lost"))  # TCP alone would take a quarter of an hour
-        self.whole(ran)
-        self.assertTrue(self.is_told("h2 is lost: "), self.told())
-        self.assertRegex("\n".join(self.told()), "h2 is lost: Timeout, server .* not responding.; its parts go to others")
+        told = self.whole(ran)
+        self.assertTrue(self.is_told("h2 is lost: "), told)
+        self.assertRegex("\n".join(told), "h2 is lost: Timeout, server .* not responding.; its parts go to others")
 
     def test_machine_that_is_up_again_at_once(self):
         self.LINES = 2
@@ -319,7 +313,7 @@ class Connections(Case):
             for line in ("serveraliveinterval 2", "connecttimeout 20", "serveralivecountmax 4", "batchmode yes"):
                 self.assertIn(f"\n{line}\n", told)
         self.again()
-        self.write("mine", MINE, mode=0o755)
+        self.write("mine", MINE)
         self.solved(hosts="3/h2\n", PARALLEL_SSH="/home/me/mine")
         self.assertGreaterEqual(self.connections(self.h2), 13)
 
@@ -419,7 +413,7 @@ class Tried(Case):
     def test_terminal_that_ssh_forces(self):
         self.configured("RequestTTY force")
         self.assertEqual(self.solved(hosts="1/ssh://me@h1:22\n1/ssh -t h2\n"), ["on ssh://me@h1:22, h2"])
-        self.write("mine", MINE, mode=0o755)
+        self.write("mine", MINE)
         self.again()
         self.assertEqual(self.refused(hosts="h3\n", PARALLEL_SSH="/home/me/mine"),
                          ["h3 is left out: ssh forces a terminal on what runs there", "no machine can work"])
@@ -542,7 +536,3 @@ class Swept(Case):
         self.h3.boot()
         self.assertEqual(self.sweep(), (0, []))
         self.nothing_left(self.h2, self.h3)
-
-
-if __name__ == "__main__":
-    unittest.main()

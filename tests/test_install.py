@@ -1,22 +1,16 @@
 """make install and make uninstall, from a copy of the checkout and of what it has built, and the texts that they lay."""
 import ctypes
-import functools
 import os
 import re
 import shutil
 import stat
-import tempfile
-import unittest
 from pathlib import Path
 
-from tests.checkouts import FIRST, copied_checkout, make_all, names_of_files, path_without
-from tests.support import ROOT, InFolder, lack, need, run
+from tests.checkouts import FIRST, LEVELS, NUMBER, VERSION, copied_checkout, make_all, names_of_files, path_without
+from tests.support import NOBODY, ROOT, InFolder, is_v3, lack, module_folder, need, run, write
 
 PREFIX = "/opt/a prefix"
-NOBODY = 65534
 COMMANDS = ["ffosolve", "ffoscores", "ffosolve-many", "ffosolve-games"]
-VERSION = (ROOT / "VERSION").read_text().strip()
-LEVELS = ["x86-64-v2", "x86-64-v3"]
 
 
 def setUpModule():
@@ -24,10 +18,7 @@ def setUpModule():
     for tool in ("make", "git"):
         need(tool, tool)
     make_all("levels")
-    folder = tempfile.TemporaryDirectory(prefix="ffosolve-install-")
-    unittest.addModuleCleanup(folder.cleanup)
-    Path(folder.name).chmod(0o755)
-    CHECKOUT = copied_checkout(Path(folder.name, "a checkout"))
+    CHECKOUT = copied_checkout(module_folder() / "a checkout")
 
 
 class Case(InFolder):
@@ -105,17 +96,16 @@ class Install(Case):
         """A second install takes away what the new version does not have; uninstall leaves what is another's."""
         self.install()
         files = self.files()
-        for name in ("share/doc/ffosolve/old", "share/ffosolve/old", "lib/libffosolve.so.1.0.0"):
-            (self.root / name).touch()
-        for name in ("bin/another", "share/man/man1/another.1"):
+        others = {"bin/another", "share/man/man1/another.1"}
+        for name in ("share/doc/ffosolve/old", "share/ffosolve/old", "lib/libffosolve.so.1.0.0", *others):
             (self.root / name).touch()
         self.install()
-        self.assertEqual(self.files(), files | {"bin/another", "share/man/man1/another.1"})
+        self.assertEqual(self.files(), files | others)
         self.assertEqual(self.make("uninstall").stdout, f"uninstalled from {self.root}\n")
-        self.assertEqual(self.files(), {"bin/another", "share/man/man1/another.1"})
+        self.assertEqual(self.files(), others)
         self.assertEqual(sorted(path.name for path in self.root.rglob("*") if path.is_dir()), ["bin", "man", "man1", "share"])
-        (self.root / "bin/another").unlink()
-        (self.root / "share/man/man1/another.1").unlink()
+        for name in others:
+            (self.root / name).unlink()
         self.make("uninstall")
         self.assertEqual(os.listdir(self.stage / "opt"), [])
 
@@ -237,7 +227,7 @@ class Installed(Case):
             self.assertRegex(run("readelf", "-n", self.root / place / "libffosolve.so", text=True).stdout, rf"ISA needed: .*{level}\n")
         say = "import ctypes, re; ctypes.CDLL('libffosolve.so.1'); print(re.findall(r'/lib/(.*/)?libffosolve', open('/proc/self/maps').read())[0])"
         places = {**self.places, "LD_LIBRARY_PATH": str(self.root / "lib")}
-        best = "glibc-hwcaps/x86-64-v3/" if b"x86-64-v3 (supported" in run("/lib64/ld-linux-x86-64.so.2", "--help").stdout else ""
+        best = "glibc-hwcaps/x86-64-v3/" if is_v3() else ""
         self.assertEqual(run("/usr/bin/python3", "-c", say, env=places, text=True).stdout, f"{best}\n")
         told = run("qemu-x86_64", "-cpu", "Nehalem", "/lib64/ld-linux-x86-64.so.2", "--preload", "libffosolve.so.1", "--list",
                    "/usr/bin/true", env=places, text=True)
@@ -256,18 +246,17 @@ class Installed(Case):
         """That of the file VERSION, in the programs, their pages, the library and all that names it."""
         self.install()
         self.assertRegex(VERSION, r"\A\d+\.\d+\.\d+\Z")
-        number = functools.reduce(lambda number, part: 100 * number + int(part), VERSION.split("."), 0)
-        self.assertEqual(ctypes.CDLL(self.root / "lib/libffosolve.so").ffosolve_version(), number)
+        self.assertEqual(ctypes.CDLL(self.root / "lib/libffosolve.so").ffosolve_version(), NUMBER)
         for name in COMMANDS:
             ran = run(self.root / "bin" / name, "--version", env=self.places, text=True)
             self.assertEqual((ran.returncode, ran.stdout), (0, f"{name} {VERSION}\n"), ran)
         for place, text in (
             *((self.root / f"share/man/man1/{name}.1", f'"ffosolve {VERSION}"') for name in COMMANDS),
-            (self.root / "include/ffosolve.h", f'#define FFOSOLVE_VERSION_TEXT "{VERSION}"\n#define FFOSOLVE_VERSION {number}\n'),
+            (self.root / "include/ffosolve.h", f'#define FFOSOLVE_VERSION_TEXT "{VERSION}"\n#define FFOSOLVE_VERSION {NUMBER}\n'),
             (self.root / "lib/pkgconfig/ffosolve.pc", f"Version: {VERSION}\n"),
             (self.root / "lib/cmake/ffosolve/ffosolve-config-version.cmake", f'set(PACKAGE_VERSION "{VERSION}")\n'),
             (ROOT / "rust/Cargo.toml", f'\nversion = "{VERSION}"\n'),
-            (ROOT / "crates/ffosolve_c/src/calls.rt", f"\nconst VERSION: u32 = {number:_};\n"),
+            (ROOT / "crates/ffosolve_c/src/calls.rt", f"\nconst VERSION: u32 = {NUMBER:_};\n"),
             (ROOT / "CHANGELOG.md", f"\n## [{VERSION}] - "),
         ):
             self.assertIn(text, place.read_text(), place)
@@ -300,9 +289,7 @@ class Texts(Case):
         self.root = self.folder / "a prefix"
         self.install("DESTDIR=", prefix=self.root)
         shutil.copytree(ROOT / "examples", "examples")
-        Path("examples/bin").mkdir()
-        Path("examples/bin/ffosolve").write_text("#!/bin/sh\n: >begun\n")
-        Path("examples/bin/ffosolve").chmod(0o755)
+        write("examples/bin/ffosolve", "#!/bin/sh\n: >begun\n")
 
     def tearDown(self):
         self.assertFalse(Path("examples/begun").exists())

@@ -9,18 +9,17 @@ import itertools
 import os
 import random
 import re
-import resource
 import shlex
 import shutil
 import subprocess
 import sys
-import tempfile
 import unittest
 from concurrent.futures import ProcessPoolExecutor, ThreadPoolExecutor
 from pathlib import Path
 
 from bench import player
-from tests.support import ROOT, built, lack, need, run, stored
+from tests.checkouts import NUMBER, VERSION
+from tests.support import ROOT, built, lack, limited, module_folder, need, run, stored, write
 from tests.test_python import ffosolve, random_positions
 
 TESTS = ROOT / "tests"
@@ -101,16 +100,11 @@ fn main() {
 
 def setUpModule():
     global PREFIX
-    folder = tempfile.TemporaryDirectory(prefix="ffosolve-library-")
-    unittest.addModuleCleanup(folder.cleanup)
-    PREFIX = Prefix(Path(os.environ.get("TEST_PREFIX") or install(folder.name)).resolve(), Path(folder.name))
-
-
-def install(work):
-    """A prefix by `make install`, which builds what is not built."""
-    folder = Path(work, "a prefix")
-    run("make", "--silent", "-C", ROOT, "install", f"PREFIX={folder}", "DESTDIR=", timeout=None, check=True)
-    return folder
+    work = module_folder()
+    folder = Path(os.environ.get("TEST_PREFIX", work / "a prefix")).resolve()
+    if "TEST_PREFIX" not in os.environ:
+        run("make", "--silent", "-C", ROOT, "install", f"PREFIX={folder}", "DESTDIR=", timeout=None, check=True)
+    PREFIX = Prefix(folder, work)
 
 
 def need_tool(name):
@@ -131,7 +125,6 @@ class Prefix:
         self.archive, self.shared = self.libraries / "libffosolve.a", self.libraries / "libffosolve.so"
         self.shipped = folder / "share/doc/ffosolve"
         self.text = self.header.read_text()
-        self.version = (ROOT / "VERSION").read_text().strip()
         self.calls = set(re.findall(r"^\w+ (ffosolve_\w+)\(", self.text, re.MULTILINE))
         self.environment = {
             **{name: value for name, value in os.environ.items() if not name.startswith("FFOSOLVE_")},
@@ -163,15 +156,7 @@ class Prefix:
 
     def write(self, name, text):
         """Writes a file in the folder of the clients."""
-        path = self.work / name
-        path.parent.mkdir(parents=True, exist_ok=True)
-        path.write_text(text)
-        return path
-
-    @functools.cached_property
-    def number(self):
-        first, second, third = map(int, self.version.split("."))
-        return 10000 * first + 100 * second + third
+        return write(self.work / name, text)
 
     @functools.cached_property
     def site(self):
@@ -219,10 +204,10 @@ class Library(unittest.TestCase):
     def test_shared_object(self):
         """Its links, soname and symbol version, and that it needs the C library alone."""
         need_tool("readelf")
-        major = PREFIX.version.split(".")[0]
+        major = VERSION.split(".")[0]
         for end in ("", f".{major}"):
             link = PREFIX.libraries / f"libffosolve.so{end}"
-            self.assertEqual(link.resolve().name, f"libffosolve.so.{PREFIX.version}")
+            self.assertEqual(link.resolve().name, f"libffosolve.so.{VERSION}")
         told = PREFIX.make("readelf", "-d", "-l", "-V", "-W", PREFIX.shared).stdout
         self.assertEqual(re.findall(r"\(NEEDED\).*\[(.*)\]", told), ["libc.so.6"])
         self.assertEqual(re.findall(r"GNU_STACK.*\b(RWE?)\b", told), ["RW"])
@@ -285,7 +270,7 @@ def called(calls, compiler=C, stack="", **how):
 
 def named(text):
     """A text with what its names stand for."""
-    for name, value in {**NAMES, "VERSION": PREFIX.version, "NUMBER": str(PREFIX.number)}.items():
+    for name, value in {**NAMES, "VERSION": VERSION, "NUMBER": str(NUMBER)}.items():
         text = text.replace(f"@{name}@", value)
     return text
 
@@ -341,7 +326,7 @@ class Calls(unittest.TestCase):
     def test_without_memory(self):
         calls = ("solve @CORNERS@ 0 4194304", "confirm @CORNERS@ 0 4194304 62 0 0x80", "move_scores @CORNERS@ 0 4194304",
                  "solve_all 0 4194304 1 @CORNERS@", "move_scores_all 0 4194304 1 @CORNERS@", "long_line", "solve @CORNERS@ 0 0")
-        told = called(map(named, calls), preexec_fn=lambda: resource.setrlimit(resource.RLIMIT_AS, (60_000_000, 60_000_000)))
+        told = called(map(named, calls), preexec_fn=limited("RLIMIT_AS", 60_000_000))
         self.assertEqual(told, ["7"] * 6 + ["0 62/0/80"])
 
     def test_stack_is_as_the_header_says(self):
@@ -377,7 +362,7 @@ class Clients(unittest.TestCase):
 
     def test_example_by_pkg_config(self):
         need_tool("pkg-config")
-        self.assertEqual(PREFIX.make("pkg-config", "--modversion", "ffosolve").stdout.strip(), PREFIX.version)
+        self.assertEqual(PREFIX.make("pkg-config", "--modversion", "ffosolve").stdout.strip(), VERSION)
         flags = shlex.split(PREFIX.make("pkg-config", "--cflags", "--libs", "ffosolve").stdout)
         source = PREFIX.shipped / "examples/c/answers.c"
         for compiler, count, words in ((C, LARGE, ()), (C, SMALL, ("-static",)), (CXX, SMALL, ())):
@@ -388,7 +373,7 @@ class Clients(unittest.TestCase):
     def test_example_by_cmake(self):
         """As the page of the library shows it, shared and in C++; and a version that is newer is not found."""
         need_tool("cmake")
-        (first, second, _), (block, _) = PREFIX.version.split("."), shown("cmake")
+        (first, second, _), (block, _) = VERSION.split("."), shown("cmake")
         for name in ("answers.c", "answers.cpp"):
             PREFIX.write(f"cmake/{name}", (PREFIX.shipped / "examples/c/answers.c").read_text())
         configure = ("cmake", "-S", "cmake", "-B", "cmake-built", f"-DCMAKE_PREFIX_PATH={PREFIX.folder}")
@@ -401,7 +386,7 @@ class Clients(unittest.TestCase):
         PREFIX.write("cmake/CMakeLists.txt", CMAKE.format(block.replace(" 1.0 ", f" {first}.{int(second) + 1} ")))
         told = PREFIX.run(*configure)
         self.assertNotEqual(told.returncode, 0)
-        self.assertIn(PREFIX.version, told.stderr)
+        self.assertIn(VERSION, told.stderr)
 
     def test_example_in_python(self):
         script = [PREFIX.site and sys.executable, PREFIX.shipped / "examples/python/answers.py"]
@@ -424,7 +409,7 @@ class PythonPackage(unittest.TestCase):
         self.assertRegex(told.stderr, r"Ran [1-9]\d* tests")
 
     def test_the_program_that_pip_installs(self):
-        for words, wanted in ((["--version"], f"ffosolve-games {PREFIX.version}\n"), (["--empties", "59"], r"\S{64} O; % standard input, game 1\n")):
+        for words, wanted in ((["--version"], f"ffosolve-games {VERSION}\n"), (["--empties", "59"], r"\S{64} O; % standard input, game 1\n")):
             self.assertRegex(PREFIX.make(self.site / "bin/ffosolve-games", *words, text="f5").stdout, rf"\A{wanted}\Z")
         licence, = self.site.glob("ffosolve-*.dist-info/LICENSE")
         self.assertEqual(licence.read_bytes(), stored("LICENSE"))
@@ -456,8 +441,8 @@ class PythonPackage(unittest.TestCase):
         files, wanted = (sorted(os.listdir(place / "ffosolve")) for place in (PREFIX.work / "of-archive", self.site))
         self.assertEqual(files, wanted)
         self.assertEqual((PREFIX.work / "editable/ffosolve.pth").read_text(), f"{PREFIX.work / 'python/src'}\n")
-        metadata = PREFIX.work / f"of-archive/ffosolve-{PREFIX.version}.dist-info/METADATA"
-        self.assertIn(f"\nVersion: {PREFIX.version}\n", metadata.read_text())
+        metadata = PREFIX.work / f"of-archive/ffosolve-{VERSION}.dist-info/METADATA"
+        self.assertIn(f"\nVersion: {VERSION}\n", metadata.read_text())
 
 
 class RustCrate(unittest.TestCase):

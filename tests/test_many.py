@@ -13,14 +13,13 @@ import signal
 import stat
 import subprocess
 import sys
-import tempfile
 import time
 import unittest
 from pathlib import Path
 from unittest import mock
 
-from tests.support import (ROOT, SECONDS, InFolder, as_at_a_login, built, change_many, lay_many, link_to, need,
-                           processes_with, run, stored, wait_until)
+from tests.support import (ROOT, SECONDS, InFolder, as_at_a_login, built, change_many, lay_many, limited, link_to,
+                           module_folder, need, positions, processes_with, run, stored, wait_until, write)
 
 sys.path.insert(0, str(ROOT / "python/src"))
 import ffosolve._many.program  # noqa: E402
@@ -63,30 +62,17 @@ def install(name, script=None):
     for program, itself in PROGRAMS.items():
         place = shutil.copy(itself, many.with_name(f"real-{program}" if script else program))
         if script:
-            write(many.with_name(program), script.replace("@real@", str(place)), 0o755)
+            write(many.with_name(program), script.replace("@real@", str(place)))
     return many
-
-
-def write(path, text, mode=0o644):
-    path = Path(path)
-    path.write_bytes(text if isinstance(text, bytes) else text.encode())
-    path.chmod(mode)
-
-
-def positions(*words):
-    """Lines of generated positions."""
-    return run(ROOT / "bench/positions", *words).stdout
 
 
 def setUpModule():
     global BASE, PROGRAMS, MANY, ACTS, SMALL
     need("parallel", "parallel")
     PROGRAMS = {name: built(name) for name in ("ffosolve", "ffoscores")}
-    folder = tempfile.TemporaryDirectory(prefix="ffosolve-many-tests-")
-    unittest.addModuleCleanup(folder.cleanup)
-    BASE = Path(folder.name)
-    for name in ("tmp", "python", "home/.parallel"):
-        (BASE / name).mkdir(parents=True)
+    BASE = module_folder()
+    for name in ("tmp", "python"):
+        (BASE / name).mkdir()
     os.symlink(sys.executable, BASE / "python/python3")  # at once, where python3 on the path is a wrapper
     write(BASE / "home/.parallel/config", "--dry-run\n")  # what a user has for parallel changes nothing
     places = {"TMPDIR": f"{BASE}/tmp", "PATH": f"{BASE}/python:{os.environ['PATH']}", "HOME": f"{BASE}/home",
@@ -288,26 +274,22 @@ class Results(Case):
         self.same("--lines=30", "a folder ;'$y", "a  list;$x'.obf", "--book-out", "a book;'", by=Path("link").absolute())
         self.same_book("a book;'")
 
-    def test_options_stand_in_any_place(self):
-        self.one = self.solve("--scoring", "sign", "--max-empties", "3", "list.obf")
-        self.same("--scoring=sign", "work", "--lines=9", "list.obf", "--max-empties", 3, "--book-out", "joined.book",
-                  "--jobs=2", "--table=100", "--workers", 1)
-        self.same_book()
-        os.rename("list.obf", "-x")
-        self.same("--scoring=sign", "--max-empties=3", "--", "work2", "-x")
-
-    def test_options_come_to_the_program_of_each_part(self):
+    def test_options_stand_in_any_place_and_come_to_the_program_of_each_part(self):
         """Each has one thread if no more are asked for."""
         usual, others = "--max-empties=20 --scoring=winner --workers=0", "--max-empties=7 --scoring=discs --workers=1 --table=9"
         for program, words, given in (("ffosolve", "", usual), ("ffoscores", "--complete", f"{usual} --complete"),
                                       ("ffosolve", others, others)):
             text = run(PROGRAMS[program], *words.split(), "list.obf").stdout
             mode = ["--scores"] if program == "ffoscores" else []
-            self.same(*mode, *words.split(), "--lines=20", f"work {words}", "list.obf", text=text, by=ACTS,
+            self.same(*mode, f"work {words}", "--lines=20", "list.obf", *words.split(), "--jobs", 2, text=text, by=ACTS,
                       places={"WORDS": f"{self.folder}/words"})
             told = [line.rpartition(" ")[0] for line in Path("words").read_text().splitlines()]
             self.assertEqual(told, [given] * 4)  # one of them with an empty list
             Path("words").unlink()
+        os.rename("list.obf", "-x")
+        self.one = self.solve("--scoring=sign", "--", "-x")
+        self.same("--scoring=sign", "--book-out", "joined.book", "--", "work", "-x")
+        self.same_book()
 
     def test_lines_of_each_kind_and_none(self):
         """Also lines that leave out a best move, with --complete."""
@@ -320,15 +302,14 @@ class Results(Case):
             self.same_book()
 
     def test_scores_and_status_are_those_of_one_run(self):
-        kinds = stored("examples/kinds.obf") + SMALL
-        for number, (words, text, status) in enumerate((((), SMALL + b"% remark\r\n\n" + SMALL.rstrip(b"\n"), 0),
-                                                        (("--complete",), kinds, 1))):
+        remarked, kinds = SMALL + b"% remark\r\n\n" + SMALL.rstrip(b"\n"), stored("examples/kinds.obf") + SMALL
+        for status, parts, text, *words in (0, 3, remarked), (1, 2, kinds, "--complete"):
             write("list.obf", text)
             one = run(PROGRAMS["ffoscores"], *words, "list.obf")
             self.assertEqual(one.returncode, status)
-            for before in (0, -(-len(text.splitlines()) // 50)):
+            for before in (0, parts):
                 self.ends(status, one.stdout, f", {before} of them solved before", "--scores", *words, "--lines=50",
-                          f"work{number}", "list.obf")
+                          f"work{status}", "list.obf")
 
     def test_cut_parts_are_solved_by_their_script(self):
         """As another scheduler does, and joined without parallel."""
@@ -383,17 +364,8 @@ class Results(Case):
         self.assertEqual(self.same("--quiet", "--lines=6", "list.obf", by=by, places={"PAUSE": "0.3"}), "")
 
     def test_output_that_fails_is_told(self):
-        """On a full disk, or closed. Where nobody reads it any more, it ends the program as others."""
         for words in (("list.obf",), ("--help",), ("--merge-books", "one.book")):
-            for output, why in ((">/dev/full", "No space left on device"), (">&-", "it is closed")):
-                ran = run("sh", "-c", f'exec "$0" --quiet "$@" {output}', MANY, *words)
-                told = f"ffosolve-many: cannot write standard output: {why}\n"
-                self.assertEqual((ran.returncode, ran.stderr.decode()), (3, told), words)
-            reading, writing = os.pipe()
-            os.close(reading)
-            ran = run(MANY, "--quiet", *words, capture_output=False, stdout=writing, stderr=subprocess.PIPE)
-            os.close(writing)
-            self.assertEqual((ran.returncode, ran.stderr), (-signal.SIGPIPE, b""), words)
+            self.cannot_write(MANY, "--quiet", *words)
         ran = run("sh", "-c", 'ulimit -f 1; PYTHONUNBUFFERED=1 exec "$0" --quiet list.obf >short', MANY)
         self.assertEqual((ran.returncode, ran.stderr), (3, b"ffosolve-many: cannot write standard output: File too large\n"))
         self.same("list.obf", told=", 1 of them solved before")
@@ -432,7 +404,6 @@ class Resuming(Case):
     def test_scores_are_whole_with_a_line_for_each_of_the_part(self):
         part = Part("0000000", 1, 3, "")
         one = Run(self.folder, "run-1", [part], "winner", True, False)
-        Path("run-1/parts").mkdir(parents=True)
         for text, is_whole in ((b"a\nb\nc\n", True), (b"a\nb\n", False), (b"a\nb\nc", False), (b"a\nb\nc\nd\n", False)):
             write("run-1/parts/0000000.scores", text)
             self.assertEqual(one.is_whole(part), is_whole)
@@ -587,8 +558,8 @@ class Files(Case):
         self.same("list.obf", text=self.solve("list.obf"))
 
     def test_pipe_that_finds_no_room_is_told(self):
-        limits = {"preexec_fn": lambda: resource.setrlimit(resource.RLIMIT_FSIZE, (1000, 1000)), "input": SMALL}
-        self.refused(3, f"cannot copy /dev/stdin to {BASE}/tmp: File too large", "work", "-", **limits)
+        self.refused(3, f"cannot copy /dev/stdin to {BASE}/tmp: File too large", "work", "-", input=SMALL,
+                     preexec_fn=limited("RLIMIT_FSIZE", 1000))
 
     def test_part_has_at_most_the_bytes_of_a_file(self):
         half, most = b"%" * (many.files.MOST_BYTES // 2 - 1) + b"\n", "has more than 1048576 bytes: "
@@ -607,7 +578,6 @@ class Files(Case):
         self.ends(3, b"", "list.obf changes while it is read", "--lines=6", "work", "list.obf", by=by)
 
     def test_folder_with_other_files_is_refused_and_untouched(self):
-        Path("mine/run-1").mkdir(parents=True)
         for name in ("log", "run-1/parts", "lock", "copy", "a.new"):
             write(Path("mine", name), "mine")
         told = "name a new or an empty folder"
@@ -617,7 +587,6 @@ class Files(Case):
             write("mine/asked.json", asked)
             self.refused(2, told, "mine", "list.obf")
         for names in ("copy", "lock copy", "a.new", "lock a.new", "lock log"):
-            Path(names).mkdir()
             for name in names.split():
                 write(Path(names, name), "")
             self.refused(2, told, names, "list.obf")
@@ -713,7 +682,7 @@ class Words(Case):
         os.symlink(sys.executable, "tools/python3")
         how = {"places": {"PATH": str(self.folder / "tools")}}
         self.refused(4, "parallel is not on the path: apt-get install parallel", "list.obf", **how)
-        write("tools/parallel", "#!/bin/sh\necho moreutils\n", 0o755)
+        write("tools/parallel", "#!/bin/sh\necho moreutils\n")
         for tool in ("sha256sum", "flock"):
             os.symlink(shutil.which(tool), f"tools/{tool}")
         self.refused(4, "parallel on the path is not GNU parallel", "list.obf", **how)
@@ -733,11 +702,10 @@ class Signals(Case):
 
     def open(self, *program, last="", **how):
         """The command, which goes on meanwhile, in a session of its own; parts from the number `last` on take 45 seconds."""
-        return subprocess.Popen([*program, *self.WORDS], stdin=subprocess.DEVNULL, stdout=subprocess.PIPE,
-                                stderr=subprocess.PIPE, start_new_session=True, preexec_fn=as_at_a_login,
-                                env={**os.environ, "PAUSE": "0.15", "LAST": str(last)}, **how)
+        return self.start(*program, *self.WORDS, start_new_session=True, preexec_fn=as_at_a_login,
+                          env={**os.environ, "PAUSE": "0.15", "LAST": str(last)}, **how)
 
-    def start(self, done):
+    def at_work(self, done):
         """A run of twelve parts, once so many are solved, and two others are at work."""
         ran = self.open(ACTS, last=done)
         wait_until(lambda: self.done() >= done)
@@ -783,7 +751,7 @@ class Signals(Case):
 
     def test_signals_end_all_of_it_and_it_goes_on(self):
         for at, number in enumerate((signal.SIGTERM, signal.SIGINT, signal.SIGHUP, signal.SIGKILL), 1):
-            ran = self.start(2 * at)
+            ran = self.at_work(2 * at)
             ran.send_signal(number)
             if number == signal.SIGKILL:
                 self.assertEqual(self.ended(ran)[0], b"")
@@ -797,8 +765,7 @@ class Signals(Case):
         pairs = [(signal.SIGINT, signal.SIGTERM), (signal.SIGTERM, signal.SIGINT), (signal.SIGHUP, signal.SIGINT)] * 2
         runs = []
         for number in range(len(pairs)):
-            Path(f"{number}").mkdir()
-            shutil.copy("list.obf", f"{number}")
+            write(f"{number}/list.obf", SMALL)
             runs.append(self.open(ACTS, last=0, cwd=f"{number}"))
         self.wait_for_sleepers(2 * len(runs))
         for ran, pair in zip(runs, pairs):
@@ -818,7 +785,7 @@ class Signals(Case):
         self.assertEqual((ran.communicate(timeout=SECONDS), ran.returncode), ((b"", b""), -signal.SIGINT))
 
     def test_killed_parallel_leaves_nothing_at_work(self):
-        ran = self.start(2)
+        ran = self.at_work(2)
         parallel = [number for number, words in self.workers().items() if "/parallel --plain" in words]
         self.assertEqual(len(parallel), 1)
         os.kill(parallel[0], signal.SIGKILL)
@@ -827,7 +794,7 @@ class Signals(Case):
         self.whole_at_last()
 
     def test_lock_is_kept_as_long_as_a_part_is_solved(self):
-        ran = self.start(1)
+        ran = self.at_work(1)
         self.refused(3, "another run works in work", *self.WORDS, by=ACTS)
         self.assertIsNone(ran.poll())
         guards = [int(name) for name in Path(f"/proc/{ran.pid}/task/{ran.pid}/children").read_text().split()
@@ -871,10 +838,10 @@ class Hosts(Case):
 
     def setUp(self):
         super().setUp()
-        for name in ("near", "far", "hanging"):
+        for name in ("near", "far"):
             Path("hosts", name).mkdir(parents=True)
         write("hosts/hanging/hangs", "")
-        write("reach", REACH, 0o755)
+        write("reach", REACH)
 
     def on(self, *hosts, lines=20, **places):
         """The words and places for these machines."""
@@ -890,14 +857,10 @@ class Hosts(Case):
         events = [line.split("\t") for line in Path("work/log").read_text().splitlines()]
         return all_told, [event[2] for event in events if event[1] == "done"]
 
-    def test_parts_are_solved_elsewhere_and_nothing_is_left_there(self):
-        told, solvers = self.same_on("2/near", "dead", "1/me@far", lines=6, told="on near, me@far")
+    def test_all_jobs_of_all_machines_work_at_a_time_and_nothing_is_left_there(self):
+        told, _ = self.same_on("3/near", "dead", "2/me@far", lines=3, told="on near, me@far", by=ACTS, PAUSE="1.5")
         self.assertIn("dead is left out: ssh: connect to host dead port 22: Connection refused\n", told)
-        self.assertEqual(set(solvers), {"near", "me@far"})
         self.assertEqual([path.name for host in ("near", "far") for path in Path("hosts", host).iterdir()], [])
-
-    def test_all_jobs_of_all_machines_work_at_a_time(self):
-        self.same_on("3/near", "2/far", lines=3, by=ACTS, PAUSE="1.5")
         running = most = 0
         for line in Path("work/log").read_text().splitlines():
             running += {"begin": 1, "done": -1}.get(line.split("\t")[1], 0)
@@ -905,7 +868,7 @@ class Hosts(Case):
         self.assertEqual(most, 5)
 
     def test_this_machine_alone_needs_no_ssh(self):
-        write("reach", "#!/bin/sh\ntouch called\nexit 255\n", 0o755)
+        write("reach", "#!/bin/sh\ntouch called\nexit 255\n")
         for line in (":", "2/:"):
             told, _ = self.same_on(line, told="on this machine")
             self.assertEqual(told.count("\n"), 2, told)
@@ -915,10 +878,9 @@ class Hosts(Case):
     def test_machine_of_a_lower_level_has_the_program_for_all(self):
         root = BASE / "checkout"
         by = install("checkout", '#!/bin/sh\nexec "${0%/*}/../out/ffosolve" "$@"\n')
-        (root / "out/x86-64-v2").mkdir(parents=True)
         write(root / "crates.txt", "")
-        shutil.copy(PROGRAMS["ffosolve"], root / "out/x86-64-v2/ffosolve")
-        write(root / "out/ffosolve", f'#!/bin/sh\n[ ! -e "$HOME/old" ] || exit 127\nexec "{MANY.parent}/ffosolve" "$@"\n', 0o755)
+        write(root / "out/ffosolve", f'#!/bin/sh\n[ ! -e "$HOME/old" ] || exit 127\nexec "{MANY.parent}/ffosolve" "$@"\n')
+        write(root / "out/x86-64-v2/ffosolve", PROGRAMS["ffosolve"].read_bytes(), 0o755)
         write("hosts/near/old", "")
         self.assertEqual(self.same_on("near", by=by)[1], ["near"] * 3)
         (root / "out/x86-64-v2/ffosolve").unlink()

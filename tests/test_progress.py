@@ -5,7 +5,7 @@ import select
 import subprocess
 import time
 
-from tests.support import ROOT, SECONDS, InFolder, built, run
+from tests.support import SECONDS, InFolder, built, positions, run, write
 
 LINE = re.compile(rb"ffosolve: solved (\d+) of (\d+) in (\d+) s\r?\n")
 
@@ -13,27 +13,17 @@ LINE = re.compile(rb"ffosolve: solved (\d+) of (\d+) in (\d+) s\r?\n")
 def setUpModule():
     global program, LONG, SHORT
     program = built()
-    LONG, SHORT = positions(500, 18), positions(20, 10)
-
-
-def positions(count, empties):
-    return run(ROOT / "bench/positions", count, empties, empties, 1, check=True).stdout
-
-
-def end(started):
-    started.terminate()
-    started.wait(timeout=SECONDS)
+    LONG, SHORT = positions(500, 18, 18, 1), positions(20, 10, 10, 1)
 
 
 class Told(InFolder):
     def setUp(self):
         super().setUp()
-        self.folder.joinpath("long").write_bytes(LONG)
-        self.folder.joinpath("short").write_bytes(SHORT)
+        for name, text in (("long", LONG), ("short", SHORT)):
+            write(name, text)
 
-    def start(self, errors):
-        started = subprocess.Popen([program, "--progress", "--workers", "1", "long"], stdout=subprocess.DEVNULL, stderr=errors)
-        self.addCleanup(end, started)
+    def begin(self, errors):
+        self.start(program, "--progress", "--workers", "1", "long", stdout=subprocess.DEVNULL, stderr=errors)
 
     def counts(self, more):
         """The first three lines of what comes in pieces, which is nothing else: their counts, totals and seconds."""
@@ -52,14 +42,14 @@ class Told(InFolder):
         mine, its = os.openpty()
         self.addCleanup(os.close, mine)
         try:
-            self.start(its)
+            self.begin(its)
         finally:
             os.close(its)
         self.see_rise(lambda: os.read(mine, 1000) if select.select([mine], [], [], 1)[0] else b"")
 
     def test_log(self):
         with open("log", "wb") as its, open("log", "rb") as mine:
-            self.start(its)
+            self.begin(its)
             self.see_rise(lambda: time.sleep(0.1) or mine.read())
 
     def test_output_is_the_same(self):

@@ -5,12 +5,10 @@ NAME.SCORING.complete with --complete, NAME.SCORING.scores by ffoscores, and NAM
 from the rules, and was printed by no program.
 """
 import os
-import resource
-import signal
 import subprocess
 from pathlib import Path
 
-from tests.support import ROOT, InFolder, built, limit, run, stored
+from tests.support import ROOT, InFolder, built, limit, run, shorter_than, stored
 
 ROWS = ROOT / "tests/rows"
 LIST = stored("tests", "rows", "positions.obf")
@@ -48,12 +46,6 @@ BOOKS = (
 def setUpModule():
     global PROGRAM
     PROGRAM = {name: built(name) for name in PROGRAMS}
-
-
-def shorter_than(size):
-    """Has a write fail that makes a file longer, as on a full disk; for `preexec_fn`."""
-    signal.signal(signal.SIGXFSZ, signal.SIG_IGN)
-    resource.setrlimit(resource.RLIMIT_FSIZE, (size, size))
 
 
 class Rows(InFolder):

@@ -1,10 +1,9 @@
 """What the options that change no report do to a run: they are seen by its memory and its time."""
 import os
-import resource
 import subprocess
 from pathlib import Path
 
-from tests.support import InFolder, built, limit, run, stored
+from tests.support import InFolder, built, limit, limited, run, stored
 
 LARGE = limit("MOST_BYTES") + 1
 KINDS = stored("examples", "kinds.obf")
@@ -12,10 +11,6 @@ HARD = b"-XXXXX----XOOX--XXXXOOOO-OXOOOO-OOXOOX--OOX-OOOOOXXXXXX-X----XXX O\n"  
 ADVISED = b"-XOOOO-X-XOOOOX--OOXOOXX-OOXXOXO-OXOXXO-OOOXOOX-OOXOOO--OX--O--- X\n"  # a right book saves two thirds of its time
 LIMIT = 64 << 20  # bytes of memory: enough for the usual table, and too few for the greatest one
 WANTING = {"ffosolve": (1, b"", b"ffosolve: out of memory\n"), "ffoscores": (3, b"", b"ffoscores: out of memory\n")}
-
-
-def limit_memory():
-    resource.setrlimit(resource.RLIMIT_AS, (LIMIT, LIMIT))
 
 
 def setUpModule():
@@ -41,7 +36,8 @@ class Runs(InFolder):
             usual = run(PROGRAMS[name], "--workers", "0", input=KINDS)
             for words, wanted in (((), usual), (("--table", str(limit("MOST_ENTRIES"))), None)):
                 with self.subTest(name=name, words=words):
-                    ran = run(PROGRAMS[name], "--workers", "0", *words, input=KINDS, preexec_fn=limit_memory)
+                    how = {"input": KINDS, "preexec_fn": limited("RLIMIT_AS", LIMIT)}
+                    ran = run(PROGRAMS[name], "--workers", "0", *words, **how)
                     found = ran.returncode, ran.stdout, ran.stderr
                     self.assertEqual(found, (usual.returncode, usual.stdout, usual.stderr) if wanted else wanting)
 

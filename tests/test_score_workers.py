@@ -2,15 +2,15 @@
 run that ends early leaves nothing."""
 import os
 import random
-import resource
 import signal
 import subprocess
-import sys
 import threading
 import time
 from pathlib import Path
 
-from tests.support import ROOT, SECONDS, InFolder, as_at_a_login, built, processes_with, refuse_threads, run, stored, wait_until
+from tests import support
+from tests.support import (ROOT, SECONDS, InFolder, as_at_a_login, built, limited, processes_with, refuse_threads, run,
+                           stored, wait_until)
 from tests.test_threads import threads_of
 
 WORKERS = ("0", "1", "3", "64")
@@ -26,8 +26,8 @@ def setUpModule():
     PROGRAM = built("ffoscores")
 
 
-def positions(count, least, most):
-    return run(sys.executable, ROOT / "bench/positions", count, least, most, check=True).stdout.splitlines(keepends=True)
+def positions(*words):
+    return support.positions(*words).splitlines(keepends=True)
 
 
 class SameBytes(InFolder):
@@ -66,7 +66,7 @@ class SameBytes(InFolder):
         Path("list.obf").write_bytes(b"".join(positions(40, 7, 13)))
         wanted = run(PROGRAM, "--workers", "0", "list.obf")
         for workers in WORKERS:
-            for prepare in (refuse_threads, lambda: resource.setrlimit(resource.RLIMIT_AS, (30_000 * 1024,) * 2)):
+            for prepare in (refuse_threads, limited("RLIMIT_AS", 30_000 * 1024)):
                 with self.subTest(workers=workers):
                     found = run(PROGRAM, "--workers", workers, "list.obf", preexec_fn=prepare)
                     self.assertEqual((found.returncode, found.stdout, found.stderr), (0, wanted.stdout, b""))

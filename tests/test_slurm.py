@@ -4,11 +4,9 @@ import re
 import shutil
 import socket
 import subprocess
-import tempfile
-import unittest
 from pathlib import Path
 
-from tests.support import ROOT, SECONDS, built, lay_many, need, run, stored, wait_until
+from tests.support import SECONDS, InFolder, built, lay_many, need, positions, run, stored, wait_until, write
 
 CONFIGURATION = """\
 ClusterName=ffosolve
@@ -43,44 +41,40 @@ def free_ports(count):
     return ports
 
 
-class Slurm(unittest.TestCase):
+class Slurm(InFolder):
     def setUp(self):
+        super().setUp()
         if os.geteuid() != 0:
             self.skipTest("Slurm's daemons are started by root alone")
         for tool in ("munged", "slurmctld", "slurmd", "sbatch"):
             need(tool, "slurm-wlm")
-        folder = tempfile.TemporaryDirectory(prefix="ffosolve-slurm-")
-        self.addCleanup(folder.cleanup)
-        self.place = Path(folder.name)
         for name in ("state", "spool"):
-            (self.place / name).mkdir()
-        (self.place / "key").write_bytes(os.urandom(1024))
-        (self.place / "key").chmod(0o400)
+            Path(name).mkdir()
+        write("key", os.urandom(1024), 0o400)
         host = socket.gethostname().partition(".")[0]
-        text = CONFIGURATION.format(host=host, place=self.place, ports=free_ports(2))
-        (self.place / "slurm.conf").write_text(text)
-        self.environment = {**os.environ, "SLURM_CONF": str(self.place / "slurm.conf")}
+        file = write("slurm.conf", CONFIGURATION.format(host=host, place=self.folder, ports=free_ports(2)))
+        self.environment = {**os.environ, "SLURM_CONF": str(file.resolve())}
         self.daemon("munged", "-F", "--force", "--num-threads=1", *(
-            f"--{option}={self.place / name}" for option, name in (
+            f"--{option}={self.folder / name}" for option, name in (
                 ("key-file", "key"), ("socket", "munge.socket"), ("pid-file", "munged.pid"), ("log-file", "munged.log"),
                 ("seed-file", "seed"))))
-        wait_until((self.place / "munge.socket").exists)
-        self.daemon("slurmctld", "-D", "-L", self.place / "slurmctld.log")
-        self.daemon("slurmd", "-D", "-L", self.place / "slurmd.log")
+        wait_until(Path("munge.socket").exists)
+        for name in ("slurmctld", "slurmd"):
+            self.daemon(name, "-D", "-L", self.folder / f"{name}.log")
         wait_until(lambda: b"idle" in run("sinfo", "-h", "-o", "%T", env=self.environment).stdout)
 
     def daemon(self, *words):
         process = subprocess.Popen(list(map(str, words)), stdin=subprocess.DEVNULL, stdout=subprocess.DEVNULL,
-                                   stderr=subprocess.DEVNULL, env=self.environment, cwd=self.place)
+                                   stderr=subprocess.DEVNULL, env=self.environment)
         self.addCleanup(process.wait)
         self.addCleanup(process.kill)
 
     def test_array_of_the_document_solves_all_parts(self):
         script = re.search(r"```sh\n(#!/bin/sh\n#SBATCH.*?)```", stored("docs/many-machines.md").decode(), re.DOTALL)[1]
-        (self.place / "part.sh").write_text(script)
-        (self.place / "list.obf").write_bytes(run(ROOT / "bench/positions", 60, 1, 5).stdout)
-        shutil.copy(built(), lay_many(self.place).parent)
-        how = {"cwd": self.place, "env": self.environment}
+        write("part.sh", script)
+        write("list.obf", positions(60, 1, 5))
+        shutil.copy(built(), lay_many(".").parent)
+        how = {"env": self.environment}
         words = ("bin/ffosolve-many", "--lines=3", "work", "list.obf", "--book-out", "joined.book")
         ran = run(*words, "--cut", **how)
         self.assertEqual(ran.stdout, b"20 parts, 0 of them solved; sh work/run-*/solve NAME solves one, from 0000000 to 0000019\n")
@@ -89,8 +83,4 @@ class Slurm(unittest.TestCase):
         self.assertIn(b"20 of them solved before", ran.stderr)
         one = run("bin/ffosolve", "--book-out", "one.book", "list.obf", **how)
         self.assertEqual((ran.returncode, ran.stdout), (0, one.stdout))
-        self.assertEqual((self.place / "joined.book").read_bytes(), (self.place / "one.book").read_bytes())
-
-
-if __name__ == "__main__":
-    unittest.main()
+        self.assertEqual(Path("joined.book").read_bytes(), Path("one.book").read_bytes())

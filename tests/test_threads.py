@@ -6,11 +6,10 @@ In the environment, RUNS is the number of runs of 64 files with 64 workers, 100 
 import os
 import statistics
 import subprocess
-import sys
 import time
 from pathlib import Path
 
-from tests.support import ROOT, SECONDS, InFolder, built, refuse_threads, run
+from tests.support import SECONDS, InFolder, built, positions, refuse_threads
 
 RUNS = int(os.environ.get("RUNS", 100))
 # A position with 17 empty squares, which takes two tenths of a second, and boards with two.
@@ -114,7 +113,7 @@ class Threads(InFolder):
     def test_lines_of_scores_that_take_a_millisecond(self):
         """They are scored on threads too, several lines on each."""
         for empties in (10, 11, 12):
-            lines = run(sys.executable, ROOT / "bench/positions", 40, empties, empties, check=True).stdout.decode().splitlines()
+            lines = positions(40, empties, empties).decode().splitlines()
             self.write("list.obf", lines * 25)
             with self.subTest(empties=empties):
                 _, seen = self.run_of(SCORES, "--workers", "4", "--table", "0", "list.obf")
