@@ -14,9 +14,7 @@ use std::sync::Wait;
 use std::test::Fail;
 use std::thread::Threads;
 use suite_solver::laws::client_part;
-use suite_solver::{
-    NoGate, Outcome, Part, RunFault, Settings, run, run_serial, write_report,
-};
+use suite_solver::{NoGate, Outcome, Part, RunFault, Settings, run, run_serial, write_report};
 
 // Texts, the limit of empty squares, their reports and their book.
 type Case = (&'static [&'static [u8]], u8, &'static [u8], &'static [u8]);
