@@ -31,8 +31,8 @@ use Rattle.othello_bits.proofs.TurnedMasks.{ones_count, partition}
 use Rattle.othello_bits.proofs.CellLaws.{AreApart, length-cells_of, get_or-cells_of, same-own_cell, has_empty}
 use Rattle.othello_bits.proofs.CountMeaning.{final-meaning}
 use Rattle.othello_bits.proofs.MaskMeaning.{is_move-from_IsMove, IsMove-from, IsMove-on_board}
-use Rattle.endgame_search.specs.Lasts.{IsLast}
-use Rattle.endgame_search.proofs.Lasts.{move_free, free_mask, last_worth, full_after}
+use Rattle.endgame_search.specs.LastSquare.{IsFullExcept}
+use Rattle.endgame_search.proofs.LastSquare.{moves_to_empty, empty_mask, last_worth, full_after}
 
 -- counts of sets of squares
 none_below : (n : ℕ) (f : ℕ → Bool) → ((i : ℕ) → i < n → f i ≡ false) → count_below n f ≡ 0
@@ -161,7 +161,7 @@ module _ (p : PosView) (s : ℕ) (m : IsMove p s) where
   on_board = IsMove-on_board p s m
 
   free : not (in_mask p.own s || in_mask p.opp s) ≡ true
-  free = free_mask p s (move_free p s m)
+  free = empty_mask p s (moves_to_empty p s m)
 
   turned_count : ones (flips_of p s) ≡ count_below 64 turns
   unfolding flips_of turns
@@ -197,7 +197,7 @@ module _ (p : PosView) (s : ℕ) (m : IsMove p s) where
   last_count fits = omega (arith, own_count fits, ones-le 64 (play_of p s).opp (play_apart p s).opp_fits)
 
   -- where nothing is empty after it, so much is the position worth
-  pub last_score : (g : Scoring) → p.own < 2 ^ 64 → IsLast p s → (n : ℕ) → n ≡ ones p.own + ones (flips_of p s) + 1 → value_of g p ≡ score_of g n (64 - n) 0
+  pub last_score : (g : Scoring) → p.own < 2 ^ 64 → IsFullExcept p s → (n : ℕ) → n ≡ ones p.own + ones (flips_of p s) + 1 → value_of g p ≡ score_of g n (64 - n) 0
   unfolding final_of
   last_score g fits last n is =
       let r = play_of p s in
