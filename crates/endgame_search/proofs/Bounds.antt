@@ -57,7 +57,7 @@ turned_above b w r bound p =
     let n : shown (pos 0 -ℤ shown r) ≡ neg_ℤ r = omega (arith, ints) in
     recast b (b +ℤ pos 1) b (b +ℤ pos 1) (neg_ℤ w) (neg_ℤ r) _ refl refl (sym n) (turned_plain b _ w r (other_same b bound) p)
 
--- one move is searched: s places what it is worth, u, which is at most the value v
+-- one move is searched: s is a fail-soft score of what it is worth, u, which is at most the value v
 module _ (b v u s : ℤ) (bound : IsBound b) (p : IsNullWindowScore b u s) (above : u ≤ℤ v) where
   pub cut_above : lt_z (shown b) s ≡ true → IsNullWindowScore b v s
   cut_above h =

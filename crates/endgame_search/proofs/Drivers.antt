@@ -78,7 +78,7 @@ module _ (lower upper s m b : ℤ) (l : IsScore lower) (u : IsScore upper) (smal
   pub less_lowered : (r : ℤ) → lt_z (shown b) r ≡ false → gap lower r < gap lower upper
   less_lowered r h = let k = asked.1 in omega (arith, ints)
 
--- what a score s tells, where it places the value by the bound b
+-- what a fail-soft score s of the null window at b tells
 module _ (low high v lower upper b s : ℤ) (held : IsBetween low high v lower upper) (p : IsNullWindowScore (shown b) v s) where
   pub raised : lt_z (shown b) (shown s) ≡ true → IsBetween low high v (shown s) upper
   raised h =
@@ -106,7 +106,7 @@ module _ (low high v lower upper b s : ℤ) (held : IsBetween low high v lower u
         upper_score = record { low = omega (arith, ints); high = omega (arith, ints) };
       }
 
--- where they meet one of them places the value in the window
+-- where they meet one of them is a fail-soft score of the window
 module _ (low high v lower upper : ℤ) (window : IsWindow low high) (held : IsBetween (shown low) (shown high) v lower upper) (met : lt_z lower upper ≡ false) where
   pub lower_fail_soft : le_z (shown high) lower ≡ true → IsFailSoft low high v lower
   lower_fail_soft h =

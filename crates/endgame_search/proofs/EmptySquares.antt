@@ -31,10 +31,10 @@ count-squares f = omega arith
 pub few_moves : (p : PosView) (m : ℕ) → m ≡ moves_of p → m < 2 ^ 64 → ones m ≤ empties_of p
 unfolding empties_of
 few_moves p m is fits =
-    let free : ℕ → Bool = λ i. not (in_mask p.own i || in_mask p.opp i) in
+    let empty : ℕ → Bool = λ i. not (in_mask p.own i || in_mask p.opp i) in
     let a : ones m ≡ count_below 64 (in_mask m) = ap ones (is_number m (in_mask m) fits (λ i l. refl)) ∙ ones_number 64 (in_mask m) in
-    let b : empties_of p ≡ count_below 64 free = count-empty Black p ∙ count-squares free in
-    let c = more_below 64 (in_mask m) free (λ i h. empty_mask p i (moves_to_empty p i (subst (λ n. in_mask n i ≡ true) is h))) in
+    let b : empties_of p ≡ count_below 64 empty = count-empty Black p ∙ count-squares empty in
+    let c = more_below 64 (in_mask m) empty (λ i h. empty_mask p i (moves_to_empty p i (subst (λ n. in_mask n i ≡ true) is h))) in
     omega (arith, a, b, c)
 
 pub some_empty : (p : PosView) → moves_of p ≢ 0 → 1 ≤ empties_of p

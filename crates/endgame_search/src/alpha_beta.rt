@@ -1,7 +1,7 @@
 //! Alpha-beta search of a position's value by null windows alone. The null window at a bound asks
-//! whether the value is above the bound. Its fail-soft score is a lower bound of the value where
-//! the score is above the bound, otherwise an upper bound: each function here that takes a bound
-//! returns it. A driver searches one null window after another until the value is known, or known
+//! whether the value is above the bound. Its fail-soft score, which each function `search..` that
+//! takes a bound returns, is a lower bound of the value where it is above the bound, otherwise an
+//! upper bound. A driver searches one null window after another until the value is known, or known
 //! to lie outside a wider window (MTD(f): Plaat, Schaeffer, Pijls and de Bruin, 1996).
 
 ghost use Rattle.std.specs.Prelude.{◌≡◌, ◌≢◌, ◌≤◌, ◌≤ℤ◌, ◌<ℤ◌, ◌+ℤ◌, pos, negsuc, count_ones};
@@ -23,8 +23,8 @@ use othello_bits::Pos;
 /// scoring and as the mover sees it: in discs, or 1, 0 or -1 under `Sign`. The ends are from -65 to
 /// 65, and `low` is less than `high`. The result is from -64 to 64. Strictly between the ends it is
 /// the value. At `low` or below it is an upper bound of the value, at `high` or above a lower
-/// bound. Each position is probed before its moves are searched, unless its game is over. The table
-/// is offered the range that the result proves, however few squares are empty.
+/// bound. Each position that is searched is probed before its moves are, unless its game is over.
+/// The table is offered the range that the result proves, however few squares are empty.
 pub fn value_in<T: Bounds>(table: &T, position: Pos, low: i8, high: i8) -> i8
     requires least { negsuc 64 ≤ℤ low }
     requires ordered { low <ℤ high }
@@ -191,7 +191,8 @@ fn search_up_to_64<T: Bounds>(table: &T, position: Pos, moves: u64, bound: i8) -
 }
 
 // Searches the listed children, unless one of them gives an enhanced transposition cutoff.
-// `best_so_far` is the best score of the other moves, or `BELOW_ALL_SCORES` if there are none.
+// `best_so_far` is the best score of the moves that are not listed, or `BELOW_ALL_SCORES` if there
+// are none.
 #[cycle(search)]
 #[inline(always)]
 fn search_children<T: Bounds>(

@@ -15,8 +15,8 @@ use bound_table::Bounds;
 use othello_bits::{Pos, lowest, without};
 use othello_rules::{Scoring, Square};
 
-// The number of discs that the mover turns by a disc on the last empty square: 0 where that is no
-// move.
+// The number of discs that the mover turns by a disc on the last empty square: 0 where that is not
+// a move.
 #[inline(always)]
 fn turned_count(position: Pos, square: Square) -> u8
     requires full { IsFullExcept position square }
@@ -63,8 +63,8 @@ impl LastSquare {
     }
 }
 
-// Searches a position whose one empty square is a move of the mover. It is probed like any other, as
-// `value_in` promises, since a table may know it.
+// Searches a position whose one empty square is a move of the mover. It is probed, as `value_in`
+// promises of every position: a table may know it.
 #[inline(always)]
 fn search_last_move<T: Bounds>(table: &T, last: LastSquare, bound: i8) -> i8
     requires last { IsLastSquare last }
@@ -215,7 +215,7 @@ fn search_pass_in_order<T: Bounds>(table: &T, position: Pos, empties: u8, bound:
     -search_in_order(table, passed, replies, empties, -1 - bound)
 }
 
-// Searches a position after a move.
+// Searches the position after a move.
 #[cycle(last)]
 #[inline(always)]
 fn search_after<T: Bounds>(table: &T, position: Pos, empties: u8, bound: i8) -> i8
@@ -224,11 +224,8 @@ fn search_after<T: Bounds>(table: &T, position: Pos, empties: u8, bound: i8) -> 
     ensures { IsNullWindowScore bound (value_of (T.scoring table.now) position) result }
 {
     if empties == 1 {
-        search_last(
-            table,
-            LastSquare::new(position, last_empty_square(position)),
-            bound,
-        )
+        let last = LastSquare::new(position, last_empty_square(position));
+        search_last(table, last, bound)
     } else {
         search_in_order(table, position, empty_squares(position), empties, bound)
     }

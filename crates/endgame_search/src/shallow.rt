@@ -92,8 +92,8 @@ fn search_shallow_moves<T: Bounds>(
     }
 }
 
-// Searches such a position in which the mover has a move, by a list of its children. As in `alpha_beta`, the
-// first child without replies is searched before the remaining children are made.
+// Searches such a position in which the mover has a move, by a list of its children. As in
+// `alpha_beta`, the first child without replies is searched before the remaining children are made.
 #[cycle(shallow)]
 #[inline(never)]
 fn search_shallow_by_list<T: Bounds>(table: &T, position: Pos, moves: u64, bound: i8) -> i8
@@ -119,8 +119,8 @@ fn search_shallow_by_list<T: Bounds>(table: &T, position: Pos, moves: u64, bound
     search_shallow_children(table, position, &children, score, bound)
 }
 
-// Searches the listed children. `best_so_far` is the best score of the other moves, or
-// `BELOW_ALL_SCORES` if there are none.
+// Searches the listed children. `best_so_far` is the best score of the moves that are not listed,
+// or `BELOW_ALL_SCORES` if there are none.
 #[cycle(shallow)]
 #[inline(always)]
 fn search_shallow_children<T: Bounds>(

@@ -5,7 +5,8 @@ ghost use Rattle.othello_rules.specs.Answer.{IsScore};
 ghost use Rattle.othello_bits.specs.Pos.{PosView, value_of};
 ghost use Rattle.bound_table.specs.Range.{range_view};
 ghost use Rattle.endgame_search.specs.Children.{IsChildOf};
-ghost use Rattle.endgame_search.specs.Windows.{IsBound, IsWindow, IsWithin, IsFailSoft, IsNullWindowScore};
+ghost use Rattle.endgame_search.specs.Windows.{IsBound, IsWindow, IsWithin};
+ghost use Rattle.endgame_search.specs.Windows.{IsFailSoft, IsNullWindowScore};
 
 use crate::move_order::Child;
 use bound_table::{Bounds, Range};
