@@ -1,10 +1,10 @@
 -- Null windows by their lower end, the bound b.
-use Rattle.std.proofs.Common.{◌≡◌, ℤ, pos, negsuc, neg_ℤ, ◌+ℤ◌, ◌-ℤ◌, ◌≤ℤ◌, true, false, sym, ap, refl, ◌∙◌, subst, arith}
+use Rattle.std.proofs.Common.{◌≡◌, ℤ, pos, negsuc, neg_ℤ, ◌+ℤ◌, ◌-ℤ◌, ◌≤ℤ◌, true, false, sym, refl, ◌∙◌, subst, arith}
 use lib.Signed.{lt_z}
 use Rattle.std.specs.Int.{int_max}
 use Rattle.std.proofs.lemmas.Int.{ints, clamps}
 use Rattle.othello_rules.specs.Answer.{IsScore}
-use Rattle.endgame_search.specs.Windows.{IsBound, IsWindow, IsFailSoft}
+use Rattle.endgame_search.specs.Windows.{IsBound, IsWindow, IsFailSoft, IsNullWindowScore}
 use Rattle.endgame_search.proofs.Windows.{shown, shown_same, recast, recast_window}
 
 -- the bound as code shows it, its upper end, and the bound that the other side sees
@@ -30,20 +30,16 @@ module _ (b : ℤ) (bound : IsBound b) where
   pub stored_window : IsWindow (shown b) (shown (shown b +ℤ pos 1))
   stored_window = recast_window b (b +ℤ pos 1) _ _ (sym bound_same) (sym upper_same) null_ends
 
-  pub same_places : (v r : ℤ) → IsFailSoft (shown b) (shown b +ℤ pos 1) v r → IsFailSoft b (b +ℤ pos 1) v (shown r)
-  same_places v r p =
+  pub same_fail_soft : (v r : ℤ) → IsNullWindowScore (shown b) v r → IsNullWindowScore b v (shown r)
+  same_fail_soft v r p =
       recast _ _ b (b +ℤ pos 1) v r _ bound_same (λ k. bound_same k +ℤ pos 1) (sym (shown_same r (let l = p.least in omega (arith, ints)) (let m = p.most in omega (arith, ints)))) p
 
-  -- a score as it is stored, and as it is returned then
-  pub stored_places : (v s : ℤ) → IsFailSoft b (b +ℤ pos 1) v s → IsFailSoft (shown b) (shown (shown b +ℤ pos 1)) v s
-  stored_places v s p = recast b (b +ℤ pos 1) _ _ v s s (sym bound_same) (sym upper_same) refl p
-
-  pub stored_back : (v s r : ℤ) → IsFailSoft b (b +ℤ pos 1) v s → r ≡ s → IsFailSoft b (b +ℤ pos 1) v (shown r)
-  stored_back v s r p e =
-      recast b (b +ℤ pos 1) b (b +ℤ pos 1) v s _ refl refl (sym (shown_same s (let l = p.least in omega (arith, ints)) (let m = p.most in omega (arith, ints))) ∙ ap shown (sym e)) p
+  -- a score as it is stored
+  pub stored_fail_soft : (v s : ℤ) → IsNullWindowScore b v s → IsFailSoft (shown b) (shown (shown b +ℤ pos 1)) v s
+  stored_fail_soft v s p = recast b (b +ℤ pos 1) _ _ v s s (sym bound_same) (sym upper_same) refl p
 
 -- a score r of the other side's, by the bound c that it sees
-turned_plain : (b c w r : ℤ) → c ≡ negsuc 0 -ℤ b → IsFailSoft c (c +ℤ pos 1) w r → IsFailSoft b (b +ℤ pos 1) (neg_ℤ w) (neg_ℤ r)
+turned_plain : (b c w r : ℤ) → c ≡ negsuc 0 -ℤ b → IsNullWindowScore c w r → IsNullWindowScore b (neg_ℤ w) (neg_ℤ r)
 turned_plain b c w r e p =
     let l = p.least in
     let m = p.most in
@@ -54,16 +50,16 @@ turned_plain b c w r e p =
       most = omega (arith, ints);
     }
 
-pub turned_above : (b w r : ℤ) → IsBound b → IsFailSoft (shown (negsuc 0 -ℤ shown b)) (shown (negsuc 0 -ℤ shown b) +ℤ pos 1) w r → IsFailSoft b (b +ℤ pos 1) (neg_ℤ w) (shown (pos 0 -ℤ shown r))
+pub turned_above : (b w r : ℤ) → IsBound b → IsNullWindowScore (shown (negsuc 0 -ℤ shown b)) w r → IsNullWindowScore b (neg_ℤ w) (shown (pos 0 -ℤ shown r))
 turned_above b w r bound p =
     let l = p.least in
     let m = p.most in
     let n : shown (pos 0 -ℤ shown r) ≡ neg_ℤ r = omega (arith, ints) in
     recast b (b +ℤ pos 1) b (b +ℤ pos 1) (neg_ℤ w) (neg_ℤ r) _ refl refl (sym n) (turned_plain b _ w r (other_same b bound) p)
 
--- one move is searched: s places what it is worth, u, which is at most the value v
-module _ (b v u s : ℤ) (bound : IsBound b) (p : IsFailSoft b (b +ℤ pos 1) u s) (above : u ≤ℤ v) where
-  pub cut_above : lt_z (shown b) s ≡ true → IsFailSoft b (b +ℤ pos 1) v s
+-- one move is searched: s is a fail-soft score of what it is worth, u, which is at most the value v
+module _ (b v u s : ℤ) (bound : IsBound b) (p : IsNullWindowScore b u s) (above : u ≤ℤ v) where
+  pub cut_above : lt_z (shown b) s ≡ true → IsNullWindowScore b v s
   cut_above h =
       let e = bound_same b bound in
       let k : s ≤ℤ u = p.above (omega (arith, ints)) in
@@ -106,7 +102,7 @@ pub after_first : (s : ℤ) → negsuc 63 ≤ℤ s → negsuc 64 ≤ℤ s
 after_first s l = omega (arith, ints)
 
 -- where every move was searched
-pub none_above : (b v best : ℤ) → IsBound b → IsScore v → best ≤ℤ shown b → v ≤ℤ best → IsFailSoft b (b +ℤ pos 1) v best
+pub none_above : (b v best : ℤ) → IsBound b → IsScore v → best ≤ℤ shown b → v ≤ℤ best → IsNullWindowScore b v best
 none_above b v best bound score open' covered =
     let e = bound_same b bound in
     let l = score.low in
@@ -115,7 +111,7 @@ none_above b v best bound score open' covered =
 
 -- a move is worth minus u, where the most that the other side can have is a: enough if that is above the bound
 pub known_above : (b v u a : ℤ) → IsBound b → neg_ℤ u ≤ℤ v → u ≤ℤ a → negsuc 63 ≤ℤ a → a ≤ℤ pos 64 → lt_z (shown b) (shown (pos 0 -ℤ shown a)) ≡ true
-    → IsFailSoft b (b +ℤ pos 1) v (shown (pos 0 -ℤ shown a))
+    → IsNullWindowScore b v (shown (pos 0 -ℤ shown a))
 known_above b v u a bound worth most l m h =
     let n : shown (pos 0 -ℤ shown a) ≡ neg_ℤ a = omega (arith, ints) in
     let e = bound_same b bound in

@@ -1,11 +1,11 @@
 -- The bounds between which the driver of null windows looks for a value.
-use Rattle.std.proofs.Common.{◌≡◌, ℤ, pos, negsuc, neg_ℤ, ◌-ℤ◌, ◌+ℤ◌, ◌≤ℤ◌, ◌<ℤ◌, ◌<◌, ℕ, ◌+◌, ◌-◌, true, false, arith}
+use Rattle.std.proofs.Common.{◌≡◌, ℤ, pos, negsuc, neg_ℤ, ◌-ℤ◌, ◌≤ℤ◌, ◌<ℤ◌, ◌<◌, ℕ, ◌+◌, ◌-◌, true, false, arith}
 use borrow.Author.Differences.{up, down}
 use lib.Signed.{lt_z, le_z}
 use Rattle.std.specs.Int.{int_max, int_min}
 use Rattle.std.proofs.lemmas.Int.{ints, clamps}
 use Rattle.othello_rules.specs.Answer.{IsScore}
-use Rattle.endgame_search.specs.Windows.{IsBound, IsWindow, IsWithin, IsFailSoft}
+use Rattle.endgame_search.specs.Windows.{IsBound, IsWindow, IsWithin, IsFailSoft, IsNullWindowScore}
 use Rattle.endgame_search.proofs.Windows.{shown, shown_same, score_same}
 
 -- the value v is no less than lower where that is above the lower end of the window, and no more than upper where that
@@ -78,8 +78,8 @@ module _ (lower upper s m b : ℤ) (l : IsScore lower) (u : IsScore upper) (smal
   pub less_lowered : (r : ℤ) → lt_z (shown b) r ≡ false → gap lower r < gap lower upper
   less_lowered r h = let k = asked.1 in omega (arith, ints)
 
--- what a score s tells, where it places the value by the bound b
-module _ (low high v lower upper b s : ℤ) (held : IsBetween low high v lower upper) (p : IsFailSoft (shown b) (shown b +ℤ pos 1) v s) where
+-- what a fail-soft score s of the null window at b tells
+module _ (low high v lower upper b s : ℤ) (held : IsBetween low high v lower upper) (p : IsNullWindowScore (shown b) v s) where
   pub raised : lt_z (shown b) (shown s) ≡ true → IsBetween low high v (shown s) upper
   raised h =
       let e = score_same s p.least p.most in
@@ -106,10 +106,10 @@ module _ (low high v lower upper b s : ℤ) (held : IsBetween low high v lower u
         upper_score = record { low = omega (arith, ints); high = omega (arith, ints) };
       }
 
--- where they meet one of them places the value in the window
+-- where they meet one of them is a fail-soft score of the window
 module _ (low high v lower upper : ℤ) (window : IsWindow low high) (held : IsBetween (shown low) (shown high) v lower upper) (met : lt_z lower upper ≡ false) where
-  pub lower_places : le_z (shown high) lower ≡ true → IsFailSoft low high v lower
-  lower_places h =
+  pub lower_fail_soft : le_z (shown high) lower ≡ true → IsFailSoft low high v lower
+  lower_fail_soft h =
       let a = shown_same low window.0 (let d = window.1 in let e = window.2 in omega (arith, ints)) in
       let b = shown_same high (let c = window.0 in let d = window.1 in omega (arith, ints)) window.2 in
       record {
@@ -119,8 +119,8 @@ module _ (low high v lower upper : ℤ) (window : IsWindow low high) (held : IsB
         most = held.lower_score.high;
       }
 
-  pub upper_places : le_z (shown high) lower ≡ false → IsFailSoft low high v upper
-  upper_places h =
+  pub upper_fail_soft : le_z (shown high) lower ≡ false → IsFailSoft low high v upper
+  upper_fail_soft h =
       let a = shown_same low window.0 (let d = window.1 in let e = window.2 in omega (arith, ints)) in
       let b = shown_same high (let c = window.0 in let d = window.1 in omega (arith, ints)) window.2 in
       record {

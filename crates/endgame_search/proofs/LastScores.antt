@@ -31,8 +31,8 @@ use Rattle.othello_bits.proofs.TurnedMasks.{ones_count, partition}
 use Rattle.othello_bits.proofs.CellLaws.{AreApart, length-cells_of, get_or-cells_of, same-own_cell, has_empty}
 use Rattle.othello_bits.proofs.CountMeaning.{final-meaning}
 use Rattle.othello_bits.proofs.MaskMeaning.{is_move-from_IsMove, IsMove-from, IsMove-on_board}
-use Rattle.endgame_search.specs.Lasts.{IsLast}
-use Rattle.endgame_search.proofs.Lasts.{move_free, free_mask, last_worth, full_after}
+use Rattle.endgame_search.specs.LastSquare.{IsFullExcept}
+use Rattle.endgame_search.proofs.LastSquare.{moves_to_empty, empty_mask, last_worth, full_after}
 
 -- counts of sets of squares
 none_below : (n : ℕ) (f : ℕ → Bool) → ((i : ℕ) → i < n → f i ≡ false) → count_below n f ≡ 0
@@ -90,14 +90,14 @@ painted_black true c = sym (or-true (same_cell cell.Black c))
 painted_black false c = sym (or-false (same_cell cell.Black c))
 
 -- an empty square
-free_not_white : (a b : Bool) → not (a || b) ≡ true → same_cell cell.White (cond a cell.Black (cond b cell.White cell.Empty)) ≡ false
-free_not_white true b h = refl
-free_not_white false true h = absurd (false≢true h)
-free_not_white false false h = refl
+empty_not_white : (a b : Bool) → not (a || b) ≡ true → same_cell cell.White (cond a cell.Black (cond b cell.White cell.Empty)) ≡ false
+empty_not_white true b h = refl
+empty_not_white false true h = absurd (false≢true h)
+empty_not_white false false h = refl
 
-free_not_own : (a b : Bool) → not (a || b) ≡ true → a ≡ false
-free_not_own true b h = absurd (false≢true h)
-free_not_own false b h = refl
+empty_not_own : (a b : Bool) → not (a || b) ≡ true → a ≡ false
+empty_not_own true b h = absurd (false≢true h)
+empty_not_own false b h = refl
 
 first_turned : (xs : List ℕ) → rules.is_nonempty xs ≡ true → (i : ℕ) × (mem i xs ≡ true)
 first_turned [] e = absurd (false≢true e)
@@ -160,8 +160,8 @@ module _ (p : PosView) (s : ℕ) (m : IsMove p s) where
   on_board : s < 64
   on_board = IsMove-on_board p s m
 
-  free : not (in_mask p.own s || in_mask p.opp s) ≡ true
-  free = free_mask p s (move_free p s m)
+  was_empty : not (in_mask p.own s || in_mask p.opp s) ≡ true
+  was_empty = empty_mask p s (moves_to_empty p s m)
 
   turned_count : ones (flips_of p s) ≡ count_below 64 turns
   unfolding flips_of turns
@@ -171,14 +171,14 @@ module _ (p : PosView) (s : ℕ) (m : IsMove p s) where
   placed_apart i =
       false_from_ne_true (eqb i s && turns i) (λ t.
       let h = and_parts (eqb i s) (turns i) t in
-      both_ways (same_cell cell.White (cell_at Black p s)) (free_not_white (in_mask p.own s) (in_mask p.opp s) free) (turns_cell s (ap turns (sym (eqb-true i s h.0)) ∙ h.1)))
+      both_ways (same_cell cell.White (cell_at Black p s)) (empty_not_white (in_mask p.own s) (in_mask p.opp s) was_empty) (turns_cell s (ap turns (sym (eqb-true i s h.0)) ∙ h.1)))
 
   own_apart : (i : ℕ) → (in_mask p.own i && (eqb i s || turns i)) ≡ false
   own_apart i =
       false_from_ne_true (in_mask p.own i && (eqb i s || turns i)) (λ t.
       let h = and_parts (in_mask p.own i) (eqb i s || turns i) t in
       elim (or_cases (eqb i s) (turns i) h.1) [
-        | inl e ↦ both_ways (in_mask p.own s) (free_not_own (in_mask p.own s) (in_mask p.opp s) free) (ap (in_mask p.own) (sym (eqb-true i s e)) ∙ h.0)
+        | inl e ↦ both_ways (in_mask p.own s) (empty_not_own (in_mask p.own s) (in_mask p.opp s) was_empty) (ap (in_mask p.own) (sym (eqb-true i s e)) ∙ h.0)
         | inr u ↦ false≢true (subst (λ b. same_cell cell.White (cond b cell.Black (cond (in_mask p.opp i) cell.White cell.Empty)) ≡ true) h.0 (turns_cell i u))
       ])
 
@@ -197,7 +197,7 @@ module _ (p : PosView) (s : ℕ) (m : IsMove p s) where
   last_count fits = omega (arith, own_count fits, ones-le 64 (play_of p s).opp (play_apart p s).opp_fits)
 
   -- where nothing is empty after it, so much is the position worth
-  pub last_score : (g : Scoring) → p.own < 2 ^ 64 → IsLast p s → (n : ℕ) → n ≡ ones p.own + ones (flips_of p s) + 1 → value_of g p ≡ score_of g n (64 - n) 0
+  pub last_score : (g : Scoring) → p.own < 2 ^ 64 → IsFullExcept p s → (n : ℕ) → n ≡ ones p.own + ones (flips_of p s) + 1 → value_of g p ≡ score_of g n (64 - n) 0
   unfolding final_of
   last_score g fits last n is =
       let r = play_of p s in

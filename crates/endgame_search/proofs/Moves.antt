@@ -9,8 +9,8 @@ use Rattle.othello_rules.specs.declared.scoring.Scoring.{Scoring}
 use Rattle.othello_bits.specs.Pos.{PosView, moves_of, play_of, pass_of, empties_of, value_of, HasNoMove}
 use Rattle.othello_bits.proofs.GameLaws.{value_above, value_reached, value-pass, empties_positive, empties-play, empties-pass}
 use Rattle.endgame_search.specs.declared.move_order.Child.{Child}
-use Rattle.endgame_search.specs.declared.move_order.Stuck.{Stuck}
-use Rattle.endgame_search.specs.Children.{IsChildOf, AreChildrenOf, AreOthersOf, AreUpTo, squares_of}
+use Rattle.endgame_search.specs.declared.move_order.ChildWithoutReplies.{ChildWithoutReplies}
+use Rattle.endgame_search.specs.Children.{IsChildOf, AreChildrenOf, UnlistedAreAtMost, AreSplitAt, squares_of}
 
 -- what the move to a child is worth, and how many squares are empty there
 pub child_worth : (g : Scoring) (p : PosView) (c : Child) → IsChildOf p c → neg_ℤ (value_of g c.position) ≤ℤ value_of g p
@@ -45,15 +45,15 @@ searched_more g items i x best more h is grow one all =
     (subst (λ (c : Child). neg_ℤ (value_of g c.position) ≤ℤ more) is one)
 
 -- where every move is worth no more than the best, nor is the value
-pub best_of_others : (g : Scoring) (p : PosView) (items : List Child) (searched best : ℤ) → moves_of p ≢ 0 → AreOthersOf g p searched items → searched ≤ℤ best
+pub value_at_most : (g : Scoring) (p : PosView) (items : List Child) (searched best : ℤ) → moves_of p ≢ 0 → UnlistedAreAtMost g p searched items → searched ≤ℤ best
     → All (λ (c : Child). neg_ℤ (value_of g c.position) ≤ℤ best) items
     → value_of g p ≤ℤ best
-best_of_others g p items searched best some others more all =
+value_at_most g p items searched best some unlisted more all =
     let r = value_reached g p some in
     let by_square : All (λ (c : Child). neg_ℤ (value_of g (play_of p c.square)) ≤ℤ best) items =
-    λ i x h. subst (λ d. neg_ℤ (value_of g d) ≤ℤ best) (others.each i x h).position (all i x h) in
+    λ i x h. subst (λ d. neg_ℤ (value_of g d) ≤ℤ best) (unlisted.each i x h).position (all i x h) in
     let reached : neg_ℤ (value_of g (play_of p r.0)) ≤ℤ best =
-    elim (others.every r.0 r.1) [
+    elim (unlisted.every r.0 r.1) [
       | inl l ↦
           All-contains (λ q. neg_ℤ (value_of g (play_of p q)) ≤ℤ best) (squares_of items) r.0
           (All-map (λ q. neg_ℤ (value_of g (play_of p q)) ≤ℤ best) (λ (c : Child). c.square) items by_square) l
@@ -61,29 +61,29 @@ best_of_others g p items searched best some others more all =
     ] in
     subst (λ z. z ≤ℤ best) r.2 reached
 
-pub all_others : (g : Scoring) (p : PosView) (items : List Child) (best : ℤ) → AreChildrenOf p items → AreOthersOf g p best items
-all_others g p items best children = record { each = children.each; every = λ q m. inl (children.every q m) }
+pub none_unlisted : (g : Scoring) (p : PosView) (items : List Child) (best : ℤ) → AreChildrenOf p items → UnlistedAreAtMost g p best items
+none_unlisted g p items best children = record { each = children.each; every = λ q m. inl (children.every q m) }
 
 -- what a sort of the list leaves
 listed_sorted : (items sorted : List Child) (q : ℕ) → IsPermutation items sorted → Contains (squares_of items) q → Contains (squares_of sorted) q
 listed_sorted items sorted q permuted l = Contains-permutation (squares_of items) (squares_of sorted) q (IsPermutation-map (λ (c : Child). c.square) items sorted permuted) l
 
-pub others_sorted : (g : Scoring) (p : PosView) (best : ℤ) (items sorted : List Child) → IsPermutation items sorted → AreOthersOf g p best items → AreOthersOf g p best sorted
-others_sorted g p best items sorted permuted others =
+pub unlisted_sorted : (g : Scoring) (p : PosView) (best : ℤ) (items sorted : List Child) → IsPermutation items sorted → UnlistedAreAtMost g p best items → UnlistedAreAtMost g p best sorted
+unlisted_sorted g p best items sorted permuted unlisted =
     record {
-      each = All-permutation (IsChildOf p) items sorted permuted others.each;
-      every = λ q m. elim (others.every q m) [ inl l ↦ inl (listed_sorted items sorted q permuted l) | inr w ↦ inr w ];
+      each = All-permutation (IsChildOf p) items sorted permuted unlisted.each;
+      every = λ q m. elim (unlisted.every q m) [ inl l ↦ inl (listed_sorted items sorted q permuted l) | inr w ↦ inr w ];
     }
 
 -- the children after one without replies that was searched
-pub others_left : (g : Scoring) (p : PosView) (s : Stuck) (items more : List Child) (best : ℤ) → AreUpTo p s items → neg_ℤ (value_of g s.child.position) ≤ℤ best
+pub unlisted_after_first : (g : Scoring) (p : PosView) (s : ChildWithoutReplies) (items more : List Child) (best : ℤ) → AreSplitAt p s items → neg_ℤ (value_of g s.child.position) ≤ℤ best
     → All (IsChildOf p) more → ((q : ℕ) → (in_mask s.rest q ≡ true) ⊎ Contains (squares_of items) q → Contains (squares_of more) q)
-    → AreOthersOf g p best more
-others_left g p s items more best up worth each every =
+    → UnlistedAreAtMost g p best more
+unlisted_after_first g p s items more best split worth each every =
     record {
       each = each;
-      every = λ q m. elim (up.every q m) [
-        | inl e ↦ inr (subst (λ z. neg_ℤ (value_of g (play_of p z)) ≤ℤ best) (sym e) (subst (λ d. neg_ℤ (value_of g d) ≤ℤ best) up.child.position worth))
+      every = λ q m. elim (split.every q m) [
+        | inl e ↦ inr (subst (λ z. neg_ℤ (value_of g (play_of p z)) ≤ℤ best) (sym e) (subst (λ d. neg_ℤ (value_of g d) ≤ℤ best) split.child.position worth))
         | inr l ↦ inl (every q l)
       ];
     }

@@ -4,7 +4,7 @@ use Rattle.othello_rules.specs.declared.scoring.Scoring.{Scoring}
 use Rattle.othello_rules.specs.Masks.{in_mask}
 use Rattle.othello_bits.specs.Pos.{PosView, moves_of, play_of, value_of, IsMove}
 use Rattle.endgame_search.specs.declared.move_order.Child.{Child}
-use Rattle.endgame_search.specs.declared.move_order.Stuck.{Stuck}
+use Rattle.endgame_search.specs.declared.move_order.ChildWithoutReplies.{ChildWithoutReplies}
 
 -- the squares of the moves that lead to the children
 abbrev pub squares_of : List Child → List ℕ
@@ -21,18 +21,18 @@ pub record AreChildrenOf (p : PosView) (cs : List Child) : Type 0 where
   pub each : All (IsChildOf p) cs
   pub every : (q : ℕ) → IsMove p q → Contains (squares_of cs) q
 
--- s holds a child of p without replies and a mask of moves of p, and the list holds children of p.
--- Each move of p is that child's, in the mask, or a listed child's.
-pub record AreUpTo (p : PosView) (s : Stuck) (cs : List Child) : Type 0 where
+-- the moves of p are split at a child without replies, s.child: each other move is that of a listed
+-- child, or in the mask s.rest
+pub record AreSplitAt (p : PosView) (s : ChildWithoutReplies) (cs : List Child) : Type 0 where
   pub child : IsChildOf p s.child
-  pub stuck : s.child.replies ≡ 0
+  pub no_replies : s.child.replies ≡ 0
   pub rest : (q : ℕ) → in_mask s.rest q ≡ true → IsMove p q
   pub each : All (IsChildOf p) cs
   pub every : (q : ℕ) → IsMove p q
       → (q ≡ s.child.square) ⊎ ((in_mask s.rest q ≡ true) ⊎ Contains (squares_of cs) q)
 
 -- the list holds children of p, and a move of p that leads to none of them is worth at most best
-pub record AreOthersOf (g : Scoring) (p : PosView) (best : ℤ) (cs : List Child) : Type 0 where
+pub record UnlistedAreAtMost (g : Scoring) (p : PosView) (best : ℤ) (cs : List Child) : Type 0 where
   pub each : All (IsChildOf p) cs
   pub every : (q : ℕ) → IsMove p q
       → Contains (squares_of cs) q ⊎ (neg_ℤ (value_of g (play_of p q)) ≤ℤ best)

@@ -2,7 +2,7 @@
 use Rattle.std.specs.Prelude.{◌≡◌, ℕ, refl}
 use Rattle.endgame_search.specs.declared.task.TheConstants.Task.{MOST_EMPTIES}
 
--- the most empty squares of a position that is solved
+-- the greatest number of empty squares of a position that is solved
 abbrev pub most_empties : ℕ
 most_empties = 60
 

@@ -1,25 +1,25 @@
-//! Null windows of positions with at most four empty squares. A null window runs from its lower end,
-//! the bound, to one above it. The moves are searched in the order of their squares: no list is made,
-//! nothing is sorted, and no mask of moves is computed. A square is a move if a disc is turned there.
+//! Null windows (`alpha_beta` says what they are) of positions with at most four empty squares. The
+//! moves are searched in the order of their squares: no list is made, nothing is sorted, and no
+//! mask of a child's moves is computed, except after a pass. A square is a move if a disc is turned
+//! there.
 
-ghost use Rattle.std.specs.Prelude.{◌≡◌, ◌<◌, ◌↔◌, ◌+ℤ◌, ℕ, pos, true, count_ones, IsNone, IfSome};
+ghost use Rattle.std.specs.Prelude.{◌≡◌, ◌<◌, ◌↔◌, ℕ, true, count_ones, IsNone, IfSome};
 ghost use Rattle.othello_rules.specs.Masks.{in_mask};
 ghost use Rattle.othello_bits.specs.Pos.{flips_of, value_of, empties_of, IsMove, HasNoMove};
-ghost use Rattle.endgame_search.specs.Windows.{IsBound, IsFailSoft};
-ghost use Rattle.endgame_search.specs.Tries.{IsMoveAmong, HasNoMoveAmong};
-ghost use Rattle.endgame_search.specs.Endings.{IsEnding};
-ghost use Rattle.endgame_search.specs.Lasts.{IsFree, IsLast};
+ghost use Rattle.endgame_search.specs.Windows.{IsBound, IsNullWindowScore};
+ghost use Rattle.endgame_search.specs.MovesInOrder.{IsNextMove, HasNoMoveOn};
+ghost use Rattle.endgame_search.specs.LastSquare.{IsEmptySquare, IsFullExcept, IsLastSquare};
 
-use crate::hash_cutoff::{BELOW_ALL_SCORES, decide};
+use crate::table_cutoff::{BELOW_ALL_SCORES, probe_cutoff};
 use bound_table::Bounds;
 use othello_bits::{Pos, lowest, without};
 use othello_rules::{Scoring, Square};
 
-// The number of discs that the mover turns by a disc on the last empty square: 0 where that is no
-// move.
+// The number of discs that the mover turns by a disc on the last empty square: 0 where that is not
+// a move.
 #[inline(always)]
 fn turned_count(position: Pos, square: Square) -> u8
-    requires last { IsLast position square }
+    requires full { IsFullExcept position square }
     ensures value { result ≡ count_ones (flips_of position square) }
     ensures legal { IsMove position square ↔ (0 < result) }
 {
@@ -29,21 +29,21 @@ fn turned_count(position: Pos, square: Square) -> u8
 // A position with one empty square, that square, and the number of discs that the mover turns by a
 // disc there.
 #[derive(Clone, Copy)]
-struct Ending {
+struct LastSquare {
     position: Pos,
     square: Square,
     turned: u8,
 }
 
-impl Ending {
+impl LastSquare {
     #[inline(always)]
-    fn new(position: Pos, square: Square) -> Ending
-        requires { IsLast position square }
+    fn new(position: Pos, square: Square) -> LastSquare
+        requires { IsFullExcept position square }
         ensures position { result.position ≡ position }
         ensures square { result.square ≡ square }
-        ensures ending { IsEnding result }
+        ensures last { IsLastSquare result }
     {
-        Ending {
+        LastSquare {
             position,
             square,
             turned: turned_count(position, square),
@@ -54,7 +54,7 @@ impl Ending {
     // has its discs, the one put on the square and those turned. The opponent has the rest.
     #[inline(always)]
     fn score(self, scoring: Scoring) -> i8
-        requires ending { IsEnding self }
+        requires last { IsLastSquare self }
         requires some { 0 < self.turned }
         ensures { result ≡ value_of scoring self.position }
     {
@@ -63,62 +63,58 @@ impl Ending {
     }
 }
 
-// Searches a position whose one empty square is a move of the mover. Returns a score that places
-// its value in the window from the bound to one above it.
+// Searches a position whose one empty square is a move of the mover. It is probed, as `value_in`
+// promises of every position: a table may know it.
 #[inline(always)]
-fn search_last_move<T: Bounds>(table: &T, ending: Ending, bound: i8) -> i8
-    requires ending { IsEnding ending }
-    requires some { 0 < ending.turned }
+fn search_last_move<T: Bounds>(table: &T, last: LastSquare, bound: i8) -> i8
+    requires last { IsLastSquare last }
+    requires some { 0 < last.turned }
     requires bound { IsBound bound }
-    ensures { IsFailSoft bound (bound +ℤ pos 1)
-        (value_of (T.scoring table.now) ending.position) result }
+    ensures { IsNullWindowScore bound (value_of (T.scoring table.now) last.position) result }
 {
-    if let Some(score) = decide(table, ending.position, bound) {
+    if let Some(score) = probe_cutoff(table, last.position, bound) {
         return score;
     }
-    ending.score(table.scoring())
+    last.score(table.scoring())
 }
 
 // Searches a position whose one empty square is not a move of the mover: a pass, or the end of the
-// game. Returns a score that places its value in the window from the bound to one above it.
+// game.
 #[inline(always)]
-fn search_last_pass<T: Bounds>(table: &T, ending: Ending, bound: i8) -> i8
-    requires ending { IsEnding ending }
-    requires none { ending.turned ≡ 0 }
+fn search_last_pass<T: Bounds>(table: &T, last: LastSquare, bound: i8) -> i8
+    requires last { IsLastSquare last }
+    requires none { last.turned ≡ 0 }
     requires bound { IsBound bound }
-    ensures { IsFailSoft bound (bound +ℤ pos 1)
-        (value_of (T.scoring table.now) ending.position) result }
+    ensures { IsNullWindowScore bound (value_of (T.scoring table.now) last.position) result }
 {
-    let passed = Ending::new(ending.position.pass(), ending.square);
+    let passed = LastSquare::new(last.position.pass(), last.square);
     if passed.turned == 0 {
-        return ending.position.final_score(table.scoring());
+        return last.position.final_score(table.scoring());
     }
-    if let Some(score) = decide(table, ending.position, bound) {
+    if let Some(score) = probe_cutoff(table, last.position, bound) {
         return score;
     }
     -search_last_move(table, passed, -1 - bound)
 }
 
-// Searches a position with one empty square. Returns a score that places its value in the window
-// from the bound to one above it.
+// Searches a position with one empty square.
 #[inline(always)]
-fn search_last<T: Bounds>(table: &T, ending: Ending, bound: i8) -> i8
-    requires ending { IsEnding ending }
+fn search_last<T: Bounds>(table: &T, last: LastSquare, bound: i8) -> i8
+    requires last { IsLastSquare last }
     requires bound { IsBound bound }
-    ensures { IsFailSoft bound (bound +ℤ pos 1)
-        (value_of (T.scoring table.now) ending.position) result }
+    ensures { IsNullWindowScore bound (value_of (T.scoring table.now) last.position) result }
 {
-    if ending.turned == 0 {
-        search_last_pass(table, ending, bound)
+    if last.turned == 0 {
+        search_last_pass(table, last, bound)
     } else {
-        search_last_move(table, ending, bound)
+        search_last_move(table, last, bound)
     }
 }
 
 // The mask of the empty squares.
 #[inline(always)]
-fn free_of(position: Pos) -> u64
-    ensures squares { (q : ℕ) → IsFree position q → in_mask result q ≡ true }
+fn empty_squares(position: Pos) -> u64
+    ensures squares { (q : ℕ) → IsEmptySquare position q → in_mask result q ≡ true }
     ensures count { count_ones result ≡ empties_of position }
 {
     !(position.own() | position.opp())
@@ -126,44 +122,43 @@ fn free_of(position: Pos) -> u64
 
 // The last empty square.
 #[inline(always)]
-fn last_square(position: Pos) -> Square
+fn last_empty_square(position: Pos) -> Square
     requires one { empties_of position ≡ 1 }
-    ensures { IsLast position result }
+    ensures { IsFullExcept position result }
 {
-    lowest(free_of(position))
+    lowest(empty_squares(position))
 }
 
-// The position after a move, and the mask of the squares that are not looked at yet.
+// The position after a move, and the mask of the squares that are not tried yet.
 #[derive(Clone, Copy)]
-struct Move {
+struct NextMove {
     position: Pos,
-    left: u64,
+    rest: u64,
 }
 
 // The first move on a square of the mask, in the order of the squares. None where no square of the
 // mask is a move.
 #[inline(always)]
-fn next_move(position: Pos, squares: u64) -> Option<Move>
-    ensures none { IsNone result → HasNoMoveAmong position squares }
-    ensures some { IfSome result (IsMoveAmong position squares) }
+fn next_move(position: Pos, squares: u64) -> Option<NextMove>
+    ensures none { IsNone result → HasNoMoveOn position squares }
+    ensures some { IfSome result (IsNextMove position squares) }
 {
     let mut rest = squares;
     while rest != 0 {
         let square = lowest(rest);
         rest = without(rest, square);
         if let Some(child) = position.play(square) {
-            return Some(Move {
+            return Some(NextMove {
                 position: child,
-                left: rest,
+                rest,
             });
         }
     }
     None
 }
 
-// Searches a position by its moves on the squares of a mask, in their order. All moves are on squares
-// of the mask. Returns a score that places the position's value in the window from the bound to one
-// above it.
+// Searches a position by its moves on the squares of a mask, in their order. All moves are on
+// squares of the mask.
 #[cycle(last)]
 #[inline(never)]
 pub(crate) fn search_in_order<T: Bounds>(
@@ -176,12 +171,12 @@ pub(crate) fn search_in_order<T: Bounds>(
     requires squares { (q : ℕ) → IsMove position q → in_mask squares q ≡ true }
     requires empties { empties ≡ empties_of position }
     requires bound { IsBound bound }
-    ensures { IsFailSoft bound (bound +ℤ pos 1) (value_of (T.scoring table.now) position) result }
+    ensures { IsNullWindowScore bound (value_of (T.scoring table.now) position) result }
 {
     let Some(first) = next_move(position, squares) else {
         return search_pass_in_order(table, position, empties, bound);
     };
-    if let Some(score) = decide(table, position, bound) {
+    if let Some(score) = probe_cutoff(table, position, bound) {
         return score;
     }
     let mut best = BELOW_ALL_SCORES;
@@ -192,46 +187,46 @@ pub(crate) fn search_in_order<T: Bounds>(
             return score;
         }
         best = best.max(score);
-        let Some(next) = next_move(position, tried.left) else {
+        let Some(next) = next_move(position, tried.rest) else {
             return best;
         };
         tried = next;
     }
 }
 
-// Searches a position in which the mover has no move. Returns a score that places its value in the
-// window from the bound to one above it. A position whose game is over is not probed.
+// Searches a position in which the mover has no move: a pass, or the end of the game, where the
+// position is not probed.
 #[cycle(last)]
 #[inline(never)]
 fn search_pass_in_order<T: Bounds>(table: &T, position: Pos, empties: u8, bound: i8) -> i8
     requires none { HasNoMove position }
     requires empties { empties ≡ empties_of position }
     requires bound { IsBound bound }
-    ensures { IsFailSoft bound (bound +ℤ pos 1) (value_of (T.scoring table.now) position) result }
+    ensures { IsNullWindowScore bound (value_of (T.scoring table.now) position) result }
 {
     let passed = position.pass();
     let replies = passed.moves();
     if replies == 0 {
         return position.final_score(table.scoring());
     }
-    if let Some(score) = decide(table, position, bound) {
+    if let Some(score) = probe_cutoff(table, position, bound) {
         return score;
     }
     -search_in_order(table, passed, replies, empties, -1 - bound)
 }
 
-// Searches a position after a move. Returns a score that places its value in the window from the
-// bound to one above it.
+// Searches the position after a move.
 #[cycle(last)]
 #[inline(always)]
 fn search_after<T: Bounds>(table: &T, position: Pos, empties: u8, bound: i8) -> i8
     requires empties { empties ≡ empties_of position }
     requires bound { IsBound bound }
-    ensures { IsFailSoft bound (bound +ℤ pos 1) (value_of (T.scoring table.now) position) result }
+    ensures { IsNullWindowScore bound (value_of (T.scoring table.now) position) result }
 {
     if empties == 1 {
-        search_last(table, Ending::new(position, last_square(position)), bound)
+        let last = LastSquare::new(position, last_empty_square(position));
+        search_last(table, last, bound)
     } else {
-        search_in_order(table, position, free_of(position), empties, bound)
+        search_in_order(table, position, empty_squares(position), empties, bound)
     }
 }

@@ -1,34 +1,34 @@
-//! Null windows of positions with at most 7 empty squares. A null window runs from its lower end,
-//! the bound, to one above it. Nothing is stored, and no child is probed before it is searched. The
-//! limit is 7 because making a list of 8 children would take a function call. With at most 4 empty
-//! squares a list takes more time than its order saves.
+//! Null windows (`alpha_beta` says what they are) of positions with at most 7 empty squares.
+//! Nothing is stored, and no child is probed before it is searched. The limit is 7 since the
+//! compiler makes a list of 7 children in place, and one of 8 by a function call. With at most 4
+//! empty squares a list takes more time than its order saves.
 
-ghost use Rattle.std.specs.Prelude.{◌≡◌, ◌≢◌, ◌≤◌, ◌≤ℤ◌, ◌+ℤ◌, pos, negsuc, length};
+ghost use Rattle.std.specs.Prelude.{◌≡◌, ◌≢◌, ◌≤◌, ◌≤ℤ◌, negsuc, length};
 ghost use Rattle.othello_bits.specs.Pos.{moves_of, empties_of, value_of, HasNoMove};
-ghost use Rattle.endgame_search.specs.Windows.{IsBound, IsFailSoft};
-ghost use Rattle.endgame_search.specs.Children.{AreOthersOf};
+ghost use Rattle.endgame_search.specs.Windows.{IsBound, IsNullWindowScore};
+ghost use Rattle.endgame_search.specs.Children.{UnlistedAreAtMost};
 
-use crate::hash_cutoff::{BELOW_ALL_SCORES, decide};
 use crate::last_four::search_in_order;
-use crate::move_order::{Child, add_children, add_until_stuck, indices_of, next_of};
+use crate::move_order::{Child, add_children, add_until_no_replies, indices_of, next_of};
+use crate::table_cutoff::{BELOW_ALL_SCORES, probe_cutoff};
 use arrayvec::ArrayVec;
 use bound_table::Bounds;
 use othello_bits::{Pos, without};
 
-// The most empty squares of a position that this module searches.
-pub(crate) const MOST_FEW_EMPTIES: u8 = 7;
+// The greatest number of empty squares of a position that this module searches.
+pub(crate) const MOST_SHALLOW_EMPTIES: u8 = 7;
 
-// The most empty squares of a position whose moves are tried in the order of their squares.
-const MOST_IN_ORDER: u8 = 4;
+// The greatest number of empty squares of a position whose moves are tried in the order of their
+// squares.
+const MOST_EMPTIES_IN_ORDER: u8 = 4;
 
 // The room of a list of children: one for each empty square.
-const FEW_ROOM: usize = MOST_FEW_EMPTIES as usize;
+const SHALLOW_ROOM: usize = MOST_SHALLOW_EMPTIES as usize;
 
-// Searches a position with at most 7 empty squares. Returns a score that places its value in the
-// window from the bound to one above it.
-#[cycle(few)]
+// Searches a position with at most 7 empty squares.
+#[cycle(shallow)]
 #[inline(always)]
-pub(crate) fn search_few<T: Bounds>(
+pub(crate) fn search_shallow<T: Bounds>(
     table: &T,
     position: Pos,
     moves: u64,
@@ -37,115 +37,116 @@ pub(crate) fn search_few<T: Bounds>(
 ) -> i8
     requires moves { moves ≡ moves_of position }
     requires empties { empties ≡ empties_of position }
-    requires few { empties ≤ 7 }
+    requires shallow { empties ≤ MOST_SHALLOW_EMPTIES }
     requires bound { IsBound bound }
-    ensures { IsFailSoft bound (bound +ℤ pos 1) (value_of (T.scoring table.now) position) result }
+    ensures { IsNullWindowScore bound (value_of (T.scoring table.now) position) result }
 {
     if moves != 0 {
-        search_few_moves(table, position, moves, empties, bound)
+        search_shallow_moves(table, position, moves, empties, bound)
     } else {
-        search_few_pass(table, position, bound)
+        search_shallow_pass(table, position, bound)
     }
 }
 
-// Searches a position with at most 7 empty squares in which the mover has no move. Returns a score
-// that places its value in the window from the bound to one above it.
-#[cycle(few)]
+// Searches such a position in which the mover has no move: a pass, or the end of the game.
+#[cycle(shallow)]
 #[inline(never)]
-fn search_few_pass<T: Bounds>(table: &T, position: Pos, bound: i8) -> i8
+fn search_shallow_pass<T: Bounds>(table: &T, position: Pos, bound: i8) -> i8
     requires none { HasNoMove position }
-    requires few { empties_of position ≤ 7 }
+    requires shallow { empties_of position ≤ MOST_SHALLOW_EMPTIES }
     requires bound { IsBound bound }
-    ensures { IsFailSoft bound (bound +ℤ pos 1) (value_of (T.scoring table.now) position) result }
+    ensures { IsNullWindowScore bound (value_of (T.scoring table.now) position) result }
 {
     let passed = position.pass();
     let replies = passed.moves();
     if replies == 0 {
         return position.final_score(table.scoring());
     }
-    if let Some(score) = decide(table, position, bound) {
+    if let Some(score) = probe_cutoff(table, position, bound) {
         return score;
     }
-    -search_few_moves(table, passed, replies, position.empties(), -1 - bound)
+    -search_shallow_moves(table, passed, replies, position.empties(), -1 - bound)
 }
 
-// Searches a position with at most 7 empty squares in which the mover has a move. Returns a score
-// that places its value in the window from the bound to one above it.
-#[cycle(few)]
+// Searches such a position in which the mover has a move.
+#[cycle(shallow)]
 #[inline(always)]
-fn search_few_moves<T: Bounds>(table: &T, position: Pos, moves: u64, empties: u8, bound: i8) -> i8
+fn search_shallow_moves<T: Bounds>(
+    table: &T,
+    position: Pos,
+    moves: u64,
+    empties: u8,
+    bound: i8,
+) -> i8
     requires moves { moves ≡ moves_of position }
     requires some { moves ≢ 0 }
     requires empties { empties ≡ empties_of position }
-    requires few { empties ≤ 7 }
+    requires shallow { empties ≤ MOST_SHALLOW_EMPTIES }
     requires bound { IsBound bound }
-    ensures { IsFailSoft bound (bound +ℤ pos 1) (value_of (T.scoring table.now) position) result }
+    ensures { IsNullWindowScore bound (value_of (T.scoring table.now) position) result }
 {
-    if empties <= MOST_IN_ORDER {
+    if empties <= MOST_EMPTIES_IN_ORDER {
         search_in_order(table, position, moves, empties, bound)
     } else {
-        search_few_by_list(table, position, moves, bound)
+        search_shallow_by_list(table, position, moves, bound)
     }
 }
 
-// Searches a position with at most 7 empty squares in which the mover has a move, by a list of its
-// children. Returns a score that places its value in the window from the bound to one above it. A
-// child without replies is first in the order, so it is searched before the remaining children are
-// made.
-#[cycle(few)]
+// Searches such a position in which the mover has a move, by a list of its children. As in
+// `alpha_beta`, the first child without replies is searched before the remaining children are made.
+#[cycle(shallow)]
 #[inline(never)]
-fn search_few_by_list<T: Bounds>(table: &T, position: Pos, moves: u64, bound: i8) -> i8
+fn search_shallow_by_list<T: Bounds>(table: &T, position: Pos, moves: u64, bound: i8) -> i8
     requires moves { moves ≡ moves_of position }
     requires some { moves ≢ 0 }
-    requires few { empties_of position ≤ 7 }
+    requires shallow { empties_of position ≤ MOST_SHALLOW_EMPTIES }
     requires bound { IsBound bound }
-    ensures { IsFailSoft bound (bound +ℤ pos 1) (value_of (T.scoring table.now) position) result }
+    ensures { IsNullWindowScore bound (value_of (T.scoring table.now) position) result }
 {
-    let mut children = ArrayVec::<Child, FEW_ROOM>::new();
-    if let Some(score) = decide(table, position, bound) {
+    let mut children = ArrayVec::<Child, SHALLOW_ROOM>::new();
+    if let Some(score) = probe_cutoff(table, position, bound) {
         return score;
     }
-    let Some(stuck) = add_until_stuck(position, moves, &mut children) else {
-        return search_few_children(table, position, &children, BELOW_ALL_SCORES, bound);
+    let Some(split) = add_until_no_replies(position, moves, &mut children) else {
+        return search_shallow_children(table, position, &children, BELOW_ALL_SCORES, bound);
     };
-    let first = stuck.child;
-    let score = -search_few_pass(table, first.position, -1 - bound);
+    let first = split.child;
+    let score = -search_shallow_pass(table, first.position, -1 - bound);
     if score > bound {
         return score;
     }
-    add_children(position, stuck.rest, &mut children);
-    search_few_children(table, position, &children, score, bound)
+    add_children(position, split.rest, &mut children);
+    search_shallow_children(table, position, &children, score, bound)
 }
 
-// Searches the remaining children. `searched` is the best score so far, or `BELOW_ALL_SCORES`
-// before the first move. Returns a score that places the position's value in the window from the
-// bound to one above it.
-#[cycle(few)]
+// Searches the listed children. `best_so_far` is the best score of the moves that are not listed,
+// or `BELOW_ALL_SCORES` if there are none.
+#[cycle(shallow)]
 #[inline(always)]
-fn search_few_children<T: Bounds>(
+fn search_shallow_children<T: Bounds>(
     table: &T,
     position: Pos,
     children: &[Child],
-    searched: i8,
+    best_so_far: i8,
     bound: i8,
 ) -> i8
-    requires others { AreOthersOf (T.scoring table.now) position searched children.now }
-    requires least { negsuc 64 ≤ℤ searched }
-    requires open { searched ≤ℤ bound }
+    requires unlisted { UnlistedAreAtMost (T.scoring table.now) position best_so_far children.now }
+    requires least { negsuc 64 ≤ℤ best_so_far }
+    requires open { best_so_far ≤ℤ bound }
     requires some { moves_of position ≢ 0 }
-    requires few { empties_of position ≤ 7 }
-    requires room { length children.now ≤ 7 }
+    requires shallow { empties_of position ≤ MOST_SHALLOW_EMPTIES }
+    requires room { length children.now ≤ SHALLOW_ROOM }
     requires bound { IsBound bound }
-    ensures { IsFailSoft bound (bound +ℤ pos 1) (value_of (T.scoring table.now) position) result }
+    ensures { IsNullWindowScore bound (value_of (T.scoring table.now) position) result }
 {
     let empties = position.empties() - 1;
-    let mut best = searched;
-    let mut left = indices_of(children);
-    while left != 0 {
-        let index = next_of(children, left);
-        left = without(left, index);
+    let mut best = best_so_far;
+    let mut unsearched = indices_of(children);
+    while unsearched != 0 {
+        let index = next_of(children, unsearched);
+        unsearched = without(unsearched, index);
         let child = children[usize::from(index.number())];
-        let score = -search_few(table, child.position, child.replies, empties, -1 - bound);
+        let score = -search_shallow(table, child.position, child.replies, empties, -1 - bound);
         if score > bound {
             return score;
         }

@@ -9,8 +9,8 @@ ghost use Rattle.endgame_search.specs.Windows.{IsBound};
 ghost use Rattle.othello_bits.specs.Pos.{moves_of, play_of, value_of, answer_of, best_answer};
 ghost use Rattle.othello_bits.specs.Pos.{is_best_move, mask_where, IsMove};
 
-use crate::alpha_beta::search_scores;
-use crate::hash_cutoff::{ABOVE_ALL_SCORES, BELOW_ALL_SCORES, store_if_deep};
+use crate::alpha_beta::search_window;
+use crate::table_cutoff::{ABOVE_ALL_SCORES, BELOW_ALL_SCORES, store_if_deep};
 use crate::task::Task;
 use bound_table::Bounds;
 use othello_bits::{Pos, without};
@@ -88,17 +88,18 @@ pub struct Claim {
 }
 
 /// The value of a position under the table's scoring, as the mover sees it: in discs from -64 to
-/// 64, or 1, 0 or -1 under `Sign`. Positions with few empty squares are not stored.
+/// 64, or 1, 0 or -1 under `Sign`. Positions with fewer than 10 empty squares are not stored.
 pub fn exact_value<T: Bounds>(table: &T, position: Pos) -> i8
     ensures value { result ≡ value_of (T.scoring table.now) position }
     ensures in_range { IsScore result }
 {
-    let score = search_scores(table, position, 0, BELOW_ALL_SCORES, ABOVE_ALL_SCORES);
-    store_if_deep(table, position, BELOW_ALL_SCORES, ABOVE_ALL_SCORES, score)
+    let score = search_window(table, position, 0, BELOW_ALL_SCORES, ABOVE_ALL_SCORES);
+    store_if_deep(table, position, BELOW_ALL_SCORES, ABOVE_ALL_SCORES, score);
+    score
 }
 
-/// Solves a task: its position with the exact value and all moves that attain it. The table has the
-/// scoring of the task.
+/// Solves a task: returns its position with the exact value and all moves that attain it. The table
+/// must have the scoring of the task.
 pub fn solve<T: Bounds>(table: &T, task: Task) -> Solved
     requires { task.scoring ≡ T.scoring table.now }
     ensures { result ≡ task }
@@ -107,9 +108,9 @@ pub fn solve<T: Bounds>(table: &T, task: Task) -> Solved
     solved_at(table, task, score)
 }
 
-/// Solves a task by testing a claim. The result is that of `solve` whatever the claim is, and
-/// comes sooner where the claim is right. Two null windows test the score, and one tests each move.
-/// Where a test fails, `solve` finds the answer. The table has the scoring of the task.
+/// Solves a task by testing a claim. The result is that of `solve` whatever the claim is, and comes
+/// sooner where the claim is right. Two null windows test the score, and one tests each move. Where
+/// a test fails, `solve` finds the answer. The table must have the scoring of the task.
 pub fn confirm<T: Bounds>(table: &T, task: Task, claim: Claim) -> Solved
     requires { task.scoring ≡ T.scoring table.now }
     ensures { result ≡ task }
@@ -127,16 +128,10 @@ pub fn confirm<T: Bounds>(table: &T, task: Task, claim: Claim) -> Solved
 fn is_value<T: Bounds>(table: &T, position: Pos, score: i8) -> bool
     ensures { IsTrue result ↔ (score ≡ value_of (T.scoring table.now) position) }
 {
-    if score < -GREATEST_SCORE {
+    if score < -GREATEST_SCORE || score > GREATEST_SCORE {
         return false;
     }
-    if score > GREATEST_SCORE {
-        return false;
-    }
-    if !is_above(table, position, score - 1) {
-        return false;
-    }
-    !is_above(table, position, score)
+    is_above(table, position, score - 1) && !is_above(table, position, score)
 }
 
 // Whether the value of the position is above the bound, by a null window.
@@ -144,7 +139,7 @@ fn is_above<T: Bounds>(table: &T, position: Pos, bound: i8) -> bool
     requires { IsBound bound }
     ensures { IsTrue result ↔ (bound <ℤ value_of (T.scoring table.now) position) }
 {
-    search_scores(table, position, bound, bound, bound + 1) > bound
+    search_window(table, position, bound, bound, bound + 1) > bound
 }
 
 // The solved position of a task whose value is known: null windows find what attains it.
@@ -187,16 +182,15 @@ fn best_moves<T: Bounds>(table: &T, position: Pos, moves: u64, score: i8) -> u64
     let mut best = moves;
     let squares = squares_in(moves);
     for square in squares.iter() {
-        if gives(table, position, *square, score) {
-            continue;
+        if !attains(table, position, *square, score) {
+            best = without(best, *square);
         }
-        best = without(best, *square);
     }
     best
 }
 
 // Whether a move is worth at least the score, by a null window.
-fn gives<T: Bounds>(table: &T, position: Pos, square: Square, score: i8) -> bool
+fn attains<T: Bounds>(table: &T, position: Pos, square: Square, score: i8) -> bool
     requires legal { IsMove position square }
     requires in_range { IsScore score }
     ensures { IsTrue result

@@ -39,8 +39,8 @@ impl Task {
     /// The greatest number of empty squares of a task.
     pub const MOST_EMPTIES: u8 = 60;
 
-    /// The task of a position under a scoring. The limit is the greatest number of empty squares
-    /// that is accepted. A limit above 60 counts as 60. `TooMany` where the position has more.
+    /// The task of a position under a scoring. `TooMany` where the position has more than `limit`
+    /// empty squares, or more than 60.
     pub fn new(position: Pos, limit: u8, scoring: Scoring) -> Result<Task, TooMany>
         ensures when { IsOk result ↔ (empties_of position ≤ min limit most_empties) }
         ensures task { IfOk result

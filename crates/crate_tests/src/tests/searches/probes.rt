@@ -194,16 +194,16 @@ fn is_stored(counter: &ProbeCounter, position: Pos, low: i8, high: i8) -> bool
 }
 
 // Whether searches of the null windows below and above the value are stored.
-fn are_cut_offs_stored(counter: &ProbeCounter, position: Pos) -> bool {
+fn are_cutoffs_stored(counter: &ProbeCounter, position: Pos) -> bool {
     let value = value_in(&NoTable::new(Scoring::Winner), position, -65, 65);
     is_stored(counter, position, value - 1, value) && is_stored(counter, position, value, value + 1)
 }
 
 #[test]
-fn cut_offs_are_stored(rt: HostRuntime) {
+fn cutoffs_are_stored(rt: HostRuntime) {
     let position = pos_of(&rt, TEN_EMPTY_SQUARES, Side::Black);
     let counter = count_probes(&rt, rt.alloc(), 1, [position, position]);
-    assert!(rt; are_cut_offs_stored(&counter, position));
+    assert!(rt; are_cutoffs_stored(&counter, position));
     let position = pos_of(&rt, SIXTY_EMPTY_SQUARES, Side::Black);
     let counter = count_probes(&rt, rt.alloc(), 1, [position, position]);
     assert!(rt; is_stored(&counter, position, 63, 64));

@@ -1,5 +1,5 @@
 -- Goals that a search would prove are answered too: the search takes longer.
-use Rattle.std.proofs.Common.{arith, rules, refl, pos, negsuc, ◌≡◌, ◌<◌, ◌+◌, ◌*◌, ◌-ℤ◌, ◌+ℤ◌, neg_ℤ, ◌≤ℤ◌, to_z, w8, sym, ap, ◌∙◌, subst, take, take_all}
+use Rattle.std.proofs.Common.{arith, rules, refl, pos, negsuc, ◌≡◌, ◌<◌, ◌+◌, ◌*◌, ◌-ℤ◌, neg_ℤ, ◌≤ℤ◌, to_z, w8, sym, ap, ◌∙◌, subst, take, take_all}
 use borrow.Author.Count.{falls}
 use borrow.Author.Numbers.{ones_of_64}
 use Rattle.std.proofs.lemmas.Int.{ints}
@@ -7,10 +7,10 @@ use Rattle.std.proofs.lemmas.List.Elements.{All-same}
 use Rattle.othello_bits.specs.Pos.{moves_of, pass_of, empties_of, final_of, value_of, HasNoMove}
 use Rattle.othello_bits.proofs.GameLaws.{value_score, value-over}
 use Rattle.endgame_search.specs.declared.move_order.Child.{Child}
-use Rattle.endgame_search.specs.Children.{IsChildOf, AreOthersOf}
-use Rattle.endgame_search.specs.Windows.{IsFailSoft}
-use Rattle.endgame_search.proofs.Bounds.{bound_same, shown_bound, other_bound, stored_window, stored_places, stored_back, same_places, turned_above, cut_above, score_open, score_covers, best_grows, best_covers, best_open, best_least, none_above, before_first, after_first}
-use Rattle.endgame_search.proofs.Moves.{child_worth, child_empties, passed_worth, passed_empties, at_index, searched_more, best_of_others, others_left, others_sorted, all_others}
+use Rattle.endgame_search.specs.Children.{IsChildOf, UnlistedAreAtMost}
+use Rattle.endgame_search.specs.Windows.{IsNullWindowScore}
+use Rattle.endgame_search.proofs.Bounds.{bound_same, shown_bound, other_bound, stored_window, stored_fail_soft, same_fail_soft, turned_above, cut_above, score_open, score_covers, best_grows, best_covers, best_open, best_least, none_above, before_first, after_first}
+use Rattle.endgame_search.proofs.Moves.{child_worth, child_empties, passed_worth, passed_empties, at_index, searched_more, value_at_most, unlisted_after_first, unlisted_sorted, none_unlisted}
 use Rattle.endgame_search.proofs.Windows.{shown, shown_same, exact, at_least_as, unshown}
 use Rattle.endgame_search.proofs.alpha_beta.+search.Goals as goal
 
@@ -27,10 +27,10 @@ search-search_pass-requires g t c κs within =
     (w, (within, (sym c.requires.moves ∙ c.if-moves-ne0.false, shown_bound c.args.bound c.requires.bound)))
 
 pub search-returns-then-moves-ne0 : goal.search-returns-then-moves-ne0
-search-returns-then-moves-ne0 g t c = same_places c.args.bound c.requires.bound _ _ c.search_moves.ensures
+search-returns-then-moves-ne0 g t c = same_fail_soft c.args.bound c.requires.bound _ _ c.search_moves.ensures
 
 pub search-returns-else-moves-ne0 : goal.search-returns-else-moves-ne0
-search-returns-else-moves-ne0 g t c = same_places c.args.bound c.requires.bound _ _ c.search_pass.ensures
+search-returns-else-moves-ne0 g t c = same_fail_soft c.args.bound c.requires.bound _ _ c.search_pass.ensures
 
 pub search_pass-returns-then-replies-eq0 : goal.search_pass-returns-then-replies-eq0
 search_pass-returns-then-replies-eq0 g t c =
@@ -44,11 +44,11 @@ search_pass-returns-then-replies-eq0 g t c =
     let f : shown c.final_score.result ≡ c.final_score.result = omega (arith, ints, e, l, m) in
     exact _ _ _ _ s (f ∙ e)
 
-pub search_pass-decide-requires : goal.search_pass-decide-requires
-search_pass-decide-requires g t c = shown_bound c.args.bound c.requires.bound
+pub search_pass-probe_cutoff-requires : goal.search_pass-probe_cutoff-requires
+search_pass-probe_cutoff-requires g t c = shown_bound c.args.bound c.requires.bound
 
 pub search_pass-returns-in-Some : goal.search_pass-returns-in-Some
-search_pass-returns-in-Some g t c = same_places c.args.bound c.requires.bound _ _ c.in-Some.ensures
+search_pass-returns-in-Some g t c = same_fail_soft c.args.bound c.requires.bound _ _ c.in-Some.ensures
 
 pub search_pass-search_moves-score-requires : goal.search_pass-search_moves-score-requires
 search_pass-search_moves-score-requires g t c κs within =
@@ -59,26 +59,24 @@ search_pass-search_moves-score-requires g t c κs within =
 pub search_pass-store_if_deep-requires-clause-window : goal.search_pass-store_if_deep-requires-clause-window
 search_pass-store_if_deep-requires-clause-window g t c = stored_window c.args.bound c.requires.bound
 
-pub search_pass-store_if_deep-requires-clause-places : goal.search_pass-store_if_deep-requires-clause-places
-search_pass-store_if_deep-requires-clause-places g t c =
+pub search_pass-store_if_deep-requires-clause-fail_soft : goal.search_pass-store_if_deep-requires-clause-fail_soft
+search_pass-store_if_deep-requires-clause-fail_soft g t c =
     let w = passed_worth (g.T.Bounds.scoring c.args.table.now) c.args.position c.pass-passed.result c.moves-replies.result c.requires.none c.pass-passed.ensures.value c.moves-replies.ensures.value c.if-replies-eq0.false in
-    stored_places c.args.bound c.requires.bound _ _
-    (subst (λ z. IsFailSoft c.args.bound (c.args.bound +ℤ pos 1) z (shown (pos 0 -ℤ shown c.search_moves-score.result))) (sym w)
+    stored_fail_soft c.args.bound c.requires.bound _ _
+    (subst (λ z. IsNullWindowScore c.args.bound z (shown (pos 0 -ℤ shown c.search_moves-score.result))) (sym w)
     (turned_above c.args.bound _ _ c.requires.bound c.search_moves-score.ensures))
 
 pub search_pass-returns : goal.search_pass-returns
 search_pass-returns g t c =
     let w = passed_worth (g.T.Bounds.scoring c.args.table.now) c.args.position c.pass-passed.result c.moves-replies.result c.requires.none c.pass-passed.ensures.value c.moves-replies.ensures.value c.if-replies-eq0.false in
-    stored_back c.args.bound c.requires.bound _ _ _
-    (subst (λ z. IsFailSoft c.args.bound (c.args.bound +ℤ pos 1) z (shown (pos 0 -ℤ shown c.search_moves-score.result))) (sym w)
-    (turned_above c.args.bound _ _ c.requires.bound c.search_moves-score.ensures))
-    c.store_if_deep.ensures
+    subst (λ z. IsNullWindowScore c.args.bound z (shown (pos 0 -ℤ shown c.search_moves-score.result))) (sym w)
+    (turned_above c.args.bound _ _ c.requires.bound c.search_moves-score.ensures)
 
-pub search_moves-decide-requires : goal.search_moves-decide-requires
-search_moves-decide-requires g t c = shown_bound c.args.bound c.requires.bound
+pub search_moves-probe_cutoff-requires : goal.search_moves-probe_cutoff-requires
+search_moves-probe_cutoff-requires g t c = shown_bound c.args.bound c.requires.bound
 
 pub search_moves-returns-in-Some : goal.search_moves-returns-in-Some
-search_moves-returns-in-Some g t c = same_places c.args.bound c.requires.bound _ _ c.in-Some.ensures
+search_moves-returns-in-Some g t c = same_fail_soft c.args.bound c.requires.bound _ _ c.in-Some.ensures
 
 pub search_moves-search_by_list-score-requires : goal.search_moves-search_by_list-score-requires
 search_moves-search_by_list-score-requires g t c κs within =
@@ -89,13 +87,12 @@ search_moves-search_by_list-score-requires g t c κs within =
 pub search_moves-store_if_deep-requires-clause-window : goal.search_moves-store_if_deep-requires-clause-window
 search_moves-store_if_deep-requires-clause-window g t c = stored_window c.args.bound c.requires.bound
 
-pub search_moves-store_if_deep-requires-clause-places : goal.search_moves-store_if_deep-requires-clause-places
-search_moves-store_if_deep-requires-clause-places g t c =
-    stored_places c.args.bound c.requires.bound _ _ (same_places c.args.bound c.requires.bound _ _ c.search_by_list-score.ensures)
+pub search_moves-store_if_deep-requires-clause-fail_soft : goal.search_moves-store_if_deep-requires-clause-fail_soft
+search_moves-store_if_deep-requires-clause-fail_soft g t c =
+    stored_fail_soft c.args.bound c.requires.bound _ _ (same_fail_soft c.args.bound c.requires.bound _ _ c.search_by_list-score.ensures)
 
 pub search_moves-returns : goal.search_moves-returns
-search_moves-returns g t c =
-    stored_back c.args.bound c.requires.bound _ _ _ (same_places c.args.bound c.requires.bound _ _ c.search_by_list-score.ensures) c.store_if_deep.ensures
+search_moves-returns g t c = same_fail_soft c.args.bound c.requires.bound _ _ c.search_by_list-score.ensures
 
 pub search_by_list-search_up_to_16-requires : goal.search_by_list-search_up_to_16-requires
 search_by_list-search_up_to_16-requires g t c κs within =
@@ -104,7 +101,7 @@ search_by_list-search_up_to_16-requires g t c κs within =
     (w, (within, (c.requires.moves, (c.requires.some, (c.if-moves-le16.true, shown_bound c.args.bound c.requires.bound)))))
 
 pub search_by_list-returns-then-moves-le16 : goal.search_by_list-returns-then-moves-le16
-search_by_list-returns-then-moves-le16 g t c = same_places c.args.bound c.requires.bound _ _ c.search_up_to_16.ensures
+search_by_list-returns-then-moves-le16 g t c = same_fail_soft c.args.bound c.requires.bound _ _ c.search_up_to_16.ensures
 
 pub search_by_list-search_up_to_64-requires : goal.search_by_list-search_up_to_64-requires
 search_by_list-search_up_to_64-requires g t c κs within =
@@ -113,22 +110,22 @@ search_by_list-search_up_to_64-requires g t c κs within =
     (w, (within, (c.requires.moves, (c.requires.some, shown_bound c.args.bound c.requires.bound))))
 
 pub search_by_list-returns-else-moves-le16 : goal.search_by_list-returns-else-moves-le16
-search_by_list-returns-else-moves-le16 g t c = same_places c.args.bound c.requires.bound _ _ c.search_up_to_64.ensures
+search_by_list-returns-else-moves-le16 g t c = same_fail_soft c.args.bound c.requires.bound _ _ c.search_up_to_64.ensures
 
-pub search_up_to_16-add_until_stuck-requires : goal.search_up_to_16-add_until_stuck-requires
-search_up_to_16-add_until_stuck-requires g t c = (search rules, (c.requires.moves, ((c.requires.room), c.new-children.ensures)))
+pub search_up_to_16-add_until_no_replies-requires : goal.search_up_to_16-add_until_no_replies-requires
+search_up_to_16-add_until_no_replies-requires g t c = (search rules, (c.requires.moves, ((c.requires.room), c.new-children.ensures)))
 
 pub search_up_to_16-search_children-requires : goal.search_up_to_16-search_children-requires
 search_up_to_16-search_children-requires g t c κs within =
     let r = g.T.Bounds.scoring c.args.table.now in
     let d : 8 * empties_of c.args.position + 3 ≡ t = c.decreases in
     let w : 8 * empties_of c.args.position + 2 < t = omega (arith, d) in
-    let others = others_sorted r c.args.position (negsuc 64) _ _ c.sort_children.ensures (all_others r c.args.position _ (negsuc 64) (c.in_default.ensures.all refl)) in (
+    let unlisted = unlisted_sorted r c.args.position (negsuc 64) _ _ c.sort_children.ensures (none_unlisted r c.args.position _ (negsuc 64) (c.in_default.ensures.all refl)) in (
       w,
       (
         within,
         (
-          subst (AreOthersOf r c.args.position (negsuc 64)) (sym c.deref.ensures.0) others,
+          subst (UnlistedAreAtMost r c.args.position (negsuc 64)) (sym c.deref.ensures.0) unlisted,
           (
             omega (arith, ints),
             (
@@ -141,40 +138,40 @@ search_up_to_16-search_children-requires g t c κs within =
     )
 
 pub search_up_to_16-returns-in_default : goal.search_up_to_16-returns-in_default
-search_up_to_16-returns-in_default g t c = same_places c.args.bound c.requires.bound _ _ c.search_children.ensures
+search_up_to_16-returns-in_default g t c = same_fail_soft c.args.bound c.requires.bound _ _ c.search_children.ensures
 
 pub search_up_to_16-search-score-requires : goal.search_up_to_16-search-score-requires
 search_up_to_16-search-score-requires g t c κs within =
-    let up = c.in-Some.ensures.stuck in
+    let split = c.in-Some.ensures.split in
     let d : 8 * empties_of c.args.position + 3 ≡ t = c.decreases in
-    let w : 8 * empties_of c.in-Some.stuck.child.position + 7 < t = omega (arith, d, child_empties c.args.position c.in-Some.stuck.child up.child) in
-    (w, (within, (up.child.replies, other_bound c.args.bound c.requires.bound)))
+    let w : 8 * empties_of c.in-Some.split.child.position + 7 < t = omega (arith, d, child_empties c.args.position c.in-Some.split.child split.child) in
+    (w, (within, (split.child.replies, other_bound c.args.bound c.requires.bound)))
 
 pub search_up_to_16-returns-then-score-bound : goal.search_up_to_16-returns-then-score-bound
 search_up_to_16-returns-then-score-bound g t c =
     cut_above c.args.bound _ _ (shown (pos 0 -ℤ shown c.search-score.result)) c.requires.bound
     (turned_above c.args.bound _ _ c.requires.bound c.search-score.ensures)
-    (child_worth (g.T.Bounds.scoring c.args.table.now) c.args.position c.in-Some.stuck.child c.in-Some.ensures.stuck.child) c.if-score-bound.true
+    (child_worth (g.T.Bounds.scoring c.args.table.now) c.args.position c.in-Some.split.child c.in-Some.ensures.split.child) c.if-score-bound.true
 
 pub search_up_to_16-add_children-requires : goal.search_up_to_16-add_children-requires
-search_up_to_16-add_children-requires g t c = (search rules, (c.in-Some.ensures.stuck.rest, (c.in-Some.ensures.left, c.in-Some.ensures.stuck.each)))
+search_up_to_16-add_children-requires g t c = (search rules, (c.in-Some.ensures.split.rest, (c.in-Some.ensures.room, c.in-Some.ensures.split.each)))
 
 pub search_up_to_16-search_children-requires-2 : goal.search_up_to_16-search_children-requires-2
 search_up_to_16-search_children-requires-2 g t c κs within =
     let r = g.T.Bounds.scoring c.args.table.now in
-    let up = c.in-Some.ensures.stuck in
-    let above = child_worth r c.args.position c.in-Some.stuck.child up.child in
+    let split = c.in-Some.ensures.split in
+    let above = child_worth r c.args.position c.in-Some.split.child split.child in
     let d : 8 * empties_of c.args.position + 3 ≡ t = c.decreases in
     let w : 8 * empties_of c.args.position + 2 < t = omega (arith, d) in
     let s = shown (pos 0 -ℤ shown c.search-score.result) in
     let p = turned_above c.args.bound _ _ c.requires.bound c.search-score.ensures in
     let covered = score_covers c.args.bound _ _ s c.requires.bound p above c.if-score-bound.false in
-    let others = others_sorted r c.args.position _ _ _ c.sort_children-2.ensures (others_left r c.args.position c.in-Some.stuck _ _ _ up covered c.add_children.ensures.each c.add_children.ensures.every) in (
+    let unlisted = unlisted_sorted r c.args.position _ _ _ c.sort_children-2.ensures (unlisted_after_first r c.args.position c.in-Some.split _ _ _ split covered c.add_children.ensures.each c.add_children.ensures.every) in (
       w,
       (
         within,
         (
-          subst (AreOthersOf r c.args.position s) (sym c.deref-2.ensures.0) others,
+          subst (UnlistedAreAtMost r c.args.position s) (sym c.deref-2.ensures.0) unlisted,
           (
             after_first _ p.least,
             (
@@ -187,22 +184,22 @@ search_up_to_16-search_children-requires-2 g t c κs within =
     )
 
 pub search_up_to_16-returns : goal.search_up_to_16-returns
-search_up_to_16-returns g t c = same_places c.args.bound c.requires.bound _ _ c.search_children-2.ensures
+search_up_to_16-returns g t c = same_fail_soft c.args.bound c.requires.bound _ _ c.search_children-2.ensures
 
-pub search_up_to_64-add_until_stuck-requires : goal.search_up_to_64-add_until_stuck-requires
-search_up_to_64-add_until_stuck-requires g t c = (search rules, (c.requires.moves, (ones_of_64 c.args.moves c.ranges.moves.fits, c.new-children.ensures)))
+pub search_up_to_64-add_until_no_replies-requires : goal.search_up_to_64-add_until_no_replies-requires
+search_up_to_64-add_until_no_replies-requires g t c = (search rules, (c.requires.moves, (ones_of_64 c.args.moves c.ranges.moves.fits, c.new-children.ensures)))
 
 pub search_up_to_64-search_children-requires : goal.search_up_to_64-search_children-requires
 search_up_to_64-search_children-requires g t c κs within =
     let r = g.T.Bounds.scoring c.args.table.now in
     let d : 8 * empties_of c.args.position + 3 ≡ t = c.decreases in
     let w : 8 * empties_of c.args.position + 2 < t = omega (arith, d) in
-    let others = others_sorted r c.args.position (negsuc 64) _ _ c.sort_children.ensures (all_others r c.args.position _ (negsuc 64) (c.in_default.ensures.all refl)) in (
+    let unlisted = unlisted_sorted r c.args.position (negsuc 64) _ _ c.sort_children.ensures (none_unlisted r c.args.position _ (negsuc 64) (c.in_default.ensures.all refl)) in (
       w,
       (
         within,
         (
-          subst (AreOthersOf r c.args.position (negsuc 64)) (sym c.deref.ensures.0) others,
+          subst (UnlistedAreAtMost r c.args.position (negsuc 64)) (sym c.deref.ensures.0) unlisted,
           (
             omega (arith, ints),
             (
@@ -215,40 +212,40 @@ search_up_to_64-search_children-requires g t c κs within =
     )
 
 pub search_up_to_64-returns-in_default : goal.search_up_to_64-returns-in_default
-search_up_to_64-returns-in_default g t c = same_places c.args.bound c.requires.bound _ _ c.search_children.ensures
+search_up_to_64-returns-in_default g t c = same_fail_soft c.args.bound c.requires.bound _ _ c.search_children.ensures
 
 pub search_up_to_64-search-score-requires : goal.search_up_to_64-search-score-requires
 search_up_to_64-search-score-requires g t c κs within =
-    let up = c.in-Some.ensures.stuck in
+    let split = c.in-Some.ensures.split in
     let d : 8 * empties_of c.args.position + 3 ≡ t = c.decreases in
-    let w : 8 * empties_of c.in-Some.stuck.child.position + 7 < t = omega (arith, d, child_empties c.args.position c.in-Some.stuck.child up.child) in
-    (w, (within, (up.child.replies, other_bound c.args.bound c.requires.bound)))
+    let w : 8 * empties_of c.in-Some.split.child.position + 7 < t = omega (arith, d, child_empties c.args.position c.in-Some.split.child split.child) in
+    (w, (within, (split.child.replies, other_bound c.args.bound c.requires.bound)))
 
 pub search_up_to_64-returns-then-score-bound : goal.search_up_to_64-returns-then-score-bound
 search_up_to_64-returns-then-score-bound g t c =
     cut_above c.args.bound _ _ (shown (pos 0 -ℤ shown c.search-score.result)) c.requires.bound
     (turned_above c.args.bound _ _ c.requires.bound c.search-score.ensures)
-    (child_worth (g.T.Bounds.scoring c.args.table.now) c.args.position c.in-Some.stuck.child c.in-Some.ensures.stuck.child) c.if-score-bound.true
+    (child_worth (g.T.Bounds.scoring c.args.table.now) c.args.position c.in-Some.split.child c.in-Some.ensures.split.child) c.if-score-bound.true
 
 pub search_up_to_64-add_children-requires : goal.search_up_to_64-add_children-requires
-search_up_to_64-add_children-requires g t c = (search rules, (c.in-Some.ensures.stuck.rest, (c.in-Some.ensures.left, c.in-Some.ensures.stuck.each)))
+search_up_to_64-add_children-requires g t c = (search rules, (c.in-Some.ensures.split.rest, (c.in-Some.ensures.room, c.in-Some.ensures.split.each)))
 
 pub search_up_to_64-search_children-requires-2 : goal.search_up_to_64-search_children-requires-2
 search_up_to_64-search_children-requires-2 g t c κs within =
     let r = g.T.Bounds.scoring c.args.table.now in
-    let up = c.in-Some.ensures.stuck in
-    let above = child_worth r c.args.position c.in-Some.stuck.child up.child in
+    let split = c.in-Some.ensures.split in
+    let above = child_worth r c.args.position c.in-Some.split.child split.child in
     let d : 8 * empties_of c.args.position + 3 ≡ t = c.decreases in
     let w : 8 * empties_of c.args.position + 2 < t = omega (arith, d) in
     let s = shown (pos 0 -ℤ shown c.search-score.result) in
     let p = turned_above c.args.bound _ _ c.requires.bound c.search-score.ensures in
     let covered = score_covers c.args.bound _ _ s c.requires.bound p above c.if-score-bound.false in
-    let others = others_sorted r c.args.position _ _ _ c.sort_children-2.ensures (others_left r c.args.position c.in-Some.stuck _ _ _ up covered c.add_children.ensures.each c.add_children.ensures.every) in (
+    let unlisted = unlisted_sorted r c.args.position _ _ _ c.sort_children-2.ensures (unlisted_after_first r c.args.position c.in-Some.split _ _ _ split covered c.add_children.ensures.each c.add_children.ensures.every) in (
       w,
       (
         within,
         (
-          subst (AreOthersOf r c.args.position s) (sym c.deref-2.ensures.0) others,
+          subst (UnlistedAreAtMost r c.args.position s) (sym c.deref-2.ensures.0) unlisted,
           (
             after_first _ p.least,
             (
@@ -261,16 +258,16 @@ search_up_to_64-search_children-requires-2 g t c κs within =
     )
 
 pub search_up_to_64-returns : goal.search_up_to_64-returns
-search_up_to_64-returns g t c = same_places c.args.bound c.requires.bound _ _ c.search_children-2.ensures
+search_up_to_64-returns g t c = same_fail_soft c.args.bound c.requires.bound _ _ c.search_children-2.ensures
 
-pub search_children-probe_children-requires-clause-children : goal.search_children-probe_children-requires-clause-children
-search_children-probe_children-requires-clause-children g t c = c.requires.others.each
+pub search_children-enhanced_cutoff-requires-clause-children : goal.search_children-enhanced_cutoff-requires-clause-children
+search_children-enhanced_cutoff-requires-clause-children g t c = c.requires.unlisted.each
 
-pub search_children-probe_children-requires-clause-bound : goal.search_children-probe_children-requires-clause-bound
-search_children-probe_children-requires-clause-bound g t c = shown_bound c.args.bound c.requires.bound
+pub search_children-enhanced_cutoff-requires-clause-bound : goal.search_children-enhanced_cutoff-requires-clause-bound
+search_children-enhanced_cutoff-requires-clause-bound g t c = shown_bound c.args.bound c.requires.bound
 
 pub search_children-returns-in-Some : goal.search_children-returns-in-Some
-search_children-returns-in-Some g t c = same_places c.args.bound c.requires.bound _ _ c.in-Some.ensures
+search_children-returns-in-Some g t c = same_fail_soft c.args.bound c.requires.bound _ _ c.in-Some.ensures
 
 pub search_children-bounds-children-child-index : goal.search_children-bounds-children-child-index
 search_children-bounds-children-child-index g t c = c.loop-child-test.true
@@ -280,7 +277,7 @@ search_children-loop-child-init g t c =
     let l = c.requires.least in
     let m = c.requires.open in
     let n = c.requires.bound.1 in
-    let same : shown c.args.searched ≡ c.args.searched = shown_same c.args.searched l (omega (arith, ints)) in
+    let same : shown c.args.best_so_far ≡ c.args.best_so_far = shown_same c.args.best_so_far l (omega (arith, ints)) in
     let bound : shown c.args.bound ≡ c.args.bound = bound_same c.args.bound c.requires.bound in
     record {
       searched = λ k x h. absurd (omega (arith, h));
@@ -292,13 +289,13 @@ search_children-loop-child-init g t c =
 pub search_children-search-score-requires : goal.search_children-search-score-requires
 search_children-search-score-requires g t c κs within =
     let d : 8 * empties_of c.args.position + 2 ≡ t = c.decreases in
-    let child = at_index (IsChildOf c.args.position) c.args.children.now c.loop-child.child-index c.child-item.result c.loop-child-test.true c.child-item.is c.requires.others.each in
+    let child = at_index (IsChildOf c.args.position) c.args.children.now c.loop-child.child-index c.child-item.result c.loop-child-test.true c.child-item.is c.requires.unlisted.each in
     let w : 8 * empties_of c.child-item.result.position + 7 < t = omega (arith, d, child_empties c.args.position c.child-item.result child) in
     (w, (within, (child.replies, other_bound c.args.bound c.requires.bound)))
 
 pub search_children-returns-then-score-bound : goal.search_children-returns-then-score-bound
 search_children-returns-then-score-bound g t c =
-    let child = at_index (IsChildOf c.args.position) c.args.children.now c.loop-child.child-index c.child-item.result c.loop-child-test.true c.child-item.is c.requires.others.each in
+    let child = at_index (IsChildOf c.args.position) c.args.children.now c.loop-child.child-index c.child-item.result c.loop-child-test.true c.child-item.is c.requires.unlisted.each in
     cut_above c.args.bound _ _ (shown (pos 0 -ℤ shown c.search-score.result)) c.requires.bound
     (turned_above c.args.bound _ _ c.requires.bound c.search-score.ensures)
     (child_worth (g.T.Bounds.scoring c.args.table.now) c.args.position c.child-item.result child) c.if-score-bound.true
@@ -311,7 +308,7 @@ search_children-loop-child-preserved g t c =
     let kept = c.loop-child.invariant in
     let items = c.args.children.now in
     let r = g.T.Bounds.scoring c.args.table.now in
-    let child = at_index (IsChildOf c.args.position) items c.loop-child.child-index c.child-item.result c.loop-child-test.true c.child-item.is c.requires.others.each in
+    let child = at_index (IsChildOf c.args.position) items c.loop-child.child-index c.child-item.result c.loop-child-test.true c.child-item.is c.requires.unlisted.each in
     let above = child_worth r c.args.position c.child-item.result child in
     let s = shown (pos 0 -ℤ shown c.search-score.result) in
     let p = turned_above c.args.bound _ _ c.requires.bound c.search-score.ensures in
@@ -334,4 +331,4 @@ search_children-returns g t c =
     let all = All-same (λ (x : Child). neg_ℤ (value_of r x.position) ≤ℤ to_z w8 c.loop-child.best-bits) items _ (sym e) kept.searched in
     let grown = unshown _ _ c.requires.least (at_least_as _ _ _ c.requires.open c.requires.bound.1) kept.grown in
     none_above c.args.bound _ _ c.requires.bound (value_score r c.args.position) kept.open_left
-    (best_of_others r c.args.position items _ _ c.requires.some c.requires.others grown all)
+    (value_at_most r c.args.position items _ _ c.requires.some c.requires.unlisted grown all)

@@ -29,5 +29,5 @@ invariant-search_children-loop-child g l = record {
   searched : All (λ (c : Child). neg_ℤ (value_of (g.T.Bounds.scoring l.table) c.position) ≤ℤ l.best) (take l.child-index l.children);
   least : negsuc 64 ≤ℤ l.best;
   open_left : l.best ≤ℤ l.bound;
-  grown : l.fn.searched ≤ℤ l.best;
+  grown : l.fn.best_so_far ≤ℤ l.best;
 }

@@ -1,14 +1,14 @@
 -- Goals that a search would prove are answered too: the search takes longer.
-use Rattle.std.proofs.Common.{◌≡◌, ◌∙◌, ◌+◌, ◌*◌, ◌-◌, ◌<◌, refl, sym, ap, subst, arith, pos, neg_ℤ, ◌+ℤ◌, ◌-ℤ◌, ◌≤ℤ◌, true}
+use Rattle.std.proofs.Common.{◌≡◌, ◌∙◌, ◌+◌, ◌*◌, ◌-◌, ◌<◌, refl, sym, ap, subst, arith, pos, neg_ℤ, ◌-ℤ◌, ◌≤ℤ◌, true}
 use Rattle.std.proofs.lemmas.Int.{ints}
 use Rattle.othello_rules.specs.Masks.{in_mask}
 use Rattle.othello_bits.specs.Pos.{pass_of, empties_of, moves_of, final_of, value_of, HasNoMove}
 use Rattle.othello_bits.proofs.GameLaws.{empties_positive, empties-play, value-over, value_score, value_above}
-use Rattle.endgame_search.specs.Windows.{IsFailSoft}
+use Rattle.endgame_search.specs.Windows.{IsNullWindowScore}
 use Rattle.endgame_search.proofs.Bounds.{other_bound, shown_bound, turned_above, cut_above, best_grows, best_covers, best_open, best_least, none_above, before_first}
-use Rattle.endgame_search.proofs.Lasts.{move_free, no_moves_from, last_some}
+use Rattle.endgame_search.proofs.LastSquare.{moves_to_empty, no_moves_from, last_some}
 use Rattle.endgame_search.proofs.Moves.{passed_empties, passed_worth}
-use Rattle.endgame_search.proofs.Tries.{none_tried, next_tried, all_tried, passing, passing_most, passing_none, passing_some}
+use Rattle.endgame_search.proofs.MovesInOrder.{none_tried, next_tried, all_tried, passing, passing_most, passing_none, passing_some}
 use Rattle.endgame_search.proofs.Windows.{shown, exact}
 use Rattle.endgame_search.proofs.last_four.+last.Goals as goal
 
@@ -18,7 +18,7 @@ search_after-search_in_order-requires g t c κs within =
     let d : 4 * empties_of p + 3 ≡ t = c.decreases in
     let few = passing_most (moves_of p) in
     let w : 4 * empties_of p + passing (moves_of p) < t = omega (arith, d, few) in
-    (w, (within, (λ q m. c.free_of.ensures.squares q (move_free c.args.position q m), (c.requires.empties, shown_bound c.args.bound c.requires.bound))))
+    (w, (within, (λ q m. c.empty_squares.ensures.squares q (moves_to_empty c.args.position q m), (c.requires.empties, shown_bound c.args.bound c.requires.bound))))
 
 pub search_in_order-loop-position-init : goal.search_in_order-loop-position-init
 search_in_order-loop-position-init g t c =
@@ -125,5 +125,5 @@ search_pass_in_order-search_in_order-requires g t c κs within =
 pub search_pass_in_order-returns : goal.search_pass_in_order-returns
 search_pass_in_order-returns g t c =
     let w = passed_worth (g.T.Bounds.scoring c.args.table.now) c.args.position c.pass-passed.result c.moves-replies.result c.requires.none c.pass-passed.ensures.value c.moves-replies.ensures.value c.if-replies-eq0.false in
-    subst (λ z. IsFailSoft c.args.bound (c.args.bound +ℤ pos 1) z (shown (pos 0 -ℤ shown c.search_in_order.result))) (sym w)
+    subst (λ z. IsNullWindowScore c.args.bound z (shown (pos 0 -ℤ shown c.search_in_order.result))) (sym w)
     (turned_above c.args.bound _ _ c.requires.bound c.search_in_order.ensures)

@@ -1,6 +1,6 @@
 use Rattle.std.proofs.Common.{◌*◌, ◌+◌, negsuc, ◌≤ℤ◌, count_ones}
 use Rattle.othello_bits.specs.Pos.{empties_of, moves_of}
-use Rattle.endgame_search.proofs.Tries.{IsTriedUpTo, passing}
+use Rattle.endgame_search.proofs.MovesInOrder.{IsTriedUpTo, passing}
 use Rattle.endgame_search.proofs.last_four.+last.Given as goal
 
 abbrev pub decreases-search_after : goal.decreases-search_after
@@ -21,4 +21,4 @@ invariant-search_in_order-loop-position g l = record {
 }
 
 abbrev pub decreases-search_in_order-loop-position : goal.decreases-search_in_order-loop-position
-decreases-search_in_order-loop-position g l = count_ones l.tried.left
+decreases-search_in_order-loop-position g l = count_ones l.tried.rest

@@ -1,0 +1,145 @@
+//! Cutoffs from the table, and what a search stores there.
+
+ghost use Rattle.std.specs.Prelude.{◌≡◌, ◌<ℤ◌, ◌≤ℤ◌, IfSome, All, negsuc, pos};
+ghost use Rattle.othello_rules.specs.Answer.{IsScore};
+ghost use Rattle.othello_bits.specs.Pos.{PosView, value_of};
+ghost use Rattle.bound_table.specs.Range.{range_view};
+ghost use Rattle.endgame_search.specs.Children.{IsChildOf};
+ghost use Rattle.endgame_search.specs.Windows.{IsBound, IsWindow, IsWithin};
+ghost use Rattle.endgame_search.specs.Windows.{IsFailSoft, IsNullWindowScore};
+
+use crate::move_order::Child;
+use bound_table::{Bounds, Range};
+use othello_bits::Pos;
+use othello_rules::{GREATEST_SCORE, Scoring};
+
+// One more than the greatest score.
+pub(crate) const ABOVE_ALL_SCORES: i8 = GREATEST_SCORE + 1;
+
+// One less than the least score. As a best score it says that no move is searched yet.
+pub(crate) const BELOW_ALL_SCORES: i8 = -GREATEST_SCORE - 1;
+
+// The greatest score under a scoring. The least score is minus it. No window needs to reach beyond
+// the two.
+#[inline(always)]
+pub(crate) fn score_limit(scoring: Scoring) -> i8
+    ensures some { pos 1 ≤ℤ result }
+    ensures most { result ≤ℤ pos 64 }
+    ensures bounds { (p : PosView) → IsWithin result (value_of scoring p) }
+{
+    match scoring {
+        Scoring::Winner | Scoring::Discs => GREATEST_SCORE,
+        Scoring::Sign => 1,
+    }
+}
+
+// Probes the table for a fail-soft score of the null window at the bound. There is one where the
+// range found lies above the bound, or where no score of it does.
+#[inline(always)]
+pub(crate) fn probe_cutoff<T: Bounds>(table: &T, position: Pos, bound: i8) -> Option<i8>
+    requires { IsBound bound }
+    ensures { IfSome result (IsNullWindowScore bound (value_of (T.scoring table.now) position)) }
+{
+    let range = table.probe(&position)?;
+    let lower = range.low();
+    let upper = range.high();
+    if lower > bound {
+        return Some(lower);
+    }
+    if upper <= bound {
+        return Some(upper);
+    }
+    None
+}
+
+// The range of the value that a search of the window proves by its score. A score at the lower end
+// or below it is an upper bound. A score at the upper end or above it is a lower bound. A score
+// between the ends is the value.
+#[inline(always)]
+fn proved_range(low: i8, high: i8, score: i8) -> Range
+    requires { IsScore score }
+    ensures at_most { score ≤ℤ low → result ≡ range_view (negsuc 63) score }
+    ensures at_least { low <ℤ score → high ≤ℤ score → result ≡ range_view score (pos 64) }
+    ensures exact { low <ℤ score → score <ℤ high → result ≡ range_view score score }
+{
+    if score <= low {
+        return Range::new(-GREATEST_SCORE, score).unwrap();
+    }
+    if score >= high {
+        return Range::new(score, GREATEST_SCORE).unwrap();
+    }
+    Range::new(score, score).unwrap()
+}
+
+// The fewest empty squares of a position that `store_if_deep` stores. To search a position with
+// fewer again takes less time than to find it in the table.
+const FEWEST_STORED: u8 = 10;
+
+// Stores the range that a search of the window proves by its score, unless too few squares are
+// empty.
+#[inline(always)]
+pub(crate) fn store_if_deep<T: Bounds>(table: &T, position: Pos, low: i8, high: i8, score: i8)
+    requires window { IsWindow low high }
+    requires fail_soft { IsFailSoft low high (value_of (T.scoring table.now) position) score }
+{
+    if position.empties() >= FEWEST_STORED {
+        store_always(table, position, low, high, score);
+    }
+}
+
+// Stores the range that a search of the window proves by its score, however many squares are empty.
+#[inline(never)]
+pub(crate) fn store_always<T: Bounds>(table: &T, position: Pos, low: i8, high: i8, score: i8)
+    requires window { IsWindow low high }
+    requires fail_soft { IsFailSoft low high (value_of (T.scoring table.now) position) score }
+{
+    table.store(&position, proved_range(low, high, score));
+}
+
+// The fewest empty squares of a position whose listed children are probed before one of them is
+// searched. With fewer, to find them in a large table takes more time than the cutoffs save.
+const FEWEST_PROBED_AHEAD: u8 = 13;
+
+// Probes the children for an enhanced transposition cutoff (Plaat, Schaeffer, Pijls and de Bruin,
+// 1996): a move that is worth more than the bound, by the table's range of its child. Returns a
+// lower bound of the move's worth. None where no child gives a cutoff, or too few squares are
+// empty.
+#[inline(always)]
+pub(crate) fn enhanced_cutoff<T: Bounds>(
+    table: &T,
+    position: Pos,
+    children: &[Child],
+    bound: i8,
+) -> Option<i8>
+    requires children { All (IsChildOf position) children.now }
+    requires bound { IsBound bound }
+    ensures { IfSome result (IsNullWindowScore bound (value_of (T.scoring table.now) position)) }
+{
+    if position.empties() < FEWEST_PROBED_AHEAD {
+        return None;
+    }
+    probe_each_child(table, position, children, bound)
+}
+
+// The same, however many squares are empty.
+#[inline(never)]
+fn probe_each_child<T: Bounds>(
+    table: &T,
+    position: Pos,
+    children: &[Child],
+    bound: i8,
+) -> Option<i8>
+    requires children { All (IsChildOf position) children.now }
+    requires bound { IsBound bound }
+    ensures { IfSome result (IsNullWindowScore bound (value_of (T.scoring table.now) position)) }
+{
+    for child in children {
+        if let Some(range) = table.probe(&child.position) {
+            let worth = -range.high();
+            if worth > bound {
+                return Some(worth);
+            }
+        }
+    }
+    None
+}
