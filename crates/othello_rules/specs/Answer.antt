@@ -1,7 +1,8 @@
 -- What contracts see of an answer.
-use Rattle.std.specs.Prelude.{◌<◌, ℤ, negsuc, pos, ◌≤ℤ◌, ⊤}
+use Rattle.std.specs.Prelude.{◌<◌, ℤ, ◌≤ℤ◌, ⊤}
 use Rattle.othello_rules.specs.declared.answer.Best.{Best}
 use Rattle.othello_rules.specs.declared.answer.Best.TheVariants.{Moves, Pass, Over}
+use Rattle.othello_rules.specs.Limits.{least_score, greatest_score}
 
 pub record AnswerView : Type 0 where
   pub score : ℤ
@@ -9,8 +10,8 @@ pub record AnswerView : Type 0 where
 
 -- a score is from -64 to 64
 pub record IsScore (z : ℤ) : Type 0 where
-  pub low : negsuc 63 ≤ℤ z
-  pub high : z ≤ℤ pos 64
+  pub low : least_score ≤ℤ z
+  pub high : z ≤ℤ greatest_score
 
 -- a mask of best moves is not 0
 abbrev pub IsBest : Best → Type 0
