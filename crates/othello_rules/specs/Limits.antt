@@ -6,7 +6,7 @@ use Rattle.othello_rules.specs.declared.scoring.TheConstants.{GREATEST_SCORE}
 abbrev pub greatest_score : ℤ
 greatest_score = pos 64
 
--- the least score: -64
+-- the least score: minus the greatest
 abbrev pub least_score : ℤ
 least_score = neg_ℤ greatest_score
 
