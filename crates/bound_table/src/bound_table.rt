@@ -52,8 +52,9 @@ fn hash_of(position: Pos) -> u64 {
     (products ^ (products >> 29)).wrapping_mul(0xbf58_476d_1ce4_e5b9)
 }
 
-// The number of the entry of a position, counted from 0. The upper half of the position's hash, over
-// 2^32, is a fraction of 1, and the number is that fraction of the number of entries, rounded down.
+// The number of the entry of a position, counted from 0. The upper half of the position's hash,
+// over 2^32, is a fraction of 1. The number is that fraction of the number of entries, rounded
+// down.
 #[inline]
 fn entry_index(position: Pos, entries: usize) -> usize
     requires some { 0 < entries }

@@ -1,5 +1,5 @@
--- The value of a position by full minimax, and its answer, under each scoring (textbook minimax, each
--- value as the side to move sees it).
+-- The value of a position by full minimax, and its answer, under each scoring (textbook minimax,
+-- each value as the side to move sees it). g is a scoring throughout, and P a position.
 use Rattle.std.specs.Prelude.{ℕ, zero, suc, Bool, List, [], ◌∷◌, map, ℤ, pos, neg_ℤ, if◌then◌else◌}
 use Rattle.std.specs.List.{filter, fold}
 use Rattle.std.specs.Int.{int_max}

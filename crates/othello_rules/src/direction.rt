@@ -12,8 +12,8 @@ pub(crate) enum Step {
 }
 
 impl Step {
-    // How many steps a ray may make from the column or row `at`, from 0 to 7, before the edge: 7 for
-    // `Stay`, which meets none.
+    // How many steps a ray may make before the edge from the column or row `at`, which is from 0 to
+    // 7. `Stay` meets no edge: 7.
     pub(crate) fn steps_along(self, at: u8) -> u8
         requires { at < 8 }
         ensures value { result ≡ steps_along self at }

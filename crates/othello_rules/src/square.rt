@@ -1,7 +1,8 @@
 //! Squares and their names.
 
 ghost use Rattle.std.specs.Prelude.{◌≡◌, ◌<◌, ◌≤◌, ◌↔◌, IsSome, IfSome, Some, ℕ};
-ghost use Rattle.othello_rules.specs.Board.{name_of, IsNameOf, square_after, squares, steps_to_edge};
+ghost use Rattle.othello_rules.specs.Board.{name_of, IsNameOf};
+ghost use Rattle.othello_rules.specs.Board.{square_after, squares, steps_to_edge};
 
 use crate::direction::Direction;
 use std::marker::Model;
