@@ -51,7 +51,7 @@ IsAnswer scoring p answer = IfSome (numbered_scoring scoring) (λ g. answer ≡ 
 abbrev pub AreAnswers : ℕ → List FfosolvePosition → List FfosolveAnswer → Type 0
 AreAnswers scoring ps answers = IfSome (numbered_scoring scoring) (λ g. answers ≡ map (answer_at g) ps)
 
--- a claim can be right: its score is one, from -64 to 64, and its kind is 0, 1 or 2
+-- a claim can be right: its score is from -64 to 64, and its kind 0, 1 or 2
 abbrev pub IsPossible : FfosolveAnswer → Type 0
 IsPossible claim =
     IsScore claim.score × ((pos 0 ≤ℤ claim.kind) × (claim.kind ≤ℤ pos 2))

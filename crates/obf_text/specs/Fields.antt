@@ -38,7 +38,7 @@ IsMoveText text (At square) = (square < 64) × IsNameOf text square
 IsMoveText text Pass = IsPass text
 IsMoveText text Over = text ≡ 45 ∷ 45 ∷ []
 
--- a byte is the digit
+-- the byte spells the digit
 abbrev pub IsDigit : ℕ → ℕ → Type 0
 IsDigit byte digit = (byte ≡ 48 + digit) × (digit ≤ 9)
 
@@ -98,12 +98,12 @@ Lists (piece ∷ pieces) (field ∷ fields) =
 
 -- ---- what the reader computes
 
--- how far a byte is above `first`, at most `last`
+-- the number of a byte among the bytes from first to first + last, counted from 0
 abbrev pub offset_of : ℕ → ℕ → ℕ → Option ℕ
 offset_of first last b =
     if nat_le first b && nat_le b (first + last) then Some (b - first) else None
 
--- the digit of a byte
+-- the digit that a byte spells, if it does
 abbrev pub digit_of : ℕ → Option ℕ
 digit_of b = offset_of 48 9 b
 
@@ -111,11 +111,11 @@ digit_of b = offset_of 48 9 b
 abbrev pub column_of_letter : ℕ → Option ℕ
 column_of_letter b = if nat_le b 72 then offset_of 65 7 b else offset_of 97 7 b
 
--- the row of a digit: 1 to 8
+-- the row of a digit from 1 to 8, counted from 0
 abbrev pub row_of_digit : ℕ → Option ℕ
 row_of_digit b = offset_of 49 7 b
 
--- the square of a column and a row
+-- the square of a column and a row, if both are there
 abbrev pub square_in : Option ℕ → Option ℕ → Option ListedMove
 square_in (Some column) (Some row) = Some (At (column + 8 * row))
 square_in _ _ = None
@@ -124,14 +124,14 @@ square_in _ _ = None
 abbrev pub is_pass : ℕ → ℕ → Bool
 is_pass a b = ((a == 80) || (a == 112)) && ((b == 83) || (b == 115))
 
--- the move of two bytes: a pass, the end of the game or a square
+-- what two bytes name, if they do: a pass, the end of the game, or the move to a square
 abbrev pub move_of : ℕ → ℕ → Option ListedMove
 move_of a b =
     if is_pass a b then Some Pass
     else (if (a == 45) && (b == 45) then Some Over
     else square_in (column_of_letter a) (row_of_digit b))
 
--- a number that is at most 64
+-- the number, if it is at most 64
 abbrev pub at_most_64 : ℕ → Option ℕ
 at_most_64 n = if nat_le n 64 then Some n else None
 
@@ -146,7 +146,7 @@ size_of (a ∷ []) = digit_of a
 size_of (a ∷ b ∷ []) = two_digit_size (digit_of a) (digit_of b)
 size_of _ = None
 
--- the score of a text: `+`, `-` or no sign, and a size
+-- the score of a text, if it is one: `+`, `-` or no sign, and a size
 abbrev pub score_of_text : List ℕ → Option ℤ
 score_of_text [] = None
 score_of_text (sign ∷ digits) =
@@ -154,12 +154,12 @@ score_of_text (sign ∷ digits) =
     else (if sign == 45 then option_map (λ n. neg_ℤ (pos n)) (size_of digits)
     else option_map pos (size_of (sign ∷ digits)))
 
--- the field of a move and a score
+-- the field of a move and a score, if both are there
 abbrev pub field_by : Option ListedMove → Option ℤ → Option Field
 field_by (Some move) (Some score) = Some (move, score)
 field_by _ _ = None
 
--- the field of a text: two bytes that are a move, a colon and a score
+-- the field of a text, if it is one: two bytes that name a move, a colon and a score
 abbrev pub field_of_text : List ℕ → Option Field
 field_of_text (a ∷ b ∷ colon ∷ score) =
     if colon == 58 then field_by (move_of a b) (score_of_text score) else None

@@ -2,7 +2,7 @@
 use Rattle.std.specs.Prelude.{◌≡◌, ℤ, pos, neg_ℤ, refl}
 use Rattle.othello_rules.specs.declared.scoring.TheConstants.{GREATEST_SCORE}
 
--- the greatest score of a position under any scoring: one side has all 64 squares
+-- the greatest score of a position under any scoring: all 64 squares are the mover's
 abbrev pub greatest_score : ℤ
 greatest_score = pos 64
 
