@@ -1,4 +1,4 @@
--- What a table keeps, and what contracts see of it.
+-- What a transposition table keeps, and what contracts see of it.
 use Rattle.std.specs.Prelude.{◌≡◌, ℕ, ◌≤◌, List, length, All}
 use Rattle.othello_rules.specs.declared.scoring.Scoring.{Scoring}
 use Rattle.othello_bits.specs.Pos.{PosView}

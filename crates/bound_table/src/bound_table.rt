@@ -1,4 +1,4 @@
-//! A table of ranges that many threads share.
+//! A transposition table, whose entries are ranges, that many threads share.
 
 ghost use Rattle.std.specs.Prelude.{◌≡◌, ◌<◌, ◌≤◌, ◌↔◌, IfSome, IfOk, IsOk, IsNone, IsTrue};
 ghost use Rattle.bound_table.specs.Limits.{most_entries};
@@ -18,10 +18,10 @@ use std::sync::atomic::{AtomicU8, Ordering};
 // One more than the greatest number of empty squares.
 const ABOVE_ALL_EMPTIES: u8 = 65;
 
-/// A table with a fixed number of entries, which threads share by reference. No call waits, and
-/// only `new` takes memory. An entry holds a canonical position and a range that is true of it. A
-/// store replaces what its entry holds. It is skipped where another thread reads or writes the
-/// entry. A probe shows None where another thread writes the entry, and may show None where one
+/// A transposition table with a fixed number of entries, which threads share by reference. No call
+/// waits, and only `new` takes memory. An entry holds a canonical position and a range that is true
+/// of it. A store replaces what its entry holds. It is skipped where another thread reads or writes
+/// the entry. A probe shows None where another thread writes the entry, and may show None where one
 /// reads it.
 #[derive(Drop)]
 pub struct BoundTable {
@@ -43,7 +43,8 @@ impl Model for BoundTable {
     ghost invariant = { λ t. IsTable t.scoring t.slots.items };
 }
 
-// A number that depends on all bits of both masks: products with odd numbers, folded twice.
+// A number that depends on all bits of both masks: each mask times an odd constant, joined by xor,
+// then mixed by a shift and a third product. The constants are those of splitmix64 and xxHash64.
 #[inline]
 fn hash_of(position: Pos) -> u64 {
     let products = position.own().wrapping_mul(0x9e37_79b9_7f4a_7c15)
@@ -51,8 +52,9 @@ fn hash_of(position: Pos) -> u64 {
     (products ^ (products >> 29)).wrapping_mul(0xbf58_476d_1ce4_e5b9)
 }
 
-// The number of the entry of a position, counted from 0. The upper half of the position's hash is a
-// fraction of 2^32, and the number is that fraction of the number of entries.
+// The number of the entry of a position, counted from 0. The upper half of the position's hash,
+// over 2^32, is a fraction of 1. The number is that fraction of the number of entries, rounded
+// down.
 #[inline]
 fn entry_index(position: Pos, entries: usize) -> usize
     requires some { 0 < entries }
@@ -100,16 +102,16 @@ impl BoundTable {
         self.slots.is_empty()
     }
 
-    // Whether each stored position has more than `empties` empty squares. A probe of a position
-    // with `empties` then need not look at the entries.
+    // Whether each stored position has more than `empties` empty squares. Then no position with
+    // `empties` empty squares is stored, and a probe for one need not look at the entries.
     #[inline]
     fn is_below_all(&self, empties: u8) -> bool {
         empties < self.fewest_empties.load(Ordering::SeqCst)
     }
 
-    // Notes the number of empty squares of a position that is stored.
+    // Lowers the fewest empty squares to those of a position that is stored.
     #[inline]
-    fn note(&self, empties: u8) {
+    fn note_empties(&self, empties: u8) {
         if self.is_below_all(empties) {
             self.fewest_empties.fetch_min(empties, Ordering::SeqCst);
         }
@@ -138,10 +140,7 @@ impl Bounds for BoundTable {
         ensures shown { IfSome result (IsTrueOf self.now.scoring position.now) }
         ensures empty { self.now.entries ≡ 0 → IsNone result }
     {
-        if self.is_empty() {
-            return None;
-        }
-        if self.is_below_all(position.empties()) {
+        if self.is_empty() || self.is_below_all(position.empties()) {
             return None;
         }
         let canonical = position.least_image();
@@ -154,7 +153,7 @@ impl Bounds for BoundTable {
         if self.is_empty() {
             return;
         }
-        self.note(position.empties());
+        self.note_empties(position.empties());
         let entry = Entry::of(position, range);
         write(self.slot(entry.position), entry);
     }

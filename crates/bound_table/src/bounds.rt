@@ -1,4 +1,4 @@
-//! The table that a search probes and stores to.
+//! The transposition table that a search probes and stores to.
 
 ghost use Rattle.std.specs.Prelude.{◌≡◌, IfSome, IsNone};
 ghost use Rattle.othello_rules.specs.declared.scoring.Scoring.{Scoring};
@@ -9,8 +9,8 @@ use othello_bits::Pos;
 use othello_rules::Scoring;
 use std::marker::Model;
 
-/// A table of ranges of positions' values under one scoring. Two probes of one position may differ:
-/// another thread may store between them, and a probe may always show None.
+/// A table of bounds: ranges of positions' values under one scoring. Two probes of one position may
+/// differ: another thread may store between them, and a probe may always show None.
 pub trait Bounds {
     ghost scoring: { Self → Scoring };
 

@@ -15,7 +15,7 @@ use counted_slot::{Counted, FREE, Fits, MOST_READERS, ONE_READER, PRESENT, TAKEN
 use othello_bits::Pos;
 use othello_rules::Scoring;
 
-/// A canonical position and a range that is true of it: 24 bytes.
+/// A canonical position and a range that is true of it: 24 bytes, to which a slot adds a word of 8.
 #[derive(Clone, Copy)]
 pub(crate) struct Entry {
     pub(crate) position: Pos,

@@ -1,5 +1,5 @@
-//! What is known about the values of positions: ranges that are true of them, and tables of such
-//! ranges.
+//! What is known about the values of positions: ranges that are true of them, and a transposition
+//! table of such ranges, which threads share.
 //!
 //! A table never promises to show a range. Each range that it shows is true of the position asked
 //! for.

@@ -1,13 +1,15 @@
 //! Ranges of scores.
 
-ghost use Rattle.std.specs.Prelude.{◌≡◌, ◌↔◌, negsuc, pos, IsSome, IfSome};
+ghost use Rattle.std.specs.Prelude.{◌≡◌, ◌↔◌, IsSome, IfSome};
+ghost use Rattle.othello_rules.specs.Limits.{least_score, greatest_score};
 ghost use Rattle.bound_table.specs.Range.{range_view, IsRange};
 
 use othello_rules::GREATEST_SCORE;
 use std::marker::Model;
 
-/// The scores from `low` to `high`, both ends included: `-64 <= low <= high <= 64`. They are in
-/// discs, or signs under `Scoring::Sign`.
+/// The scores from `low` to `high`, both ends included, unlike those of `std::ops::Range`:
+/// `-64 <= low <= high <= 64`. They are in discs. Under `Scoring::Sign` a value is 1, 0 or -1, and
+/// its range may be wider than that.
 #[derive(Clone, Copy, PartialEq, Eq, Debug)]
 pub struct Range {
     low: i8,
@@ -43,7 +45,7 @@ impl Range {
     /// The range of all scores.
     #[inline]
     pub(crate) fn of_all_scores() -> Range
-        ensures { result ≡ range_view (negsuc 63) (pos 64) }
+        ensures { result ≡ range_view least_score greatest_score }
     {
         Range {
             low: -GREATEST_SCORE,

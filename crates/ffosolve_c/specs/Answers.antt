@@ -1,8 +1,8 @@
 -- Scorings, positions, answers and scores as C passes and reads them.
-use Rattle.std.specs.Prelude.{◌≡◌, ◌≤ℤ◌, ℕ, ℤ, pos, negsuc, List, map, IfSome, Option, slice_get, neg_ℤ, if◌then◌else◌}
+use Rattle.std.specs.Prelude.{◌≡◌, ◌≤ℤ◌, ℕ, ℤ, pos, List, map, IfSome, Option, slice_get, neg_ℤ, if◌then◌else◌}
 use Rattle.othello_rules.specs.Board.{squares}
 use Rattle.othello_rules.specs.Masks.{in_mask}
-use Rattle.othello_rules.specs.Answer.{AnswerView}
+use Rattle.othello_rules.specs.Answer.{AnswerView, IsScore}
 use Rattle.othello_rules.specs.declared.answer.Best.{Best}
 use Rattle.othello_rules.specs.declared.answer.Best.TheVariants.{Moves, Pass, Over}
 use Rattle.othello_rules.specs.declared.scoring.Scoring.{Scoring}
@@ -54,8 +54,7 @@ AreAnswers scoring ps answers = IfSome (numbered_scoring scoring) (λ g. answers
 -- a claim can be right: its score is from -64 to 64, and its kind 0, 1 or 2
 abbrev pub IsPossible : FfosolveAnswer → Type 0
 IsPossible claim =
-    ((negsuc 63 ≤ℤ claim.score) × (claim.score ≤ℤ pos 64))
-    × ((pos 0 ≤ℤ claim.kind) × (claim.kind ≤ℤ pos 2))
+    IsScore claim.score × ((pos 0 ≤ℤ claim.kind) × (claim.kind ≤ℤ pos 2))
 
 -- what the move to square q is worth to the mover, or 127 where it is not a move
 abbrev pub score_at : Scoring → PosView → ℕ → ℤ

@@ -10,7 +10,7 @@ use Rattle.obf_text.specs.Bytes.{is_blank, is_content}
 use Rattle.obf_text.specs.declared.entries.ListedMove.{ListedMove}
 use Rattle.obf_text.specs.declared.entries.ListedMove.TheVariants.{At, Pass, Over}
 
--- a listed move, with its score as the side to move sees it
+-- a field: a listed move, with its score as the side to move sees it
 abbrev pub Field : Type 0
 Field = ListedMove × ℤ
 
@@ -38,9 +38,11 @@ IsMoveText text (At square) = (square < 64) × IsNameOf text square
 IsMoveText text Pass = IsPass text
 IsMoveText text Over = text ≡ 45 ∷ 45 ∷ []
 
+-- the byte spells the digit
 abbrev pub IsDigit : ℕ → ℕ → Type 0
 IsDigit byte digit = (byte ≡ 48 + digit) × (digit ≤ 9)
 
+-- two bytes are digits, and n is their number
 pub record IsTwoDigits (first second n : ℕ) : Type 0 where
   pub tens : ℕ
   pub ones : ℕ
@@ -82,6 +84,7 @@ pub record IsField (piece : List ℕ) (field : Field) : Type 0 where
   pub is_move_text : IsMoveText move field.0
   pub is_score_text : IsScoreText score field.1
 
+-- a piece that is no field
 abbrev pub IsNoField : List ℕ → Type 0
 IsNoField piece = (field : Field) → IsField piece field → ⊥
 
@@ -100,6 +103,7 @@ abbrev pub offset_of : ℕ → ℕ → ℕ → Option ℕ
 offset_of first last b =
     if nat_le first b && nat_le b (first + last) then Some (b - first) else None
 
+-- the digit that a byte spells, if it does
 abbrev pub digit_of : ℕ → Option ℕ
 digit_of b = offset_of 48 9 b
 
@@ -107,34 +111,42 @@ digit_of b = offset_of 48 9 b
 abbrev pub column_of_letter : ℕ → Option ℕ
 column_of_letter b = if nat_le b 72 then offset_of 65 7 b else offset_of 97 7 b
 
+-- the row of a digit from 1 to 8, counted from 0
 abbrev pub row_of_digit : ℕ → Option ℕ
 row_of_digit b = offset_of 49 7 b
 
+-- the square of a column and a row, if both are there
 abbrev pub square_in : Option ℕ → Option ℕ → Option ListedMove
 square_in (Some column) (Some row) = Some (At (column + 8 * row))
 square_in _ _ = None
 
+-- two bytes are `PS`, each letter in either case
 abbrev pub is_pass : ℕ → ℕ → Bool
 is_pass a b = ((a == 80) || (a == 112)) && ((b == 83) || (b == 115))
 
+-- what two bytes name, if they do: a pass, the end of the game, or the move to a square
 abbrev pub move_of : ℕ → ℕ → Option ListedMove
 move_of a b =
     if is_pass a b then Some Pass
     else (if (a == 45) && (b == 45) then Some Over
     else square_in (column_of_letter a) (row_of_digit b))
 
+-- the number, if it is at most 64
 abbrev pub at_most_64 : ℕ → Option ℕ
 at_most_64 n = if nat_le n 64 then Some n else None
 
+-- the number of two digits, if it is at most 64
 abbrev pub two_digit_size : Option ℕ → Option ℕ → Option ℕ
 two_digit_size (Some tens) (Some ones) = at_most_64 (10 * tens + ones)
 two_digit_size _ _ = None
 
+-- the number of one or two bytes, if they are digits and it is at most 64
 abbrev pub size_of : List ℕ → Option ℕ
 size_of (a ∷ []) = digit_of a
 size_of (a ∷ b ∷ []) = two_digit_size (digit_of a) (digit_of b)
 size_of _ = None
 
+-- the score of a text, if it is one: `+`, `-` or no sign, and a size
 abbrev pub score_of_text : List ℕ → Option ℤ
 score_of_text [] = None
 score_of_text (sign ∷ digits) =
@@ -142,27 +154,34 @@ score_of_text (sign ∷ digits) =
     else (if sign == 45 then option_map (λ n. neg_ℤ (pos n)) (size_of digits)
     else option_map pos (size_of (sign ∷ digits)))
 
+-- the field of a move and a score, if both are there
 abbrev pub field_by : Option ListedMove → Option ℤ → Option Field
 field_by (Some move) (Some score) = Some (move, score)
 field_by _ _ = None
 
+-- the field of a text, if it is one: two bytes that name a move, a colon and a score
 abbrev pub field_of_text : List ℕ → Option Field
 field_of_text (a ∷ b ∷ colon ∷ score) =
     if colon == 58 then field_by (move_of a b) (score_of_text score) else None
 field_of_text _ = None
 
+-- a piece without the blanks at its front
 abbrev pub without_first_blanks : List ℕ → List ℕ
 without_first_blanks piece = drop (position_or_len is_content piece) piece
 
+-- a piece without the blanks at its end
 abbrev pub without_last_blanks : List ℕ → List ℕ
 without_last_blanks piece = take (length piece - suffix_len is_blank piece) piece
 
+-- a piece without the blanks at both ends
 abbrev pub without_blanks : List ℕ → List ℕ
 without_blanks piece = without_last_blanks (without_first_blanks piece)
 
+-- the field of a piece, if it is one
 abbrev pub field_of : List ℕ → Option Field
 field_of piece = field_of_text (without_blanks piece)
 
+-- the fields of the bytes after the side to move, in their order
 abbrev pub fields_of : List ℕ → List Field
 fields_of rest = filter_map field_of (pieces_of rest)
 

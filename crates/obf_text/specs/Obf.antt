@@ -26,6 +26,7 @@ pub data Meaning : Type 0 where
 
 -- ---- the grammar
 
+-- the end of the line, or the `%` of a comment
 abbrev pub IsEndOrComment : List ℕ → Type 0
 IsEndOrComment [] = Unit {0}
 IsEndOrComment (b ∷ more) = b ≡ 37
@@ -64,6 +65,7 @@ pub record HasBadCell (line : List ℕ) (column : ℕ) : Type 0 where
   pub starts : length cells ≡ 0 → (is_blank byte ≡ false) × (byte ≢ 37)
   pub place : column ≡ length blanks + (length cells + 1)
 
+-- the end of the line, or a byte that is neither a blank nor a disc's letter
 abbrev pub IsNoSide : List ℕ → Type 0
 IsNoSide [] = Unit {0}
 IsNoSide (b ∷ more) = (is_blank b ≡ false) × (side_of b ≡ None)
@@ -98,7 +100,7 @@ pub record Spells (line : List ℕ) (entry : Entry) : Type 0 where
   pub mover : side_of byte ≡ Some entry.position.mover
   pub fields : Lists (pieces_of rest) entry.listed
 
--- whether a line has a meaning
+-- the line has the meaning, by the grammar
 abbrev pub Says : List ℕ → Meaning → Type 0
 Says line Skipped = Skips line
 Says line (Holds entry) = Spells line entry
@@ -109,6 +111,7 @@ Says line (Faulty Memory) = ⊥
 
 -- ---- the meaning of a line, as the reader computes it
 
+-- the meaning by the side to move, if there is one, and the bytes after it
 abbrev pub side_item_at : ℕ → List Cell → Option Side → List ℕ → Meaning
 side_item_at place cells None more = Faulty (BadSide (place + 1))
 side_item_at place cells (Some mover) more =
@@ -139,15 +142,18 @@ content_item start (b ∷ rest) =
     if b == 37 then Skipped
     else board_item start (position_or_len is_no_cell (b ∷ rest)) (b ∷ rest)
 
+-- the meaning of a line
 abbrev pub item_of : List ℕ → Meaning
 item_of line =
     content_item (position_or_len is_content line) (drop (position_or_len is_content line) line)
 
 -- ---- the result of a call
 
+-- the position and the listed fields of a line that was read
 abbrev pub entry_of : Line → Entry
 entry_of line = record { position = line.grid; listed = line.listed.items }
 
+-- a position with at least one listed field
 abbrev pub HasListed : Meaning → Type 0
 HasListed (Holds entry) = 0 < length entry.listed
 HasListed _ = ⊥

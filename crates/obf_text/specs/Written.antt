@@ -32,19 +32,22 @@ side_byte side.White = 79
 unfoldable pub board_text : GridView → List ℕ
 board_text P = map cell_byte P.cells ++ (32 ∷ side_byte P.mover ∷ 59 ∷ [])
 
+-- a listed move as text: a square's name, `PS` or `--`
 unfoldable pub move_text : ListedMove → List ℕ
 move_text (At square) = name_of square
 move_text Pass = codes "PS"
 move_text Over = codes "--"
 
+-- a number below 100 as two digits
 abbrev pub two_digits : ℕ → List ℕ
 two_digits n = (48 + n / 10) ∷ (48 + n % 10) ∷ []
 
--- a score as text: a sign and two digits
+-- a score as text: a sign and two digits (`negsuc n` is -(n + 1))
 unfoldable pub score_text : ℤ → List ℕ
 score_text (pos n) = 43 ∷ two_digits n
 score_text (negsuc n) = 45 ∷ two_digits (n + 1)
 
+-- a colon, the score and a semicolon
 unfoldable pub score_part : ℤ → List ℕ
 score_part score = codes ":" ++ (score_text score ++ codes ";")
 
@@ -52,11 +55,12 @@ score_part score = codes ":" ++ (score_text score ++ codes ";")
 unfoldable pub field_text : Field → List ℕ
 field_text field = codes " " ++ (move_text field.0 ++ score_part field.1)
 
+-- the fields, in their order
 unfoldable pub fields_text : List Field → List ℕ
 fields_text fields = flat_map field_text fields
 
--- the fields of an answer: one with the score for each best move in the order of the squares, or
--- one for the pass or the end of the game
+-- the fields of a score and what attains it: one with the score for each best move in the order of
+-- the squares, or one for the pass or the end of the game
 abbrev pub best_fields : ℤ → Best → List Field
 best_fields score (best.Moves mask) = map (λ square. (At square, score)) (squares_of mask)
 best_fields score best.Pass = (Pass, score) ∷ []
@@ -66,6 +70,7 @@ best_fields score best.Over = (Over, score) ∷ []
 abbrev pub answer_fields : AnswerView → List Field
 answer_fields A = best_fields A.score A.best
 
+-- the text of the fields of a score and what attains it
 unfoldable pub answer_text : ℤ → Best → List ℕ
 answer_text score best = fields_text (best_fields score best)
 
@@ -85,6 +90,7 @@ answer_entry P A = record { position = P; listed = answer_fields A }
 unfoldable pub entry_text : GridView → List Field → List ℕ
 entry_text P fields = board_text P ++ fields_text fields
 
+-- a listed square is on the board
 abbrev pub IsWritableMove : ListedMove → Type 0
 IsWritableMove (At square) = square < 64
 IsWritableMove Pass = Unit {0}
@@ -94,6 +100,7 @@ IsWritableMove Over = Unit {0}
 abbrev pub IsWritable : Field → Type 0
 IsWritable field = IsWritableMove field.0 × (nat_abs field.1 ≤ 64)
 
+-- fields that are read back as they are written
 abbrev pub AreWritable : List Field → Type 0
 AreWritable [] = Unit {0}
 AreWritable (f ∷ fields) = IsWritable f × AreWritable fields

@@ -10,7 +10,8 @@ ghost use Rattle.obf_text.specs.Fields.{Field, IsField, IsNoField, field_of, gre
 ghost use Rattle.obf_text.specs.LineText.{lines_of};
 ghost use Rattle.obf_text.specs.Obf.{Entry, Holds, Meaning, Says, item_of};
 ghost use Rattle.obf_text.specs.Pieces.{line_pieces};
-ghost use Rattle.obf_text.specs.Written.{AreWritable, answer_entry, entry_text, line_text, line_with_end};
+ghost use Rattle.obf_text.specs.Written.{AreWritable, answer_entry, entry_text};
+ghost use Rattle.obf_text.specs.Written.{line_text, line_with_end};
 
 /// Each piece is exactly one field or no field, and `field_of` says which.
 pub fn one_field()

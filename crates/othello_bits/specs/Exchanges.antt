@@ -7,6 +7,7 @@ use Rattle.othello_rules.specs.Masks.{in_mask}
 unfoldable pub exchange_source : ℕ → ℕ → ℕ → ℕ
 exchange_source mask k i = if in_mask mask i then i + k else i - k
 
+-- square i is in `mask` or k above a square of it, and not both
 unfoldable pub exchanges : ℕ → ℕ → ℕ → Bool
 exchanges mask k i = beq (in_mask mask i) (not (nat_le k i && in_mask mask (i - k)))
 
@@ -17,5 +18,6 @@ swap_source mask k i =
     then i + k
     else (if nat_le k i && in_mask mask (i - k) then i - k else i)
 
+-- square i is not both in `mask` and k above a square of it
 unfoldable pub swaps : ℕ → ℕ → ℕ → Bool
 swaps mask k i = not (in_mask mask i && (nat_le k i && in_mask mask (i - k)))

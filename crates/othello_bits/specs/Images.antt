@@ -4,6 +4,7 @@ use Rattle.othello_bits.specs.Symmetries.{mask_image}
 use Rattle.othello_bits.specs.declared.canonical.Image.{Image}
 use Rattle.othello_bits.specs.declared.sym.Sym.{Sym}
 
+-- the masks of the image under symmetry s, with s
 abbrev pub image_with : ℕ → ℕ → Sym → Image
 image_with own opp s = record { own = mask_image s own; opp = mask_image s opp; sym = s }
 
@@ -11,5 +12,6 @@ image_with own opp s = record { own = mask_image s own; opp = mask_image s opp; 
 abbrev pub key : Image → ℕ
 key x = x.own * 2 ^ 64 + x.opp
 
+-- the pair of x is less than that of y
 abbrev pub is_less : Image → Image → Bool
 is_less x y = nat_lt (key x) (key y)

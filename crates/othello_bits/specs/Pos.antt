@@ -22,6 +22,7 @@ pub record PosView : Type 0 where
   pub own : ℕ
   pub opp : ℕ
 
+-- two masks: a of the mover, b of the other side
 abbrev pub discs : ℕ → ℕ → PosView
 discs a b = record { own = a; opp = b }
 
@@ -30,6 +31,7 @@ abbrev pub cell_at : Side → PosView → ℕ → Cell
 cell_at s p i =
     if in_mask p.own i then disc s else (if in_mask p.opp i then disc (other s) else Empty)
 
+-- the 64 cells where side s is the mover
 unfoldable pub cells_of : Side → PosView → List Cell
 cells_of s p = map (cell_at s p) squares
 
@@ -53,16 +55,20 @@ discs_of P = record {
 }
 
 -- From here on Black is the mover. With White to move each definition below has equal results.
--- The masks of the moves and of what a move turns, and the masks after a move and after a pass:
+
+-- the mask of the moves
 unfoldable pub moves_of : PosView → ℕ
 moves_of p = mask_of (rules.moves (position_of Black p))
 
+-- the mask of what a move on q turns
 unfoldable pub flips_of : PosView → ℕ → ℕ
 flips_of p q = mask_where (λ i. mem i (rules.flips (position_of Black p) q))
 
+-- the masks after a move on q
 unfoldable pub play_of : PosView → ℕ → PosView
 play_of p q = discs_of (rules.play (position_of Black p) q)
 
+-- the masks after a pass
 unfoldable pub pass_of : PosView → PosView
 pass_of p = discs_of (rules.pass (position_of Black p))
 
@@ -70,22 +76,27 @@ pass_of p = discs_of (rules.pass (position_of Black p))
 abbrev pub IsMove : PosView → ℕ → Type 0
 IsMove p q = in_mask (moves_of p) q ≡ true
 
+-- the mover has no move
 abbrev pub HasNoMove : PosView → Type 0
 HasNoMove p = moves_of p ≡ 0
 
+-- neither side has a move
 abbrev pub IsOver : PosView → Type 0
 IsOver p = HasNoMove p × HasNoMove (pass_of p)
 
--- how many squares are empty, the score as the discs stand, and the value and the answer under each scoring
+-- the number of empty squares
 unfoldable pub empties_of : PosView → ℕ
 empties_of p = worth.empties (position_of Black p)
 
+-- the score with the discs as they stand
 unfoldable pub final_of : Scoring → PosView → ℤ
 final_of g p = final g (position_of Black p)
 
+-- the value under a scoring
 unfoldable pub value_of : Scoring → PosView → ℤ
 value_of g p = worth.value g (position_of Black p)
 
+-- the answer under a scoring
 unfoldable pub answer_of : Scoring → PosView → AnswerView
 answer_of g p = worth.answer g (position_of Black p)
 

@@ -23,9 +23,11 @@ sends TurnRight c r = square_at (7 - r) c
 sends TurnLeft c r = square_at r (7 - c)
 sends AntiTranspose c r = square_at (7 - r) (7 - c)
 
+-- where square q goes
 abbrev pub target : Sym → ℕ → ℕ
 target s q = sends s (column q) (row q)
 
+-- the symmetry that leads back
 abbrev pub inverse : Sym → Sym
 inverse Identity = Identity
 inverse FlipColumns = FlipColumns
@@ -36,13 +38,15 @@ inverse TurnRight = TurnLeft
 inverse TurnLeft = TurnRight
 inverse AntiTranspose = AntiTranspose
 
--- the eight in their order, and the place of each
+-- the seven besides the identity, in their order
 unfoldable pub others : List Sym
 others = FlipColumns ∷ FlipRows ∷ HalfTurn ∷ Transpose ∷ TurnRight ∷ TurnLeft ∷ AntiTranspose ∷ []
 
+-- all eight in their order
 abbrev pub symmetries : List Sym
 symmetries = Identity ∷ others
 
+-- the place in that order, from 0
 abbrev pub place : Sym → ℕ
 place Identity = 0
 place FlipColumns = 1
@@ -75,16 +79,18 @@ pair_of p = p.own * 2 ^ 64 + p.opp
 abbrev pub image_pair : GridView → Sym → ℕ
 image_pair P s = pair_of (discs_of (image s P))
 
--- the first symmetry whose image has the least pair, and that image
+-- the first symmetry whose image has the least pair
 unfoldable pub first_symmetry : GridView → Sym
 first_symmetry P = best_of (λ s t. nat_lt (image_pair P s) (image_pair P t)) Identity others
 
+-- the canonical position: the image with the least pair
 abbrev pub canonical : GridView → GridView
 canonical P = image (first_symmetry P) P
 
--- the image and the canonical position of two masks
+-- the image of two masks
 unfoldable pub image_of : Sym → PosView → PosView
 image_of s p = discs_of (image s (position_of Black p))
 
+-- the canonical position of two masks
 unfoldable pub canonical_of : PosView → PosView
 canonical_of p = discs_of (canonical (position_of Black p))

@@ -7,7 +7,7 @@ use Rattle.othello_rules.specs.declared.discs.Side.TheVariants as side
 use Rattle.othello_rules.specs.declared.discs.Cell.{Cell}
 use Rattle.othello_rules.specs.declared.discs.Cell.TheVariants as cell
 use Rattle.std.proofs.Common.{Option, Some, None, refl}
-use Rattle.othello_rules.specs.Board.{room, square_after, ray}
+use Rattle.othello_rules.specs.Board.{steps_to_edge, square_after, ray}
 use Rattle.othello_rules.specs.Rules.{GridView, has, own, opposing, other, disc, is_some_cell, run, closes, turned}
 use Rattle.othello_rules.proofs.BoardLaws.{length-ray, get_or-ray}
 
@@ -46,32 +46,32 @@ never_closes mine opp (x ∷ xs) all =
     let first : opp x ≡ true = all 0 (omega arith) in
     rw first (never_closes mine opp xs (λ k l. all (suc k) (omega arith)))
 
-on_ray : (P : GridView) (q : ℕ) (d : Direction) (n : ℕ) → n < room d q → AllOpposing P q d n → has P (opposing P) (square_after d q (n + 1)) ≡ false → (run (has P (opposing P)) (ray d q) ≡ take n (ray d q)) × (closes (has P (own P)) (has P (opposing P)) (ray d q) ≡ has P (own P) (square_after d q (n + 1)))
+on_ray : (P : GridView) (q : ℕ) (d : Direction) (n : ℕ) → n < steps_to_edge d q → AllOpposing P q d n → has P (opposing P) (square_after d q (n + 1)) ≡ false → (run (has P (opposing P)) (ray d q) ≡ take n (ray d q)) × (closes (has P (own P)) (has P (opposing P)) (ray d q) ≡ has P (own P) (square_after d q (n + 1)))
 on_ray P q d n within all stop =
     let r = run_to (has P (own P)) (has P (opposing P)) n (ray d q)
     (rw length-ray within)
-    (λ k l. let inside : k < room d q = omega arith in rw (get_or-ray d q k 0 inside) (all k l))
+    (λ k l. let inside : k < steps_to_edge d q = omega arith in rw (get_or-ray d q k 0 inside) (all k l))
     (rw (get_or-ray d q n 0 within) stop) in
     (r.0, r.1 ∙ ap (has P (own P)) (get_or-ray d q n 0 within))
 
 -- the run is followed by an own disc
-pub turned_closed : (P : GridView) (q : ℕ) (d : Direction) (n : ℕ) → n < room d q → AllOpposing P q d n → has P (own P) (square_after d q (n + 1)) ≡ true → turned P q d ≡ take n (ray d q)
+pub turned_closed : (P : GridView) (q : ℕ) (d : Direction) (n : ℕ) → n < steps_to_edge d q → AllOpposing P q d n → has P (own P) (square_after d q (n + 1)) ≡ true → turned P q d ≡ take n (ray d q)
 unfolding turned
 turned_closed P q d n within all closing =
     let r = on_ray P q d n within all (own_not_opposing P (square_after d q (n + 1)) closing) in
     rw (r.1, closing) r.0
 
 -- the run is followed by an empty square
-pub turned_open : (P : GridView) (q : ℕ) (d : Direction) (n : ℕ) → n < room d q → AllOpposing P q d n → has P (own P) (square_after d q (n + 1)) ≡ false → has P (opposing P) (square_after d q (n + 1)) ≡ false → turned P q d ≡ []
+pub turned_open : (P : GridView) (q : ℕ) (d : Direction) (n : ℕ) → n < steps_to_edge d q → AllOpposing P q d n → has P (own P) (square_after d q (n + 1)) ≡ false → has P (opposing P) (square_after d q (n + 1)) ≡ false → turned P q d ≡ []
 unfolding turned
 turned_open P q d n within all not_own not_opposing =
     let r = on_ray P q d n within all not_opposing in
     rw (r.1, not_own) refl
 
 -- the run is followed by the edge
-pub turned_edge : (P : GridView) (q : ℕ) (d : Direction) → AllOpposing P q d (room d q) → turned P q d ≡ []
+pub turned_edge : (P : GridView) (q : ℕ) (d : Direction) → AllOpposing P q d (steps_to_edge d q) → turned P q d ≡ []
 unfolding turned
 turned_edge P q d all =
     let open_end = never_closes (has P (own P)) (has P (opposing P)) (ray d q)
-    (λ k l. let inside : k < room d q = rw length-ray at l in rw (get_or-ray d q k 0 inside) (all k inside)) in
+    (λ k l. let inside : k < steps_to_edge d q = rw length-ray at l in rw (get_or-ray d q k 0 inside) (all k inside)) in
     rw open_end refl

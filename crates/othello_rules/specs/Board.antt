@@ -10,9 +10,11 @@ use Rattle.othello_rules.specs.declared.direction.Direction.{Direction}
 abbrev pub square_at : ℕ → ℕ → ℕ
 square_at c r = c + 8 * r
 
+-- the column of a square, from 0 for A
 abbrev pub column : ℕ → ℕ
 column q = q % 8
 
+-- the row of a square, from 0 for 1
 abbrev pub row : ℕ → ℕ
 row q = q / 8
 
@@ -37,11 +39,12 @@ directions =
     ∷ towards Back Back
     ∷ []
 
--- how many steps can be made from a column, or a row, before the edge
-abbrev pub room_along : Step → ℕ → ℕ
-room_along Back at = at
-room_along Stay at = 7
-room_along Ahead at = 7 - at
+-- how many steps a ray may make in its columns, or in its rows, before the edge; 7, the most of any
+-- ray, where it stays in one
+abbrev pub steps_along : Step → ℕ → ℕ
+steps_along Back at = at
+steps_along Stay at = 7
+steps_along Ahead at = 7 - at
 
 -- the column, or the row, k steps on
 abbrev pub place_after : Step → ℕ → ℕ → ℕ
@@ -50,8 +53,8 @@ place_after Stay at k = at
 place_after Ahead at k = at + k
 
 -- how many steps can be made from q before the edge
-abbrev pub room : Direction → ℕ → ℕ
-room d q = min (room_along d.column (column q)) (room_along d.row (row q))
+abbrev pub steps_to_edge : Direction → ℕ → ℕ
+steps_to_edge d q = min (steps_along d.column (column q)) (steps_along d.row (row q))
 
 -- the square k steps from q
 abbrev pub square_after : Direction → ℕ → ℕ → ℕ
@@ -59,7 +62,7 @@ square_after d q k = square_at (place_after d.column (column q) k) (place_after 
 
 -- the squares met by stepping from q up to the edge, nearest first, without q
 unfoldable pub ray : Direction → ℕ → List ℕ
-ray d q = map (square_after d q) (range_with_len 1 (room d q))
+ray d q = map (square_after d q) (range_with_len 1 (steps_to_edge d q))
 
 -- the letter of the column, from A, and the digit of the row, from 1
 unfoldable pub name_of : ℕ → List ℕ

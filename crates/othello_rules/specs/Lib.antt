@@ -3,6 +3,7 @@ pub mod Neighbours
 pub mod Rules
 pub mod Scores
 pub mod Masks
+pub mod Limits
 pub mod Answer
 pub mod Value
 pub mod Colours

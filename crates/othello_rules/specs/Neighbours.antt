@@ -1,4 +1,5 @@
--- The square next to a square in a direction, if the board has one. It states the law of rays.
+-- The square next to a square in a direction, if the board has one. Only the law
+-- `laws::rays_go_step_by_step` uses it.
 use Rattle.std.specs.Prelude.{ℕ, ◌+◌, ◌-◌, nat_lt, if◌then◌else◌, Option, Some, None}
 use Rattle.othello_rules.specs.declared.direction.Step.{Step}
 use Rattle.othello_rules.specs.declared.direction.Step.TheVariants.{Back, Stay, Ahead}
@@ -11,6 +12,7 @@ next_place Back at = if nat_lt 0 at then Some (at - 1) else None
 next_place Stay at = Some at
 next_place Ahead at = if nat_lt at 7 then Some (at + 1) else None
 
+-- the square in a column and a row, if the board has both
 abbrev pub square_in_both : Option ℕ → Option ℕ → Option ℕ
 square_in_both (Some c) (Some r) = Some (square_at c r)
 square_in_both _ _ = None

@@ -1,4 +1,5 @@
 -- The scorings: the score of a position by its discs, as the mover sees it, under each, and their names.
+-- g is a scoring throughout.
 use Rattle.std.specs.Prelude.{ℕ, nat_lt, if◌then◌else◌, ℤ, pos, ◌+ℤ◌, ◌-ℤ◌, List, [], ◌∷◌, Option, codes}
 use Rattle.std.specs.Int.{int_signum}
 use Rattle.std.specs.List.{find}
@@ -18,6 +19,7 @@ score_of Winner m o e =
 score_of Discs m o e = pos m -ℤ pos o
 score_of Sign m o e = int_signum (pos m -ℤ pos o)
 
+-- the score with the discs as they stand
 unfoldable pub final : Scoring → GridView → ℤ
 final g P = score_of g (count_of P (own P)) (count_of P (opposing P)) (count_of P Empty)
 

@@ -1,6 +1,6 @@
 -- Worked examples: flips, moves and answers of small positions, which the check computes from the definitions.
 -- The comments show the rows of each position, row 1 first: X is a black disc, O a white disc, - an
--- empty square.
+-- empty square. `pos n` is the score n, and `negsuc n` is -(n + 1): negsuc 63 is -64.
 use Rattle.std.specs.Prelude.{◌≡◌, List, [], ◌∷◌, ◌++◌, ℤ, pos, negsuc, replicate, refl}
 use Rattle.othello_rules.specs.declared.discs.Side.{Side}
 use Rattle.othello_rules.specs.declared.discs.Side.TheVariants as side
@@ -48,6 +48,7 @@ unequal_corners =
     Empty ∷ White ∷ replicate 5 Black ++ Empty ∷ replicate 7 Black ++ White ∷ replicate 19 Black
     ++ White ∷ replicate 28 Black
 
+-- the position with these cells and with side s to move
 abbrev to_move : Side → List Cell → GridView
 to_move s cells = record { cells = cells; mover = s }
 
@@ -65,6 +66,7 @@ moves-equal_corners = refl
 abbrev answers : GridView → List AnswerView
 answers P = answer Winner P ∷ answer Discs P ∷ answer Sign P ∷ []
 
+-- the answer with score z, which b attains
 abbrev scored : ℤ → Best → AnswerView
 scored z b = record { score = z; best = b }
 

@@ -1,7 +1,7 @@
 //! Directions, by their steps in the column and in the row.
 
 ghost use Rattle.std.specs.Prelude.{◌≡◌, ◌<◌, ◌≤◌};
-ghost use Rattle.othello_rules.specs.Board.{place_after, room_along};
+ghost use Rattle.othello_rules.specs.Board.{place_after, steps_along};
 
 // One step along the columns or along the rows.
 #[derive(Clone, Copy)]
@@ -12,10 +12,11 @@ pub(crate) enum Step {
 }
 
 impl Step {
-    // The number of steps from the column or row `at`, from 0 to 7, to the edge: 7 for `Stay`.
-    pub(crate) fn room(self, at: u8) -> u8
+    // How many steps a ray may make before the edge from the column or row `at`, which is from 0 to
+    // 7. `Stay` meets no edge: 7.
+    pub(crate) fn steps_along(self, at: u8) -> u8
         requires { at < 8 }
-        ensures value { result ≡ room_along self at }
+        ensures value { result ≡ steps_along self at }
         ensures below { result < 8 }
     {
         match self {
@@ -28,7 +29,7 @@ impl Step {
     // The column, or the row, `by` steps from `at`.
     pub(crate) fn advance(self, at: u8, by: u8) -> u8
         requires on_board { at < 8 }
-        requires room { by ≤ room_along self at }
+        requires few { by ≤ steps_along self at }
         ensures value { result ≡ place_after self at by }
         ensures below { result < 8 }
     {

@@ -5,7 +5,7 @@ ghost use Rattle.std.specs.Prelude.{length, take, slice_get, Some, IsTrue, IsOk,
 ghost use Rattle.std.specs.Option.{option_map_or};
 ghost use Rattle.std.specs.Int.{int_max};
 ghost use Rattle.arrayvec.specs.ArrayVec.{array_vec_len};
-ghost use Rattle.othello_rules.specs.Board.{ray, room};
+ghost use Rattle.othello_rules.specs.Board.{ray, steps_to_edge};
 ghost use Rattle.othello_rules.specs.Rules.{IsOver, count_of, flips, has, moves, pass, play};
 ghost use Rattle.othello_rules.specs.Rules.{turned};
 ghost use Rattle.othello_rules.specs.Scores.{final};
@@ -110,13 +110,13 @@ impl Grid {
     fn count_turned(&self, from: Square, direction: Direction) -> u8
         ensures value { turned self.now from direction ≡ take result (ray direction from) }
         ensures short { result ≤ 6 }
-        ensures room { result ≤ room direction from }
+        ensures inside { result ≤ steps_to_edge direction from }
     {
         let own = self.side.disc();
         let opposing = self.side.other().disc();
         // A run that reaches the edge turns nothing.
         let open_run = 0;
-        for run in 0..from.room(direction) {
+        for run in 0..from.steps_to_edge(direction) {
             let next = from.step(direction, run + 1);
             if self.has(own, next) {
                 return run;

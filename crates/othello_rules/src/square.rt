@@ -1,7 +1,8 @@
 //! Squares and their names.
 
 ghost use Rattle.std.specs.Prelude.{◌≡◌, ◌<◌, ◌≤◌, ◌↔◌, IsSome, IfSome, Some, ℕ};
-ghost use Rattle.othello_rules.specs.Board.{name_of, IsNameOf, room, square_after, squares};
+ghost use Rattle.othello_rules.specs.Board.{name_of, IsNameOf};
+ghost use Rattle.othello_rules.specs.Board.{square_after, squares, steps_to_edge};
 
 use crate::direction::Direction;
 use std::marker::Model;
@@ -74,18 +75,18 @@ impl Square {
     }
 
     // The number of steps from this square to the edge in a direction.
-    pub(crate) fn room(self, direction: Direction) -> u8
-        ensures value { result ≡ room direction self }
+    pub(crate) fn steps_to_edge(self, direction: Direction) -> u8
+        ensures value { result ≡ steps_to_edge direction self }
         ensures below { result < 8 }
     {
-        let along_columns = direction.column.room(self.number() % 8);
-        let along_rows = direction.row.room(self.number() / 8);
+        let along_columns = direction.column.steps_along(self.number() % 8);
+        let along_rows = direction.row.steps_along(self.number() / 8);
         along_columns.min(along_rows)
     }
 
     // The square `steps` steps from this one in a direction.
     pub(crate) fn step(self, direction: Direction, steps: u8) -> Square
-        requires { steps ≤ room direction self }
+        requires { steps ≤ steps_to_edge direction self }
         ensures value { result ≡ square_after direction self steps }
     {
         let column = direction.column.advance(self.number() % 8, steps);
