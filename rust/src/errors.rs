@@ -103,14 +103,3 @@ impl fmt::Display for ObfError {
 }
 
 impl std::error::Error for ObfError {}
-
-/// No call of the tests runs out of memory, or meets a newer library.
-#[test]
-fn tells_statuses_that_no_call_gives() {
-    assert_eq!(Error::of_status(7, 5), Err(Error::NoMemory));
-    assert_eq!(ObfError::of_status(7, 5), Err(ObfError::NoMemory));
-    let (refused, unread) = (Error::of_status(12, 0), ObfError::of_status(12, 0));
-    assert_eq!((refused, unread), (Err(Error::Other { status: 12 }), Err(ObfError::Other { status: 12 })));
-    assert_eq!(Error::Other { status: 12 }.to_string(), "refused with status 12");
-    assert_eq!(ObfError::Other { status: 12 }.to_string(), "refused with status 12");
-}

@@ -45,7 +45,7 @@ pub struct SquareError;
 
 impl fmt::Display for SquareError {
     fn fmt(&self, f: &mut fmt::Formatter<'_>) -> fmt::Result {
-        f.write_str("no square has the name")
+        f.write_str("not the name of a square")
     }
 }
 
