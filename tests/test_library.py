@@ -333,11 +333,12 @@ class Statuses(unittest.TestCase):
         _, *texts = called(["names"])[0].split(", ")
         for number, in_rust in enumerate(PREFIX.make(program).stdout.splitlines(), 1):
             refusal, other = refusal_of(number), f"refused with status {number}"
-            if number < len(listed) and not isinstance(refusal, ffosolve.LineRefused):
-                self.assertEqual(refusal.reason, texts[number])
-            if number != ffosolve.Status.UNEQUAL_LENGTHS:
-                place = "position at index 0: " * (number == ffosolve.Status.TOO_MANY_EMPTIES)
-                self.assertEqual({other, *in_rust.split("; ")}, {other, place + refusal.reason})
+            text, is_of_line = refusal.reason, isinstance(refusal, ffosolve.LineRefused)
+            if number < len(listed) and not is_of_line:
+                self.assertEqual(text, texts[number])
+            special = {3: (other, other), 5: (f"position at index 0: {text}", other), 7: (text, text)}
+            solved, read = special.get(number, (other, text) if is_of_line else (text, other))
+            self.assertEqual(in_rust, f"{solved}; {read}")
 
 
 def shown(language, *names):
@@ -355,8 +356,9 @@ class Clients(unittest.TestCase):
         masks, answers = ((ROOT / "examples" / name).read_text().splitlines(True) for name in ("masks.txt", "answers.txt"))
         told = PREFIX.run(*command, text="".join(masks[:count]))
         self.assertEqual((told.returncode, told.stdout), (0, "".join(answers[:count] + answers[LARGE:])), told.stderr)
-        told = PREFIX.run(*command, text=masks[2])  # the first of two best moves is played
-        self.assertEqual(told.stdout, answers[2] + "A1 of A1,H1\nPS\nH1 of H1\n", told.stderr)
+        # Of two best moves the first is played.
+        told = PREFIX.run(*command, text=masks[2] + "fffffff8 7fffffff00000007\n")
+        self.assertEqual(told.stdout, answers[2] + "+08 H8\nA1 of A1,H1\nPS\nH1 of H1\n", told.stderr)
         told = PREFIX.run(*command, text=masks[0] + "3 2\n")
         self.assertEqual((told.returncode, told.stdout), (1, ""))
         self.assertIn("position 2: the masks share a square", told.stderr)
