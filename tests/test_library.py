@@ -429,8 +429,6 @@ class PythonPackage(unittest.TestCase):
             told = PREFIX.run(sys.executable, "-c", "import ffosolve; ffosolve.Solver()", env=env)
             is_told = why in told.stderr and str(other) in told.stderr
             self.assertTrue(is_told if why else told.returncode == 0, told)
-        named = {**PREFIX.environment, "FFOSOLVE_LIBRARY": str(PREFIX.shared), "LD_LIBRARY_PATH": ""}
-        PREFIX.make(sys.executable, "-c", "import ffosolve; ffosolve.Solver()", env=named)
 
     def test_from_its_archive(self):
         """The source archive has all that an installation takes, and an editable one leads to the sources."""

@@ -6,11 +6,8 @@ use std::fmt;
 #[derive(Clone, Copy, PartialEq, Eq, Debug)]
 #[non_exhaustive]
 pub enum Error {
-    /// No scoring has the number.
     UnknownScoring,
-    /// More than `MOST_ENTRIES` table entries.
     TooManyEntries,
-    /// The two masks share a square.
     SharedSquare,
     /// The position has more than `MOST_EMPTIES` empty squares; in a list, the first such has this index.
     TooManyEmpties { index: usize },

@@ -207,8 +207,15 @@ def answers_in(found: Any) -> List[Answer]:
 
 def scores_in(found: Any) -> List[Dict[str, int]]:
     """The scores of the moves by their squares' names, of each position."""
-    rows = MOVE_SCORES.iter_unpack(found)
-    return [{name: score for name, score in zip(NAMES, row) if score != NO_SCORE} for row in rows]
+    rows = []
+    for row in MOVE_SCORES.iter_unpack(found):
+        its, moves = {}, row[64]
+        while moves:
+            number = (moves & -moves).bit_length() - 1
+            its[NAMES[number]] = row[number]
+            moves &= moves - 1
+        rows.append(its)
+    return rows
 
 
 def one_by_one(parts: "Iterable[Results[A]]") -> Iterator[A]:
