@@ -35,7 +35,7 @@ PACKAGES = {"cc": "gcc", "c++": "g++", "clang++": "clang", "nm": "binutils", "re
 PIP = [sys.executable, "-m", "pip", "--disable-pip-version-check", "install", "--quiet", "--no-index"]
 LONGEST = 300  # seconds of a command, since on a busy machine compilers and solvers take a while
 LINES = 10_000  # odd ones
-PIECES = b"", b" w", b"ps:-4;", b"--:0;", b"I1:+1", b"h8:64 ;", b"B2:+65;", *map(bytes, zip(b" \t%;:?-XOb\r\0\x80\xff"))
+PIECES = b"| w|ps:-4;|--:0;|I1:+1|h8:64 ;|B2:+65;| |\t|%|;|:|?|-|X|O|b|\r|\0|\x80|\xff".split(b"|")
 SMALL, LARGE = 9, 10  # positions of examples/masks.txt, without the one of 20 empty squares and with it
 # What the names in tests/library_calls.txt stand for: positions of two empty squares, before a pass, at an end, and refused ones.
 NAMES = {
@@ -336,6 +336,7 @@ class Statuses(unittest.TestCase):
             text, is_of_line = refusal.reason, isinstance(refusal, ffosolve.LineRefused)
             if number < len(listed) and not is_of_line:
                 self.assertEqual(text, texts[number])
+            # The crate has no name for 3, tells the index with 5, and can lack memory, 7, in both calls.
             special = {3: (other, other), 5: (f"position at index 0: {text}", other), 7: (text, text)}
             solved, read = special.get(number, (other, text) if is_of_line else (text, other))
             self.assertEqual(in_rust, f"{solved}; {read}")
@@ -352,11 +353,10 @@ class Clients(unittest.TestCase):
     """Clients, as their authors build them."""
 
     def answers(self, *command, count=LARGE):
-        """All positions of examples/masks.txt, or so many of them; then a bad one."""
+        """All positions of examples/masks.txt, or so many; two best moves, of which the first is played; a bad one."""
         masks, answers = ((ROOT / "examples" / name).read_text().splitlines(True) for name in ("masks.txt", "answers.txt"))
         told = PREFIX.run(*command, text="".join(masks[:count]))
         self.assertEqual((told.returncode, told.stdout), (0, "".join(answers[:count] + answers[LARGE:])), told.stderr)
-        # Of two best moves the first is played.
         told = PREFIX.run(*command, text=masks[2] + "fffffff8 7fffffff00000007\n")
         self.assertEqual(told.stdout, answers[2] + "+08 H8\nA1 of A1,H1\nPS\nH1 of H1\n", told.stderr)
         told = PREFIX.run(*command, text=masks[0] + "3 2\n")
