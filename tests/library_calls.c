@@ -9,13 +9,10 @@
        moves OWN OPP, play OWN OPP SQUARE             masks
        read_line ROOM TEXT                            at INDEX, OWN OPP SIDE LISTED, and each listed KIND/SQUARE/SCORE
        long_line                                      a line of 8,000,000 listed moves
-       names                                          the names of the header
-
-   With a word, the calls are made on a thread whose stack has so many bytes. */
+       names                                          the numbers of the header's names, and the texts of statuses */
 #include "ffosolve.h"
 
 #include <inttypes.h>
-#include <pthread.h>
 #include <stdio.h>
 #include <stdlib.h>
 #include <string.h>
@@ -26,17 +23,12 @@ static uint64_t number[WORDS];
 static size_t numbers;
 
 static ffosolve_position position_at(size_t first) {
-    ffosolve_position position;
-    position.own = number[first];
-    position.opp = number[first + 1];
+    const ffosolve_position position = {number[first], number[first + 1]};
     return position;
 }
 
 static ffosolve_answer answer_of(uint64_t score, uint64_t kind, uint64_t best) {
-    ffosolve_answer answer;
-    answer.score = (int32_t)score;
-    answer.kind = (int32_t)kind;
-    answer.best = best;
+    const ffosolve_answer answer = {(int32_t)score, (int32_t)kind, best};
     return answer;
 }
 
@@ -115,12 +107,10 @@ static void moves_or_play(const char *call) {
 
 static void read_line(const char *text, size_t length, size_t room) {
     ffosolve_line line = {{UNTOLD, UNTOLD}, UNTOLD, UNTOLD};
+    const ffosolve_listed untold = {UNTOLD, UNTOLD, UNTOLD};
     ffosolve_listed listed[2 * ROOM];
     size_t at = UNTOLD;
-    for (size_t i = 0; i < 2 * ROOM; i++) {
-        listed[i].score = listed[i].kind = UNTOLD;
-        listed[i].square = UNTOLD;
-    }
+    for (size_t i = 0; i < 2 * ROOM; i++) listed[i] = untold;
     printf("%" PRId32, ffosolve_read_line(text, length, &line, listed, room, &at));
     show_index(at);
     if (line.side != UNTOLD || line.listed != UNTOLD || line.position.own != UNTOLD) {
@@ -155,18 +145,20 @@ static void long_line(void) {
 
 static void names(void) {
     const int values[] = {
-        FFOSOLVE_DONE, FFOSOLVE_UNKNOWN_SCORING, FFOSOLVE_TOO_MANY_ENTRIES, FFOSOLVE_UNEQUAL_LENGTHS, FFOSOLVE_SHARED_SQUARE,
-        FFOSOLVE_TOO_MANY_EMPTIES, FFOSOLVE_NO_MOVE, FFOSOLVE_NO_MEMORY, FFOSOLVE_SKIPPED, FFOSOLVE_SHORT_BOARD,
-        FFOSOLVE_BAD_SQUARE, FFOSOLVE_BAD_SIDE, FFOSOLVE_WINNER, FFOSOLVE_DISCS, FFOSOLVE_SIGN, FFOSOLVE_MOVES, FFOSOLVE_PASS,
-        FFOSOLVE_OVER, FFOSOLVE_BLACK, FFOSOLVE_WHITE, FFOSOLVE_MOST_ENTRIES, FFOSOLVE_MOST_EMPTIES, FFOSOLVE_VERSION,
-        (int)ffosolve_version(), (int)ffosolve_limit(FFOSOLVE_LIMIT_ENTRIES), (int)ffosolve_limit(FFOSOLVE_LIMIT_EMPTIES),
+        FFOSOLVE_WINNER, FFOSOLVE_DISCS, FFOSOLVE_SIGN, FFOSOLVE_MOVES, FFOSOLVE_PASS, FFOSOLVE_OVER, FFOSOLVE_BLACK,
+        FFOSOLVE_WHITE, FFOSOLVE_MOST_ENTRIES, FFOSOLVE_MOST_EMPTIES, FFOSOLVE_VERSION, (int)ffosolve_version(),
+        (int)ffosolve_limit(FFOSOLVE_LIMIT_ENTRIES), (int)ffosolve_limit(FFOSOLVE_LIMIT_EMPTIES),
         (int)ffosolve_limit(FFOSOLVE_LIMIT_SCORINGS), (int)ffosolve_limit(3)};
+    const char *text = "";
     printf("%s", FFOSOLVE_VERSION_TEXT);
     for (size_t i = 0; i < sizeof values / sizeof *values; i++) printf(" %d", values[i]);
-    for (int32_t status = -1; status <= 12; status++) printf(", %s", ffosolve_status_text(status));
+    for (int32_t status = 0; strcmp(text, ffosolve_status_text(-1)) != 0; status++) {
+        text = ffosolve_status_text(status);
+        printf(", %s", text);
+    }
 }
 
-static void *make_calls(void *nothing) {
+int main(void) {
     static char line[2 * LONGEST];
     while (fgets(line, sizeof line, stdin)) {
         char *call = strtok(line, " \n"), *word = NULL;
@@ -183,18 +175,6 @@ static void *make_calls(void *nothing) {
         else if (strcmp(call, "moves") == 0 || strcmp(call, "play") == 0) moves_or_play(call);
         else solve_one(call);
         printf("\n");
-    }
-    return nothing;
-}
-
-int main(int count, char **words) {
-    pthread_attr_t attributes;
-    pthread_t thread;
-    if (count == 1) {
-        make_calls(NULL);
-    } else if (pthread_attr_init(&attributes) || pthread_attr_setstacksize(&attributes, (size_t)atol(words[1]))
-               || pthread_create(&thread, &attributes, make_calls, NULL) || pthread_join(thread, NULL)) {
-        return 2;
     }
     return fflush(stdout) != 0;
 }

@@ -111,17 +111,11 @@ def build_editable(wheel_directory, config_settings=None, metadata_directory=Non
 
 def build_sdist(sdist_directory, config_settings=None):
     name = f"{head()}.tar.gz"
+    own = [(path, text.encode()) for path in ("pyproject.toml", "backend/ffosolve_wheel.py") for text in texts(path)]
+    sources = [(f"src/{path}", content) for path, content in package_files()]
     with tarfile.open(os.path.join(sdist_directory, name), "w:gz") as archive:
-        for path in ("pyproject.toml", "backend/ffosolve_wheel.py"):
-            archive.add(os.path.join(FOLDER, path), f"{head()}/{path}")
-        for path, content in package_files():
-            add_bytes(archive, f"{head()}/src/{path}", content)
-        for path, content in (*licences(f"{head()}/LICENSE"), (f"{head()}/PKG-INFO", metadata().encode())):
-            add_bytes(archive, path, content)
+        for path, content in (*own, *sources, *licences("LICENSE"), ("PKG-INFO", metadata().encode())):
+            entry = tarfile.TarInfo(f"{head()}/{path}")
+            entry.size = len(content)
+            archive.addfile(entry, io.BytesIO(content))
     return name
-
-
-def add_bytes(archive, path, content):
-    entry = tarfile.TarInfo(path)
-    entry.size = len(content)
-    archive.addfile(entry, io.BytesIO(content))

@@ -144,22 +144,15 @@ class Refusals(unittest.TestCase):
         with self.assertRaises(ValueError):
             Solver(entries=-1)
 
-    def test_reasons(self):
-        """The texts and numbers of ffosolve.h; all but want of memory are errors of values."""
-        for refusal, number, reason in (
-            (ffosolve.UnknownScoring, 1, "no scoring has the number"),
-            (ffosolve.TooManyEntries, 2, f"more than {ffosolve.MOST_ENTRIES} table entries"),
-            (ffosolve.UnequalLengths, 3, "not as many answers as positions"),
-            (ffosolve.SharedSquare, 4, "the masks share a square"),
-            (ffosolve.TooManyEmpties, 5, f"more than {ffosolve.MOST_EMPTIES} empty squares"),
-            (ffosolve.NoMove, 6, "no move"),
-            (ffosolve.NoMemory, 7, "out of memory"),
-        ):
-            self.assertEqual((refusal.status, str(refusal()), refusal().index), (number, reason, None))
-            self.assertEqual((str(refusal(1)), refusal(1).index), (f"position at index 1: {reason}", 1))
-            self.assertTrue(issubclass(refusal, MemoryError if number == 7 else ValueError))
-            again = pickle.loads(pickle.dumps(refusal(1)))
-            self.assertEqual((type(again), str(again), again.index), (refusal, f"position at index 1: {reason}", 1))
+    def test_of_a_list(self):
+        """The index of a position is told. All but want of memory are errors of values."""
+        for refusal in ffosolve.Refused.__subclasses__():
+            if refusal not in (ffosolve.OtherRefusal, ffosolve.LineRefused):
+                self.assertEqual((str(refusal()), refusal().index), (refusal.reason, None))
+                self.assertTrue(issubclass(refusal, MemoryError if refusal is ffosolve.NoMemory else ValueError))
+                for told in (refusal(1), pickle.loads(pickle.dumps(refusal(1)))):
+                    wanted = refusal, f"position at index 1: {refusal.reason}", 1
+                    self.assertEqual((type(told), str(told), told.index), wanted)
 
     def test_lines(self):
         """The numbers of ffosolve.h, and the texts of a report. A line is a text or bytes, with its end or without."""
@@ -174,7 +167,7 @@ class Refusals(unittest.TestCase):
                 with self.assertRaises(refusal) as refused:
                     Position.from_obf(line)
                 for told in (refused.exception, pickle.loads(pickle.dumps(refused.exception))):
-                    self.assertEqual((told.status, str(told), told.at), (number, reason, at))
+                    self.assertEqual((told.status, str(told), told.reason, told.at), (number, reason, reason, at))
                     self.assertEqual((told.column, told.line), (column, None))
             for told in (refusal(at, 3), pickle.loads(pickle.dumps(refusal(at, 3)))):
                 self.assertEqual((str(told), told.at, told.line), (f"line 3: {reason}", at, 3))
@@ -183,7 +176,7 @@ class Refusals(unittest.TestCase):
         """Want of memory, and what this package does not know. A solver hands on what each of its calls gives."""
         solver = Solver()
         for status, refusal, reason in (
-            (7, ffosolve.NoMemory, "out of memory"), (12, ffosolve.OtherRefusal, "refused with status 12"),
+            (7, ffosolve.NoMemory, "out of memory"), (99, ffosolve.OtherRefusal, "refused with status 99"),
         ):
             solver._library = Library(status)
             for call in (solver.solve, lambda it: solver.confirm(it, ANSWER), solver.move_scores, solver.moves,

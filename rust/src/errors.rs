@@ -6,11 +6,8 @@ use std::fmt;
 #[derive(Clone, Copy, PartialEq, Eq, Debug)]
 #[non_exhaustive]
 pub enum Error {
-    /// No scoring has the number.
     UnknownScoring,
-    /// More than `MOST_ENTRIES` table entries.
     TooManyEntries,
-    /// The two masks share a square.
     SharedSquare,
     /// The position has more than `MOST_EMPTIES` empty squares; in a list, the first such has this index.
     TooManyEmpties { index: usize },
@@ -103,14 +100,3 @@ impl fmt::Display for ObfError {
 }
 
 impl std::error::Error for ObfError {}
-
-/// No call of the tests runs out of memory, or meets a newer library.
-#[test]
-fn tells_statuses_that_no_call_gives() {
-    assert_eq!(Error::of_status(7, 5), Err(Error::NoMemory));
-    assert_eq!(ObfError::of_status(7, 5), Err(ObfError::NoMemory));
-    let (refused, unread) = (Error::of_status(12, 0), ObfError::of_status(12, 0));
-    assert_eq!((refused, unread), (Err(Error::Other { status: 12 }), Err(ObfError::Other { status: 12 })));
-    assert_eq!(Error::Other { status: 12 }.to_string(), "refused with status 12");
-    assert_eq!(ObfError::Other { status: 12 }.to_string(), "refused with status 12");
-}

@@ -9,10 +9,9 @@ pub struct Square(u8);
 impl Square {
     /// The square with a number from 0 to 63; None for any other number.
     pub const fn new(number: u8) -> Option<Square> {
-        if number < 64 {
-            Some(Square(number))
-        } else {
-            None
+        match number {
+            0..=63 => Some(Square(number)),
+            _ => None,
         }
     }
 
@@ -45,7 +44,7 @@ pub struct SquareError;
 
 impl fmt::Display for SquareError {
     fn fmt(&self, f: &mut fmt::Formatter<'_>) -> fmt::Result {
-        f.write_str("no square has the name")
+        f.write_str("not the name of a square")
     }
 }
 
@@ -55,11 +54,8 @@ impl FromStr for Square {
     type Err = SquareError;
 
     fn from_str(name: &str) -> Result<Square, SquareError> {
-        match name.as_bytes() {
-            [column, row @ b'1'..=b'8'] => match column.to_ascii_uppercase() {
-                column @ b'A'..=b'H' => Ok(Square(column - b'A' + 8 * (row - b'1'))),
-                _ => Err(SquareError),
-            },
+        match name.to_ascii_uppercase().as_bytes() {
+            [column @ b'A'..=b'H', row @ b'1'..=b'8'] => Ok(Square(column - b'A' + 8 * (row - b'1'))),
             _ => Err(SquareError),
         }
     }

@@ -4,7 +4,6 @@ use ffosolve::{
     Square, Squares,
 };
 use std::collections::HashSet;
-use std::thread;
 
 const LINE: &str = "-OXXXXX-XXXXXXXOXXXXXXXXXXXXXXXXXXXOXXXXXXXXXXXXXXXXXXXXXXXXXXXX X; H1:+62;";
 const ANSWER: Answer = Answer { score: 62, best: Best::Moves(Squares(0x80)) };
@@ -71,19 +70,6 @@ fn refuses() {
 }
 
 #[test]
-fn says_why() {
-    let said = [Error::UnknownScoring, Error::SharedSquare, Error::NoMove, Error::NoMemory].map(|it| it.to_string());
-    assert_eq!(said, ["no scoring has the number", "the masks share a square", "no move", "out of memory"]);
-    let said = [ObfError::NoPosition, ObfError::NoMemory, ObfError::BadSide { column: 65 }].map(|it| it.to_string());
-    assert_eq!(said, ["no position: the line is blank or a comment", "out of memory", "bad side at column 65"]);
-    let numbers = [ffosolve::MOST_ENTRIES, ffosolve::MOST_EMPTIES].map(|number| format!("more than {number} "));
-    assert_eq!(Error::TooManyEntries.to_string(), format!("{}table entries", numbers[0]));
-    let told: Box<dyn std::error::Error + Send + Sync> = Error::TooManyEmpties { index: 1 }.into();
-    assert_eq!(told.to_string(), format!("position at index 1: {}empty squares", numbers[1]));
-    assert_eq!("?".parse::<Square>().map_err(|error| error.to_string()), Err("no square has the name".to_string()));
-}
-
-#[test]
 fn equals_have_one_hash_and_others_differ() {
     let positions = [(1, 2), (1, 2), (1, 4), (4, 2)].map(|(own, opp)| position(own, opp));
     assert_eq!(HashSet::from(positions).len(), 3);
@@ -132,6 +118,7 @@ fn reads_obf() {
     let listed = vec![(Listed::Pass, -4), (Listed::Over, 0), (Listed::Move(square("A1")), -64)];
     let found = line("O; PS:-4;--:0; a1:-64 \r\n");
     assert_eq!(found, Line { position: corners().passed(), side: Side::White, listed });
+    assert_eq!(format!("{} {} {}", Listed::Pass, Listed::Over, Listed::Move(square("a1"))), "PS -- A1");
     let listed = line(&format!("X;{}", "B1:7;".repeat(1000))).listed;
     assert_eq!(listed, [(Listed::Move(square("B1")), 7); 1000]);
 }
@@ -147,19 +134,14 @@ fn names_squares() {
         assert_eq!(Squares(each.bit()).collect::<Vec<Square>>(), [each]);
     }
     for name in ["", "A", "A9", "I1", "A11", "1A"] {
-        assert!(name.parse::<Square>().is_err(), "{name}");
+        assert_eq!(name.parse::<Square>().expect_err(name).to_string(), "not the name of a square");
     }
 }
 
 #[test]
-fn threads_call_at_once() {
-    fn is_shared<T: Send + Sync>(_: &T) {}
-    is_shared(&(Solver::new(), corners(), ANSWER, Error::NoMove));
-    thread::scope(|scope| {
-        for _ in 0..8 {
-            scope.spawn(|| assert!((0..100).all(|_| Solver::new().entries(1024).solve(corners()) == Ok(ANSWER))));
-        }
-    });
+fn threads_may_share_all() {
+    fn is_shared<T: Send + Sync>() {}
+    is_shared::<(Solver, Position, Answer, Line, Error, ObfError)>();
 }
 
 #[test]

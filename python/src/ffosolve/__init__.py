@@ -18,16 +18,14 @@ be able to stop a call makes it in a process of its own (`multiprocessing`). Cal
 """
 import os
 
+from . import _refusals
 from ._answers import Answer, Kind
 from ._boards import Board
 from ._games import START, Game, GameRefused
 from ._library import MOST_EMPTIES, MOST_ENTRIES, LibraryNotFound
 from ._positions import Line, Position, read_lines
 from ._read_games import read_games
-from ._refusals import (
-    BadSide, BadSquare, LineRefused, NoMemory, NoMove, NoPosition, OtherRefusal, Refused, SharedSquare, ShortBoard, Status,
-    TooManyEmpties, TooManyEntries, UnequalLengths, UnknownScoring,
-)
+from ._refusals import *
 from ._solvers import NO_SCORE, Scoring, Solver, table_entries
 from ._squares import square_name, square_number, square_names
 
@@ -37,9 +35,8 @@ with open(next(filter(os.path.exists, _PLACES)), encoding="utf-8") as _file:
     __version__ = _file.read().strip()
 
 __all__ = [
-    "MOST_EMPTIES", "MOST_ENTRIES", "NO_SCORE", "START", "Answer", "BadSide", "BadSquare", "Board", "Game", "GameRefused",
-    "Kind", "LibraryNotFound", "Line", "LineRefused", "NoMemory", "NoMove", "NoPosition", "OtherRefusal", "Position",
-    "Refused", "Scoring", "SharedSquare", "ShortBoard", "Solver", "Status", "TooManyEmpties", "TooManyEntries",
-    "UnequalLengths", "UnknownScoring", "read_games", "read_lines", "square_name", "square_names", "square_number",
-    "table_entries",
+    "MOST_EMPTIES", "MOST_ENTRIES", "NO_SCORE", "START", "Answer", "Board", "Game", "GameRefused", "Kind",
+    "LibraryNotFound", "Line", "Position", "Scoring", "Solver", "read_games", "read_lines", "square_name",
+    "square_names", "square_number", "table_entries",
 ]
+__all__ += _refusals.__all__

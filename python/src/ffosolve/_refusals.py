@@ -5,6 +5,11 @@ from typing import Any, Dict, Optional, Tuple, Type
 
 from ._library import MOST_EMPTIES, MOST_ENTRIES
 
+__all__ = [
+    "BadSide", "BadSquare", "LineRefused", "NoMemory", "NoMove", "NoPosition", "OtherRefusal", "Refused",
+    "SharedSquare", "ShortBoard", "Status", "TooManyEmpties", "TooManyEntries", "UnequalLengths", "UnknownScoring",
+]
+
 
 class Status(enum.IntEnum):
     """What a call of the library returns, as ffosolve.h names it."""
@@ -46,32 +51,24 @@ class Refused(Exception):
 
 
 class UnknownScoring(Refused, ValueError):
-    """No scoring has the number."""
-
     status, reason = Status.UNKNOWN_SCORING, "no scoring has the number"
 
 
 class TooManyEntries(Refused, ValueError):
-    """The table is asked to have more than MOST_ENTRIES entries."""
-
     status, reason = Status.TOO_MANY_ENTRIES, f"more than {MOST_ENTRIES} table entries"
 
 
 class UnequalLengths(Refused, ValueError):
-    """There are not as many answers as positions. (A Solver always makes as many.)"""
+    """No call of a Solver raises this: it makes as many answers as there are positions."""
 
     status, reason = Status.UNEQUAL_LENGTHS, "not as many answers as positions"
 
 
 class SharedSquare(Refused, ValueError):
-    """The two masks of a position share a square."""
-
     status, reason = Status.SHARED_SQUARE, "the masks share a square"
 
 
 class TooManyEmpties(Refused, ValueError):
-    """A position to solve has more than MOST_EMPTIES empty squares."""
-
     status, reason = Status.TOO_MANY_EMPTIES, f"more than {MOST_EMPTIES} empty squares"
 
 
@@ -100,9 +97,10 @@ class LineRefused(Refused, ValueError):
     in bytes, for BadSquare and BadSide; for ShortBoard it is the number of squares."""
 
     def __init__(self, at: int = 0, line: Optional[int] = None) -> None:
+        self.at, self.line, self.reason = at, line, self.reason.format(at)
         super().__init__()
-        self.at, self.line = at, line
-        self.args = (("" if line is None else f"line {line}: ") + self.reason.format(at),)
+        if line is not None:
+            self.args = (f"line {line}: {self.reason}",)
 
     @property
     def column(self) -> Optional[int]:
@@ -111,14 +109,12 @@ class LineRefused(Refused, ValueError):
 
 
 class NoPosition(LineRefused):
-    """The line is blank or a comment. `read_lines` skips such lines."""
+    """`read_lines` skips these lines."""
 
     status, reason = Status.SKIPPED, "no position: the line is blank or a comment"
 
 
 class ShortBoard(LineRefused):
-    """The line ends before its 64th square."""
-
     status, reason = Status.SHORT_BOARD, "board has {} of 64 squares"
 
 

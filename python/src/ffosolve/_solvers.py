@@ -25,8 +25,7 @@ if TYPE_CHECKING:
 NO_SCORE = 127  # in an array of scores, at a square that is not a legal move
 OF_A_POSITION = (Status.SHARED_SQUARE, Status.TOO_MANY_EMPTIES)
 KINDS = tuple(Kind)
-ANSWER = struct.Struct("iiQ")
-BYTES = ctypes.sizeof(CMoveScores)
+ANSWER, MOVE_SCORES = struct.Struct("iiQ"), struct.Struct("64bQ")  # CAnswer and CMoveScores
 
 
 class Scoring(enum.IntEnum):
@@ -50,9 +49,9 @@ class Solver:
     """Solves positions under a scoring. Each call searches with a new table.
 
     `library` is the path of the shared library. Without it the library is looked for: where the environment variable
-    FFOSOLVE_LIBRARY says, in the system's places, and in `lib` of this Python and of /usr/local. `entries` is the size of
-    the table, 0 to MOST_ENTRIES; without it `table_entries` chooses one by the empty squares. Raises LibraryNotFound,
-    UnknownScoring and TooManyEntries.
+    FFOSOLVE_LIBRARY says, in this package, in the system's places, and in `lib` of this Python and of /usr/local.
+    `entries` is the size of the table, 0 to MOST_ENTRIES; without it `table_entries` chooses one by the empty squares.
+    Raises LibraryNotFound, UnknownScoring and TooManyEntries.
 
     A solver keeps nothing between calls. Any threads may use one at the same time.
     """
@@ -208,17 +207,13 @@ def answers_in(found: Any) -> List[Answer]:
 
 def scores_in(found: Any) -> List[Dict[str, int]]:
     """The scores of the moves by their squares' names, of each position."""
-    if not len(found):
-        return []
-    view, rows = memoryview(found).cast("B"), []
-    words, scores = view.cast("Q"), view.cast("b")
-    for at in range(0, len(scores), BYTES):
-        its, left = {}, words[(at + 64) // 8]
-        while left:
-            lowest = left & -left
-            number = lowest.bit_length() - 1
-            its[NAMES[number]] = scores[at + number]
-            left ^= lowest
+    rows = []
+    for row in MOVE_SCORES.iter_unpack(found):
+        its, moves = {}, row[64]
+        while moves:
+            number = (moves & -moves).bit_length() - 1
+            its[NAMES[number]] = row[number]
+            moves &= moves - 1
         rows.append(its)
     return rows
 
