@@ -1,7 +1,8 @@
 //! Cutoffs from the table, and what a search stores there.
 
-ghost use Rattle.std.specs.Prelude.{◌≡◌, ◌<ℤ◌, ◌≤ℤ◌, IfSome, All, negsuc, pos};
+ghost use Rattle.std.specs.Prelude.{◌≡◌, ◌<ℤ◌, ◌≤ℤ◌, IfSome, All, pos};
 ghost use Rattle.othello_rules.specs.Answer.{IsScore};
+ghost use Rattle.othello_rules.specs.Limits.{least_score, greatest_score};
 ghost use Rattle.othello_bits.specs.Pos.{PosView, value_of};
 ghost use Rattle.bound_table.specs.Range.{range_view};
 ghost use Rattle.endgame_search.specs.Children.{IsChildOf};
@@ -58,8 +59,8 @@ pub(crate) fn probe_cutoff<T: Bounds>(table: &T, position: Pos, bound: i8) -> Op
 #[inline(always)]
 fn proved_range(low: i8, high: i8, score: i8) -> Range
     requires { IsScore score }
-    ensures at_most { score ≤ℤ low → result ≡ range_view (negsuc 63) score }
-    ensures at_least { low <ℤ score → high ≤ℤ score → result ≡ range_view score (pos 64) }
+    ensures at_most { score ≤ℤ low → result ≡ range_view least_score score }
+    ensures at_least { low <ℤ score → high ≤ℤ score → result ≡ range_view score greatest_score }
     ensures exact { low <ℤ score → score <ℤ high → result ≡ range_view score score }
 {
     if score <= low {
