@@ -38,6 +38,19 @@ def after(own, opp, square):
     return opp & ~turned, own | turned | square
 
 
+def random_game(rng):
+    """The positions of a game of random moves, to its end: the discs of the mover and of the other side, whether Black moves, and
+    the move to it, which is 0 for a pass and None at the start."""
+    own, opp, is_black, move = *START, True, None
+    while True:
+        yield own, opp, is_black, move
+        can = list(squares_in(moves(own, opp)))
+        if not can and not moves(opp, own):
+            return
+        move = rng.choice(can) if can else 0
+        own, opp, is_black = *(after(own, opp, move) if can else (opp, own)), not is_black
+
+
 def squares_in(mask):
     while mask:
         yield mask & -mask

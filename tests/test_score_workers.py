@@ -3,8 +3,6 @@ run that ends early leaves nothing."""
 import os
 import random
 import signal
-import subprocess
-import threading
 import time
 from pathlib import Path
 
@@ -21,11 +19,6 @@ SHORT_SCORED = SHORT[:-1] + b" H1:+62; A1:+52;\n"
 HOURS = b"-" * 27 + b"OX------XO" + b"-" * 27 + b" X;\n"
 
 
-def setUpModule():
-    global PROGRAM
-    PROGRAM = built("ffoscores")
-
-
 def positions(*words):
     return support.positions(*words).splitlines(keepends=True)
 
@@ -37,19 +30,13 @@ class SameBytes(InFolder):
         for number, text in enumerate(lists):
             names.append(f"{number}.obf")
             Path(names[-1]).write_bytes(text)
-        wanted = run(PROGRAM, "--workers", "0", *words, *names)
+        wanted = run(built("ffoscores"), "--workers", "0", *words, *names)
         self.assertIn(wanted.returncode, (0, 1), wanted.stderr)
         self.assertEqual(wanted.stdout.count(b"\n"), sum(len(text.splitlines()) for text in lists))
         for workers in WORKERS[1:]:
             with self.subTest(workers=workers, seeds=seeds):
-                found = run(PROGRAM, "--workers", workers, *words, *names)
+                found = run(built("ffoscores"), "--workers", workers, *words, *names)
                 self.assertEqual((found.returncode, found.stdout, found.stderr), (wanted.returncode, wanted.stdout, b""))
-
-    def test_lines_of_every_kind(self):
-        for workers in WORKERS:
-            with self.subTest(workers=workers):
-                found = run(PROGRAM, "--workers", workers, ROOT / "examples/kinds.obf")
-                self.assertEqual((found.returncode, found.stdout), (1, stored("examples", "kinds.scores")))
 
     def test_many_files(self):
         """Files that end in the middle of a line, blank and empty ones, and one that is a single deep position."""
@@ -64,18 +51,18 @@ class SameBytes(InFolder):
     def test_where_no_thread_can_be_started(self):
         """Nor where memory for a thread ends in the middle of a run."""
         Path("list.obf").write_bytes(b"".join(positions(40, 7, 13)))
-        wanted = run(PROGRAM, "--workers", "0", "list.obf")
+        wanted = run(built("ffoscores"), "--workers", "0", "list.obf")
         for workers in WORKERS:
             for prepare in (refuse_threads, limited("RLIMIT_AS", 30_000 * 1024)):
                 with self.subTest(workers=workers):
-                    found = run(PROGRAM, "--workers", workers, "list.obf", preexec_fn=prepare)
+                    found = run(built("ffoscores"), "--workers", workers, "list.obf", preexec_fn=prepare)
                     self.assertEqual((found.returncode, found.stdout, found.stderr), (0, wanted.stdout, b""))
 
     def test_short_lists_often(self):
         """Each run ends: no thread waits to be woken."""
         kinds = ROOT / "examples/kinds.obf"
         for number in range(OFTEN):
-            found = run(PROGRAM, "--workers", "3", kinds)
+            found = run(built("ffoscores"), "--workers", "3", kinds)
             self.assertEqual((found.returncode, found.stdout), (1, stored("examples", "kinds.scores")), f"run {number}")
 
     def test_shuffled_mix(self):
@@ -88,16 +75,9 @@ class SameBytes(InFolder):
 
 
 class Streams(InFolder):
-    def begin(self, text, *words, **how):
+    def begin(self, text, *words):
         Path("list.obf").write_bytes(text)
-        program = subprocess.Popen([PROGRAM, "--max-empties", "60", *words, "list.obf"], stdout=subprocess.PIPE, **how)
-        limit = threading.Timer(5 * SECONDS, program.kill)  # for a line that does not come
-        limit.start()
-        self.addCleanup(limit.cancel)
-        self.addCleanup(program.wait)
-        self.addCleanup(program.kill)
-        self.addCleanup(program.stdout.close)
-        return program
+        return self.start(built("ffoscores"), "--max-empties", "60", *words, "list.obf")
 
     def test_a_line_as_soon_as_those_before_are_scored(self):
         for workers in WORKERS:
@@ -125,8 +105,7 @@ class Streams(InFolder):
         text = SHORT + b"".join(positions(100, 14, 15)) + HOURS * 9
         for workers in WORKERS[1:]:
             with self.subTest(workers=workers):
-                program = self.begin(text, "--workers", workers, stderr=subprocess.PIPE)
-                self.addCleanup(program.stderr.close)
+                program = self.begin(text, "--workers", workers)
                 self.assertEqual(program.stdout.readline(), SHORT_SCORED)
                 program.stdout.close()
                 told = program.stderr.read()
@@ -136,8 +115,7 @@ class Streams(InFolder):
         """A signal to all that a shell has started, in the middle of positions that take hours, leaves no process."""
         shell = f"{ROOT}/bin/ffoscores --max-empties 60 --workers 3 list.obf | cat"
         Path("list.obf").write_bytes(SHORT + HOURS * 9)
-        begun = subprocess.Popen(["sh", "-c", shell], stdout=subprocess.PIPE, start_new_session=True, preexec_fn=as_at_a_login)
-        self.addCleanup(begun.stdout.close)
+        begun = self.start("sh", "-c", shell, start_new_session=True, preexec_fn=as_at_a_login)
         self.assertEqual(begun.stdout.readline(), SHORT_SCORED)
         os.killpg(begun.pid, signal.SIGINT)
         self.assertEqual(begun.stdout.read(), b"")
