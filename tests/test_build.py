@@ -98,12 +98,9 @@ class Case(InFolder):
         self.assertTrue(last.startswith("ffosolve: not built: ") and words in last, ran.stderr)
         self.assertEqual(ran.stderr.count("\n"), lines or ran.stderr.count("\n"), ran.stderr)
 
-    def left_over(self):
-        """The processes that stay in the checkout, where the stand-in would wait for 45 seconds."""
-        end = time.monotonic() + 30
-        while processes_with("cwd", self.root) and time.monotonic() < end:
-            time.sleep(0.02)
-        return processes_with("cwd", self.root)
+    def nothing_is_left(self):
+        """No process stays in the checkout, where the stand-in would wait for 45 seconds."""
+        wait_until(lambda: not processes_with("cwd", self.root), 30)
 
 
 class Builds(Case):
@@ -332,7 +329,7 @@ class Signals(Case):
             for one in (waits, ran):
                 one.send_signal(number)
                 self.assertEqual((one.communicate(timeout=20)[0], one.returncode), ("", -number))
-            self.assertEqual(self.left_over(), {})
+            self.nothing_is_left()
         self.ran(self.use(), 1, builds=5)
 
     def on_a_terminal(self, keys, shown, go=False, columns=80):
@@ -348,7 +345,8 @@ class Signals(Case):
     def test_on_a_terminal(self):
         """One line is written over, and fits where the terminal is narrow; an interrupt ends all."""
         told, status = self.on_a_terminal(b"\x03", b" functions")
-        self.assertEqual((status, self.left_over()), (128 + signal.SIGINT, {}), told)
+        self.assertEqual(status, 128 + signal.SIGINT, told)
+        self.nothing_is_left()
         told, status = self.on_a_terminal(b"\x04", b" functions", go=True)
         self.assertIn("\r\x1b[Kffosolve: 0 min, crate 1 of 2, othello_rules: 34 of 83 functions\r\x1b[K", told)
         self.assertEqual(("made of 1" in told, status), (True, 3), told)

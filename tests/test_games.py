@@ -644,8 +644,8 @@ class Fix(Case):
 
     def test_a_run_that_is_ended_in_the_middle(self):
         """It leaves no new file under the name; by Ctrl-C nothing at all. The same command then writes it."""
-        rest = bytes(68 * 2_000_000)
-        write("it.wtb", wthor(self.records, empties=5, count=len(self.records) + 2_000_000) + rest)
+        write("it.wtb", wthor(self.records, empties=5, count=10 ** 8))
+        os.truncate("it.wtb", 16 + 68 * 10 ** 8)
         for number in (signal.SIGINT, signal.SIGKILL):
             child = self.start(*self.FIX)
             wait_until(lambda: list(self.folder.glob("new.wtb.*.new")))
@@ -653,11 +653,9 @@ class Fix(Case):
             child.communicate(timeout=SECONDS)
             self.assertFalse((self.folder / "new.wtb").exists())
             self.assertEqual(bool(list(self.folder.glob("new.wtb.*.new"))), number == signal.SIGKILL)
-        self.assertEqual(self.games("compare", "list", "report", "--fix", "new.wtb", status=1)[1],
-                         f"ffosolve-games: new.wtb: theoretical scores changed 2 of {len(self.records) + 2_000_000}, "
-                         "not compared 2000000\n")
-        self.assertEqual(Path("new.wtb").read_bytes()[16:][:68 * len(self.records)], self.wanted[16:-4])
-        self.assertEqual(os.stat("new.wtb").st_size, os.stat("it.wtb").st_size)
+        write("it.wtb", self.whole)
+        self.fix(1, self.told)
+        self.assertEqual(Path("new.wtb").read_bytes(), self.wanted)
 
 
 class Recipe(Case):

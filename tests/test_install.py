@@ -126,7 +126,6 @@ class Install(Case):
         self.make("uninstall")
         self.assertEqual(os.listdir(self.folder), ["stage"])
         self.assertEqual({path: path.lstat().st_mtime_ns for path in state}, state)
-        self.assertEqual([path for path in CHECKOUT.rglob("*") if path.is_symlink()], [])
 
     def test_library_that_is_the_same_stays(self):
         """What `make library` lays, since a program may load it meanwhile."""
