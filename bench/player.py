@@ -3,6 +3,7 @@
 A position is the discs of the side to move and those of the other side; A1 is bit 0, and H8 bit 63.
 """
 import functools
+import random
 
 NOT_A, NOT_H, FULL = 0xFEFEFEFEFEFEFEFE, 0x7F7F7F7F7F7F7F7F, (1 << 64) - 1
 # A shift to the left for each direction, or to the right where it is negative, and the squares that it may reach.
@@ -49,6 +50,23 @@ def random_game(rng):
             return
         move = rng.choice(can) if can else 0
         own, opp, is_black = *(after(own, opp, move) if can else (opp, own)), not is_black
+
+
+def random_position(rng, empties):
+    """The discs of the mover and of the other side, and whether Black moves; None where the game ends before."""
+    for own, opp, is_black, _ in random_game(rng):
+        if count(own | opp) == 64 - empties:
+            return (own, opp, is_black) if moves(own, opp) or moves(opp, own) else None
+
+
+def random_lines(number, least, most, seed=1):
+    """OBF lines of positions of `least` to `most` empty squares in turn, each from a game of its own that isn't over there."""
+    rng = random.Random(seed)
+    for at in range(number):
+        found = None
+        while found is None:
+            found = random_position(rng, least + at % (most - least + 1))
+        yield line(*found)
 
 
 def squares_in(mask):

@@ -13,7 +13,8 @@ from pathlib import Path
 
 from bench import player
 
-from .support import ROOT, SECONDS, InFolder, built, limit, limited, need, run, stored, wait_until, write
+from .support import (ROOT, SECONDS, InFolder, as_at_a_login, built, limit, limited, need, run, stored, wait_until,
+                      write)
 
 PROGRAM = ROOT / "bin/ffosolve-games"
 UNREADABLE = "ffosolve-games: {}: {}\n"
@@ -647,7 +648,7 @@ class Fix(Case):
         write("it.wtb", wthor(self.records, empties=5, count=10 ** 8))
         os.truncate("it.wtb", 16 + 68 * 10 ** 8)
         for number in (signal.SIGINT, signal.SIGKILL):
-            child = self.start(*self.FIX)
+            child = self.start(*self.FIX, preexec_fn=as_at_a_login)
             wait_until(lambda: list(self.folder.glob("new.wtb.*.new")))
             child.send_signal(number)
             child.communicate(timeout=SECONDS)

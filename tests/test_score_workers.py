@@ -77,7 +77,7 @@ class SameBytes(InFolder):
 class Streams(InFolder):
     def begin(self, text, *words):
         Path("list.obf").write_bytes(text)
-        return self.start(built("ffoscores"), "--max-empties", "60", *words, "list.obf")
+        return self.start(built("ffoscores"), "--max-empties", "60", *words, "list.obf", preexec_fn=as_at_a_login)
 
     def test_a_line_as_soon_as_those_before_are_scored(self):
         for workers in WORKERS:
