@@ -120,12 +120,15 @@ class Install(Case):
         self.assertEqual([path for path in self.stage.rglob("*") if not path.is_dir()], [])
 
     def test_nothing_is_written_elsewhere(self):
-        state = {path: path.lstat().st_mtime_ns for path in CHECKOUT.rglob("*") if path.is_file() and path.suffix != ".sum"}
-        self.assertGreater(len(state), 500)
+        def times():
+            return {path: path.lstat().st_mtime_ns for path in CHECKOUT.rglob("*") if not path.is_dir() and path.suffix != ".sum"}
+
+        before = times()
+        self.assertGreater(len(before), 500)
         self.install()
         self.make("uninstall")
         self.assertEqual(os.listdir(self.folder), ["stage"])
-        self.assertEqual({path: path.lstat().st_mtime_ns for path in state}, state)
+        self.assertEqual(times(), before)
 
     def test_library_that_is_the_same_stays(self):
         """What `make library` lays, since a program may load it meanwhile."""
