@@ -319,11 +319,12 @@ class Texts(Case):
         return sorted({line.split("\t")[0] for line in ran.stdout.splitlines()} - {""})
 
     def completes(self, *shell):
+        files = sorted(path.name for path in Path("examples").glob("fi*"))
         for name in (*COMMANDS, "bin/ffosolve"):
             self.assertEqual(set(self.told(*shell, name, "--")), set(self.options_of(Path(name).name)))
-            self.assertEqual(self.told(*shell, name, "fi"), ["first.book", "first.obf"])
+            self.assertEqual(self.told(*shell, name, "fi"), files)
         self.assertEqual(self.told(*shell, "ffosolve", "--sco"), ["--scoring"])
-        self.assertEqual(self.told(*shell, "ffosolve", "--book-in", "fi"), ["first.book", "first.obf"])
+        self.assertEqual(self.told(*shell, "ffosolve", "--book-in", "fi"), files)
         for name in ("ffosolve", "ffoscores", "ffosolve-many"):
             self.assertEqual(self.told(*shell, name, "--scoring", ""), ["discs", "sign", "winner"])
             self.assertEqual(self.told(*shell, name, "--scoring", "d"), ["discs"])
