@@ -40,8 +40,8 @@ def after(own, opp, square):
 
 
 def random_game(rng):
-    """The positions of a game of random moves, to its end: the discs of the mover and of the other side, whether Black moves, and
-    the move to it, which is 0 for a pass and None at the start."""
+    """The positions of a game of random moves, to its end: the discs of the mover and of the other side, whether Black
+    moves, and the move to it, which is 0 for a pass and None at the start."""
     own, opp, is_black, move = *START, True, None
     while True:
         yield own, opp, is_black, move
@@ -60,7 +60,7 @@ def random_position(rng, empties):
 
 
 def random_lines(number, least, most, seed=1):
-    """OBF lines of positions of `least` to `most` empty squares in turn, each from a game of its own that isn't over there."""
+    """OBF lines of positions of `least` to `most` empty squares in turn, each from a game that isn't over there."""
     rng = random.Random(seed)
     for at in range(number):
         found = None

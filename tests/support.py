@@ -13,7 +13,7 @@ import unittest
 from pathlib import Path
 
 ROOT = Path(__file__).resolve().parent.parent
-NOBODY = 65534
+NOBODY = {"user": 65534, "group": 65534, "extra_groups": []} if os.getuid() == 0 else {}  # without root's rights
 SECONDS = 55  # the longest that a test waits for anything, where it names no other time
 
 
@@ -215,8 +215,8 @@ class Refusals:
         self.library, self.told = preload("refuse", folder), Path(folder, "refused").resolve()
 
     def runs(self, *words, **how):
-        """The runs of a program whose first request is refused, whose second is, and so on up to one that meets no refusal: the
-        request's number, the run, and whether it met the refusal."""
+        """The runs of a program whose first request is refused, whose second is, and so on up to one that meets no
+        refusal: the request's number, the run, and whether it met the refusal."""
         for number in itertools.count(1):
             places = {"LD_PRELOAD": str(self.library), "REFUSED": str(number), "REFUSED_FILE": str(self.told)}
             ran, met = run(*words, env={**os.environ, **places}, **how), self.told.exists()

@@ -74,9 +74,8 @@ class Case(InFolder):
         places = {"PATH": str(path or f"{self.tools}:/usr/bin:/bin"), "STARTS": str(self.starts), "KIT_FOLDER": str(self.kit)}
         return {"env": {**places, **environment}, "text": True, "preexec_fn": as_at_a_login, "cwd": "/"}
 
-    def use(self, *words, path=None, user=None, **environment):
-        """A run of the program, to its end; user is another one, where this test is root's."""
-        who = {"user": user, "group": user, "extra_groups": []} if user and os.getuid() == 0 else {}
+    def use(self, *words, path=None, who={}, **environment):
+        """A run of the program, to its end."""
         return run(self.script, *(words or ("w",)), input="read\n", **self.how(path, **environment), **who)
 
     def begin(self, **environment):
@@ -301,7 +300,7 @@ class Failures(Case):
             for path in paths[::-1]:
                 path.chmod(path.stat().st_mode & how.get(str(path.relative_to(self.root)), 0o555))
             (self.root / "out").exists() and (self.root / "out").chmod(out)
-            ran = self.use(user=NOBODY)
+            ran = self.use(who=NOBODY)
             for path, mode in zip(paths, modes):
                 path.chmod(mode)
             return ran

@@ -16,8 +16,9 @@ class Crates(unittest.TestCase):
         crate = ROOT / "crates/crate_tests"
         self.assertEqual([path for path, count in sources.items() if count and crate not in path.parents], [])
         ran = run("rt", "try", "--test", "--seconds", 900, cwd=crate, text=True, timeout=2700)
-        self.assertIn("run=ended status=0 ", ran.stdout + ran.stderr)
-        self.assertEqual(len(re.findall(r"^test \S+ \.\.\. ok$", ran.stdout + ran.stderr, re.M)), sum(sources.values()), ran)
+        told = ran.stdout + ran.stderr
+        self.assertIn("run=ended status=0 ", told)
+        self.assertEqual(len(re.findall(r"^test \S+ \.\.\. ok$", told, re.M)), sum(sources.values()), told)
 
 
 class Links(unittest.TestCase):

@@ -521,8 +521,8 @@ class Fix(Case):
         games = [squares_of(game) for game in (random_game(rng) for _ in range(12))]
         self.games_of_file = [game for game in games if 5 in positions_of(game)]
         self.exact = [discs_of_black(positions_of(game)[5]) for game in self.games_of_file]
-        published = [it + {2: -2, 5: 7}.get(number, 0) for number, it in enumerate(self.exact)]
-        self.records = [record(*both) for both in zip(self.games_of_file, published)]
+        self.published = [it + {2: -2, 5: 7}.get(number, 0) for number, it in enumerate(self.exact)]
+        self.records = [record(*both) for both in zip(self.games_of_file, self.published)]
         write("it.wtb", wthor(self.records, empties=5) + b"more")
         self.write_list("it.wtb")
         self.whole = Path("it.wtb").read_bytes()
@@ -658,27 +658,21 @@ class Fix(Case):
         self.fix(1, self.told)
         self.assertEqual(Path("new.wtb").read_bytes(), self.wanted)
 
-
-class Recipe(Case):
     def test_commands_that_are_shown(self):
-        """Those of the guide and of the help find the wrong scores of a WTHOR file, and write one with exact scores."""
+        """Those of the guide and of the help."""
         need("parallel", "parallel")
         built("ffosolve")
-        rng = random.Random(7)
-        games = [squares_of(game) for game in (random_game(rng) for _ in range(20))]
-        exact = [discs_of_black(positions_of(game)[6]) for game in games]
-        published = [it + {4: -2, 13: 7}.get(number, 0) for number, it in enumerate(exact)]
-        self.assertTrue(all(0 <= it <= 64 for it in published))
+        rows = [f"{{0}}, game {at + 1}: published {self.published[at]}, exact {self.exact[at]}, difference {less}\n"
+                for at, less in ((2, "-2"), (5, "+7"))]
+        rows += [f"compared {len(self.exact)} differ 2 refused 0 unscored 0\n"]
         guide = "".join(re.findall(r"^```sh\n(.*?)^```", stored("docs", "check-wthor.md").decode(), re.M | re.S))
         of_help = re.search(r"^examples:\n.*?\n\n(.*?)\n\n", self.games("--help")[0], re.M | re.S)[1]
         for place, commands, count in (("guide", guide, 4), ("help", of_help, 3)):
             self.assertEqual(len(commands.splitlines()), count)
             name, new = re.search(r"\S+\.wtb", commands)[0], commands.split()[-1]
-            write(f"{place}/{name}", wthor([record(*both) for both in zip(games, published)], empties=6))
+            write(f"{place}/{name}", self.whole)
             os.symlink(ROOT / "bin", f"{place}/bin")
             ran = run("sh", "-c", commands, timeout=300, cwd=place, env={**os.environ, "PATH": f"{ROOT}/bin:{os.environ['PATH']}"})
-            rows = "".join(f"{name}, game {at + 1}: published {published[at]}, exact {exact[at]}, difference {less}\n"
-                           for at, less in ((4, "-2"), (13, "+7")))
-            told = f"{rows}compared 20 differ 2 refused 0 unscored 0\n" * (count - 2)  # of each command that compares
+            told = "".join(rows).format(name) * (count - 2)  # of each command that compares
             self.assertEqual((ran.returncode, ran.stdout.decode()), (1, told), ran.stderr)
-            self.assertEqual((self.folder / place / new).read_bytes(), wthor(map(record, games, exact), empties=6, count=20))
+            self.assertEqual((self.folder / place / new).read_bytes(), self.wanted)

@@ -121,7 +121,8 @@ class Install(Case):
 
     def test_nothing_is_written_elsewhere(self):
         def times():
-            return {path: path.lstat().st_mtime_ns for path in CHECKOUT.rglob("*") if not path.is_dir() and path.suffix != ".sum"}
+            files = (path for path in CHECKOUT.rglob("*") if not path.is_dir() and path.suffix != ".sum")
+            return {path: path.lstat().st_mtime_ns for path in files}
 
         before = times()
         self.assertGreater(len(before), 500)
@@ -150,11 +151,10 @@ class Install(Case):
         """Who has no rt, and may not write the checkout."""
         folders = [CHECKOUT, *(path for path in CHECKOUT.rglob("*") if path.is_dir())]
         self.folder.chmod(0o777)
-        who = {"user": NOBODY, "group": NOBODY, "extra_groups": []} if os.getuid() == 0 else {}
         try:
             for path in folders:
                 path.chmod(0o555)
-            self.install(env={**self.places, "PATH": path_without("rt", self.folder)}, **who)
+            self.install(env={**self.places, "PATH": path_without("rt", self.folder)}, **NOBODY)
         finally:
             for path in folders:
                 path.chmod(0o755)

@@ -57,7 +57,7 @@ class Told(InFolder):
     def test_errors_full_or_closed(self):
         plain = run(built(), "short", check=True).stdout
         with open("/dev/full", "wb") as full:
-            told = subprocess.run([built(), "--progress", "short"], stdout=subprocess.PIPE, stderr=full, timeout=SECONDS)
+            told = run(built(), "--progress", "short", capture_output=False, stdout=subprocess.PIPE, stderr=full)
         self.assertEqual((told.returncode, told.stdout), (0, plain))
         told = run(built(), "--progress", "short", preexec_fn=lambda: os.close(2))
         self.assertEqual((told.returncode, told.stdout), (0, plain))

@@ -47,12 +47,13 @@ class Rows(InFolder):
     def test_rows(self):
         for name, kind, status, words in (("ffosolve", "report", 0, ()), ("ffosolve", "complete", 0, ("--complete",)),
                                           ("ffoscores", "scores", 1, ()), ("ffoscores", "remarks", 1, ("--complete",))):
-            wanted = sorted(ROWS.glob(f"*.{kind}"))
-            self.assertTrue(wanted)
-            for path in wanted:
+            paths = sorted(ROWS.glob(f"*.{kind}"))
+            self.assertTrue(paths)
+            for path in paths:
                 with self.subTest(path=path.name):
                     rows, scoring = path.stem.split(".")
-                    self.ends((status, path.read_bytes(), b""), built(name), *words, "--scoring", scoring, ROWS / f"{rows}.obf")
+                    wanted = (status, path.read_bytes(), b"")
+                    self.ends(wanted, built(name), *words, "--scoring", scoring, ROWS / f"{rows}.obf")
 
     def reads(self, text, told):
         """A text is read as a book, or refused."""

@@ -27,10 +27,10 @@ class Runs(InFolder):
     def test_greatest_table_takes_its_memory(self):
         for name, wanting in WANTING.items():
             with self.subTest(name=name):
-                words, how = (built(name), "--workers", "0"), {"input": KINDS, "preexec_fn": limited("RLIMIT_AS", LIMIT)}
+                words, little = (built(name), "--workers", "0"), limited("RLIMIT_AS", LIMIT)
                 usual = run(*words, input=KINDS)
-                self.ends((usual.returncode, usual.stdout, b""), *words, **how)
-                self.ends(wanting, *words, "--table", limit("MOST_ENTRIES"), **how)
+                self.ends((usual.returncode, usual.stdout, b""), *words, input=KINDS, preexec_fn=little)
+                self.ends(wanting, *words, "--table", limit("MOST_ENTRIES"), input=KINDS, preexec_fn=little)
 
     def test_table_saves_time(self):
         """That of positions that come again, on whichever thread: of sixteen lines four threads solve at most eight."""

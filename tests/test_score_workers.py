@@ -12,7 +12,6 @@ from tests.support import (ROOT, SECONDS, InFolder, as_at_a_login, built, limite
 from tests.test_threads import threads_of
 
 WORKERS = ("0", "1", "3", "64")
-RUNS = int(os.environ.get("RUNS", 75))
 OFTEN = 500  # one in fifteen runs hung where a thread was not woken
 SHORT = b"-OXXXXX-XXXXXXXOXXXXXXXXXXXXXXXXXXXOXXXXXXXXXXXXXXXXXXXXXXXXXXXX X;\n"
 SHORT_SCORED = SHORT[:-1] + b" H1:+62; A1:+52;\n"
@@ -68,7 +67,7 @@ class SameBytes(InFolder):
     def test_shuffled_mix(self):
         lines = positions(40, 1, 9) + positions(24, 10, 11) + positions(6, 12, 13)
         lines += [b"\n", b"% no position\n", b"XX\n", HOURS] * 3
-        for seed in range(RUNS // (len(WORKERS) - 1)):
+        for seed in range(25):
             mixed = random.Random(seed).sample(lines, len(lines))
             cut = seed % len(lines)
             self.same([b"".join(mixed[:cut]), b"".join(mixed[cut:])], seeds=(seed,))

@@ -10,7 +10,6 @@ TWO = KINDS.split(b"\n")[1] + b"\n"  # a position of two empty squares, with bot
 SOLVED = SCORES.split(b"\n")[1] + b"\n"
 BOARD = TWO[:66]
 RIGHT = stored("examples", "first.report").split()[4]  # the word of a line whose scores are right
-UNWRITTEN = b"ffoscores: cannot write standard output\n"
 LARGE = limit("MOST_BYTES") + 1
 LONGEST = 5 * SECONDS  # of a position of twenty empty squares, beside other work
 

@@ -1,15 +1,12 @@
 """Runs of the programs on threads: how many they start, and that each prints the same, where they are many and where the
 system starts none.
-
-In the environment, RUNS is the number of runs of 64 files with 64 workers, 100 if not given.
 """
-import os
 import time
 from pathlib import Path
 
 from tests.support import SECONDS, InFolder, built, positions, refuse_threads, write
 
-RUNS = int(os.environ.get("RUNS", 100))
+RUNS = 100  # of 64 files with 64 workers
 # A position with 17 empty squares, which takes two tenths of a second, and boards with two.
 HARD = "-XXXXX----XOOX--XXXXOOOO-OXOOOO-OOXOOX--OOX-OOOOOXXXXXX-X----XXX O"
 EASY = [
