@@ -89,11 +89,14 @@ class Streams(InFolder):
                 self.assertEqual((program.stdout.read(), program.wait(SECONDS)), (b"", -signal.SIGINT))
 
     def test_lines_at_once(self):
-        """As many as there are workers, and one more, of more that take hours; with 0 workers the program has one thread."""
+        """As many as there are workers, and one more, of more that take hours, also once those before are scored; with 0
+        workers the program has one thread."""
+        deep = positions(24, 10, 13)
         for workers in WORKERS:
             with self.subTest(workers=workers):
                 threads = 1 if workers == "0" else int(workers) + 2
-                program = self.begin(HOURS * 70, "--workers", workers)
+                program = self.begin(b"".join(deep) + HOURS * 70, "--workers", workers)
+                self.assertEqual([program.stdout.readline()[:66] for _ in deep], [line[:66] for line in deep])
                 wait_until(lambda: threads_of(program) >= threads)
                 time.sleep(1)  # more would start by then
                 self.assertEqual(threads_of(program), threads)
