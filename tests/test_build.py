@@ -388,6 +388,12 @@ class Targets(Case):
         self.assertIn("heap_call", self.make("library").stderr)
         self.assertFalse((self.root / "out" / LEVEL / "libffosolve.so").exists())
 
+    def test_help(self):
+        """Of targets in either file."""
+        told = self.make("help").stdout
+        for target in ("all", "look", "install", "dist"):
+            self.assertRegex(told, rf"(?m)^make {target} +\w")
+
     def test_look(self):
         """Prints what `rt try` does of the report, and what is not proved; else why there is none."""
         write(self.root / "crates/ffosolve/stdin", "")
