@@ -108,9 +108,6 @@ look: ## solves three positions in about a minute, with nothing proved; LIST=FIL
 check: levels ## tests everything; the last line counts what passed
 	$(MAKE) -f tests/check.mk
 
-gate: ## runs what a change has to pass: rt ci, then make check
-	.ci/run
-
 # Installing. `install` puts a new file into the place of an old one, so that a program that is running keeps its own file.
 lib = "$(DESTDIR)$(LIBDIR)
 share = "$(DESTDIR)$(PREFIX)/share
@@ -121,6 +118,8 @@ documents = README.md LICENSE CHANGELOG.md VERSION \
 modules = VERSION $(shell find python/src -name __pycache__ -prune -o -type f -print)
 absolute = case "$(PREFIX)" in /*) ;; *) echo "PREFIX is $(PREFIX), but has to begin with a slash" >&2; exit 1 ;; esac
 
+# Completions offer files, the values of --scoring, and the options in the installed program's --help. So a TAB after bin/ffosolve of
+# a checkout builds nothing.
 install: $(programs:%=out/$(CPU)/%) $(foreach level,$(levels),out/$(level)/libffosolve.a out/$(level)/libffosolve.so) ## installs programs, library, manual pages, completions and documents under PREFIX (/usr/local), in DESTDIR
 	$(absolute)
 	install -D -t "$(DESTDIR)$(BINDIR)" $(programs:%=out/$(CPU)/%)
@@ -177,4 +176,4 @@ help: ## lists the targets
 	sed -n 's/^\([a-z-]*\):.*## /make \1	/p' $(MAKEFILE_LIST) | expand -t 20
 
 always:
-.PHONY: all levels library look check gate install uninstall help always
+.PHONY: all levels library look check install uninstall help always

@@ -24,7 +24,7 @@ def built(name="ffosolve", level=""):
     return ROOT / path
 
 
-def build_peer(folder, level=LEVELS[0]):
+def build_peer(folder, level):
     """The path of the search in plain Rust."""
     peer = Path(folder, f"{level}-peer")
     subprocess.run(["rustc", "-C", "opt-level=3", "-C", f"target-cpu={level}", "-o", peer, BENCH / "peer.rs"], check=True)
@@ -34,11 +34,6 @@ def build_peer(folder, level=LEVELS[0]):
 def options(entries, scoring="winner"):
     """The options of a program that solves all that it reads, with a table of so many entries, on one thread."""
     return ["--max-empties", 60, "--workers", 0, "--table", entries, "--scoring", scoring]
-
-
-def random_lines(count, least, most):
-    told = subprocess.run([BENCH / "positions", *map(str, (count, least, most))], stdout=subprocess.PIPE, check=True, text=True)
-    return told.stdout.splitlines()
 
 
 def published():

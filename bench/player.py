@@ -3,6 +3,7 @@
 A position is the discs of the side to move and those of the other side; A1 is bit 0, and H8 bit 63.
 """
 import functools
+import random
 
 NOT_A, NOT_H, FULL = 0xFEFEFEFEFEFEFEFE, 0x7F7F7F7F7F7F7F7F, (1 << 64) - 1
 # A shift to the left for each direction, or to the right where it is negative, and the squares that it may reach.
@@ -36,6 +37,36 @@ def after(own, opp, square):
         if at & own:
             turned |= run
     return opp & ~turned, own | turned | square
+
+
+def random_game(rng):
+    """The positions of a game of random moves, to its end: the discs of the mover and of the other side, whether Black
+    moves, and the move to it, which is 0 for a pass and None at the start."""
+    own, opp, is_black, move = *START, True, None
+    while True:
+        yield own, opp, is_black, move
+        can = list(squares_in(moves(own, opp)))
+        if not can and not moves(opp, own):
+            return
+        move = rng.choice(can) if can else 0
+        own, opp, is_black = *(after(own, opp, move) if can else (opp, own)), not is_black
+
+
+def random_position(rng, empties):
+    """The discs of the mover and of the other side, and whether Black moves; None where the game ends before."""
+    for own, opp, is_black, _ in random_game(rng):
+        if count(own | opp) == 64 - empties:
+            return (own, opp, is_black) if moves(own, opp) or moves(opp, own) else None
+
+
+def random_lines(number, least, most, seed=1):
+    """OBF lines of positions of `least` to `most` empty squares in turn, each from a game that isn't over there."""
+    rng = random.Random(seed)
+    for at in range(number):
+        found = None
+        while found is None:
+            found = random_position(rng, least + at % (most - least + 1))
+        yield line(*found)
 
 
 def squares_in(mask):

@@ -4,10 +4,10 @@ import shutil
 import subprocess
 from pathlib import Path
 
-from tests.support import ROOT, run
+from tests.support import ROOT, run, stored
 
-FIRST = "[1]\n2 +62 H1 agree\n3 -40 H1 agree\n4 +64 A1,H1 agree\nsolved 3 refused 0\n"
-VERSION = (ROOT / "VERSION").read_text().strip()
+FIRST = stored("examples", "first.report").decode()
+VERSION = stored("VERSION").decode().strip()
 NUMBER = sum(int(part) * 100 ** place for place, part in enumerate(VERSION.split(".")[::-1]))
 LEVELS = ["x86-64-v2", "x86-64-v3"]
 WITHOUT_GIT = {name: text for name, text in os.environ.items() if not name.startswith("GIT_")}  # as a hook of git sets it

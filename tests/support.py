@@ -1,4 +1,6 @@
 """What the tests share: the checkout, the programs, what a test needs, runs with a limit of time, and processes."""
+import functools
+import itertools
 import os
 import resource
 import shutil
@@ -11,7 +13,7 @@ import unittest
 from pathlib import Path
 
 ROOT = Path(__file__).resolve().parent.parent
-NOBODY = 65534
+NOBODY = {"user": 65534, "group": 65534, "extra_groups": []} if os.getuid() == 0 else {}  # without root's rights
 SECONDS = 55  # the longest that a test waits for anything, where it names no other time
 
 
@@ -55,6 +57,7 @@ def write(path, text, mode=None):
     return path
 
 
+@functools.cache
 def positions(*words):
     """Lines of generated positions."""
     return run(sys.executable, ROOT / "bench/positions", *words, check=True).stdout
@@ -84,6 +87,7 @@ def shorter_than(size):
     limited("RLIMIT_FSIZE", size)()
 
 
+@functools.cache
 def built(name="ffosolve"):
     """The path of a built program, which the wrapper in bin/ builds where it isn't built of these sources; or of that in
     the folder that TEST_PROGRAMS names."""
@@ -205,15 +209,18 @@ def preload(name, folder):
 
 
 class Refusals:
-    """The library, made in a folder, that refuses one request for memory of a program; tests/refuse.c says which."""
+    """The library, made in a folder, that refuses one request for memory of a program, as tests/refuse.c says."""
 
     def __init__(self, folder):
         self.library, self.told = preload("refuse", folder), Path(folder, "refused").resolve()
 
-    def run(self, *words, number, **how):
-        """A run of a program whose request of this number is refused, and whether it came to that."""
-        places = {"LD_PRELOAD": str(self.library), "REFUSED": str(number), "REFUSED_FILE": str(self.told)}
-        ran = run(*words, env={**os.environ, **places}, **how)
-        met = self.told.exists()
-        self.told.unlink(missing_ok=True)
-        return ran, met
+    def runs(self, *words, **how):
+        """The runs of a program whose first request is refused, whose second is, and so on up to one that meets no
+        refusal: the request's number, the run, and whether it met the refusal."""
+        for number in itertools.count(1):
+            places = {"LD_PRELOAD": str(self.library), "REFUSED": str(number), "REFUSED_FILE": str(self.told)}
+            ran, met = run(*words, env={**os.environ, **places}, **how), self.told.exists()
+            self.told.unlink(missing_ok=True)
+            yield number, ran, met
+            if not met:
+                return

@@ -29,21 +29,14 @@ def setUpModule():
     PROGRAM = shutil.copy(built(), module_folder())  # nobody may not be let into the checkout
 
 
-def give_up_rights():
-    if os.getuid() == 0:
-        os.setgroups([])
-        os.setgid(NOBODY)
-        os.setuid(NOBODY)
-
-
 def content(name):
     return Path(name).read_bytes()
 
 
 class Books(InFolder):
-    def solves(self, wanted, name="it.book", *words, prepare=None, **how):
+    def solves(self, wanted, name="it.book", *words, **how):
         """A run with a book in this place ends as wanted. The report goes to a pipe."""
-        ran = run(PROGRAM, "--book-out", name, *words, input=TEXT, preexec_fn=prepare, **how)
+        ran = run(PROGRAM, "--book-out", name, *words, input=TEXT, **how)
         self.assertTrue(ran.stdout == b"" or ran.stdout.startswith(b"[1]\n"), ran)
         self.assertEqual((ran.returncode, ran.stdout != b"", ran.stderr), wanted)
 
@@ -94,7 +87,7 @@ class Files(Books):
                 write(place, OLD, file_mode)
                 place == "it.book" or os.symlink(place, "it.book")
                 os.chmod(".", folder_mode)
-                self.solves(wanted, prepare=give_up_rights)
+                self.solves(wanted, **NOBODY)
                 os.chmod(".", 0o755)
                 os.chmod(place, 0o644)
                 self.left({place: OLD, "it.book": OLD})
@@ -105,7 +98,7 @@ class Files(Books):
         return {**os.environ, "LD_PRELOAD": str(preload("watch", place)), "WATCHED": str(place / "watched"), **more}
 
     def test_disk_that_is_full_or_does_not_keep_it(self):
-        for how in ({"prepare": lambda: shorter_than(100)}, {"env": self.watched(NO_SYNC="1")}):
+        for how in ({"preexec_fn": lambda: shorter_than(100)}, {"env": self.watched(NO_SYNC="1")}):
             for old in ({"it.book": OLD}, {}):
                 for name, text in old.items():
                     write(name, text)
@@ -134,7 +127,7 @@ class Files(Books):
     def changed_meanwhile(self, place, change):
         """A run that may not put its book there, since something changes once it prints: its report is more than a pipe holds."""
         write("list", TEXT * 2000)
-        program = self.start(PROGRAM, "--book-out", place, "list", preexec_fn=give_up_rights)
+        program = self.start(PROGRAM, "--book-out", place, "list", **NOBODY)
         begun = program.stdout.read(1)
         change()
         report, told = program.communicate(timeout=SECONDS)

@@ -7,6 +7,7 @@ import subprocess
 import time
 from pathlib import Path
 
+from tests.checkouts import path_without
 from tests.support import (NOBODY, ROOT, SECONDS, InFolder, as_at_a_login, is_v3, lack, need, processes_with, run,
                            wait_until, write)
 
@@ -74,9 +75,8 @@ class Case(InFolder):
         places = {"PATH": str(path or f"{self.tools}:/usr/bin:/bin"), "STARTS": str(self.starts), "KIT_FOLDER": str(self.kit)}
         return {"env": {**places, **environment}, "text": True, "preexec_fn": as_at_a_login, "cwd": "/"}
 
-    def use(self, *words, path=None, user=None, **environment):
-        """A run of the program, to its end; user is another one, where this test is root's."""
-        who = {"user": user, "group": user, "extra_groups": []} if user and os.getuid() == 0 else {}
+    def use(self, *words, path=None, who={}, **environment):
+        """A run of the program, to its end."""
         return run(self.script, *(words or ("w",)), input="read\n", **self.how(path, **environment), **who)
 
     def begin(self, **environment):
@@ -98,12 +98,9 @@ class Case(InFolder):
         self.assertTrue(last.startswith("ffosolve: not built: ") and words in last, ran.stderr)
         self.assertEqual(ran.stderr.count("\n"), lines or ran.stderr.count("\n"), ran.stderr)
 
-    def left_over(self):
-        """The processes that stay in the checkout, where the stand-in would wait for 45 seconds."""
-        end = time.monotonic() + 30
-        while processes_with("cwd", self.root) and time.monotonic() < end:
-            time.sleep(0.02)
-        return processes_with("cwd", self.root)
+    def nothing_is_left(self):
+        """No process stays in the checkout, where the stand-in would wait for 45 seconds."""
+        wait_until(lambda: not processes_with("cwd", self.root), 30)
 
 
 class Builds(Case):
@@ -223,11 +220,7 @@ class Failures(Case):
     def test_tools(self):
         """One that is missing is told; another kit, too, and it is tried."""
         self.refused(self.use(path="/usr/bin:/bin"), "rt (rattle-kit-13b or rattle-kit-13f) is not on the path", lines=1)
-        links = self.folder / "links"
-        links.mkdir()
-        for name in set(os.listdir("/usr/bin")) - {"make"}:
-            (links / name).symlink_to(f"/usr/bin/{name}")
-        ran = self.use(path=f"{self.tools}:{links}")
+        ran = self.use(path=f"{self.tools}:{path_without('make', self.folder)}")
         self.assertEqual((ran.returncode, ran.stdout, ran.stderr.count("\n")), (4, "", 1), ran)
         self.assertIn("make", ran.stderr)
         for builds, kit in enumerate(("rattle-kit-13b", "rattle-kit-13f", "rattle-kit-14a", "rattle-kit-13"), 1):
@@ -304,7 +297,7 @@ class Failures(Case):
             for path in paths[::-1]:
                 path.chmod(path.stat().st_mode & how.get(str(path.relative_to(self.root)), 0o555))
             (self.root / "out").exists() and (self.root / "out").chmod(out)
-            ran = self.use(user=NOBODY)
+            ran = self.use(who=NOBODY)
             for path, mode in zip(paths, modes):
                 path.chmod(mode)
             return ran
@@ -332,7 +325,7 @@ class Signals(Case):
             for one in (waits, ran):
                 one.send_signal(number)
                 self.assertEqual((one.communicate(timeout=20)[0], one.returncode), ("", -number))
-            self.assertEqual(self.left_over(), {})
+            self.nothing_is_left()
         self.ran(self.use(), 1, builds=5)
 
     def on_a_terminal(self, keys, shown, go=False, columns=80):
@@ -348,7 +341,8 @@ class Signals(Case):
     def test_on_a_terminal(self):
         """One line is written over, and fits where the terminal is narrow; an interrupt ends all."""
         told, status = self.on_a_terminal(b"\x03", b" functions")
-        self.assertEqual((status, self.left_over()), (128 + signal.SIGINT, {}), told)
+        self.assertEqual(status, 128 + signal.SIGINT, told)
+        self.nothing_is_left()
         told, status = self.on_a_terminal(b"\x04", b" functions", go=True)
         self.assertIn("\r\x1b[Kffosolve: 0 min, crate 1 of 2, othello_rules: 34 of 83 functions\r\x1b[K", told)
         self.assertEqual(("made of 1" in told, status), (True, 3), told)
@@ -393,6 +387,12 @@ class Targets(Case):
         (self.root / "out" / LEVEL / "libffosolve.so").unlink()
         self.assertIn("heap_call", self.make("library").stderr)
         self.assertFalse((self.root / "out" / LEVEL / "libffosolve.so").exists())
+
+    def test_help(self):
+        """Of targets in either file."""
+        told = self.make("help").stdout
+        for target in ("all", "look", "install", "dist"):
+            self.assertRegex(told, rf"(?m)^make {target} +\w")
 
     def test_look(self):
         """Prints what `rt try` does of the report, and what is not proved; else why there is none."""

@@ -7,6 +7,7 @@ from tests.support import ROOT, InFolder, built, limit, run, stored
 
 MOST_ENTRIES = limit("MOST_ENTRIES")
 LARGE = MOST_ENTRIES + 1
+PROGRAMS = ("ffosolve", "ffoscores")
 USAGE = "\n\nUsage: {name} [OPTIONS] [FILES]..."
 NAMES = "\n  [possible values: winner, discs, sign]"
 # Words, and why both programs refuse them, in the words of the crate clap.
@@ -59,11 +60,6 @@ REFUSED_BY_SCORES = [
 ]
 
 
-def setUpModule():
-    global PROGRAMS
-    PROGRAMS = {name: built(name) for name in ("ffosolve", "ffoscores")}
-
-
 class CommandLines(InFolder):
     """Standard input is a pipe to which nobody writes, so that a program which reads it does not end."""
 
@@ -74,7 +70,7 @@ class CommandLines(InFolder):
         self.addCleanup(os.close, writer)
 
     def ends(self, wanted, name, *words):
-        super().ends(wanted, PROGRAMS[name], *words, stdin=self.pipe)
+        super().ends(wanted, built(name), *words, stdin=self.pipe)
 
     def test_refused_words(self):
         for name, own in (("ffosolve", REFUSED_BY_SOLVER), ("ffoscores", REFUSED_BY_SCORES)):
@@ -89,7 +85,7 @@ class CommandLines(InFolder):
 
     def test_help(self):
         for name in PROGRAMS:
-            text = run(PROGRAMS[name], "--help").stdout
+            text = run(built(name), "--help").stdout
             self.assertIn(f"\n\nUsage: {name} [OPTIONS] [FILES]...\n".encode(), text)
             for line in ("--help", "-h", "-hx", "--help --best", "none.obf -h"):
                 with self.subTest(name=name, line=line):
@@ -97,7 +93,7 @@ class CommandLines(InFolder):
 
     def test_default_of_many(self):
         """ffosolve-many, which passes it on, has the default of ffosolve."""
-        helps = [run(path, "--help").stdout for path in (PROGRAMS["ffosolve"], ROOT / "bin/ffosolve-many")]
+        helps = [run(path, "--help").stdout for path in (built(), ROOT / "bin/ffosolve-many")]
         first, many = (re.search(rb"--max-empties.*?\[default: (\d+)\]", text, re.S)[1] for text in helps)
         self.assertEqual(many, first)
 
@@ -114,7 +110,7 @@ class CommandLines(InFolder):
                 for target, prepare in (("/dev/full", None), ("/dev/null", lambda: os.close(1))):
                     with self.subTest(name=name, word=word, target=target), open(target, "wb") as output:
                         how = {"stdout": output, "stderr": subprocess.PIPE, "capture_output": False, "preexec_fn": prepare}
-                        ran = run(PROGRAMS[name], word, **how)
+                        ran = run(built(name), word, **how)
                         self.assertEqual((ran.returncode, ran.stderr), (3, f"{name}: cannot write standard output\n".encode()))
 
     def test_words_behind_two_dashes_are_files(self):

@@ -2,43 +2,23 @@
 import os
 import re
 import shutil
-import subprocess
-import tempfile
 import unittest
 
-from tests.support import ROOT, lack
-
-LONGEST = 2700  # seconds; side by side from nothing, beside other work, they take 400
-
-
-def tests_in(crate):
-    """How many tests a crate's sources have."""
-    sources = ROOT.glob(f"crates/{crate}/src/**/*.rt")
-    return sum(path.read_text().count("#[test]") for path in sources)
+from tests.support import ROOT, lack, run
 
 
 class Crates(unittest.TestCase):
     def test_crates(self):
+        """They are in one crate; from nothing, beside other work, they take 400 seconds."""
         if shutil.which("rt") is None:
             lack("rt (of a Rattle kit)")
-        tests = {path.name: tests_in(path.name) for path in sorted(ROOT.glob("crates/*"))}
-        told = {crate: tempfile.TemporaryFile("w+") for crate, count in tests.items() if count}
-        runs = {crate: self.start(crate, output) for crate, output in told.items()}
-        for crate, ran in runs.items():
-            with self.subTest(crate=crate):
-                ran.wait(LONGEST)
-                told[crate].seek(0)
-                text = told[crate].read()
-                self.assertIn("run=ended status=0 ", text)
-                self.assertEqual(len(re.findall(r"^test \S+ \.\.\. ok$", text, re.M)), tests[crate], text)
-
-    def start(self, crate, output):
-        how = {"stdin": subprocess.DEVNULL, "stdout": output, "stderr": subprocess.STDOUT}
-        run = subprocess.Popen(["rt", "try", "--test", "--seconds", "900"], cwd=ROOT / "crates" / crate, **how)
-        self.addCleanup(output.close)
-        self.addCleanup(run.wait)
-        self.addCleanup(run.kill)
-        return run
+        sources = {path: path.read_text().count("#[test]") for path in ROOT.glob("crates/*/src/**/*.rt")}
+        crate = ROOT / "crates/crate_tests"
+        self.assertEqual([path for path, count in sources.items() if count and crate not in path.parents], [])
+        ran = run("rt", "try", "--test", "--seconds", 900, cwd=crate, text=True, timeout=2700)
+        told = ran.stdout + ran.stderr
+        self.assertIn("run=ended status=0 ", told)
+        self.assertEqual(len(re.findall(r"^test \S+ \.\.\. ok$", told, re.M)), sum(sources.values()), told)
 
 
 class Links(unittest.TestCase):

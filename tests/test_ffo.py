@@ -37,8 +37,9 @@ class Results(InFolder):
         self.assertIn(run(ROOT / "bench/ffo", "table", check=True).stdout, stored("docs/ffo.md"))
 
     def test_agreement(self):
-        """The score and each published move, as the word of a report; the last result counts."""
-        for score, moves, word in (("-12", "G3,C7", "agree"), ("-12", "A1,G3,C7", "agree"), ("-12", "G3", "differ"), ("+12", "G3,C7", "differ")):
+        """Of the score and each published move; the last result counts."""
+        for score, moves, word in (("-12", "G3,C7", "yes"), ("-12", "A1,G3,C7", "yes"),
+                                   ("-12", "G3", "no"), ("+12", "G3,C7", "no")):
             row = f"43\t23\t{score}\t{moves}\t1234.50\tffosolve 9.9.9\tsome processor\n"
             ran, _ = self.ffo("table", kept=HEAD + row.replace(score, "+64") + row)
             self.assertIn(f"| 43 | 23 | {score} | {moves.replace(',', ', ')} | -12 G3, C7 | {word} | 1,234.5 |\n", ran.stdout)

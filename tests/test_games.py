@@ -8,13 +8,13 @@ import stat
 import struct
 import subprocess
 import sys
-import unittest
 import unittest.mock
 from pathlib import Path
 
 from bench import player
 
-from .support import ROOT, SECONDS, InFolder, built, limit, limited, need, run, stored, wait_until, write
+from .support import (ROOT, SECONDS, InFolder, as_at_a_login, built, limit, limited, need, run, stored, wait_until,
+                      write)
 
 PROGRAM = ROOT / "bin/ffosolve-games"
 UNREADABLE = "ffosolve-games: {}: {}\n"
@@ -35,20 +35,9 @@ def can_move(position):
     return player.moves(*position[:2]) != 0
 
 
-def play(position, square):
-    """The position after a move to a square, by its number; None where it is not a move."""
-    own, opp, is_black = position
-    return (*player.after(own, opp, 1 << square), not is_black) if player.moves(own, opp) >> square & 1 else None
-
-
 def random_game(rng):
     """A game to its end: its squares, and None for each pass."""
-    at, game = (*player.START, True), []
-    while can_move(at) or can_move(passed(at)):
-        can = [square.bit_length() - 1 for square in player.squares_in(player.moves(*at[:2]))]
-        game.append(rng.choice(can) if can else None)
-        at = play(at, game[-1]) if can else passed(at)
-    return game
+    return [move.bit_length() - 1 if move else None for *_, move in player.random_game(rng)][1:]
 
 
 def positions_of(squares):
@@ -56,9 +45,10 @@ def positions_of(squares):
     at = (*player.START, True)
     found = {60: at}
     for square in squares:
-        at = play(at if can_move(at) else passed(at), square)
-        if at is None:
+        own, opp, is_black = at if can_move(at) else passed(at)
+        if not player.moves(own, opp) >> square & 1:
             break
+        at = (*player.after(own, opp, 1 << square), not is_black)
         found[64 - player.count(at[0] | at[1])] = at
     return found
 
@@ -72,26 +62,18 @@ def discs_of_black(position):
     return 32 + (score(position) if position[2] else -score(position)) // 2
 
 
-def real_score(positions):
-    """Black's discs at the end of a game's positions; any number where the game is not over."""
+@functools.cache
+def real_score(squares):
+    """Black's discs at the end of a game; any number where it is not over."""
+    positions = positions_of(squares)
     last = positions[min(positions)]
     return 40 if can_move(last) or can_move(passed(last)) else discs_of_black(last)
 
 
-@functools.lru_cache(maxsize=None)
-def real_score_of(squares):
-    return real_score(positions_of(squares))
-
-
-def moves_of(position):
-    """The squares' names, each with the mover's exact score."""
-    own, opp, _ = position
-    return {NAMES[square.bit_length() - 1]: -player.values(*player.after(own, opp, square))[0]
-            for square in player.squares_in(player.moves(own, opp))}
-
-
 def best_moves(position):
-    scores = moves_of(position)
+    own, opp, _ = position
+    scores = {NAMES[square.bit_length() - 1]: -player.values(*player.after(own, opp, square))[0]
+              for square in player.squares_in(player.moves(own, opp))}
     return [name for name in scores if scores[name] == score(position)] or ["PS" if can_move(passed(position)) else "--"]
 
 
@@ -106,7 +88,7 @@ def transcript(game):
 def record(game, theoretical=33, real=None):
     """A game of a WTHOR file, with its real score, where no other is given."""
     squares = squares_of(game)
-    real = real_score_of(tuple(squares)) if real is None else real
+    real = real_score(tuple(squares)) if real is None else real
     return struct.pack("<HHHBB", 7, 300, 301, real, theoretical) + bytes(map(SQUARE_BYTES.__getitem__, squares)).ljust(60, b"\0")
 
 
@@ -163,7 +145,7 @@ class RandomGames(Case):
         self.assertGreater(sum(None in game for game in self.played), 100)
         self.assertLess(min(map(len, self.played)), 60 - 22)
         write("games.txt", "\n".join(map(transcript, self.played)))
-        write("games.wtb", wthor([record(squares, real=real_score(positions)) for squares, positions in self.known]))
+        write("games.wtb", wthor(list(map(record, self.played))))
         for empties in (22, 9):
             for name, score in (("games.txt", ""), ("games.wtb", ", theoretical score 33" * (empties == 22))):
                 out, told = expected(name, self.known, empties, score)
@@ -239,8 +221,10 @@ class Faults(Case):
 
     def test_scores_of_records(self):
         """A game's line is printed, and what is wrong with its scores is told."""
-        game = squares_of(random_game(random.Random(2)))
-        at, real = positions_of(game), real_score(positions_of(game))
+        rng = random.Random(3)
+        with_pass = next(it for it in iter(lambda: random_game(rng), None) if None in it[38:])
+        game, before = squares_of(with_pass), squares_of(with_pass[:with_pass.index(None, 38)])
+        at, real = positions_of(game), real_score(tuple(game))
         wrong = f"its real score is {real + 1}, but its moves give {real}"
         for squares, theoretical, written, empties, why in (
             (game, 64, real, 22, ()),
@@ -250,32 +234,11 @@ class Faults(Case):
             (game, 255, 65, 22, ("its theoretical score is 255, more than 64 discs", "its real score is 65, more than 64 discs")),
             (game[:-1], 33, 0, 22, ("its moves stop before the end of the game, so its real score 0 is not checked",)),
             (game[:-1], 33, 200, 22, ("its real score is 200, more than 64 discs",)),
+            (before, 33, 20, 22, ("its moves stop before the end of the game, so its real score 20 is not checked",)),
         ):
             line = line_of(at[empties], "it.wtb, game 1" + f", theoretical score {theoretical}" * (empties == 22))
             self.reads(wthor([record(squares, theoretical, written)]), line, *(f", game 1: {it}" for it in why),
                        words=[f"--empties={empties}"])
-        rng = random.Random(3)
-        with_pass = next(it for it in iter(lambda: random_game(rng), None) if None in it[38:])
-        before = squares_of(with_pass[:with_pass.index(None, 38)])
-        why = ", game 1: its moves stop before the end of the game, so its real score 20 is not checked"
-        self.reads(wthor([record(before, 33, 20)]), None, why)
-
-    def test_real_scores_of_games_that_end_early(self):
-        """The empty squares count for the winner; where both have as many discs, Black's score is 32."""
-        rng, kinds = random.Random(6), set()
-        while len(kinds) < 3:
-            game = squares_of(random_game(rng))
-            positions = positions_of(game)
-            last = positions[min(positions)]
-            black, white = map(player.count, last[:2] if last[2] else last[1::-1])
-            empty = 64 - black - white
-            kind = (black > white) - (black < white)
-            if (empty or kind == 0) and kind not in kinds:
-                kinds.add(kind)
-                real = {1: black + empty, 0: 32, -1: black}[kind]
-                for written in (real, 64 - real if kind else 31):
-                    why = [f", game 1: its real score is {written}, but its moves give {real}"] * (written != real)
-                    self.reads(wthor([record(game, real=written)], empties=30), None, *why)
 
     def test_headers(self):
         game = squares_of(random_game(random.Random(2)))
@@ -370,6 +333,8 @@ class Use(Case):
               for name in ("utf-16-le", "utf-16-be")),
             (b"% games\r" + game + b"\r" + game + b"\r", "its lines end with CR alone"),
             (b"\r" + game, "its lines end with CR alone"),
+            (b"f5\0d6\n" + game, "its line 1 has a NUL byte, so it is not a text"),
+            (b"PK\3\4\24\0\0\0", "its line 1 has a NUL byte, so it is not a text"),  # an archive
         ):
             write("bad", content)
             self.games("--empties=20", "bad", "text", status=3, out=self.line.format("text"),
@@ -377,13 +342,6 @@ class Use(Case):
             for words in (("--empties=20",), ("compare", "-", "text")):
                 self.games(*words, input=content, status=3, out="", told=UNREADABLE.format("cannot read standard input", why))
             self.games("compare", "text", "bad", status=3, out="", told=UNREADABLE.format("cannot read bad", why))
-
-    def test_a_text_with_a_nul(self):
-        """It is no WTHOR file: those have a name, or a beginning, that no text has. An archive is neither."""
-        for content in (b"f5\0d6\n" + transcript(self.game).encode(), b"PK\3\4\24\0\0\0"):
-            write("bad", content)
-            told = UNREADABLE.format("cannot read bad", "its line 1 has a NUL byte, so it is not a text")
-            self.games("--empties=20", "bad", "text", status=3, out=self.line.format("text"), told=told)
 
     def test_long_lines(self):
         """They are refused by their size, with no more read; what stands before them is printed."""
@@ -539,7 +497,7 @@ class Compare(Case):
             ("7 -32 --", "7 -30 --", "7 of the list is the end of a game with the score -32, and not -30"),
             ("2 +62 H1", "2 +61 H1", "2 of the list has the score +61 in the report, which is of another scoring than winner"),
             ("2 +62 H1", "2 -98 H1", "2 of the list has the score -98 in the report, which is of another scoring than winner"),
-            ("2 +62 H1 unlisted", "2 +62 H1 agree", "2 of the list lists no move, but the report says agree"),
+            ("2 +62 H1 unlisted", "2 +62 H1 listed", "2 of the list lists no move, but the report says listed"),
             ("4 -64", "5 -64", "4 of the list has no row in the report"),
             ("2 +62", "1 +62", "1 of the list is not a position, but the report has a row for it"),
             ("7 -32", "8 -32", "7 of the list has no row in the report"),
@@ -550,22 +508,6 @@ class Compare(Case):
         for says in ("3 empties, limit 1", "board has 2 of 64 squares"):
             report = self.REPORT.replace("3 +62 H1 unlisted", f"3 refused: {says}").replace("solved 5 refused 0", "solved 4 refused 1")
             self.unfit(self.LISTED, report, f"line 3 of the list has 2 empty squares, but the report says: {says}")
-
-    def test_a_whole_report_of_another_list(self):
-        """Of other games, as many, and as many empty squares; the first best move that is not legal shows it."""
-        rng = random.Random(11)
-        known = [positions_of(squares_of(random_game(rng))) for _ in range(60)]
-        mine, others = ([at[5] for at in known if 5 in at][start::2][:20] for start in (0, 1))
-        write("list", "".join(line_of(at, f"x.wtb, game {number}, theoretical score 32") for number, at in enumerate(mine, 1)))
-        for listed, status in ((mine, 1), (others, 3)):
-            best = [best_moves(at) for at in listed]
-            rows = [f"{number} {score(at):+03} {','.join(names)} unlisted\n" for number, (at, names) in enumerate(zip(listed, best), 1)]
-            write("report", "[1]\n" + "".join(rows) + "solved 20 refused 0\n")
-            out, told = self.games("compare", "list", "report", status=status)
-        wrong = [(number, name) for number, (at, names) in enumerate(zip(mine, best), 1) for name in names
-                 if name not in moves_of(at)]
-        self.assertEqual((out, told), ("", "ffosolve-games: report is not a report of list: line {} of the list has no legal move {}, "
-                                           "which the report calls best\n".format(*wrong[0])))
 
 
 class Fix(Case):
@@ -579,8 +521,8 @@ class Fix(Case):
         games = [squares_of(game) for game in (random_game(rng) for _ in range(12))]
         self.games_of_file = [game for game in games if 5 in positions_of(game)]
         self.exact = [discs_of_black(positions_of(game)[5]) for game in self.games_of_file]
-        published = [it + {2: -2, 5: 7}.get(number, 0) for number, it in enumerate(self.exact)]
-        self.records = [record(*both) for both in zip(self.games_of_file, published)]
+        self.published = [it + {2: -2, 5: 7}.get(number, 0) for number, it in enumerate(self.exact)]
+        self.records = [record(*both) for both in zip(self.games_of_file, self.published)]
         write("it.wtb", wthor(self.records, empties=5) + b"more")
         self.write_list("it.wtb")
         self.whole = Path("it.wtb").read_bytes()
@@ -703,42 +645,34 @@ class Fix(Case):
 
     def test_a_run_that_is_ended_in_the_middle(self):
         """It leaves no new file under the name; by Ctrl-C nothing at all. The same command then writes it."""
-        rest = bytes(68 * 2_000_000)
-        write("it.wtb", wthor(self.records, empties=5, count=len(self.records) + 2_000_000) + rest)
+        write("it.wtb", wthor(self.records, empties=5, count=10 ** 8))
+        os.truncate("it.wtb", 16 + 68 * 10 ** 8)
         for number in (signal.SIGINT, signal.SIGKILL):
-            child = self.start(*self.FIX)
+            child = self.start(*self.FIX, preexec_fn=as_at_a_login)
             wait_until(lambda: list(self.folder.glob("new.wtb.*.new")))
             child.send_signal(number)
             child.communicate(timeout=SECONDS)
             self.assertFalse((self.folder / "new.wtb").exists())
             self.assertEqual(bool(list(self.folder.glob("new.wtb.*.new"))), number == signal.SIGKILL)
-        self.assertEqual(self.games("compare", "list", "report", "--fix", "new.wtb", status=1)[1],
-                         f"ffosolve-games: new.wtb: theoretical scores changed 2 of {len(self.records) + 2_000_000}, "
-                         "not compared 2000000\n")
-        self.assertEqual(Path("new.wtb").read_bytes()[16:][:68 * len(self.records)], self.wanted[16:-4])
-        self.assertEqual(os.stat("new.wtb").st_size, os.stat("it.wtb").st_size)
+        write("it.wtb", self.whole)
+        self.fix(1, self.told)
+        self.assertEqual(Path("new.wtb").read_bytes(), self.wanted)
 
-
-class Recipe(Case):
     def test_commands_that_are_shown(self):
-        """Those of the guide and of the help find the wrong scores of a WTHOR file, and write one with exact scores."""
+        """Those of the guide and of the help."""
         need("parallel", "parallel")
         built("ffosolve")
-        rng = random.Random(7)
-        games = [squares_of(game) for game in (random_game(rng) for _ in range(20))]
-        exact = [discs_of_black(positions_of(game)[6]) for game in games]
-        published = [it + {4: -2, 13: 7}.get(number, 0) for number, it in enumerate(exact)]
-        self.assertTrue(all(0 <= it <= 64 for it in published))
+        rows = [f"{{0}}, game {at + 1}: published {self.published[at]}, exact {self.exact[at]}, difference {less}\n"
+                for at, less in ((2, "-2"), (5, "+7"))]
+        rows += [f"compared {len(self.exact)} differ 2 refused 0 unscored 0\n"]
         guide = "".join(re.findall(r"^```sh\n(.*?)^```", stored("docs", "check-wthor.md").decode(), re.M | re.S))
         of_help = re.search(r"^examples:\n.*?\n\n(.*?)\n\n", self.games("--help")[0], re.M | re.S)[1]
         for place, commands, count in (("guide", guide, 4), ("help", of_help, 3)):
             self.assertEqual(len(commands.splitlines()), count)
             name, new = re.search(r"\S+\.wtb", commands)[0], commands.split()[-1]
-            write(f"{place}/{name}", wthor([record(*both) for both in zip(games, published)], empties=6))
+            write(f"{place}/{name}", self.whole)
             os.symlink(ROOT / "bin", f"{place}/bin")
             ran = run("sh", "-c", commands, timeout=300, cwd=place, env={**os.environ, "PATH": f"{ROOT}/bin:{os.environ['PATH']}"})
-            rows = "".join(f"{name}, game {at + 1}: published {published[at]}, exact {exact[at]}, difference {less}\n"
-                           for at, less in ((4, "-2"), (13, "+7")))
-            told = f"{rows}compared 20 differ 2 refused 0 unscored 0\n" * (count - 2)  # of each command that compares
+            told = "".join(rows).format(name) * (count - 2)  # of each command that compares
             self.assertEqual((ran.returncode, ran.stdout.decode()), (1, told), ran.stderr)
-            self.assertEqual((self.folder / place / new).read_bytes(), wthor(map(record, games, exact), empties=6, count=20))
+            self.assertEqual((self.folder / place / new).read_bytes(), self.wanted)

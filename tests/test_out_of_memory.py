@@ -18,7 +18,7 @@ WANTING = (1, b"", b"ffosolve: out of memory\n")
 class OutOfMemory(InFolder):
     def setUp(self):
         super().setUp()
-        self.program, self.refusals = built(), Refusals(self.folder)
+        self.refusals = Refusals(self.folder)
         os.mkdir("work")
         os.chdir("work")
 
@@ -32,13 +32,11 @@ class OutOfMemory(InFolder):
     def refused(self, *words, threads, printed=None, prepare=None):
         """A run goes on without the requests that start its threads, and without the one that makes room for all words of the
         command line at once; without no other."""
-        done = self.ended(run(self.program, *words, input=TEXT))
+        done = self.ended(run(built(), *words, input=TEXT))
         if printed is not None:
             self.assertEqual(done, ((0, printed, b""), None))
-        number, goes_on, met = 0, [], True
-        while met:
-            number += 1
-            ran, met = self.refusals.run(self.program, *words, number=number, input=TEXT, preexec_fn=prepare)
+        goes_on = []
+        for number, ran, met in self.refusals.runs(built(), *words, input=TEXT, preexec_fn=prepare):
             ended = self.ended(ran)
             self.assertIn(ended, (done, (WANTING, None)) if met else (done,), f"where request {number} is refused")
             goes_on += [number] * (met and ended == done)

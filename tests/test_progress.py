@@ -10,20 +10,14 @@ from tests.support import SECONDS, InFolder, built, positions, run, write
 LINE = re.compile(rb"ffosolve: solved (\d+) of (\d+) in (\d+) s\r?\n")
 
 
-def setUpModule():
-    global program, LONG, SHORT
-    program = built()
-    LONG, SHORT = positions(500, 18, 18, 1), positions(20, 10, 10, 1)
-
-
 class Told(InFolder):
     def setUp(self):
         super().setUp()
-        for name, text in (("long", LONG), ("short", SHORT)):
-            write(name, text)
+        write("long", positions(500, 18, 18))
+        write("short", positions(20, 10, 10))
 
     def begin(self, errors):
-        self.start(program, "--progress", "--workers", "1", "long", stdout=subprocess.DEVNULL, stderr=errors)
+        self.start(built(), "--progress", "--workers", "1", "long", stdout=subprocess.DEVNULL, stderr=errors)
 
     def counts(self, more):
         """The first three lines of what comes in pieces, which is nothing else: their counts, totals and seconds."""
@@ -54,16 +48,16 @@ class Told(InFolder):
 
     def test_output_is_the_same(self):
         for files, count in ((["short"], b"20"), (["short", "short"], b"40")):
-            plain = run(program, *files, check=True)
-            told = run(program, "--progress", *files, check=True)
+            plain = run(built(), *files, check=True)
+            told = run(built(), "--progress", *files, check=True)
             self.assertEqual((plain.stdout, plain.stderr), (told.stdout, b""))
             self.assertEqual([line[:2] for line in LINE.findall(told.stderr)][-1:], [(count, count)])
             self.assertEqual(LINE.sub(b"", told.stderr), b"")
 
     def test_errors_full_or_closed(self):
-        plain = run(program, "short", check=True).stdout
+        plain = run(built(), "short", check=True).stdout
         with open("/dev/full", "wb") as full:
-            told = subprocess.run([program, "--progress", "short"], stdout=subprocess.PIPE, stderr=full, timeout=SECONDS)
+            told = run(built(), "--progress", "short", capture_output=False, stdout=subprocess.PIPE, stderr=full)
         self.assertEqual((told.returncode, told.stdout), (0, plain))
-        told = run(program, "--progress", "short", preexec_fn=lambda: os.close(2))
+        told = run(built(), "--progress", "short", preexec_fn=lambda: os.close(2))
         self.assertEqual((told.returncode, told.stdout), (0, plain))

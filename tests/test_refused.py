@@ -48,12 +48,9 @@ class Refused(InFolder):
 
     def requests_of(self, test, refusals):
         """How many requests of a test were refused."""
-        number, wanting, met = 0, 0, True
-        room = Path("room")
+        wanting, room = 0, Path("room")
         room.mkdir(exist_ok=True)
-        while met:
-            number += 1
-            ran, met = refusals.run(PROGRAM, test, number=number, text=True, cwd=room)
+        for number, ran, met in refusals.runs(PROGRAM, test, text=True, cwd=room):
             errors = re.findall(r"^\w+: (.*)$", ran.stderr, re.M)
             is_named = len(errors) == 1 and errors[0] in NAMED
             self.assertTrue(ran.returncode == 0 or is_named and met, f"where request {number} is refused: {ran}")

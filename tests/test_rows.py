@@ -8,7 +8,7 @@ import os
 import subprocess
 from pathlib import Path
 
-from tests.support import ROOT, InFolder, built, limit, run, shorter_than, stored
+from tests.support import ROOT, InFolder, built, limit, limited, run, shorter_than, stored
 
 ROWS = ROOT / "tests/rows"
 LIST = stored("tests", "rows", "positions.obf")
@@ -43,28 +43,24 @@ BOOKS = (
 )
 
 
-def setUpModule():
-    global PROGRAM
-    PROGRAM = {name: built(name) for name in PROGRAMS}
-
-
 class Rows(InFolder):
     def test_rows(self):
         for name, kind, status, words in (("ffosolve", "report", 0, ()), ("ffosolve", "complete", 0, ("--complete",)),
                                           ("ffoscores", "scores", 1, ()), ("ffoscores", "remarks", 1, ("--complete",))):
-            wanted = sorted(ROWS.glob(f"*.{kind}"))
-            self.assertTrue(wanted)
-            for path in wanted:
+            paths = sorted(ROWS.glob(f"*.{kind}"))
+            self.assertTrue(paths)
+            for path in paths:
                 with self.subTest(path=path.name):
                     rows, scoring = path.stem.split(".")
-                    self.ends((status, path.read_bytes(), b""), PROGRAM[name], *words, "--scoring", scoring, ROWS / f"{rows}.obf")
+                    wanted = (status, path.read_bytes(), b"")
+                    self.ends(wanted, built(name), *words, "--scoring", scoring, ROWS / f"{rows}.obf")
 
     def reads(self, text, told):
         """A text is read as a book, or refused."""
         Path("it.book").write_bytes(text)
         wanted = (3, b"", f"ffosolve: {told}\n".encode()) if told else (0, NOTHING, b"")
         with self.subTest(text=text[-100:]):
-            self.ends(wanted, PROGRAM["ffosolve"], "--book-in", "it.book")
+            self.ends(wanted, built(), "--book-in", "it.book")
 
     def test_books(self):
         for text, told in BOOKS:
@@ -82,19 +78,19 @@ class Rows(InFolder):
         for number in os.openpty():
             self.addCleanup(os.close, number)
         name = os.ttyname(number)
-        self.ends((3, b"", f"ffosolve: cannot read {name}\n".encode()), PROGRAM["ffosolve"], "--book-in", name, timeout=20)
+        self.ends((3, b"", f"ffosolve: cannot read {name}\n".encode()), built(), "--book-in", name, timeout=20)
         for lines, told in (("yes ?", "1: bad square at column 1"), ("yes ? | tr -d '\\n'", "1: bad square at column 1"),
                             ("(echo '% ffobook 3 winner'; yes %)", "1: unknown header"),
                             (f"(echo; yes '{'X' * 64}')", "2: bad side at column 65")):
             with self.subTest(lines=lines):
-                words = f"{lines} 2>/dev/null | (ulimit -v 1000000; exec '{PROGRAM['ffosolve']}' --book-in /dev/stdin)"
+                words = f"{lines} 2>/dev/null | (ulimit -v 1000000; exec '{built()}' --book-in /dev/stdin)"
                 self.ends((3, b"", f"ffosolve: book line {told}\n".encode()), "sh", "-c", words, timeout=20)
 
     def test_what_is_printed_is_read_again(self):
         """As it is, but for a CR at the end of a line, with nothing more to remark."""
         for path in ROWS.glob("*.scores"):
             printed = path.read_bytes().replace(b"\r\n", b"\n")
-            ran = run(PROGRAM["ffoscores"], input=printed)
+            ran = run(built("ffoscores"), input=printed)
             self.assertEqual((ran.returncode, ran.stdout), (0, printed))
 
     def test_limits(self):
@@ -107,11 +103,11 @@ class Rows(InFolder):
             (["empty.obf"] * 64, (0, many, b"")),
             (["empty.obf"] * 65, (1, b"", b"ffosolve: more than 64 files\n")),
         ):
-            self.ends(wanted, PROGRAM["ffosolve"], *words)
+            self.ends(wanted, built(), *words)
         line = b"X" * LARGEST
-        ran = run(PROGRAM["ffosolve"], input=line)
+        ran = run(built(), input=line)
         self.assertEqual(ran.stdout, b"[1]\n1 +64 -- unlisted\nsolved 1 refused 0\n")
-        ran = run(PROGRAM["ffosolve"], "--max-empties", "1", input=LIST.splitlines()[8])
+        ran = run(built(), "--max-empties", "1", input=LIST.splitlines()[8])
         self.assertEqual(ran.stdout, b"[1]\n1 refused: 2 empties, limit 1\nsolved 0 refused 1\n")
 
 
@@ -120,12 +116,12 @@ class Streams(InFolder):
         """A front is printed, the fault is told, and no book is written."""
         for name, words in (("ffosolve", ["--book-out", "it.book"]), ("ffoscores", []), ("ffosolve", ["--help"])):
             with self.subTest(name=name, words=words):
-                whole = run(PROGRAM[name], *words, input=LIST).stdout
+                whole = run(built(name), *words, input=LIST).stdout
                 Path("it.book").unlink(missing_ok=True)
                 for size in [*range(0, len(whole), 7), len(whole) - 1]:
                     with open("out", "wb") as out:
                         how = {"stdout": out, "stderr": subprocess.PIPE, "capture_output": False}
-                        ran = run(PROGRAM[name], *words, input=LIST, preexec_fn=lambda: shorter_than(size), **how)
+                        ran = run(built(name), *words, input=LIST, preexec_fn=lambda: shorter_than(size), **how)
                     told = f"{name}: cannot write standard output\n".encode()
                     self.assertEqual((ran.returncode, ran.stderr), (3, told), size)
                     self.assertEqual(Path("out").read_bytes(), whole[:size])
@@ -136,15 +132,16 @@ class Streams(InFolder):
         for name, status in zip(PROGRAMS, (1, 3)):
             with open("/dev/full", "wb") as full:
                 how = {"stdout": subprocess.PIPE, "stderr": full, "capture_output": False}
-                ran = run(PROGRAM[name], input=b" " * (LARGEST + 1), **how)
+                ran = run(built(name), input=b" " * (LARGEST + 1), **how)
             self.assertEqual((ran.returncode, ran.stdout), (status, b""))
 
     def test_endless_input_is_read_no_further_than_it_may_be(self):
+        """By its name, in little memory, and as standard input."""
         with open("large.obf", "wb") as large:
-            large.truncate(16 * LARGEST)
+            large.truncate(256 << 20)
         for name, status in zip(PROGRAMS, (1, 3)):
+            wanted = (status, b"", f"{name}: file 1 is larger than {LARGEST} bytes\n".encode())
+            self.ends(wanted, built(name), "large.obf", preexec_fn=limited("RLIMIT_AS", 64 << 20))
             with open("large.obf", "rb") as large:
-                ran = run(PROGRAM[name], stdin=large)
+                self.ends(wanted, built(name), stdin=large)
                 self.assertEqual(os.lseek(large.fileno(), 0, os.SEEK_CUR), LARGEST + 1)
-            told = f"{name}: file 1 is larger than {LARGEST} bytes\n".encode()
-            self.assertEqual((ran.returncode, ran.stdout, ran.stderr), (status, b"", told))

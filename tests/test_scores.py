@@ -9,19 +9,14 @@ KINDS, SCORES = stored("examples", "kinds.obf"), stored("examples", "kinds.score
 TWO = KINDS.split(b"\n")[1] + b"\n"  # a position of two empty squares, with both moves listed right
 SOLVED = SCORES.split(b"\n")[1] + b"\n"
 BOARD = TWO[:66]
-UNWRITTEN = b"ffoscores: cannot write standard output\n"
+RIGHT = stored("examples", "first.report").split()[4]  # the word of a line whose scores are right
 LARGE = limit("MOST_BYTES") + 1
 LONGEST = 5 * SECONDS  # of a position of twenty empty squares, beside other work
 
 
-def setUpModule():
-    global PROGRAM
-    PROGRAM = built("ffoscores")
-
-
 class Scores(InFolder):
     def ends(self, wanted, *words, **how):
-        super().ends(wanted, PROGRAM, *words, **how)
+        super().ends(wanted, built("ffoscores"), *words, **how)
 
 
 class Lines(Scores):
@@ -30,7 +25,7 @@ class Lines(Scores):
     def test_to_the_byte(self):
         Path("kinds.obf").write_bytes(KINDS)
         self.ends((1, SCORES, b""), "kinds.obf")
-        self.ends((1, SCORES, b""), "./kinds.obf", "--max-empties", "20", "--table=65536", "--scoring", "winner")
+        self.ends((1, SCORES, b""), "./kinds.obf", "--table=65536", "--scoring", "winner")
         self.ends((1, SCORES, b""), input=KINDS)
         self.ends((1, SCORES * 2, b""), "--", "kinds.obf", "kinds.obf", input=b"X")
         self.ends((1, SCORES, b""), "/dev/stdin", input=KINDS)
@@ -53,7 +48,7 @@ class Lines(Scores):
     def test_its_own_output(self):
         self.ends((0, SCORES, b""), input=SCORES)
         ran = run(built(), input=SCORES, check=True)
-        self.assertEqual([row.split()[-1] for row in ran.stdout.splitlines()[1:-1]], [b"agree"] * 8)
+        self.assertEqual([row.split()[-1] for row in ran.stdout.splitlines()[1:-1]], [RIGHT] * 8)
 
     def test_hostile_texts(self):
         whole = LARGE // len(TWO)
@@ -86,14 +81,12 @@ class Lines(Scores):
     def test_position_of_twenty(self):
         """Position 40 of the FFO test: the published move and score, and no other move is as good."""
         line = next(line for line in stored("examples", "ffo-40-51.obf").splitlines() if b"% 40" in line)
-        ran = run(PROGRAM, input=line, timeout=LONGEST)
+        ran = run(built("ffoscores"), input=line, timeout=LONGEST)
         scores = [int(score) for _, score in re.findall(rb" ([A-H][1-8]):([+-]\d\d);", ran.stdout)]
         self.assertEqual((ran.returncode, ran.stderr), (0, b""))
         self.assertTrue(ran.stdout.startswith(line[:66] + b"; A2:+38; "), ran.stdout)
         self.assertTrue(ran.stdout.endswith(line[line.index(b" % 40"):] + b"\n"), ran.stdout)
         self.assertTrue(len(scores) > 9 and scores[1] < 38, ran.stdout)
-        ran = run(built(), input=ran.stdout, timeout=LONGEST, check=True)
-        self.assertEqual(ran.stdout.splitlines()[1], b"1 +38 A2 agree")
 
 
 class Streams(Scores):
@@ -122,10 +115,8 @@ class Streams(Scores):
     def test_want_of_memory(self):
         """Each request for memory is refused in turn: it is told, and what was printed before is a front of the whole. A run
         goes on without the few requests that it can do without, and prints the whole."""
-        refusals, number, told, met = Refusals("."), 0, 0, True
-        while met:
-            number += 1
-            ran, met = refusals.run(PROGRAM, "--table", "100", number=number, input=KINDS)
+        told = 0
+        for number, ran, met in Refusals(".").runs(built("ffoscores"), "--table", "100", input=KINDS):
             found = ran.returncode, ran.stderr
             is_told = met and found == (3, b"ffoscores: out of memory\n") and SCORES.startswith(ran.stdout)
             self.assertTrue(is_told or found == (1, b"") and ran.stdout == SCORES, f"request {number} is refused: {ran}")

@@ -177,7 +177,9 @@ class Player:
         found = [START] if left in wanted else []
         for index, square in enumerate(game.moves):
             if play(at, square, after):
-                at, side = self._passed(at, game, index), OTHER[side]
+                if self._has_move(at):
+                    raise self._refusal(at, game, index)
+                at, side = CPosition(at.opp, at.own), OTHER[side]
                 if square == PASS:
                     continue
                 if play(at, square, after):
@@ -186,12 +188,6 @@ class Player:
             if left in wanted:
                 found.append(Position(at.own, at.opp, side))
         return found, Position(at.own, at.opp, side)
-
-    def _passed(self, at: CPosition, game: Game, index: int) -> CPosition:
-        """The position after the pass that a game has before a move, or as that."""
-        if self._has_move(at):
-            raise self._refusal(at, game, index)
-        return CPosition(at.opp, at.own)
 
     def _has_move(self, at: CPosition) -> bool:
         moves = ctypes.c_uint64()

@@ -77,9 +77,6 @@ status:
   3  a file can't be read, or REPORT does not belong to LIST; or the output or
      FILE can't be written
   4  the library can't be found
-
-example:
-  ffosolve-games compare list.obf list.report --fix WTH_2001.new.wtb
 """
 FIX = "write the WTHOR file of LIST with the exact theoretical scores to FILE, which must not exist yet"
 
