@@ -9,7 +9,7 @@ use Rattle.scored_lines.specs.declared.demands.Listing.TheVariants.{Any, Complet
 use Rattle.program_parts.specs.CommandLine.{HasFlag, HasSettings, NameList, NamesScorings}
 use Rattle.program_parts.specs.CommandLine.{files_rule, flag_rule, versioned, with_settings}
 use Rattle.program_parts.specs.Inputs.{names_of}
-use Rattle.ffoscores_program.specs.declared.options.ListOptions.{ListOptions}
+use Rattle.ffoscores_program.specs.declared.ffoscores_options.ListOptions.{ListOptions}
 
 -- the whole command `ffoscores`
 abbrev pub ffoscores : NameList → App

@@ -8,7 +8,7 @@ ghost use Rattle.ffoscores_program.specs.Options.{demands_of, list_request_of};
 ghost use Rattle.ffoscores_program.specs.Lists.{EndsFfoscores, IsListError, PrintsLists, StopsLists, list_status_of};
 
 use crate::exit_status::print_error;
-use crate::options::{ListOptions, list_options};
+use crate::ffoscores_options::{ListOptions, read_list_options};
 use bound_table::BoundTable;
 use list_printer::{ListFault, write_lists};
 use program_parts::{OptionFault, ProgramError, end_without_options, read_files};
@@ -96,7 +96,7 @@ fn carry_out<'a, T: Files + Threads + Wait, R: Read, W: Write>(
 /// with every move's score, each line as soon as it is solved.
 ///
 /// The status is 0 where nothing in the lists is wrong, or where help or the version was asked for
-/// and printed; 1 where a line is refused or something is remarked; 2 where the command line is
+/// and printed; 1 where a line is refused or there is a remark; 2 where the command line is
 /// refused; 3 where a list can't be read, is too large or one of too many, where standard output
 /// can't be written, or where memory ran out. An error that ends the program early is printed on
 /// standard error, as one line or as clap's text, and the lines that were printed before stay; a
@@ -112,7 +112,7 @@ pub fn list_program<T: Files + Threads + Wait, R: Read, W: Write, E: Write>(
     ensures { EndsFfoscores (map (λ word. word.now) words.now)
         (R.remaining input.old) (W.contents output.old) (W.contents output.new) result }
 {
-    match list_options(alloc, words) {
+    match read_list_options(alloc, words) {
         Ok(asked) => match carry_out(rt, alloc, &asked, input, output) {
             Ok(true) => 0,
             Ok(false) => 1,

@@ -10,8 +10,8 @@
 
 mod exit_status;
 mod ffoscores;
-mod options;
+mod ffoscores_options;
 
 pub use exit_status::{ExitStatus, list_program_of};
 pub use ffoscores::list_program;
-pub use options::{ListOptions, list_options};
+pub use ffoscores_options::{ListOptions, read_list_options};

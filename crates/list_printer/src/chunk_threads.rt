@@ -158,7 +158,7 @@ fn spawn_chunk<'a, R: Threads>(
 }
 
 /// Starts the scoring of a chunk: on a thread of its own, or on the calling thread where the chunk
-/// is short or a thread can't be started.
+/// is for that thread or a thread can't be started.
 pub(crate) fn start<'a, R: Threads>(
     rt: &R,
     scorer: &Arc<Scorer>,
@@ -175,7 +175,7 @@ pub(crate) fn start<'a, R: Threads>(
         demands: shared.demands,
         text: chunk.front,
     };
-    if !chunk.is_short {
+    if !chunk.is_for_caller {
         if let Ok(output) = spawn_chunk(rt, scorer, alloc, promise) {
             return StartedChunk { promise, output };
         }

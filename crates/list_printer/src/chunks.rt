@@ -19,8 +19,9 @@ const MOST_LINES: u32 = 8;
 pub(crate) struct Chunk<'a> {
     pub front: &'a [u8],
     pub rest: &'a [u8],
-    /// Whether scoring the lines takes less time than starting a thread.
-    pub is_short: bool,
+    /// Whether the calling thread is to score the lines: there are no workers, or scoring takes
+    /// less time than starting a thread.
+    pub is_for_caller: bool,
 }
 
 // The number of bytes of a text's first line, with its end.
@@ -55,15 +56,15 @@ fn empties_in(text: &[u8], limit: u8) -> usize {
     }
 }
 
-// The number of bytes of a text's first chunk: of one line where it is short or has many empty
-// squares, otherwise of several, up to a line with many.
-fn chunk_len(text: &[u8], limit: u8, is_short: bool) -> usize
+// The number of bytes of a text's first chunk: of one line where the calling thread is to score it,
+// or where it has many empty squares; otherwise of several, up to a line with many.
+fn chunk_len(text: &[u8], limit: u8, is_for_caller: bool) -> usize
     requires { 0 < length text.now }
     ensures ended { EndsLine text.now result }
     ensures some { 0 < result }
 {
     let mut end = line_len(text);
-    if is_short || empties_in(text, limit) >= MANY_EMPTIES {
+    if is_for_caller || empties_in(text, limit) >= MANY_EMPTIES {
         return end;
     }
     for _ in 1..MOST_LINES {
@@ -76,19 +77,19 @@ fn chunk_len(text: &[u8], limit: u8, is_short: bool) -> usize
     end
 }
 
-// The first chunk of a text that is not empty: one line, or several where a thread is to score
-// them and each takes little time.
-fn first_chunk(text: &[u8], limit: u8, is_alone: bool) -> Chunk<'_>
+// The first chunk of a text that is not empty: one line, or several where a thread of their own is
+// to score them and each takes little time.
+fn first_chunk(text: &[u8], limit: u8, has_no_workers: bool) -> Chunk<'_>
     requires { 0 < length text.now }
     ensures lines { lines_of text.now ≡ lines_of result.front.now ++ lines_of result.rest.now }
     ensures less { length result.rest.now < length text.now }
 {
-    let is_short = is_alone || empties_in(text, limit) <= FEW_EMPTIES;
-    let end = chunk_len(text, limit, is_short);
+    let is_for_caller = has_no_workers || empties_in(text, limit) <= FEW_EMPTIES;
+    let end = chunk_len(text, limit, is_for_caller);
     Chunk {
         front: &text[..end],
         rest: &text[end..],
-        is_short,
+        is_for_caller,
     }
 }
 
@@ -103,7 +104,7 @@ pub(crate) struct Lists<'a> {
 
 impl<'a> Lists<'a> {
     /// Takes the first chunk of what is left.
-    pub fn next_chunk(&mut self, limit: u8, is_alone: bool) -> Option<Chunk<'a>>
+    pub fn next_chunk(&mut self, limit: u8, has_no_workers: bool) -> Option<Chunk<'a>>
         ensures some { IfSome result (λ chunk. left_lines self.old
             ≡ lines_of chunk.front.now ++ left_lines self.new) }
         ensures less { IfSome result (λ _. left_size self.new < left_size self.old) }
@@ -116,7 +117,7 @@ impl<'a> Lists<'a> {
             self.rest = text;
             self.texts = texts;
         }
-        let chunk = first_chunk(self.rest, limit, is_alone);
+        let chunk = first_chunk(self.rest, limit, has_no_workers);
         self.rest = chunk.rest;
         Some(chunk)
     }

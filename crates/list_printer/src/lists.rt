@@ -225,8 +225,8 @@ fn print_all<'a, R: Threads + Wait, W: Write>(
 ///
 /// With `workers` above 0, up to `workers` + 1 threads score lines at once, besides the calling
 /// thread, which scores lines that take less time than starting a thread. With 0 it scores all.
-/// What is printed is the same. Where `Err` is returned, threads that score lines run on, and are not
-/// waited for. The call may wait for its threads.
+/// What is printed is the same. Where `Err` is returned, threads that score lines run on, and are
+/// not waited for. The call may wait for its threads.
 ///
 /// Returns whether no line is refused and no remark is made. Where `Err` is returned, a prefix of
 /// the whole output is printed.

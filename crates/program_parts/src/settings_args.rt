@@ -69,7 +69,9 @@ fn scoring_arg<'a>(alloc: Global, names: &'a [&'a str]) -> Arg<'a>
         .value_parser(names)
         .hide_possible_values(true)
         .help(
-            "Score a finished game with its empty squares given to\nthe winner (winner), by discs alone (discs), or as a\nwin, draw or loss (sign)",
+            "Score a finished game with its empty squares given to\n\
+             the winner (winner), by discs alone (discs), or as a\n\
+             win, draw or loss (sign)",
         )
 }
 
@@ -133,7 +135,7 @@ fn table_arg<'a>(alloc: Global) -> Arg<'a>
         "table",
         MOST_ENTRIES,
         DEFAULT_ENTRIES_TEXT,
-        "Keep bounds of at most N positions,\n32 bytes each",
+        "Use a transposition table of N entries,\n32 bytes each",
     )
 }
 

@@ -1,5 +1,5 @@
--- The limits and the defaults of a run, as numbers that users are promised. Contracts cite them, and
--- the code's constants are proved by those contracts.
+-- The limits and the defaults of a run, as numbers that users are promised. Contracts cite them,
+-- and the code's constants are proved by those contracts.
 use Rattle.std.specs.Prelude.{ℕ}
 pub use Rattle.bound_table.specs.Limits.{most_entries}
 pub use Rattle.endgame_search.specs.Limits.{most_empties}

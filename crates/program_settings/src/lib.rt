@@ -4,7 +4,8 @@
 //! use program_settings::{MOST_FILES, Settings, check_files};
 //! use othello_rules::Scoring;
 //!
-//! let settings = Settings::new(20, 2, 65_536, Scoring::Winner).expect(&rt, "no number is too great");
+//! let settings = Settings::new(20, 2, 65_536, Scoring::Winner);
+//! let settings = settings.expect(&rt, "no number is too great");
 //! assert!(rt; settings == Settings::default());
 //! assert!(rt; check_files(&files).is_err() || files.len() <= MOST_FILES);
 //! ```

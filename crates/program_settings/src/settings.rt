@@ -59,10 +59,20 @@ impl Settings {
     /// moves. None where a number is above its limit: `MOST_EMPTIES`, `MOST_WORKERS` and
     /// `MOST_ENTRIES`.
     pub fn new(max_empties: u8, workers: u8, table: u32, scoring: Scoring) -> Option<Settings>
-        ensures within { IsSome result ↔ IsWithinLimits (record
-            { max_empties = max_empties; workers = workers; table = table; scoring = scoring; complete = false }) }
-        ensures value { IfSome result (λ s. s ≡ record
-            { max_empties = max_empties; workers = workers; table = table; scoring = scoring; complete = false }) }
+        ensures within { IsSome result ↔ IsWithinLimits (record {
+          max_empties = max_empties;
+          workers = workers;
+          table = table;
+          scoring = scoring;
+          complete = false;
+        }) }
+        ensures value { IfSome result (λ s. s ≡ record {
+          max_empties = max_empties;
+          workers = workers;
+          table = table;
+          scoring = scoring;
+          complete = false;
+        }) }
     {
         if max_empties > MOST_EMPTIES || workers > MOST_WORKERS || table > MOST_ENTRIES {
             return None;
@@ -126,8 +136,8 @@ impl Settings {
 }
 
 impl Default for Settings {
-    /// `DEFAULT_EMPTIES`, `DEFAULT_WORKERS`, `DEFAULT_ENTRIES`, and the scoring `Winner`. A line may
-    /// leave out best moves.
+    /// `DEFAULT_EMPTIES`, `DEFAULT_WORKERS`, `DEFAULT_ENTRIES`, and the scoring `Winner`. A line
+    /// may leave out best moves.
     fn default() -> Settings
         ensures { result ≡ defaults }
     {

@@ -17,7 +17,7 @@ pub struct Wrong {
     pub score: Option<i8>,
 }
 
-// Whether a listed move is a disc on the square.
+// Whether a listed move is the move to this square.
 fn is_square(listed: ListedMove, square: Square) -> bool
     ensures { result ≡ same_move listed (At square) }
 {

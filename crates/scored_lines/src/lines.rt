@@ -209,8 +209,8 @@ pub struct LinesText {
 }
 
 /// What is printed for the lines of a text. A line that is skipped is printed as it is. A line that
-/// is refused is printed as a comment with the reason and the line. A position is printed with every
-/// move's score, with the remarks on its line, and with the line's comment.
+/// is refused is printed as a comment with the reason and the line. A position is printed with
+/// every move's score, with the remarks on its line, and with the line's comment.
 pub fn lines_text<T: Bounds>(
     table: &T,
     alloc: Global,

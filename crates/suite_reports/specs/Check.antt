@@ -38,17 +38,17 @@ unfoldable pub check : List Field → AnswerView → Check
 check [] answer = Unlisted
 check (f ∷ fs) answer = if agrees (f ∷ fs) answer then Agree else Differ
 
--- a disc on the square is listed
+-- a listed move is the move to the square
 abbrev pub is_square : ℕ → ListedMove → Bool
 is_square q (listed.At p) = p == q
 is_square q _ = false
 
--- a disc on the square is listed with this score
+-- the move to the square is listed with this score
 abbrev pub lists_square : List Field → ℤ → ℕ → Bool
 lists_square fields score q = list_any (λ f. int_eq f.1 score && is_square q f.0) fields
 
--- Each best move is listed with the score. A pass and the end of the game are the only move that
--- may be listed.
+-- Each best move is listed with the score. Where the mover has to pass, or the game is over, there
+-- is nothing to choose, so nothing can be left out.
 abbrev pub lists_best : List Field → ℤ → Best → Bool
 lists_best fields score (best.Moves mask) = list_all (lists_square fields score) (squares_of mask)
 lists_best fields score _ = true

@@ -25,7 +25,7 @@ parsed_result (parsed.Refused refusal) = Refused refusal
 
 -- the row of a line that was read
 abbrev pub row_in : NumberedLine → ReportRow
-row_in numbered = record { line = numbered.line; result = parsed_result numbered.parsed }
+row_in numbered = record { line = numbered.number; result = parsed_result numbered.parsed }
 
 -- the tasks of the lines that were read, in their order
 abbrev pub tasks_in : List NumberedLine → List TaskView

@@ -64,9 +64,9 @@ is_solved (Refused refusal) = false
 unfoldable pub solved_count : List ReportRow → ℕ
 solved_count rows = count_by (λ row. is_solved row.result) rows
 
--- the first line: a sender counts from 0, and is printed as its number plus 1
+-- the first line: the number of the file, which counts from 0, plus 1
 unfoldable pub head_text : ℕ → List ℕ
-head_text sender = codes "[" ++ (decimal (sender + 1) ++ (codes "]" ++ 10 ∷ []))
+head_text file = codes "[" ++ (decimal (file + 1) ++ (codes "]" ++ 10 ∷ []))
 
 -- the last line: the number of solved rows, and the number of refused rows
 unfoldable pub last_text : List ReportRow → List ℕ
@@ -76,4 +76,4 @@ last_text rows =
 
 -- the first line, a line for each row, and the last line
 unfoldable pub report_text : ℕ → List ReportRow → List ℕ
-report_text sender rows = head_text sender ++ (flat_map row_text rows ++ last_text rows)
+report_text file rows = head_text file ++ (flat_map row_text rows ++ last_text rows)

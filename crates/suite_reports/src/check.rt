@@ -15,11 +15,12 @@ use std::fmt;
 #[derive(Clone, Copy, PartialEq, Eq, Debug)]
 pub enum Check {
     /// The greatest listed score is the answer's score, and each move listed with it is a best
-    /// move.
+    /// move; by `complete_check_of`, each best move is listed with it, too.
     Agree,
-    /// The greatest listed score is another one, or a move listed with it is not a best move.
+    /// The greatest listed score is another one, or a move listed with it is not a best move, or,
+    /// by `complete_check_of`, a best move is not listed with it.
     Differ,
-    /// The line lists no score.
+    /// The line lists no move with a score.
     Unlisted,
 }
 
@@ -76,7 +77,7 @@ pub fn check_of(listed: &[(ListedMove, i8)], answer: &Answer) -> Check
     }
 }
 
-// Whether a listed move is a disc on the square.
+// Whether a listed move is the move to this square.
 fn is_square(square: Square, listed: ListedMove) -> bool
     ensures { result ≡ is_square square listed }
 {
@@ -86,7 +87,7 @@ fn is_square(square: Square, listed: ListedMove) -> bool
     }
 }
 
-// Whether a disc on the square is listed with this score.
+// Whether the move to this square is listed with this score.
 fn lists_square(listed: &[(ListedMove, i8)], score: i8, square: Square) -> bool
     ensures { result ≡ lists_square listed.now score square }
 {
@@ -95,7 +96,7 @@ fn lists_square(listed: &[(ListedMove, i8)], score: i8, square: Square) -> bool
     })
 }
 
-// Whether a disc on each of the squares is listed with this score.
+// Whether the move to each of the squares is listed with this score.
 fn lists_squares(listed: &[(ListedMove, i8)], score: i8, squares: &[Square]) -> bool
     ensures { result ≡ list_all (lists_square listed.now score) squares.now }
 {
@@ -104,8 +105,8 @@ fn lists_squares(listed: &[(ListedMove, i8)], score: i8, squares: &[Square]) -> 
         .all(|square| lists_square(listed, score, *square))
 }
 
-// Whether each best move is listed with the score. A pass and the end of the game are the only move
-// that may be listed.
+// Whether each best move is listed with the score. Where the mover has to pass, or the game is
+// over, there is nothing to choose, so nothing can be left out.
 fn lists_best(listed: &[(ListedMove, i8)], score: i8, best: Best) -> bool
     ensures { result ≡ lists_best listed.now score best }
 {

@@ -8,8 +8,8 @@ ghost use Rattle.obf_text.specs.Fields.{Field};
 ghost use Rattle.suite_reports.specs.Check.{complete_check, lists_square};
 ghost use Rattle.suite_reports.specs.declared.check.Check.TheVariants.{Agree};
 
-/// Where a line that has to list every best move agrees, the squares that it lists with the score of
-/// its position are exactly those of the best moves.
+/// Where a line that has to list every best move agrees, the squares that it lists with the score
+/// of its position are exactly those of the best moves.
 pub fn complete_lists_are_exact()
     ensures { (fields : List Field) (score : ℤ) (mask q : ℕ) → q < 64
         → complete_check fields (record { score = score; best = Moves mask }) ≡ Agree

@@ -18,7 +18,7 @@ use std::alloc::{AllocError, Global};
 /// lines, with its task or its refusal.
 #[derive(Drop)]
 pub struct NumberedLine {
-    line: u32,
+    number: u32,
     parsed: ParsedLine,
 }
 
@@ -32,7 +32,8 @@ impl NumberedLine {
 }
 
 /// Reads the lines of a text, in their order. Skipped lines are left out. A position with more
-/// empty squares than the limit is refused.
+/// empty squares than the limit is refused. The limit is at most 60, and the text has at most
+/// `MOST_BYTES` bytes. The only error is out of memory.
 pub fn parse_lines(
     alloc: Global,
     criteria: Criteria,
@@ -42,21 +43,22 @@ pub fn parse_lines(
     requires few_empties { criteria.limit ≤ most_empties }
     requires short { length text.now ≤ most_bytes }
     ensures rows { IfOk result (λ found. map row_in found.items ≡ rows scoring criteria text.now) }
-    ensures tasks { IfOk result (λ found. tasks_in found.items ≡ tasks scoring criteria.limit text.now) }
+    ensures tasks { IfOk result
+        (λ found. tasks_in found.items ≡ tasks scoring criteria.limit text.now) }
 {
     let mut lines = Vec::new(alloc);
-    let mut line: u32 = 1;
-    for bytes in split_lines(text) {
-        if let Some(parsed) = parse_line(alloc, criteria, scoring, bytes)? {
-            lines.push(NumberedLine { line, parsed })?;
+    let mut number: u32 = 1;
+    for line in split_lines(text) {
+        if let Some(parsed) = parse_line(alloc, criteria, scoring, line)? {
+            lines.push(NumberedLine { number, parsed })?;
         }
-        line += 1;
+        number += 1;
     }
     Ok(lines)
 }
 
-/// The rows of lines that were read. `solved` has the answers of their tasks, in the order of the
-/// lines.
+/// The rows of lines that were read. `solved` has one answer for each task, in the order of the
+/// lines. The only error is out of memory.
 pub fn rows_of(
     alloc: Global,
     lines: &[NumberedLine],
@@ -69,7 +71,7 @@ pub fn rows_of(
     let mut answers = solved.iter();
     for numbered in lines {
         rows.push(ReportRow {
-            line: numbered.line,
+            line: numbered.number,
             result: numbered.parsed.result(&mut answers),
         })?;
     }

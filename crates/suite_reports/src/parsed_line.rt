@@ -24,9 +24,14 @@ use std::slice::Iter;
 /// A line that is not skipped, after it was read.
 #[derive(Drop)]
 pub(crate) enum ParsedLine {
-    /// A position to solve, the moves and scores that the line lists, and whether it has to list
-    /// every best move where it lists any.
-    Position(Task, Vec<(ListedMove, i8)>, bool),
+    /// A position to solve.
+    Position {
+        task: Task,
+        /// The moves and scores that the line lists.
+        listed: Vec<(ListedMove, i8)>,
+        /// Whether the line has to list every best move where it lists any.
+        complete: bool,
+    },
     /// Why the line is refused.
     Refused(Refusal),
 }
@@ -40,7 +45,11 @@ impl ParsedLine {
     {
         let limit = criteria.limit;
         match Task::new(Pos::of_grid(&entry.grid), limit, scoring) {
-            Ok(task) => ParsedLine::Position(task, entry.listed, criteria.complete),
+            Ok(task) => ParsedLine::Position {
+                task,
+                listed: entry.listed,
+                complete: criteria.complete,
+            },
             Err(TooMany(found)) => ParsedLine::Refused(Refusal::Empties(found, limit)),
         }
     }
@@ -50,7 +59,7 @@ impl ParsedLine {
         ensures { result ≡ task_in self.now }
     {
         match self {
-            ParsedLine::Position(task, _, _) => Some(*task),
+            ParsedLine::Position { task, .. } => Some(*task),
             ParsedLine::Refused(_) => None,
         }
     }
@@ -65,7 +74,11 @@ impl ParsedLine {
             ≡ cons_option (task_in self.now) (iter_rest answers.new) }
     {
         match self {
-            ParsedLine::Position(_, listed, complete) => {
+            ParsedLine::Position {
+                listed,
+                complete,
+                ..
+            } => {
                 let Some(solved) = answers.next() else {
                     unreachable!()
                 };
@@ -86,10 +99,10 @@ pub(crate) fn parse_line(
 ) -> Result<Option<ParsedLine>, AllocError>
     requires few_empties { criteria.limit ≤ most_empties }
     requires short { length line.now ≤ most_bytes }
-    ensures result { IfOk result
-        (λ found. option_map parsed_result found ≡ line_result scoring criteria (item_of line.now)) }
-    ensures task { IfOk result
-        (λ found. option_and_then task_in found ≡ task_of scoring criteria.limit (item_of line.now)) }
+    ensures result { IfOk result (λ found. option_map parsed_result found
+        ≡ line_result scoring criteria (item_of line.now)) }
+    ensures task { IfOk result (λ found. option_and_then task_in found
+        ≡ task_of scoring criteria.limit (item_of line.now)) }
 {
     let refusal = match read_line(alloc, line) {
         Ok(Item::Skip) => return Ok(None),

@@ -85,8 +85,8 @@ fn write_row<W: Write>(writer: &mut W, row: &ReportRow) -> io::Result<()>
     ensures { OnOk result
         (Appends (W.contents writer.old) (W.contents writer.new) (row_text row.now)) }
 {
-    let line = row.line;
-    write!(writer, "{line} ")?;
+    let number = row.line;
+    write!(writer, "{number} ")?;
     write_result(writer, &row.result)?;
     writer.write_all(b"\n")
 }
@@ -103,11 +103,11 @@ fn solved_count(rows: &[ReportRow]) -> usize
 }
 
 #[tactic(auto, unfolding(crate::specs::ReportText::head_text))]
-fn write_head<W: Write>(writer: &mut W, sender: u32) -> io::Result<()>
+fn write_head<W: Write>(writer: &mut W, file: u32) -> io::Result<()>
     ensures { OnOk result
-        (Appends (W.contents writer.old) (W.contents writer.new) (head_text sender)) }
+        (Appends (W.contents writer.old) (W.contents writer.new) (head_text file)) }
 {
-    let number = u64::from(sender) + 1;
+    let number = u64::from(file) + 1;
     write!(writer, "[{number}]\n")
 }
 
@@ -121,15 +121,15 @@ fn write_last<W: Write>(writer: &mut W, rows: &[ReportRow]) -> io::Result<()>
     write!(writer, "solved {solved} refused {refused}\n")
 }
 
-/// Writes the report of a file: the line `[N]`, where N is `sender` plus 1, a line for each row,
-/// and a line with the number of solved rows and the number of refused rows. Each line ends with
-/// LF. `sender` is counted from 0. The error is that of the writer, and nothing is said about the
-/// bytes that were written before it. The call takes no memory of its own.
-pub fn write_report<W: Write>(writer: &mut W, sender: u32, rows: &[ReportRow]) -> io::Result<()>
+/// Writes the report of a file: the line `[N]`, where N is `file` plus 1, a line for each row, and
+/// a line with the number of solved rows and the number of refused rows. Each line ends with LF.
+/// `file` is the number of the file, counted from 0. The error is that of the writer, and nothing
+/// is said about the bytes that were written before it. The call takes no memory of its own.
+pub fn write_report<W: Write>(writer: &mut W, file: u32, rows: &[ReportRow]) -> io::Result<()>
     ensures { OnOk result
-        (Appends (W.contents writer.old) (W.contents writer.new) (report_text sender rows.now)) }
+        (Appends (W.contents writer.old) (W.contents writer.new) (report_text file rows.now)) }
 {
-    write_head(writer, sender)?;
+    write_head(writer, file)?;
     for row in rows {
         write_row(writer, row)?;
     }

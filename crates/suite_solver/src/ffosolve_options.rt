@@ -25,7 +25,7 @@ The words of a report:
             with it is a best move
   differ    the highest listed score is not the exact one, or a move listed with
             it is not a best move, or, with --complete, a best move is missing
-  unlisted  the line lists no score
+  unlisted  the line lists no move with a score
   refused   the line is not a position, or more squares are empty than
             --max-empties allows
 
@@ -34,12 +34,12 @@ In place of moves:
   --  the game is over
 
 Exit status:
-  0  all reports were printed, or this help, or the version
+  0  all reports were printed; also for --help and --version
   1  more than 64 files, a file larger than 1 MiB (ffosolve-many takes longer
      lists), or out of memory
   2  the command line is refused
-  3  a file or a stream can't be read or written, or the book of --book-in is
-     refused
+  3  a file or a stream can't be read or written, the book of --book-in is
+     refused, or --book-out would overwrite another file
 
 Examples:
   # show the lines of a suite whose listed scores are wrong
@@ -78,13 +78,12 @@ fn ffosolve_command<'a>(alloc: Global, names: &'a [&'a str]) -> Result<Command<'
     ensures { IfOk result (λ c. app_of c ≡ ffosolve names.entry) }
 {
     let bare = bare_command(alloc, "ffosolve", ABOUT, AFTER_HELP);
-    let workers =
-        "Use N extra solver threads, besides one per file,\n0 to 64; reports stay the same";
+    let workers = "Use N solver threads besides one per file, 0 to 64;\nreports stay the same";
     let for_runs = with_settings(alloc, bare, workers, names)?;
     let complete = flag_arg(
         alloc,
         "complete",
-        "Say that a line differs if the moves that it lists\nleave out a best one",
+        "Also report differ where a line lists moves, but not\nevery best one",
     );
     let asking = for_runs.arg(complete)?;
     let book_in = book_arg(
@@ -102,7 +101,8 @@ fn ffosolve_command<'a>(alloc: Global, names: &'a [&'a str]) -> Result<Command<'
     let progress = flag_arg(
         alloc,
         "progress",
-        "Report on standard error, every five seconds and at\nthe end, how many positions are solved",
+        "Report on standard error how many positions are\n\
+         solved, at most every five seconds, and at the end",
     );
     let telling = writing_books.arg(progress)?;
     telling.arg(files_arg(alloc))

@@ -37,8 +37,8 @@ const TWO: &[u8] = b"% two lines\n\
 const TWO_PRINTED: &[u8] = b"% two lines\n\
 -OOOOOOXXXXXXXXXXXXXXXXXXXXXXXXXXXXXXXXXXXXXXXXXXXXXXXXXXXXXXXXX X; A1:+64; % A1:+60 is +64\n";
 
-// A writer that takes a byte a call, is interrupted at every other call, fails when no call is left,
-// and notes how many bytes it held when it was last flushed.
+// A writer that takes a byte a call, is interrupted at every other call, fails when no call is
+// left, and notes how many bytes it held when it was last flushed.
 #[derive(Drop)]
 struct SlowWriter {
     held: Vec<u8>,

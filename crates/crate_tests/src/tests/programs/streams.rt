@@ -1,5 +1,5 @@
-//! Streams unlike any file: a reader that fails in the middle, and a writer that takes all and can't
-//! pass it on.
+//! Streams unlike any file: a reader that fails in the middle, and a writer that takes all and
+//! can't pass it on.
 
 use super::{TWO, words_of};
 use ffoscores_program::list_program;

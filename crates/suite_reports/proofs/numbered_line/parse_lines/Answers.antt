@@ -9,10 +9,10 @@ use Rattle.suite_reports.proofs.TaskLemmas.{tasks_all, tasks_more, tasks_skip}
 use Rattle.suite_reports.proofs.numbered_line.parse_lines.Goals as goal
 use Rattle.suite_reports.proofs.numbered_line.parse_lines.Goals.{in-Some-2+in_ok-push, in_default}
 
-pub loop-bytes-init : goal.loop-bytes-init
-loop-bytes-init c =
-    let same = c.into_iter-bytes-iterator.ensures.into_iter_gives ∙ c.split_lines-bytes-items.ensures.lines in
-    let room = c.split_lines-bytes-items.ensures.room in
+pub loop-line-init : goal.loop-line-init
+loop-line-init c =
+    let same = c.into_iter-line-iterator.ensures.into_iter_gives ∙ c.split_lines-line-items.ensures.lines in
+    let room = c.split_lines-line-items.ensures.room in
     let few = c.requires.short in
     record {
       rows = rw (c.new-lines.ensures.items, same) (sym (rows_start c.args.scoring c.args.criteria c.args.text.now));
@@ -21,16 +21,16 @@ loop-bytes-init c =
       room = rw same (omega arith);
     }
 
-pub loop-bytes-preserved : goal.loop-bytes-preserved
-loop-bytes-preserved c =
+pub loop-line-preserved : goal.loop-line-preserved
+loop-line-preserved c =
     let g = c.args.scoring in
     let by = c.args.criteria in
-    let n = c.loop-bytes.line in
-    let line = c.in-Some.bytes.now in
-    let left = c.loop-bytes.bytes-iterator in
+    let n = c.loop-line.number in
+    let line = c.in-Some.line.now in
+    let left = c.loop-line.line-iterator in
     let lines = c.next.new.self in
-    let made = c.loop-bytes.lines.items in
-    let kept = c.loop-bytes.invariant in
+    let made = c.loop-line.lines.items in
+    let kept = c.loop-line.invariant in
     let cut : left ≡ line ∷ lines = search rules in
     let room = (room_more n (MOST_BYTES + 2) line left lines cut kept.room).1 in
     let first = kept.first in
@@ -43,7 +43,7 @@ loop-bytes-preserved c =
           record {
             rows = rw items (rows_more g by n _ line left lines r made (rows g by c.args.text.now) (omega arith) cut result kept.rows);
             tasks = rw items (tasks_more g by.limit line left lines cut made (tasks g by.limit c.args.text.now) kept.tasks
-                (record { line = n; parsed = r }) task);
+                (record { number = n; parsed = r }) task);
             first = omega arith;
             room = room;
           }
@@ -62,12 +62,12 @@ loop-bytes-preserved c =
 
 pub returns-clause-rows : goal.returns-clause-rows
 returns-clause-rows c =
-    let none : c.loop-bytes.bytes-iterator ≡ [] = search rules in
-    rows_all c.args.scoring c.args.criteria c.loop-bytes.line c.loop-bytes.bytes-iterator _ (rows c.args.scoring c.args.criteria c.args.text.now) none
-    c.loop-bytes.invariant.rows
+    let none : c.loop-line.line-iterator ≡ [] = search rules in
+    rows_all c.args.scoring c.args.criteria c.loop-line.number c.loop-line.line-iterator _ (rows c.args.scoring c.args.criteria c.args.text.now) none
+    c.loop-line.invariant.rows
 
 pub returns-clause-tasks : goal.returns-clause-tasks
 returns-clause-tasks c =
-    let none : c.loop-bytes.bytes-iterator ≡ [] = search rules in
-    tasks_all c.args.scoring c.args.criteria.limit c.loop-bytes.bytes-iterator _ (tasks c.args.scoring c.args.criteria.limit c.args.text.now) none
-    c.loop-bytes.invariant.tasks
+    let none : c.loop-line.line-iterator ≡ [] = search rules in
+    tasks_all c.args.scoring c.args.criteria.limit c.loop-line.line-iterator _ (tasks c.args.scoring c.args.criteria.limit c.args.text.now) none
+    c.loop-line.invariant.tasks

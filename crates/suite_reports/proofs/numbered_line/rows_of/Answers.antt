@@ -24,7 +24,7 @@ loop-numbered-preserved c =
     let i = c.loop-numbered.numbered-index in
     let item = c.numbered-item.result in
     let later = iter_rest c.result.new.answers in
-    let row = ap (report_row item.line) c.result.ensures.result ∙ ap row_in c.numbered-item.is in
+    let row = ap (report_row item.number) c.result.ensures.result ∙ ap row_in c.numbered-item.is in
     record {
       rows = c.in_ok-push.ensures.items ∙ ap₂ (λ l (r : ReportRow). l ++ r ∷ []) c.loop-numbered.invariant.rows row
           ∙ sym (map_more row_in lines i item c.loop-numbered-test.true);

@@ -7,5 +7,5 @@ use Rattle.suite_reports.proofs.report.write_report.Goals as goal
 pub loop-row-init : goal.loop-row-init
 unfolding report_text
 loop-row-init g c =
-    completes_more _ _ _ (head_text c.args.sender) (flat_map row_text c.args.rows.now ++ last_text c.args.rows.now) _
+    completes_more _ _ _ (head_text c.args.file) (flat_map row_text c.args.rows.now ++ last_text c.args.rows.now) _
     (completes_start _ _) c.in_ok-write_head.ensures

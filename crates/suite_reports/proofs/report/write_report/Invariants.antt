@@ -7,4 +7,4 @@ use Rattle.suite_reports.proofs.report.write_report.Given as goal
 abbrev pub invariant-loop-row : goal.invariant-loop-row
 invariant-loop-row g l =
     Completes (g.W.Write.contents l.fn.writer) (g.W.Write.contents l.writer)
-    (flat_map row_text (drop l.row-index l.rows) ++ last_text l.rows) (report_text l.fn.sender l.rows)
+    (flat_map row_text (drop l.row-index l.rows) ++ last_text l.rows) (report_text l.fn.file l.rows)

@@ -10,14 +10,14 @@ use Rattle.suite_reports.proofs.parsed_line.ParsedLine.result.Goals as goal
 
 pub unreachable-requires : goal.unreachable-requires
 unreachable-requires c =
-    let t = c.in-Position.field-0 in
+    let t = c.in-Position.task in
     let some = slice_get_within (iter_rest c.args.answers.now) 0 t (c.requires t (ap task_in c.in-Position.is)) in
     let none = c.in_default.ensures.steps.0 in
     omega arith
 
 pub returns-in-Some-clause-result : goal.returns-in-Some-clause-result
 returns-in-Some-clause-result c =
-    let t = c.in-Position.field-0 in
+    let t = c.in-Position.task in
     let first = rw c.in-Some.ensures.steps at (c.requires t (ap task_in c.in-Position.is)) in
     let same : c.in-Some.solved.now ≡ t = cc in
     let answer = c.answer-answer.ensures ∙ ap (λ (p : TaskView). answer_of p.scoring p.position) same in

@@ -12,7 +12,7 @@ use Rattle.program_parts.proofs.SettingsLemmas.{HasSettingsRules, settings_given
 use Rattle.program_parts.specs.CommandLine.{HasSettings, IsFaultFor, NameList, NamesScorings}
 use Rattle.ffoscores_program.specs.Options.{ffoscores}
 use Rattle.program_parts.specs.declared.option_fault.OptionFault.{OptionFault}
-use Rattle.ffoscores_program.proofs.options.list_options.Goals as goal
+use Rattle.ffoscores_program.proofs.ffoscores_options.read_list_options.Goals as goal
 
 simple : (names : NameList) → is_simple (ffoscores names) ≡ true
 unfolding clap_on_literals

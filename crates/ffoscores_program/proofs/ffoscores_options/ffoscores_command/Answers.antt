@@ -2,7 +2,7 @@ use Rattle.std.proofs.Common.{◌≡◌, ◌∙◌, ap, ap₂, codes}
 use Rattle.std.proofs.lemmas.Result.{IfOk-weaker}
 use Rattle.clap.specs.Words.{App, app_of, with_rule}
 use Rattle.program_parts.specs.CommandLine.{flag_rule, versioned, with_settings}
-use Rattle.ffoscores_program.proofs.options.ffoscores_command.Goals as goal
+use Rattle.ffoscores_program.proofs.ffoscores_options.ffoscores_command.Goals as goal
 
 pub returns : goal.returns
 returns c =

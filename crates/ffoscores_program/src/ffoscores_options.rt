@@ -27,14 +27,14 @@ In place of moves:
   --  the game is over
 
 Exit status:
-  0  no line is refused and nothing is remarked, or this help, or the version
-  1  a line is refused, or something is remarked
+  0  no line is refused and there is no remark; also for --help and --version
+  1  a line is refused, or there is a remark
   2  the command line is refused
   3  more than 64 files, a file that can't be read or is larger than 1 MiB,
      standard output that can't be written, or out of memory
 
 Examples:
-  # show what is wrong in a file of positions with all their moves
+  # show what is wrong in a file that lists every move of each position
   ffoscores scored.obf | diff scored.obf -
   # score every move, four positions at once
   ffoscores --workers 3 list.obf > scored.obf";
@@ -56,12 +56,13 @@ fn ffoscores_command<'a>(alloc: Global, names: &'a [&'a str]) -> Result<Command<
     ensures { IfOk result (λ c. app_of c ≡ ffoscores names.entry) }
 {
     let bare = bare_command(alloc, "ffoscores", ABOUT, AFTER_HELP);
-    let workers = "Score up to N + 1 positions at once, 0 to 64; what is\nprinted stays the same";
+    let workers =
+        "Score up to N + 1 positions at once, for N from 0 to\n64; the output stays the same";
     let with_settings = with_settings(alloc, bare, workers, names)?;
     let complete = flag_arg(
         alloc,
         "complete",
-        "Remark each best move that a line with listed moves\nleaves out",
+        "Add a remark for each best move that a line with\nlisted moves leaves out",
     );
     let with_complete = with_settings.arg(complete)?;
     with_complete.arg(files_arg(alloc))
@@ -78,9 +79,10 @@ fn listing_of(flag: bool) -> Listing
     }
 }
 
-/// Reads the words of a command line of `ffoscores`, the program's name first. The errors are those
-/// of `options`.
-pub fn list_options(alloc: Global, words: &[&str]) -> Result<ListOptions, OptionFault>
+/// Reads the words of a command line of `ffoscores`, the program's name first. The error is
+/// `Memory` where memory was refused. Any other error has clap's error, which is also the help or
+/// the version where the words ask for one.
+pub fn read_list_options(alloc: Global, words: &[&str]) -> Result<ListOptions, OptionFault>
     // For words that clap takes, the only error is `Memory`.
     ensures taken { IsTakenBy ffoscores (map (λ word. word.now) words.now)
         → IfErr result (λ fault. fault ≡ Memory) }
