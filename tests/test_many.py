@@ -153,7 +153,7 @@ class Functions(InFolder):
         gone, process = (subprocess.Popen(["sleep", seconds], start_new_session=True) for seconds in ("0", "60"))
         self.addCleanup(process.kill)
         gone.wait()
-        with mock.patch.object(os, "listdir", lambda _: ["self", str(gone.pid), str(process.pid)]):
+        with mock.patch.object(Path, "glob", lambda *_: [Path(f"/proc/{one.pid}/stat") for one in (gone, process)]):
             many.jobs.end_session(process.pid)
         self.assertEqual(process.wait(timeout=SECONDS), -signal.SIGKILL)
 
@@ -219,8 +219,10 @@ class Functions(InFolder):
 
     def test_scripts_quote_words_and_have_results_on_the_disk_before_they_count(self):
         one = Run(Path("work"), "run-1", [], "winner", False, True)
+        one.place.mkdir(parents=True)
         for name, moved in (("solve", "for ending in .report .book .done"), ("job", "&& move")):
-            script = many.folder.filled(name, one, self.command("--table", "1;touch x", "--scoring=$(x)"))
+            many.folder.lay_scripts(one, self.command("--table", "1;touch x", "--scoring=$(x)"), name)
+            script = Path("work/run-1", name).read_text()
             self.assertGreater(script.index(moved), script.index('sync "$new.report" "$new.book" "$new.done"'))
             if name == "solve":
                 self.assertIn("'--scoring=$(x)' --workers=0 '--table=1;touch x'", script)
@@ -573,8 +575,8 @@ class Files(Case):
 
     def test_list_that_changes_while_it_is_read(self):
         by = install("changing")
-        laid = "    lay_parts(run, command, source)\n"
-        change_many(by, "folder", laid, '    source.write_bytes(source.read_bytes().replace(b"X", b"O", 1))\n' + laid)
+        cut = "    if cut_list(source,"
+        change_many(by, "folder", cut, '    source.write_bytes(source.read_bytes().replace(b"X", b"O", 1))\n' + cut)
         self.ends(3, b"", "list.obf changes while it is read", "--lines=6", "work", "list.obf", by=by)
 
     def test_folder_with_other_files_is_refused_and_untouched(self):
@@ -976,13 +978,15 @@ class Progress(InFolder):
             self.assertEqual(many.progress.rate_of(lines, seconds), words)
 
     def test_machine_is_left_out_after_three_failures_in_a_row(self):
-        """And not after three in all. A part whose results are not whole failed too."""
+        """And not after three in all. A part whose results are not whole failed too. It stays out, even if it was lost before."""
         watch = self.watch(1, 3)
-        for event, status in (("done", None), ("failed", None), ("done", 0), ("failed", 0), ("failed", 0), ("failed", 0)):
+        for event, status in (("done", None), ("failed", None), ("done", 0), ("lost", 0), *[("failed", 0)] * 3):
             self.assertTrue(Path("run-1/jobs/1").is_dir(), event)
             with mock.patch.object(Run, "status", lambda *_, status=status: status):
                 watch.see(0.0, event, "h1", "0000000", "" if status is None else "out of memory")
             self.assertEqual(bool(watch.progress.weights), status is None)
+        self.now = 100.0
+        watch.follow(lambda: True)
         self.assertTrue(Path("run-1/out/1").is_dir())
         for told in ("h1 failed part 0000000 (lines 1 to 3): its results are not whole",
                      "h1 is left out: 3 parts failed in a row: out of memory"):
@@ -1056,7 +1060,7 @@ class Merging(Case):
 
     def test_merged_book_is_read_before_it_is_handed_over(self):
         by = install("misprinting")
-        header = "whole.write(header_of(scoring))"
+        header = "whole.write(HEADER.format(scoring).encode())"
         change_many(by, "books", header, f"{header}; whole.write(b'no entry\\n')")
         self.ends(3, b"", "bad square", "--merge-books", "one.book", by=by)
 
