@@ -2,17 +2,15 @@
 goes over ssh. They are namespaces of Linux below one process, with which they all end; nothing else of this machine is
 changed. That needs root, iproute2 and openssh-server.
 
-As a program, `python3 -m tests.hosts NAME PID MS KBIT` is a slow link: a tap NAME here and a tap eth0 in the network of a
-process, joined with a delay and a rate each way.
+As a program, `python3 -m tests.hosts PORT ADDRESS MS KBIT` is a slow link from a port here to the sshd of an address.
 """
 import concurrent.futures
 import contextlib
-import fcntl
 import os
 import queue
 import shutil
 import signal
-import struct
+import socket
 import subprocess
 import sys
 import threading
@@ -30,6 +28,11 @@ def child_of(process):
     children = Path(f"/proc/{process}/task/{process}/children")
     wait_until(children.read_text)
     return int(children.read_text())
+
+
+def wait_until_listened(process, port):
+    """Waits until something listens on a port, in a process's network."""
+    wait_until(lambda: f":{port:04X} 00000000:0000 0A" in Path(f"/proc/{process}/net/tcp").read_text())
 
 
 def processes_beside(process, kind):
@@ -54,7 +57,9 @@ class Room:
         self.inside = child_of(self.keeper.pid)
         self.do("sh", "-ec", f"""mount -t tmpfs none /home && mkdir /home/me
             mount --bind '{self.home}' /home/me && mount --bind '{self.folder}/passwd' /etc/passwd
-            ip link set lo up && ip link add br0 type bridge && ip addr add 10.77.0.1/24 dev br0 && ip link set br0 up""")
+            ip link set lo up && ip link add br0 type bridge && ip addr add 10.77.0.1/24 dev br0 && ip link set br0 up
+            cd /proc/sys/net/ipv4/neigh/br0 # what is gone is known in two seconds
+            echo 200 >retrans_time_ms && echo 1000 >base_reachable_time_ms && echo 1 >delay_first_probe_time""")
         self.hosts = {name: Host(self, name, number) for number, name in enumerate(self.names, 1)}
 
     def lay_keys(self):
@@ -149,15 +154,10 @@ class Host:
         # The link of one that ended may be there, or go right now.
         self.room.do("sh", "-c", f"""ip link del {self.link} 2>/dev/null
             ip link add {self.link} type veth peer name eth0 netns {self.first}""")
-        self.plug()
-        self.is_up = True
-        wait_until(lambda: ":0016 00000000:0000 0A" in Path(f"/proc/{self.first}/net/tcp").read_text())  # it listens
-
-    def plug(self):
-        """Joins its link to the caller's bridge, once its own end is there."""
-        wait_until(lambda: "eth0" in Path(f"/proc/{self.first}/net/dev").read_text())
         self.do("sh", "-ec", f"ip link set lo up; ip addr add {self.address}/24 dev eth0; ip link set eth0 up")
         self.room.do("sh", "-ec", f"ip link set {self.link} master br0 up; {self.forget}")
+        self.is_up = True
+        wait_until_listened(self.first, 22)
 
     def do(self, *words):
         """Runs a command on it, as root."""
@@ -195,42 +195,42 @@ class Host:
         self.end()
 
     def delay(self, milliseconds, kbit):
-        """Has each packet come so much later, at a rate."""
-        self.room.do("ip", "link", "del", self.link)
-        words = ["nsenter", "-t", self.room.inside, "-n", sys.executable, "-m", "tests.hosts", self.link, self.first,
-                 milliseconds, kbit]
+        """Has all that comes from it or goes to it come so much later, at a rate."""
+        port, config = 2200 + self.number, self.room.home / ".ssh/config"
+        words = ["nsenter", "-t", self.room.inside, "-n", sys.executable, "-m", "tests.hosts", port, self.address, milliseconds,
+                 kbit]
         self.relay = subprocess.Popen(list(map(str, words)), stdin=subprocess.DEVNULL, cwd=ROOT)
-        self.plug()
+        wait_until_listened(self.room.inside, port)
+        config.write_text(f"Host {self.name}\n HostName 10.77.0.1\n Port {port}\n{config.read_text()}")
 
 
 def carry(source, target, delay, rate):
-    """Hands on the frames of a tap, each so much later, at a rate; until a machine has ended."""
-    frames, free = queue.Queue(1000), 0.0
+    """Hands on what comes from one end of a connection to the other, each piece so much later, at a rate."""
+    pieces, free, piece = queue.Queue(50), 0.0, True
 
     def write():
-        while True:
-            due, frame = frames.get()
-            time.sleep(max(0.0, due - time.monotonic()))
-            with contextlib.suppress(OSError):  # that end is down
-                os.write(target, frame)
+        with contextlib.suppress(OSError):  # that end is gone
+            while True:
+                due, piece = pieces.get()
+                time.sleep(max(0.0, due - time.monotonic()))
+                target.sendall(piece) if piece else target.shutdown(socket.SHUT_WR)
 
     threading.Thread(target=write, daemon=True).start()
     with contextlib.suppress(OSError):
-        while True:
-            frame = os.read(source, 65536)
-            free = max(free, time.monotonic()) + len(frame) / rate
-            frames.put((free + delay, frame))
+        while piece:
+            piece = source.recv(1500)
+            free = max(free, time.monotonic()) + len(piece) / rate
+            pieces.put((free + delay, piece))
 
 
-def relay(name, process, milliseconds, kbit):
-    """Joins two taps with a delay and a rate, for as long as this process lives."""
-    ends = [os.open("/dev/net/tun", os.O_RDWR) for _ in range(2)]
-    for end, tap in zip(ends, (name, "tap")):
-        fcntl.ioctl(end, 0x400454CA, struct.pack("16sH22x", tap.encode(), 0x1002))  # TUNSETIFF; a tap without a header
-    subprocess.run(["ip", "link", "set", "tap", "netns", process, "name", "eth0"], check=True)
+def relay(port, address, milliseconds, kbit):
+    """Joins each connection to a port with a machine's sshd, with a delay and a rate each way."""
     how = float(milliseconds) / 1000, float(kbit) * 1000 / 8
-    threading.Thread(target=carry, args=(*ends, *how), daemon=True).start()
-    carry(*ends[::-1], *how)
+    with socket.create_server(("10.77.0.1", int(port))) as server:
+        while True:
+            ends = server.accept()[0], socket.create_connection((address, 22))
+            for way in (ends, ends[::-1]):
+                threading.Thread(target=carry, args=(*way, *how), daemon=True).start()
 
 
 if __name__ == "__main__":

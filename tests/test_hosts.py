@@ -3,21 +3,21 @@ run of ffosolve here, each machine that fails is named once, and nothing stays a
 """
 import contextlib
 import os
+import queue
 import re
 import shutil
 import signal
 import subprocess
-import tempfile
 import threading
 import time
 import unittest
-from pathlib import Path
 
 from tests import support
 from tests.hosts import Room, child_of
-from tests.support import SECONDS, built, change_many, lay_many, module_folder, need, positions, run
+from tests.support import SECONDS, as_at_a_login, built, change_many, lay_many, module_folder, need, positions, run
 
-SIDE_BY_SIDE = 6  # tests, each on machines of its own: most of them wait
+ROOMS = queue.Queue()  # that no test is in
+SIDE_BY_SIDE = 8  # tests, each in a room of its own: most of them wait
 # Stands in the program's place on the machines, in each of which files of the home folder say what it does.
 PROGRAM = """\
 #!/bin/sh
@@ -53,12 +53,18 @@ def setUpModule():
         shutil.copy(built(), program)
         if name != "plain":
             program.write_text(PROGRAM.replace("@real@", str(BASE / "plain/bin/ffosolve")))
-    for module, old, new in (("watch", "LOST_SECONDS = 60", "LOST_SECONDS = 3"), ("folder", "HOST_SECONDS = 30", "HOST_SECONDS = 10")):
+    for module, old, new in (("watch", "LOST_SECONDS = 60", "LOST_SECONDS = 3"), ("folder", "HOST_SECONDS = 30", "HOST_SECONDS = 6")):
         change_many(BASE / "hasty/bin/ffosolve-many", module, old, new)
+    config = BASE / "hasty/python/src/ffosolve/_many/shell/ssh_config"
+    config.write_text(config.read_text().replace("Timeout 10", "Timeout 3").replace("Interval 5", "Interval 1"))
     LIST = positions(60, 1, 5)
     support.write(BASE / "list.obf", LIST)
     ONE = run(BASE / "plain/bin/ffosolve", "--book-out", BASE / "one.book", BASE / "list.obf").stdout.decode()
     BOOK = (BASE / "one.book").read_bytes()
+    for number in range(SIDE_BY_SIDE):
+        (BASE / f"{number}").mkdir()
+        ROOMS.put(Room(BASE / f"{number}"))
+        unittest.addModuleCleanup(ROOMS.queue[-1].close)
 
 
 class Told(list):
@@ -71,27 +77,21 @@ class Told(list):
 
 
 class Beside:
-    """A test that runs beside others, in one of a few threads. What came of it is told in its turn."""
+    """A test that runs beside others. What came of it is told in its turn."""
 
-    threads, waiting = [], []
+    waiting = []
 
     def __init__(self, test):
-        self.test, self.told, self.is_over = test, Told(), threading.Event()
-        self.waiting.append(self)
+        self.told = Told()
+        self.thread = threading.Thread(target=test, args=[self.told], daemon=True)
+        self.waiting.append(self.thread)
 
     def __call__(self, result):
-        while len(self.threads) < SIDE_BY_SIDE:
-            self.threads.append(threading.Thread(target=self.work, daemon=True))
-            self.threads[-1].start()
-        self.is_over.wait()
+        while self.waiting:
+            self.waiting.pop(0).start()
+        self.thread.join()
         for name, words in self.told:
             getattr(result, name)(*words)
-
-    def work(self):
-        with contextlib.suppress(IndexError):
-            while one := self.waiting.pop(0):
-                one.test(one.told)
-                one.is_over.set()
 
 
 def load_tests(loader, tests, pattern):
@@ -101,16 +101,11 @@ def load_tests(loader, tests, pattern):
 class Case(unittest.TestCase):
     """A test with a list of 60 positions, in the home folder of the user who calls, and three machines."""
 
-    LINES = 6  # of a part
-    rooms = threading.local()
+    LINES = 12  # of a part
 
     def setUp(self):
-        if not hasattr(self.rooms, "one"):
-            folder = Path(tempfile.mkdtemp(dir=BASE))
-            folder.chmod(0o755)
-            self.rooms.one = Room(folder)
-            unittest.addModuleCleanup(self.rooms.one.close)
-        self.room = self.rooms.one
+        self.room = ROOMS.get()
+        self.addCleanup(ROOMS.put, self.room)
         self.room.clear()
         self.h1, self.h2, self.h3 = self.room.hosts.values()
         self.write("list.obf", LIST)
@@ -135,17 +130,13 @@ class Case(unittest.TestCase):
         with open(self.room.home / ".ssh/config", "a") as config:
             config.write("Host *\n " + "\n ".join(lines) + "\n")
 
-    def lost_soon(self):
-        """A machine that is lost is known in ten seconds, and not in 25."""
-        self.configured("ServerAliveInterval 2", "ConnectTimeout 4")
-
     def start(self, *words, hosts="2/h1\n2/h2\n2/h3\n", by="slow", **environment):
         """The command, which goes on meanwhile; what it tells is written to a file."""
         self.write("hosts", hosts)
         words = ("--hosts", "hosts", f"--lines={self.LINES}", "--book-out", "joined.book", *words, "work", "list.obf")
         words = self.room.words(BASE / by / "bin/ffosolve-many", *words, **environment)
         with open(self.room.folder / "out", "wb") as output, open(self.room.folder / "told", "wb") as told:
-            ran = subprocess.Popen(words, stdin=subprocess.DEVNULL, stdout=output, stderr=told)
+            ran = subprocess.Popen(words, stdin=subprocess.DEVNULL, stdout=output, stderr=told, preexec_fn=as_at_a_login)
         self.addCleanup(self.end, ran)
         return ran
 
@@ -218,7 +209,7 @@ class Gone(Case):
     def test_machine_that_loses_power_while_it_solves(self):
         self.LINES = 2
         self.slow(1, *self.room.hosts.values())
-        ran = self.start()
+        ran = self.start(by="hasty")
         wait_until(lambda: self.begun("h2", "done"))
         self.slow(50, self.h2)
         wait_until(lambda: list(self.h2.processes().values()).count("sleep 50 ") == 2)
@@ -231,20 +222,19 @@ class Gone(Case):
     def test_machine_that_is_up_again_at_once(self):
         self.LINES = 2
         self.slow(1, *self.room.hosts.values())
-        ran = self.start()
+        ran = self.start(by="hasty")
         wait_until(lambda: self.begun("h2", "done"))
         self.h2.lose_power()
-        time.sleep(3)
         self.h2.boot()
         told = self.whole(ran)
         self.assertLessEqual(len([line for line in told if "h2" in line and not line.startswith("on ")]), 2, told)
 
     def test_machine_that_is_lost_while_the_program_is_copied(self):
-        self.lost_soon()
+        self.LINES = 6
         self.write("big.book", "% ffobook 2 winner\n" + "% " + os.urandom(300_000).hex() + "\n")
-        self.h3.delay(20, 200)  # 12 seconds at least for that
+        self.h3.delay(20, 400)  # 6 seconds at least for that
         self.slow(5, self.h1, self.h2)
-        ran = self.start("--book-in", "big.book")
+        ran = self.start("--book-in", "big.book", by="hasty")
         wait_until(lambda: any(self.h3.home.glob("run-*/solve")))
         self.h3.lose_link()
         self.whole(ran)
@@ -252,15 +242,14 @@ class Gone(Case):
         self.assertEqual(len(self.begun("h1", "done") + self.begun("h2", "done")), 10)
 
     def test_cut_that_returns_is_waited_for(self):
-        self.slow(8, self.h1)
+        self.slow(5, self.h1)
         ran = self.start(hosts="4/h1\n")
         wait_until(lambda: len(self.begun("h1")) >= 4)
-        self.h1.cut(5)
+        self.h1.cut(3)
         (self.h1.home / "slow").unlink()
         self.assertEqual(self.whole(ran), ["on h1"])
 
     def test_only_machine_is_tried_again(self):
-        self.lost_soon()
         self.slow(1, self.h1)
         ran = self.start(by="hasty", hosts="1/h1\n")
         wait_until(lambda: self.begun("h1", "done"))
@@ -282,6 +271,7 @@ class Connections(Case):
     """One connection of a machine serves eight jobs."""
 
     def test_one_connection_for_ten_parts(self):
+        self.LINES = 6
         self.solved(by="plain", hosts="1/h1\n")
         self.assertEqual(self.connections(self.h1), 1)
         times = [float(line[0]) for line in self.log() if line[1] in ("begin", "done")]
@@ -299,19 +289,22 @@ class Connections(Case):
 
     def test_slow_link(self):
         self.LINES = 30
-        self.h1.delay(200, 1000)
+        self.h1.delay(100, 2000)
         self.solved(by="plain", hosts="1/h1\n")
         begun, done = ([float(line[0]) for line in self.begun("h1", event)] for event in ("begin", "done"))
-        self.assertLess(done[1] - begun[1], 25 * busy())
+        self.assertLess(done[1] - begun[1], 12 * busy())
 
     def test_users_own_configuration_decides(self):
-        self.configured("ServerAliveInterval 2", "ConnectTimeout 20")
-        for words in ({}, {"PARALLEL_SSH": "ssh -o ServerAliveInterval=1"}):
+        """Otherwise a machine that is lost is known in 20 seconds."""
+        self.LINES = 6
+        for settings, words in (((5, 10), {}), ((2, 20), {}), ((2, 20), {"PARALLEL_SSH": "ssh -o ServerAliveInterval=1"})):
+            if settings != (5, 10):
+                self.configured("ServerAliveInterval 2", "ConnectTimeout 20")
             self.solved(hosts="h1", **words)
             place = next((self.room.home / "work").glob("run-*"))
             told = run(*self.room.words("ssh", "-G", "-F", f"work/{place.name}/ssh_config", "h1")).stdout.decode()
-            for line in ("serveraliveinterval 2", "connecttimeout 20", "serveralivecountmax 4", "batchmode yes"):
-                self.assertIn(f"\n{line}\n", told)
+            for name, value in zip(("serveraliveinterval", "connecttimeout", "serveralivecountmax", "batchmode"), (*settings, 4, "yes")):
+                self.assertIn(f"\n{name} {value}\n", told)
         self.again()
         self.write("mine", MINE)
         self.solved(hosts="3/h2\n", PARALLEL_SSH="/home/me/mine")
@@ -353,16 +346,18 @@ class Tried(Case):
 
     def test_machine_that_fails_three_parts_in_a_row(self):
         self.write("fails", "ffosolve: out of memory\nand more\n", self.h2.home)
+        self.LINES = 6
         self.slow(1, self.h1, self.h2)  # so that h2 is left out before another part fails there
         self.assertIn("h2 is left out: 3 parts failed in a row: ffosolve: out of memory", self.solved(hosts="1/h1\n1/h2\n"))
         self.assertEqual(len(self.begun("h2", "failed")), 3)
 
     def test_log_keeps_all_rounds(self):
         self.write("fails", "ffosolve: out of memory\n", self.h1.home)
-        self.slow(1, self.h1)
+        self.slow(2, self.h1)
         ran = self.start(hosts="1/h1\n")
         wait_until(lambda: len(self.begun("h1", "failed")) >= 2)
-        (self.h1.home / "fails").unlink()
+        for name in ("fails", "slow"):
+            (self.h1.home / name).unlink()
         self.whole(ran)
         self.assertEqual([line[1] for line in self.log()].count("work"), 2)
         self.assertGreaterEqual(len(self.begun("h1", "failed")), 2)
@@ -460,7 +455,7 @@ class Swept(Case):
 
     def sweep(self):
         """The status of --sweep, and what it tells."""
-        ran = run(*self.room.words(BASE / "slow/bin/ffosolve-many", "--sweep", "work"))
+        ran = run(*self.room.words(BASE / "hasty/bin/ffosolve-many", "--sweep", "work"))
         self.assertEqual(ran.stdout, b"")
         return ran.returncode, self.told(ran.stderr.decode())
 
@@ -469,10 +464,9 @@ class Swept(Case):
         self.solved(hosts="1/h1\n")
 
     def test_machine_that_was_away_is_swept_by_the_next_run(self):
-        self.lost_soon()
         self.slow(20, self.h2)
         self.slow(2, self.h1)  # otherwise h1 could solve all before h2 is asked
-        ran = self.start(hosts="1/h1\n1/h2\n")
+        ran = self.start(hosts="1/h1\n1/h2\n", by="hasty")
         wait_until(lambda: self.sleeps(self.h2, 20))
         self.h2.lose_power()
         told = self.whole(ran)
@@ -499,9 +493,10 @@ class Swept(Case):
         self.assertEqual((self.room.home / "work/hosts").read_text(), "")
 
     def test_report_waits_for_no_sweep(self):
-        self.slow(10, self.h1)
+        self.LINES = 20
+        self.slow(8, self.h1)
         ran = self.start(hosts="1/h1\n1/h2\n")
-        wait_until(lambda: len(self.begun("h1") + self.begun("h2", "done")) == 10 and self.begun("h2", "done"))
+        wait_until(lambda: len(self.begun("h1") + self.begun("h2", "done")) == 3 and self.begun("h2", "done"))
         self.h2.lose_link()  # the last part is solved by h1
         self.sweeps(ran, SECONDS)
         self.sweeps(self.start(hosts="1/h1\n"), 5)  # all was solved before
