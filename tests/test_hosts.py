@@ -11,6 +11,7 @@ import subprocess
 import threading
 import time
 import unittest
+from unittest import mock
 
 from tests import support
 from tests.hosts import Room, child_of
@@ -67,30 +68,21 @@ def setUpModule():
         unittest.addModuleCleanup(ROOMS.queue[-1].close)
 
 
-class Told(list):
-    """A result of a test that keeps what it is told."""
-
-    failfast = False
-
-    def __getattr__(self, name):
-        return lambda *words: self.append((name, words))
-
-
 class Beside:
     """A test that runs beside others. What came of it is told in its turn."""
 
     waiting = []
 
     def __init__(self, test):
-        self.told = Told()
-        self.thread = threading.Thread(target=test, args=[self.told], daemon=True)
+        self.result = mock.Mock()
+        self.thread = threading.Thread(target=test, args=[self.result], daemon=True)
         self.waiting.append(self.thread)
 
     def __call__(self, result):
         while self.waiting:
             self.waiting.pop(0).start()
         self.thread.join()
-        for name, words in self.told:
+        for name, words, _ in self.result.method_calls:
             getattr(result, name)(*words)
 
 

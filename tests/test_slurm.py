@@ -11,7 +11,8 @@ from tests.support import SECONDS, InFolder, built, lay_many, need, positions, r
 CONFIGURATION = """\
 ClusterName=ffosolve
 SlurmctldHost={host}(127.0.0.1)
-AuthInfo=socket={place}/munge.socket
+AuthType=auth/none
+CredType=cred/none
 SlurmUser=root
 SlurmctldPort={ports[0]}
 SlurmdPort={ports[1]}
@@ -30,15 +31,10 @@ PartitionName=all Nodes=ALL Default=YES
 """
 
 
-def free_ports(count):
-    """Ports that nothing listens on."""
-    sockets = [socket.socket() for _ in range(count)]
-    for one in sockets:
-        one.bind(("127.0.0.1", 0))
-    ports = [one.getsockname()[1] for one in sockets]
-    for one in sockets:
-        one.close()
-    return ports
+def free_ports():
+    """Two ports that nothing listens on."""
+    with socket.create_server(("127.0.0.1", 0)) as one, socket.create_server(("127.0.0.1", 0)) as other:
+        return one.getsockname()[1], other.getsockname()[1]
 
 
 class Slurm(InFolder):
@@ -46,28 +42,17 @@ class Slurm(InFolder):
         super().setUp()
         if os.geteuid() != 0:
             self.skipTest("Slurm's daemons are started by root alone")
-        for tool in ("munged", "slurmctld", "slurmd", "sbatch"):
+        for tool in ("slurmctld", "slurmd", "sbatch"):
             need(tool, "slurm-wlm")
         for name in ("state", "spool"):
             Path(name).mkdir()
-        write("key", os.urandom(1024), 0o400)
         host = socket.gethostname().partition(".")[0]
-        file = write("slurm.conf", CONFIGURATION.format(host=host, place=self.folder, ports=free_ports(2)))
+        file = write("slurm.conf", CONFIGURATION.format(host=host, place=self.folder, ports=free_ports()))
         self.environment = {**os.environ, "SLURM_CONF": str(file.resolve())}
-        self.daemon("munged", "-F", "--force", "--num-threads=1", *(
-            f"--{option}={self.folder / name}" for option, name in (
-                ("key-file", "key"), ("socket", "munge.socket"), ("pid-file", "munged.pid"), ("log-file", "munged.log"),
-                ("seed-file", "seed"))))
-        wait_until(Path("munge.socket").exists)
         for name in ("slurmctld", "slurmd"):
-            self.daemon(name, "-D", "-L", self.folder / f"{name}.log")
+            self.start(name, "-D", "-L", self.folder / f"{name}.log", stdout=subprocess.DEVNULL, stderr=subprocess.DEVNULL,
+                       env=self.environment)
         wait_until(lambda: b"idle" in run("sinfo", "-h", "-o", "%T", env=self.environment).stdout)
-
-    def daemon(self, *words):
-        process = subprocess.Popen(list(map(str, words)), stdin=subprocess.DEVNULL, stdout=subprocess.DEVNULL,
-                                   stderr=subprocess.DEVNULL, env=self.environment)
-        self.addCleanup(process.wait)
-        self.addCleanup(process.kill)
 
     def test_array_of_the_document_solves_all_parts(self):
         script = re.search(r"```sh\n(#!/bin/sh\n#SBATCH.*?)```", stored("docs/many-machines.md").decode(), re.DOTALL)[1]
