@@ -1,26 +1,19 @@
 """Machines h1, h2, .. on one network, each with an sshd, processes, a name and a home folder of its own, for tests of what
 goes over ssh. They are namespaces of Linux below one process, with which they all end; nothing else of this machine is
 changed. That needs root, iproute2 and openssh-server.
-
-As a program, `python3 -m tests.hosts PORT ADDRESS MS KBIT` is a slow link from a port here to the sshd of an address.
 """
 import concurrent.futures
 import contextlib
 import os
-import queue
 import shutil
 import signal
-import socket
 import subprocess
-import sys
-import threading
-import time
 from pathlib import Path
 
-from tests.support import ROOT, wait_until
+from tests.support import wait_until
 
 USER = 3001  # the number of the user `me`, who calls, and whose home folder each machine has
-SSHD = "HostKey /run/key\nPidFile none\nUsePAM no\nPasswordAuthentication no\nStrictModes no\n"
+SSHD = "HostKey /run/key\nPidFile none\nUsePAM no\nPasswordAuthentication no\nStrictModes no\nLogLevel VERBOSE\n"
 
 
 def child_of(process):
@@ -28,11 +21,6 @@ def child_of(process):
     children = Path(f"/proc/{process}/task/{process}/children")
     wait_until(children.read_text)
     return int(children.read_text())
-
-
-def wait_until_listened(process, port):
-    """Waits until something listens on a port, in a process's network."""
-    wait_until(lambda: f":{port:04X} 00000000:0000 0A" in Path(f"/proc/{process}/net/tcp").read_text())
 
 
 def processes_beside(process, kind):
@@ -63,15 +51,13 @@ class Room:
         self.hosts = {name: Host(self, name, number) for number, name in enumerate(self.names, 1)}
 
     def lay_keys(self):
-        """The caller's key and configuration, and what all machines have."""
+        """The caller's key and configuration, and what all machines have: their key, and the users."""
         ssh = self.home / ".ssh"
         ssh.mkdir(parents=True, mode=0o700)
-        keys = [ssh / "id_ed25519", *(self.folder / f"{name}.key" for name in self.names)]
-        for key in keys:
+        for key in (ssh / "id_ed25519", self.folder / "key"):
             subprocess.run(["ssh-keygen", "-q", "-t", "ed25519", "-N", "", "-C", "", "-f", key], check=True)
-        known = [f"{name} {Path(f'{key}.pub').read_text()}" for name, key in zip(self.names, keys[1:])]
-        (ssh / "known_hosts").write_text("".join(known))
-        self.config = "".join(f"Host {name}\n HostName 10.77.0.1{number}\n HostKeyAlias {name}\n"
+        (ssh / "known_hosts").write_text(f"room {(self.folder / 'key.pub').read_text()}")
+        self.config = "".join(f"Host {name}\n HostName 10.77.0.1{number}\n HostKeyAlias room\n"
                               for number, name in enumerate(self.names, 1))
         self.give(self.home)
         for name, line in (("passwd", f"me:x:{USER}:{USER}::/home/me:/bin/bash"), ("shadow", "me:*:19000::::::")):
@@ -99,7 +85,7 @@ class Room:
         """The command that runs another as the user who calls, in that one's home folder."""
         settings = {"HOME": "/home/me", "USER": "me", "LANG": "C.UTF-8", "PATH": "/usr/local/bin:/usr/bin:/bin", **environment}
         return ["nsenter", "-t", str(self.inside), "-m", "-n", "-p", "setpriv", f"--reuid={USER}",
-                f"--regid={USER}", "--clear-groups", "env", "-i", *(f"{key}={value}" for key, value in settings.items()),
+                f"--regid={USER}", "--clear-groups", "env", "-i", "--default-signal", *(f"{key}={value}" for key, value in settings.items()),
                 "sh", "-c", 'cd && exec "$@"', "sh", *map(str, words)]
 
     def processes(self):
@@ -119,9 +105,8 @@ class Host:
         self.room, self.name, self.number = room, name, number
         self.link, self.address = f"v{number}", f"10.77.0.1{number}"
         self.forget = f"ip neigh flush to {self.address} dev br0 nud all"  # of one alone: two at once can't flush all
-        self.key = room.folder / f"{name}.key"
         self.home = room.folder / name
-        self.relay = self.process = None
+        self.process = None
         self.is_up = False
 
     def clear(self):
@@ -145,7 +130,7 @@ class Host:
             home = f"mount -t tmpfs -o size={home_size},uid={USER} none /home/me && cp -a '{self.home}/.ssh' /home/me"
         script = f"""hostname {self.name} && mount -t tmpfs none /run && mkdir /run/sshd && {home} &&
             mount --bind '{passwd}' /etc/passwd && mount --bind '{self.room.folder}/shadow' /etc/shadow &&
-            cp '{config}' /run/sshd_config && cp '{self.key}' /run/key && mount -t tmpfs -o mode=1777 none /tmp &&
+            cp '{config}' /run/sshd_config && cp '{self.room.folder}/key' /run/key && mount -t tmpfs -o mode=1777 none /tmp &&
             exec /usr/sbin/sshd -D -E /run/log -f /run/sshd_config"""
         words = ["nsenter", "-t", str(self.room.inside), "-m", "-p", "unshare", "--net", "--mount", "--uts", "--ipc",
                  "--pid", "--fork", "--kill-child", "--mount-proc", "sh", "-c", script]
@@ -157,7 +142,7 @@ class Host:
         self.do("sh", "-ec", f"ip link set lo up; ip addr add {self.address}/24 dev eth0; ip link set eth0 up")
         self.room.do("sh", "-ec", f"ip link set {self.link} master br0 up; {self.forget}")
         self.is_up = True
-        wait_until_listened(self.first, 22)
+        wait_until(lambda: ":0016 00000000:0000 0A" in Path(f"/proc/{self.first}/net/tcp").read_text())  # it listens
 
     def do(self, *words):
         """Runs a command on it, as root."""
@@ -170,9 +155,6 @@ class Host:
     def end(self):
         """Ends it: sshd and all its processes at once."""
         self.is_up = False
-        if self.relay is not None:
-            self.relay.kill()
-            self.relay.wait()
         if self.process is not None and self.process.poll() is None:
             with contextlib.suppress(ProcessLookupError):
                 os.kill(self.first, signal.SIGKILL)
@@ -193,45 +175,3 @@ class Host:
         """Ends it while no packet says so."""
         self.lose_link()
         self.end()
-
-    def delay(self, milliseconds, kbit):
-        """Has all that comes from it or goes to it come so much later, at a rate."""
-        port, config = 2200 + self.number, self.room.home / ".ssh/config"
-        words = ["nsenter", "-t", self.room.inside, "-n", sys.executable, "-m", "tests.hosts", port, self.address, milliseconds,
-                 kbit]
-        self.relay = subprocess.Popen(list(map(str, words)), stdin=subprocess.DEVNULL, cwd=ROOT)
-        wait_until_listened(self.room.inside, port)
-        config.write_text(f"Host {self.name}\n HostName 10.77.0.1\n Port {port}\n{config.read_text()}")
-
-
-def carry(source, target, delay, rate):
-    """Hands on what comes from one end of a connection to the other, each piece so much later, at a rate."""
-    pieces, free, piece = queue.Queue(50), 0.0, True
-
-    def write():
-        with contextlib.suppress(OSError):  # that end is gone
-            while True:
-                due, piece = pieces.get()
-                time.sleep(max(0.0, due - time.monotonic()))
-                target.sendall(piece) if piece else target.shutdown(socket.SHUT_WR)
-
-    threading.Thread(target=write, daemon=True).start()
-    with contextlib.suppress(OSError):
-        while piece:
-            piece = source.recv(1500)
-            free = max(free, time.monotonic()) + len(piece) / rate
-            pieces.put((free + delay, piece))
-
-
-def relay(port, address, milliseconds, kbit):
-    """Joins each connection to a port with a machine's sshd, with a delay and a rate each way."""
-    how = float(milliseconds) / 1000, float(kbit) * 1000 / 8
-    with socket.create_server(("10.77.0.1", int(port))) as server:
-        while True:
-            ends = server.accept()[0], socket.create_connection((address, 22))
-            for way in (ends, ends[::-1]):
-                threading.Thread(target=carry, args=(*way, *how), daemon=True).start()
-
-
-if __name__ == "__main__":
-    relay(*sys.argv[1:])

@@ -49,7 +49,6 @@ REACH = """\
 #!/bin/sh
 host=${1#*@}; shift
 [ -d "$HOSTS/$host" ] || { echo "ssh: connect to host $host port 22: Connection refused" >&2; exit 255; }
-[ ! -e "$HOSTS/$host/hangs" ] || exec sleep 50
 cd "$HOSTS/$host" || exit
 case "$*" in *"solve 0000001 "*) eval "$SPOIL" ;; esac
 HOME=$PWD exec sh -c "$*"
@@ -77,9 +76,7 @@ def setUpModule():
     write(BASE / "home/.parallel/config", "--dry-run\n")  # what a user has for parallel changes nothing
     places = {"TMPDIR": f"{BASE}/tmp", "PATH": f"{BASE}/python:{os.environ['PATH']}", "HOME": f"{BASE}/home",
               "PARALLEL": "--dry-run", "SHELL": "/bin/false"}
-    environment = mock.patch.dict(os.environ, places)
-    environment.start()
-    unittest.addModuleCleanup(environment.stop)
+    unittest.enterModuleContext(mock.patch.dict(os.environ, places))
     MANY, ACTS = install("plain"), install("acting prefix", ACTING)
     SMALL = positions(60, 1, 5)
 
@@ -620,7 +617,6 @@ class Words(Case):
                 (3, "cannot write /proc/work", "/proc/work", "list.obf"),
                 (2, "'-x' is not an option; a file of that name is ./-x", "-x"),
                 (2, "'/dev/stdin' has no folder of its own: name a FOLDER before it", "-"),
-                (2, "'--joobs=2' is not an option", "list.obf", "--joobs=2"),
                 (2, "'--line' is not an option", "--line", "5", "list.obf"),
                 (2, "'-rf *' is not an option", "-rf *", "list.obf"),
                 (2, "'' is not the name of a file", "work", ""),
@@ -629,9 +625,7 @@ class Words(Case):
                 (2, "--lines: takes a number from 1 to 10000, not '10001'", "list.obf", "--lines", "10001"),
                 (2, "--lines: expected one argument", "list.obf", "--lines"),
                 (2, "--lines is given twice", "list.obf", "--lines=5", "--lines=6"),
-                (2, "--book-out is given twice", "list.obf", "--book-out=a", "--book-out=b"),
                 (2, "--book-out '': the value is empty", "list.obf", "--book-out", ""),
-                (2, "--book-in '': the value is empty", "list.obf", "--book-in="),
                 (2, "--book-in is not an option of ffoscores", "--scores", "list.obf", "--book-in=one.book"),
                 (2, "--book-out is not an option of ffoscores", "--scores", "list.obf", "--book-out=b"),
                 (2, "--book-out out is standard output", "list.obf", "--book-out", "out"),
@@ -842,7 +836,6 @@ class Hosts(Case):
         super().setUp()
         for name in ("near", "far"):
             Path("hosts", name).mkdir(parents=True)
-        write("hosts/hanging/hangs", "")
         write("reach", REACH)
 
     def on(self, *hosts, lines=20, **places):
@@ -890,13 +883,6 @@ class Hosts(Case):
         words, places = self.on("near")
         self.ends(1, b"", "near is left out: it can't solve: status 127", *words, by=by, places=places)
 
-    def test_machine_that_hangs_is_left_out_while_others_work(self):
-        by = install("hasty", ACTING)
-        change_many(by, "folder", "HOST_SECONDS = 30", "HOST_SECONDS = 5")
-        self.same_on("1/:", "hanging", told="hanging is left out: no answer in 5 seconds", by=by, PAUSE="3")
-        self.assertIn("\tdone\tthis machine", Path("work/log").read_text().partition("\tout\thanging")[0])
-        self.assertFalse(Path("work/hosts").exists())  # since nothing can lie there
-
     def test_results_that_come_back_spoiled_are_not_taken(self):
         """Cut, and behind words of the machine's shell, which it did not print when it was asked."""
         for spoil in ('sh -c "$*" | head -c 20; exit', "echo Welcome"):
@@ -918,10 +904,8 @@ class Progress(InFolder):
     def setUp(self):
         super().setUp()
         self.now = 0.0
-        clock, self.told = mock.patch.object(time, "monotonic", lambda: self.now), io.StringIO()
-        for one in (clock, contextlib.redirect_stderr(self.told)):
-            one.__enter__()
-            self.addCleanup(one.__exit__, None, None, None)
+        self.enterContext(mock.patch.object(time, "monotonic", lambda: self.now))
+        self.told = self.enterContext(contextlib.redirect_stderr(io.StringIO()))
 
     def progress(self, parts, lines=1, weight=1.0):
         """Of so many unsolved parts, each of so many lines and of a weight."""
