@@ -84,8 +84,8 @@ class Room:
     def words(self, *words, **environment):
         """The command that runs another as the user who calls, in that one's home folder."""
         settings = {"HOME": "/home/me", "USER": "me", "LANG": "C.UTF-8", "PATH": "/usr/local/bin:/usr/bin:/bin", **environment}
-        return ["nsenter", "-t", str(self.inside), "-m", "-n", "-p", "setpriv", f"--reuid={USER}",
-                f"--regid={USER}", "--clear-groups", "env", "-i", "--default-signal", *(f"{key}={value}" for key, value in settings.items()),
+        return ["nsenter", "-t", str(self.inside), "-m", "-n", "-p", "setpriv", f"--reuid={USER}", f"--regid={USER}",
+                "--clear-groups", "env", "-i", "--default-signal", *map("=".join, settings.items()),
                 "sh", "-c", 'cd && exec "$@"', "sh", *map(str, words)]
 
     def processes(self):
@@ -130,8 +130,8 @@ class Host:
             home = f"mount -t tmpfs -o size={home_size},uid={USER} none /home/me && cp -a '{self.home}/.ssh' /home/me"
         script = f"""hostname {self.name} && mount -t tmpfs none /run && mkdir /run/sshd && {home} &&
             mount --bind '{passwd}' /etc/passwd && mount --bind '{self.room.folder}/shadow' /etc/shadow &&
-            cp '{config}' /run/sshd_config && cp '{self.room.folder}/key' /run/key && mount -t tmpfs -o mode=1777 none /tmp &&
-            exec /usr/sbin/sshd -D -E /run/log -f /run/sshd_config"""
+            cp '{config}' /run/sshd_config && cp '{self.room.folder}/key' /run/key &&
+            mount -t tmpfs -o mode=1777 none /tmp && exec /usr/sbin/sshd -D -E /run/log -f /run/sshd_config"""
         words = ["nsenter", "-t", str(self.room.inside), "-m", "-p", "unshare", "--net", "--mount", "--uts", "--ipc",
                  "--pid", "--fork", "--kill-child", "--mount-proc", "sh", "-c", script]
         self.process = subprocess.Popen(words, stdin=subprocess.DEVNULL, stderr=subprocess.DEVNULL)

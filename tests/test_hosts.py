@@ -54,8 +54,8 @@ def setUpModule():
         shutil.copy(built(), program)
         if name != "plain":
             program.write_text(PROGRAM.replace("@real@", str(BASE / "plain/bin/ffosolve")))
-    for module, old, new in (("watch", "LOST_SECONDS = 60", "LOST_SECONDS = 3"), ("folder", "HOST_SECONDS = 30", "HOST_SECONDS = 6")):
-        change_many(BASE / "hasty/bin/ffosolve-many", module, old, new)
+    for module, name, old, new in (("watch", "LOST_SECONDS", 60, 3), ("folder", "HOST_SECONDS", 30, 6)):
+        change_many(BASE / "hasty/bin/ffosolve-many", module, f"{name} = {old}", f"{name} = {new}")
     config = BASE / "hasty/python/src/ffosolve/_many/shell/ssh_config"
     config.write_text(config.read_text().replace("Timeout 10", "Timeout 3").replace("Interval 5", "Interval 1"))
     LIST = positions(60, 1, 5)
@@ -63,7 +63,6 @@ def setUpModule():
     ONE = run(BASE / "plain/bin/ffosolve", "--book-out", BASE / "one.book", BASE / "list.obf").stdout.decode()
     BOOK = (BASE / "one.book").read_bytes()
     for number in range(SIDE_BY_SIDE):
-        (BASE / f"{number}").mkdir()
         ROOMS.put(Room(BASE / f"{number}"))
         unittest.addModuleCleanup(ROOMS.queue[-1].close)
 
@@ -93,8 +92,6 @@ def load_tests(loader, tests, pattern):
 class Case(unittest.TestCase):
     """A test with a list of 60 positions, in the home folder of the user who calls, and three machines."""
 
-    LINES = 12  # of a part
-
     def setUp(self):
         self.room = ROOMS.get()
         self.addCleanup(ROOMS.put, self.room)
@@ -122,10 +119,10 @@ class Case(unittest.TestCase):
         with open(self.room.home / ".ssh/config", "a") as config:
             config.write("Host *\n " + "\n ".join(lines) + "\n")
 
-    def start(self, *words, hosts="2/h1\n2/h2\n2/h3\n", by="slow", **environment):
+    def start(self, *words, hosts="2/h1\n2/h2\n2/h3\n", by="slow", lines=12, **environment):
         """The command, which goes on meanwhile; what it tells is written to a file."""
         self.write("hosts", hosts)
-        words = ("--hosts", "hosts", f"--lines={self.LINES}", "--book-out", "joined.book", *words, "work", "list.obf")
+        words = ("--hosts", "hosts", f"--lines={lines}", "--book-out", "joined.book", *words, "work", "list.obf")
         words = self.room.words(BASE / by / "bin/ffosolve-many", *words, **environment)
         with open(self.room.folder / "out", "wb") as output, open(self.room.folder / "told", "wb") as told:
             ran = subprocess.Popen(words, stdin=subprocess.DEVNULL, stdout=output, stderr=told)
@@ -165,7 +162,7 @@ class Case(unittest.TestCase):
 
     def refused(self, **how):
         """What the command told that solved nothing."""
-        self.assertEqual((self.start(**how).wait(timeout=300), self.printed()), (3, ""))
+        self.assertEqual((self.start(**how).wait(timeout=30 * busy()), self.printed()), (3, ""))
         return self.told()
 
     def again(self):
@@ -200,9 +197,8 @@ class Gone(Case):
     """A machine that is gone."""
 
     def test_machine_that_loses_power_while_it_solves(self):
-        self.LINES = 2
         self.slow(1, *self.room.hosts.values())
-        ran = self.start(by="hasty")
+        ran = self.start(by="hasty", lines=2)
         wait_until(lambda: self.begun("h2", "done"))
         self.slow(50, self.h2)
         wait_until(lambda: list(self.h2.processes().values()).count("sleep 50 ") == 2)
@@ -212,9 +208,8 @@ class Gone(Case):
                          ["h2 is lost: Timeout, server 10.77.0.12 not responding.; its parts go to others"])
 
     def test_machine_that_is_up_again_at_once(self):
-        self.LINES = 2
         self.slow(1, *self.room.hosts.values())
-        ran = self.start(by="hasty")
+        ran = self.start(by="hasty", lines=2)
         wait_until(lambda: self.begun("h2", "done"))
         self.h2.lose_power()
         self.h2.boot()
@@ -222,11 +217,10 @@ class Gone(Case):
         self.assertLessEqual(len([line for line in told if "h2" in line and not line.startswith("on ")]), 2, told)
 
     def test_machine_that_is_lost_while_the_program_is_copied(self):
-        self.LINES = 6
         self.write("tools/tar", "#!/bin/sh\nsleep 60\n", self.h3.home)
         self.h3.boot(more="SetEnv PATH=/home/me/tools:/usr/bin:/bin\n")
         self.slow(3, self.h1, self.h2)
-        ran = self.start(by="hasty")
+        ran = self.start(by="hasty", lines=6)
         wait_until(lambda: self.sleeps(self.h3, 60))
         self.h3.lose_link()
         self.whole(ran)
@@ -257,18 +251,16 @@ class Connections(Case):
 
     def test_one_connection_for_ten_parts(self):
         """And one command for each, besides four: to ask, to lay all, to try it, and to remove it."""
-        self.LINES = 6
-        self.solved(by="plain", hosts="1/h1\n")
+        self.solved(by="plain", hosts="1/h1\n", lines=6)
         counts = [self.logged(self.h1, text) for text in ("Accepted publickey", "Starting session: command")]
         self.assertEqual(counts, [1, 10 + 4])
         times = [float(line[0]) for line in self.log() if line[1] in ("begin", "done")]
         self.assertLess((times[-1] - times[0]) / 10, 5 * busy())
 
     def test_many_jobs_lose_no_connection(self):
-        self.LINES = 2
         self.slow(0.5, self.h1)
         for jobs, connections in ((16, 2), (24, 2 + 3)):
-            self.assertEqual(self.solved(hosts=f"{jobs}/h1\n"), ["on h1"])
+            self.assertEqual(self.solved(hosts=f"{jobs}/h1\n", lines=2), ["on h1"])
             self.assertEqual(self.begun("h1", "failed"), [])
             counts = [self.logged(self.h1, text) for text in ("drop connection", "Accepted publickey")]
             self.assertEqual(counts, [0, connections])
@@ -276,19 +268,19 @@ class Connections(Case):
 
     def test_users_own_configuration_decides(self):
         """Otherwise a machine that is lost is known in 20 seconds."""
-        self.LINES = 6
-        for settings, words in (((5, 10), {}), ((2, 20), {}), ((2, 20), {"PARALLEL_SSH": "ssh -o ServerAliveInterval=1"})):
-            if settings != (5, 10):
-                self.configured("ServerAliveInterval 2", "ConnectTimeout 20")
+        usual, own = ("serveraliveinterval 5", "connecttimeout 10"), ("serveraliveinterval 2", "connecttimeout 20")
+        for lines, words in (usual, {}), (own, {}), (own, {"PARALLEL_SSH": "ssh -o ServerAliveInterval=1"}):
+            if lines == own:
+                self.configured(*own)
             self.solved(hosts="h1", **words)
             place = next((self.room.home / "work").glob("run-*"))
             told = run(*self.room.words("ssh", "-G", "-F", f"work/{place.name}/ssh_config", "h1")).stdout.decode()
-            for name, value in zip(("serveraliveinterval", "connecttimeout", "serveralivecountmax", "batchmode"), (*settings, 4, "yes")):
-                self.assertIn(f"\n{name} {value}\n", told)
+            for line in (*lines, "serveralivecountmax 4", "batchmode yes"):
+                self.assertIn(f"\n{line}\n", told)
         self.again()
         self.write("mine", MINE)
         self.solved(hosts="3/h2\n", PARALLEL_SSH="/home/me/mine")
-        self.assertEqual(self.logged(self.h2, "Accepted publickey"), 14)
+        self.assertEqual(self.logged(self.h2, "Accepted publickey"), 5 + 4)
 
     def test_signals_end_all_connections_and_what_they_run(self):
         self.slow(400, self.h1)
@@ -326,9 +318,9 @@ class Tried(Case):
 
     def test_machine_that_fails_three_parts_in_a_row(self):
         self.write("fails", "ffosolve: out of memory\nand more\n", self.h2.home)
-        self.LINES = 6
         self.slow(1, self.h1, self.h2)  # so that h2 is left out before another part fails there
-        self.assertIn("h2 is left out: 3 parts failed in a row: ffosolve: out of memory", self.solved(hosts="1/h1\n1/h2\n"))
+        told = self.solved(hosts="1/h1\n1/h2\n", lines=6)
+        self.assertIn("h2 is left out: 3 parts failed in a row: ffosolve: out of memory", told)
         self.assertEqual(len(self.begun("h2", "failed")), 3)
 
     def test_log_keeps_all_rounds(self):
@@ -344,10 +336,8 @@ class Tried(Case):
 
     def test_the_only_machine_has_no_room(self):
         self.h1.boot(home_size="64k")
-        begun = time.monotonic()
         self.assertRegex("\n".join(self.refused(hosts="2/h1\n")), "^h1 is left out: no room: [0-9]+ KB are free, and [0-9]+ are "
                          "needed\nno machine can work$")
-        self.assertLess(time.monotonic() - begun, 30 * busy())
 
     def test_machines_that_cannot_be_reached_are_named(self):
         self.h2.end()
@@ -358,7 +348,8 @@ class Tried(Case):
             self.assertRegex("\n".join(told), line)
         self.again()
         self.configured("LogLevel QUIET")
-        self.assertEqual(self.refused(hosts="h2\n"), ["h2 is left out: ssh gives no reason", "no machine can be reached"])
+        self.assertEqual(self.refused(hosts="h2\n"),
+                         ["h2 is left out: ssh gives no reason", "no machine can be reached"])
 
     def test_machines_that_lack_what_they_need_say_so(self):
         self.tools(self.h1, "sha256sum", "sync")
@@ -468,13 +459,12 @@ class Swept(Case):
         self.assertEqual((self.room.home / "work/hosts").read_text(), "")
 
     def test_report_waits_for_no_sweep(self):
-        self.LINES = 20
         self.slow(8, self.h1)
-        ran = self.start(hosts="1/h1\n1/h2\n")
+        ran = self.start(hosts="1/h1\n1/h2\n", lines=20)
         wait_until(lambda: len(self.begun("h1") + self.begun("h2", "done")) == 3 and self.begun("h2", "done"))
         self.h2.lose_link()  # the last part is solved by h1
         self.sweeps(ran, SECONDS)
-        self.sweeps(self.start(hosts="1/h1\n"), 5)  # all was solved before
+        self.sweeps(self.start(hosts="1/h1\n", lines=20), 5)  # all was solved before
 
     def sweeps(self, ran, seconds):
         """A command prints its report in so many seconds, and then waits for h2 until it is interrupted."""
@@ -488,12 +478,11 @@ class Swept(Case):
 
     def test_shell_that_hangs_is_not_waited_for(self):
         self.write(".bashrc", "sleep 100\n", self.h2.home)
-        begun = time.monotonic()
-        self.assertEqual(self.solved(hosts="1/h1\n1/h2\n"), ["on h1"])
-        self.assertLess(time.monotonic() - begun, 20 * busy())
+        self.assertEqual(self.whole(self.start(hosts="1/h1\n1/h2\n"), seconds=20 * busy()), ["on h1"])
         self.again()
         self.slow(2, self.h1)
-        self.assertEqual(self.solved(hosts="1/h1\n1/h2\n", by="hasty"), ["h2 is left out: no answer in 6 seconds", "on h1"])
+        told = self.solved(hosts="1/h1\n1/h2\n", by="hasty")
+        self.assertEqual(told, ["h2 is left out: no answer in 6 seconds", "on h1"])
 
     def test_sweep_alone(self):
         self.interrupt(self.h1, self.h2, self.h3)

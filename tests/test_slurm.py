@@ -5,6 +5,7 @@ import shutil
 import socket
 import subprocess
 from pathlib import Path
+from unittest import mock
 
 from tests.support import SECONDS, InFolder, built, lay_many, need, positions, run, stored, wait_until, write
 
@@ -21,8 +22,6 @@ SlurmdSpoolDir={place}/spool
 SlurmctldPidFile={place}/slurmctld.pid
 SlurmdPidFile={place}/slurmd.pid
 ProctrackType=proctrack/linuxproc
-TaskPlugin=task/none
-MpiDefault=none
 ReturnToService=2
 SelectType=select/cons_tres
 SelectTypeParameters=CR_CPU
@@ -48,24 +47,23 @@ class Slurm(InFolder):
             Path(name).mkdir()
         host = socket.gethostname().partition(".")[0]
         file = write("slurm.conf", CONFIGURATION.format(host=host, place=self.folder, ports=free_ports()))
-        self.environment = {**os.environ, "SLURM_CONF": str(file.resolve())}
+        self.enterContext(mock.patch.dict(os.environ, SLURM_CONF=str(file.resolve())))
         for name in ("slurmctld", "slurmd"):
-            self.start(name, "-D", "-L", self.folder / f"{name}.log", stdout=subprocess.DEVNULL, stderr=subprocess.DEVNULL,
-                       env=self.environment)
-        wait_until(lambda: b"idle" in run("sinfo", "-h", "-o", "%T", env=self.environment).stdout)
+            words = (name, "-D", "-L", self.folder / f"{name}.log")
+            self.start(*words, stdout=subprocess.DEVNULL, stderr=subprocess.DEVNULL)
+        wait_until(lambda: b"idle" in run("sinfo", "-h", "-o", "%T").stdout)
 
     def test_array_of_the_document_solves_all_parts(self):
         script = re.search(r"```sh\n(#!/bin/sh\n#SBATCH.*?)```", stored("docs/many-machines.md").decode(), re.DOTALL)[1]
         write("part.sh", script)
         write("list.obf", positions(60, 1, 5))
         shutil.copy(built(), lay_many(".").parent)
-        how = {"env": self.environment}
         words = ("bin/ffosolve-many", "--lines=3", "work", "list.obf", "--book-out", "joined.book")
-        ran = run(*words, "--cut", **how)
+        ran = run(*words, "--cut")
         self.assertEqual(ran.stdout, b"20 parts, 0 of them solved; sh work/run-*/solve NAME solves one, from 0000000 to 0000019\n")
-        ran = run("sbatch", "--wait", "--array=0-19", "part.sh", **how, check=True, timeout=5 * SECONDS)
-        ran = run(*words, **how)
+        ran = run("sbatch", "--wait", "--array=0-19", "part.sh", check=True, timeout=5 * SECONDS)
+        ran = run(*words)
         self.assertIn(b"20 of them solved before", ran.stderr)
-        one = run("bin/ffosolve", "--book-out", "one.book", "list.obf", **how)
+        one = run("bin/ffosolve", "--book-out", "one.book", "list.obf")
         self.assertEqual((ran.returncode, ran.stdout), (0, one.stdout))
         self.assertEqual(Path("joined.book").read_bytes(), Path("one.book").read_bytes())

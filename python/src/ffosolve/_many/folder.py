@@ -89,8 +89,9 @@ def lay_scripts(run, command, *names):
 
 
 def lay(path, content):
-    """Lays a file where it isn't there whole."""
+    """Lays a file where it isn't there whole, in its folder."""
     if read_or_nothing(path) != content:
+        path.parent.mkdir(parents=True, exist_ok=True)
         path.write_bytes(content)
 
 
@@ -112,7 +113,7 @@ def prepare(command, source, parts, listed, program, book_in):
         asked["program"] = digest_of(program.itself)
     if asked != before:
         write_whole(command.folder / ASKED, [json.dumps(asked, indent=1).encode(), b"\n"])
-    (run.place / "parts").mkdir(parents=True, exist_ok=True)
+    lay_scripts(run, command, "solve")
     if cut_list(source, command.lines, command.list, lambda part, text: lay(run.path(part), text)) != (parts, listed):
         raise Refusal(UNREADABLE, f"{command.list} changes while it is read")
     if is_lacking:
@@ -122,5 +123,4 @@ def prepare(command, source, parts, listed, program, book_in):
         write_whole(run.place / "v2/program", [program.for_all.read_bytes()], 0o755)
     if book_in:
         lay(run.place / "book-in", book_in.read_bytes())
-    lay_scripts(run, command, "solve")
     return run

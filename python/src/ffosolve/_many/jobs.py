@@ -22,10 +22,9 @@ SIGNALS = (signal.SIGINT, signal.SIGTERM, signal.SIGHUP)
 def lay_round(run, command, machines):
     """Lays what a round needs: how all machines are reached, and the jobs of this one, which work while others are asked."""
     place = run.place
-    (place / "parts").mkdir(parents=True, exist_ok=True)
     for name in ("jobs", "out", "asking", "machines", "sockets"):
         shutil.rmtree(place / name, ignore_errors=True)
-        (place / name).mkdir()
+        (place / name).mkdir(parents=True)
     for machine in recorded(run) + machines:
         machine.jobs = str(command.jobs or machine.jobs)
         (place / f"machines/{machine.key}.noise").touch()
@@ -45,7 +44,7 @@ def lay_round(run, command, machines):
 
 def end_session(session):
     """Ends all processes of a session, until none is left."""
-    of_it = re.compile(rb".*\) [^ZX] \d+ \d+ %d " % session, re.DOTALL)  # the name of its program may have blanks and parentheses
+    of_it = re.compile(rb".*\) [^ZX] \d+ \d+ %d " % session, re.DOTALL)  # behind a name that may hold anything
     while left := [path for path in Path("/proc").glob("[0-9]*/stat") if of_it.match(read_or_nothing(path))]:
         for path in left:
             with contextlib.suppress(ProcessLookupError):

@@ -7,6 +7,7 @@ from .._text import MARKS, MOST_BYTES
 from .files import digest_of, read_or_nothing
 from .messages import REFUSED, UNREADABLE, UNSOLVED, Refusal
 
+LARGE = f"has more than {MOST_BYTES} bytes"
 SKIPPED = re.compile(rb"[ \t]*(?:%.*|\r?)", re.DOTALL)
 HEADER = "% ffobook 2 {}\n"  # the first line of a book, with its scoring
 ROW = re.compile(rb"[+-]\d\d (?:[A-H][1-8](?:,[A-H][1-8])*|PS|--) [a-z]+|refused: [^\0]+")
@@ -25,8 +26,8 @@ class Part(NamedTuple):
 
 
 def cut_list(path, lines, name, lay=lambda part, text: None):
-    """Cuts a list into parts of so many lines, and lays each; gives them, and how many bytes the list has and their SHA-256.
-    Refuses what is no list, and a part that is too large to be solved."""
+    """Cuts a list into parts of so many lines, and lays each. Gives them, and how many bytes the list has, and their
+    SHA-256. Refuses what is no list, and a part that is too large to be solved."""
     parts = []
     with path.open("rb") as file:
         while True:
@@ -38,10 +39,10 @@ def cut_list(path, lines, name, lay=lambda part, text: None):
                 if not parts and not texts and not line.endswith(b"\n") and b"\r" in line.rstrip():
                     raise Refusal(UNREADABLE, f"cannot read {name}: its lines end with CR alone")
                 if size > MOST_BYTES and not texts:
-                    raise Refusal(REFUSED, f"line {first} of {name} has more than {MOST_BYTES} bytes: no part can hold it")
+                    raise Refusal(REFUSED, f"line {first} of {name} {LARGE}: no part can hold it")
                 if size > MOST_BYTES:
-                    raise Refusal(REFUSED, f"part {len(parts):07d} (from line {first} of {name} on) has more than "
-                                           f"{MOST_BYTES} bytes: use fewer lines, such as --lines {len(texts)}")
+                    raise Refusal(REFUSED, f"part {len(parts):07d} (from line {first} of {name} on) {LARGE}: "
+                                           f"use fewer lines, such as --lines {len(texts)}")
                 texts.append(line)
             if not texts:
                 return parts, {"bytes": file.tell(), "digest": digest_of(path, file.tell())}
