@@ -214,6 +214,7 @@ class Gone(Case):
         self.h2.lose_power()
         self.h2.boot()
         told = self.whole(ran)
+        self.assertTrue(self.is_told("h2 is lost: "), told)
         self.assertLessEqual(len([line for line in told if "h2" in line and not line.startswith("on ")]), 2, told)
 
     def test_machine_that_is_lost_while_the_program_is_copied(self):

@@ -333,11 +333,10 @@ class Results(Case):
         self.assertEqual((os.path.islink("joined.book"), stat.S_IMODE(os.stat("there").st_mode)), (True, 0o640))
         self.same_book("there")
         os.mkfifo("pipe")
-        with subprocess.Popen(["cat", "pipe"], stdout=subprocess.PIPE) as reader:
-            self.addCleanup(reader.kill)
-            self.same(*self.WORDS[:-1], "pipe")
-            self.assertEqual(reader.communicate(timeout=SECONDS)[0], Path("one.book").read_bytes())
+        reader = self.start("cat", "pipe")
+        self.same(*self.WORDS[:-1], "pipe")
         self.assertTrue(stat.S_ISFIFO(os.stat("pipe").st_mode))
+        self.assertEqual(reader.communicate(timeout=SECONDS)[0], Path("one.book").read_bytes())
 
     def test_book_that_cannot_be_written_is_told(self):
         """After the report; what was there stays."""
