@@ -208,9 +208,10 @@ class Gone(Case):
                          ["h2 is lost: Timeout, server 10.77.0.12 not responding.; its parts go to others"])
 
     def test_machine_that_is_up_again_at_once(self):
-        self.slow(1, *self.room.hosts.values())
+        self.slow(1, self.h1, self.h3)
+        self.slow(3, self.h2)
         ran = self.start(by="hasty", lines=2)
-        wait_until(lambda: self.begun("h2", "done"))
+        wait_until(lambda: self.sleeps(self.h2, 3))
         self.h2.lose_power()
         self.h2.boot()
         told = self.whole(ran)

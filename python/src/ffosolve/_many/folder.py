@@ -89,7 +89,7 @@ def lay_scripts(run, command, *names):
 
 
 def lay(path, content):
-    """Lays a file where it isn't there whole, in its folder."""
+    """Lays a file, and the folder that it is in, where it isn't there whole."""
     if read_or_nothing(path) != content:
         path.parent.mkdir(parents=True, exist_ok=True)
         path.write_bytes(content)
