@@ -66,7 +66,7 @@ class Watch:
         if event != "begin":
             self.progress.end(part, is_solved)
         self.is_reached |= event in ("ready", "out")
-        if event in ("done", "failed") and self.lost.pop(name, None):
+        if event in ("ready", "done", "failed") and self.lost.pop(name, None):
             say(f"{name} is back")
         match event:
             case "begin":
