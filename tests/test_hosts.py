@@ -54,7 +54,7 @@ def setUpModule():
         shutil.copy(built(), program)
         if name != "plain":
             program.write_text(PROGRAM.replace("@real@", str(BASE / "plain/bin/ffosolve")))
-    for module, name, old, new in (("watch", "LOST_SECONDS", 60, 3), ("folder", "HOST_SECONDS", 30, 6)):
+    for module, name, old, new in (("watch", "LOST_SECONDS", 60, 3), ("folder", "HOST_SECONDS", 30, 10)):
         change_many(BASE / "hasty/bin/ffosolve-many", module, f"{name} = {old}", f"{name} = {new}")
     config = BASE / "hasty/python/src/ffosolve/_many/shell/ssh_config"
     config.write_text(config.read_text().replace("Timeout 10", "Timeout 3").replace("Interval 5", "Interval 1"))
@@ -221,7 +221,7 @@ class Gone(Case):
     def test_machine_that_is_lost_while_the_program_is_copied(self):
         self.write("tools/tar", "#!/bin/sh\nsleep 60\n", self.h3.home)
         self.h3.boot(more="SetEnv PATH=/home/me/tools:/usr/bin:/bin\n")
-        self.slow(3, self.h1, self.h2)
+        self.slow(5, self.h1, self.h2)
         ran = self.start(by="hasty", lines=6)
         wait_until(lambda: self.sleeps(self.h3, 60))
         self.h3.lose_link()
@@ -238,7 +238,7 @@ class Gone(Case):
         self.assertEqual(self.whole(ran), ["on h1"])
 
     def test_only_machine_is_tried_again(self):
-        self.slow(1, self.h1)
+        self.slow(2, self.h1)
         ran = self.start(by="hasty", hosts="1/h1\n")
         wait_until(lambda: self.begun("h1", "done"))
         self.h1.lose_power()
@@ -305,7 +305,7 @@ class Tried(Case):
     def test_machines_that_cannot_work_are_named(self):
         self.write(".bashrc", "echo Welcome\n", self.h1.home)
         self.tools(self.h2)
-        self.slow(1, self.h3)
+        self.slow(3, self.h3)
         self.assertEqual(sorted(self.solved()), [
             "h1 is left out: its shell prints 'Welcome', where results are read", "h2 is left out: sha256sum is not there",
             "on h3"])
@@ -313,7 +313,7 @@ class Tried(Case):
     def test_program_that_does_not_run_there_or_is_wrong(self):
         self.write("wrong", "", self.h1.home)
         self.write("dies", "", self.h2.home)
-        self.slow(1, self.h3)
+        self.slow(3, self.h3)
         self.assertEqual(sorted(self.solved()), ["h1 is left out: it solves a known line wrong",
                                                  "h2 is left out: it can't solve: Killed", "on h1, h2, h3"])
         self.assertEqual(self.begun("h1", "done") + self.begun("h2", "done"), [])
@@ -343,7 +343,7 @@ class Tried(Case):
 
     def test_machines_that_cannot_be_reached_are_named(self):
         self.h2.end()
-        self.slow(2, self.h3)
+        self.slow(3, self.h3)
         told = self.solved(hosts="ssh -p 23 h1\nnone.invalid\nh2\nssh -i /dev/null -o IdentitiesOnly=yes h1\n2/h3\n")
         for line in ("h1 is left out: .*port 23: Connection refused", "none.invalid is left out: .*resolve",
                      "h2 is left out: .*(No route to host|timed out)", "h1 is left out: .*Permission denied", "on h3"):
@@ -398,8 +398,8 @@ class Tried(Case):
         for host, shell in zip(self.room.hosts.values(), ("dash", "fish", "tcsh")):
             if shutil.which(shell):
                 host.boot(shell=shutil.which(shell))
-            self.slow(1, host)
-        self.assertEqual(self.solved(), ["on h1, h2, h3"])
+            self.slow(2, host)
+        self.assertEqual(self.solved(hosts="1/h1\n1/h2\n1/h3\n", lines=6), ["on h1, h2, h3"])
         self.assertTrue(all(self.begun(name, "done") for name in self.room.hosts))
 
 
@@ -433,7 +433,7 @@ class Swept(Case):
 
     def test_machine_that_was_away_is_swept_by_the_next_run(self):
         self.slow(20, self.h2)
-        self.slow(2, self.h1)  # otherwise h1 could solve all before h2 is asked
+        self.slow(3, self.h1)  # otherwise h1 could solve all before h2 is asked
         ran = self.start(hosts="1/h1\n1/h2\n", by="hasty")
         wait_until(lambda: self.sleeps(self.h2, 20))
         self.h2.lose_power()
@@ -444,7 +444,7 @@ class Swept(Case):
         self.solved()
 
     def test_machine_is_remembered_until_its_files_are_gone(self):
-        self.slow(1, self.h1, self.h2)
+        self.slow(2, self.h1, self.h2)
         ran = self.start(hosts="1/h1\n1/h2\n")
         wait_until(lambda: self.begun("h1", "done") and self.begun("h2", "done"))
         os.kill(child_of(ran.pid), signal.SIGINT)
@@ -482,9 +482,9 @@ class Swept(Case):
         self.write(".bashrc", "sleep 100\n", self.h2.home)
         self.assertEqual(self.whole(self.start(hosts="1/h1\n1/h2\n"), seconds=20 * busy()), ["on h1"])
         self.again()
-        self.slow(2, self.h1)
+        self.slow(3, self.h1)
         told = self.solved(hosts="1/h1\n1/h2\n", by="hasty")
-        self.assertEqual(told, ["h2 is left out: no answer in 6 seconds", "on h1"])
+        self.assertEqual(told, ["h2 is left out: no answer in 10 seconds", "on h1"])
 
     def test_sweep_alone(self):
         self.interrupt(self.h1, self.h2, self.h3)
