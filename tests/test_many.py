@@ -601,7 +601,7 @@ class Words(Case):
     """What is refused, each by a line that names the word."""
 
     def test_command_lines(self):
-        for name, text in (("two.obf", SMALL), ("two.obf.parts", ""), ("kept", SMALL), ("empty.hosts", "# none\n")):
+        for name, text in (("two.obf", SMALL), ("kept", SMALL), ("empty.hosts", "# none\n")):
             write(name, text)
         os.symlink("kept", "link")
         os.symlink("/proc/self/fd/1", "out")
@@ -610,7 +610,6 @@ class Words(Case):
                 (2, "no list is named"),
                 (2, "'two.obf' is one word too many", "work", "list.obf", "two.obf"),
                 (2, "'list.obf' is not a folder: name one FOLDER and one LIST", "list.obf", "two.obf"),
-                (2, "'two.obf.parts' is not a folder", "two.obf"),
                 (3, "cannot write /proc/work", "/proc/work", "list.obf"),
                 (2, "'-x' is not an option; a file of that name is ./-x", "-x"),
                 (2, "'/dev/stdin' has no folder of its own: name a FOLDER before it", "-"),
