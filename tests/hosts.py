@@ -1,28 +1,19 @@
 """Machines h1, h2, .. on one network, each with an sshd, processes, a name and a home folder of its own, for tests of what
 goes over ssh. They are namespaces of Linux below one process, with which they all end; nothing else of this machine is
 changed. That needs root, iproute2 and openssh-server.
-
-As a program, `python3 -m tests.hosts NAME PID MS KBIT` is a slow link: a tap NAME here and a tap eth0 in the network of a
-process, joined with a delay and a rate each way.
 """
 import concurrent.futures
 import contextlib
-import fcntl
 import os
-import queue
 import shutil
 import signal
-import struct
 import subprocess
-import sys
-import threading
-import time
 from pathlib import Path
 
-from tests.support import ROOT, wait_until
+from tests.support import wait_until
 
 USER = 3001  # the number of the user `me`, who calls, and whose home folder each machine has
-SSHD = "HostKey /run/key\nPidFile none\nUsePAM no\nPasswordAuthentication no\nStrictModes no\n"
+SSHD = "HostKey /run/key\nPidFile none\nUsePAM no\nPasswordAuthentication no\nStrictModes no\nLogLevel VERBOSE\n"
 
 
 def child_of(process):
@@ -54,19 +45,19 @@ class Room:
         self.inside = child_of(self.keeper.pid)
         self.do("sh", "-ec", f"""mount -t tmpfs none /home && mkdir /home/me
             mount --bind '{self.home}' /home/me && mount --bind '{self.folder}/passwd' /etc/passwd
-            ip link set lo up && ip link add br0 type bridge && ip addr add 10.77.0.1/24 dev br0 && ip link set br0 up""")
+            ip link set lo up && ip link add br0 type bridge && ip addr add 10.77.0.1/24 dev br0 && ip link set br0 up
+            cd /proc/sys/net/ipv4/neigh/br0 # what is gone is known in two seconds
+            echo 200 >retrans_time_ms && echo 1000 >base_reachable_time_ms && echo 1 >delay_first_probe_time""")
         self.hosts = {name: Host(self, name, number) for number, name in enumerate(self.names, 1)}
 
     def lay_keys(self):
-        """The caller's key and configuration, and what all machines have."""
+        """The caller's key and configuration, and what all machines have: their key, and the users."""
         ssh = self.home / ".ssh"
         ssh.mkdir(parents=True, mode=0o700)
-        keys = [ssh / "id_ed25519", *(self.folder / f"{name}.key" for name in self.names)]
-        for key in keys:
+        for key in (ssh / "id_ed25519", self.folder / "key"):
             subprocess.run(["ssh-keygen", "-q", "-t", "ed25519", "-N", "", "-C", "", "-f", key], check=True)
-        known = [f"{name} {Path(f'{key}.pub').read_text()}" for name, key in zip(self.names, keys[1:])]
-        (ssh / "known_hosts").write_text("".join(known))
-        self.config = "".join(f"Host {name}\n HostName 10.77.0.1{number}\n HostKeyAlias {name}\n"
+        (ssh / "known_hosts").write_text(f"room {(self.folder / 'key.pub').read_text()}")
+        self.config = "".join(f"Host {name}\n HostName 10.77.0.1{number}\n HostKeyAlias room\n"
                               for number, name in enumerate(self.names, 1))
         self.give(self.home)
         for name, line in (("passwd", f"me:x:{USER}:{USER}::/home/me:/bin/bash"), ("shadow", "me:*:19000::::::")):
@@ -93,8 +84,8 @@ class Room:
     def words(self, *words, **environment):
         """The command that runs another as the user who calls, in that one's home folder."""
         settings = {"HOME": "/home/me", "USER": "me", "LANG": "C.UTF-8", "PATH": "/usr/local/bin:/usr/bin:/bin", **environment}
-        return ["nsenter", "-t", str(self.inside), "-m", "-n", "-p", "setpriv", f"--reuid={USER}",
-                f"--regid={USER}", "--clear-groups", "env", "-i", *(f"{key}={value}" for key, value in settings.items()),
+        return ["nsenter", "-t", str(self.inside), "-m", "-n", "-p", "setpriv", f"--reuid={USER}", f"--regid={USER}",
+                "--clear-groups", "env", "-i", "--default-signal", *map("=".join, settings.items()),
                 "sh", "-c", 'cd && exec "$@"', "sh", *map(str, words)]
 
     def processes(self):
@@ -114,9 +105,8 @@ class Host:
         self.room, self.name, self.number = room, name, number
         self.link, self.address = f"v{number}", f"10.77.0.1{number}"
         self.forget = f"ip neigh flush to {self.address} dev br0 nud all"  # of one alone: two at once can't flush all
-        self.key = room.folder / f"{name}.key"
         self.home = room.folder / name
-        self.relay = self.process = None
+        self.process = None
         self.is_up = False
 
     def clear(self):
@@ -140,8 +130,8 @@ class Host:
             home = f"mount -t tmpfs -o size={home_size},uid={USER} none /home/me && cp -a '{self.home}/.ssh' /home/me"
         script = f"""hostname {self.name} && mount -t tmpfs none /run && mkdir /run/sshd && {home} &&
             mount --bind '{passwd}' /etc/passwd && mount --bind '{self.room.folder}/shadow' /etc/shadow &&
-            cp '{config}' /run/sshd_config && cp '{self.key}' /run/key && mount -t tmpfs -o mode=1777 none /tmp &&
-            exec /usr/sbin/sshd -D -E /run/log -f /run/sshd_config"""
+            cp '{config}' /run/sshd_config && cp '{self.room.folder}/key' /run/key &&
+            mount -t tmpfs -o mode=1777 none /tmp && exec /usr/sbin/sshd -D -E /run/log -f /run/sshd_config"""
         words = ["nsenter", "-t", str(self.room.inside), "-m", "-p", "unshare", "--net", "--mount", "--uts", "--ipc",
                  "--pid", "--fork", "--kill-child", "--mount-proc", "sh", "-c", script]
         self.process = subprocess.Popen(words, stdin=subprocess.DEVNULL, stderr=subprocess.DEVNULL)
@@ -149,15 +139,10 @@ class Host:
         # The link of one that ended may be there, or go right now.
         self.room.do("sh", "-c", f"""ip link del {self.link} 2>/dev/null
             ip link add {self.link} type veth peer name eth0 netns {self.first}""")
-        self.plug()
-        self.is_up = True
-        wait_until(lambda: ":0016 00000000:0000 0A" in Path(f"/proc/{self.first}/net/tcp").read_text())  # it listens
-
-    def plug(self):
-        """Joins its link to the caller's bridge, once its own end is there."""
-        wait_until(lambda: "eth0" in Path(f"/proc/{self.first}/net/dev").read_text())
         self.do("sh", "-ec", f"ip link set lo up; ip addr add {self.address}/24 dev eth0; ip link set eth0 up")
         self.room.do("sh", "-ec", f"ip link set {self.link} master br0 up; {self.forget}")
+        self.is_up = True
+        wait_until(lambda: ":0016 00000000:0000 0A" in Path(f"/proc/{self.first}/net/tcp").read_text())  # it listens
 
     def do(self, *words):
         """Runs a command on it, as root."""
@@ -170,9 +155,6 @@ class Host:
     def end(self):
         """Ends it: sshd and all its processes at once."""
         self.is_up = False
-        if self.relay is not None:
-            self.relay.kill()
-            self.relay.wait()
         if self.process is not None and self.process.poll() is None:
             with contextlib.suppress(ProcessLookupError):
                 os.kill(self.first, signal.SIGKILL)
@@ -193,45 +175,3 @@ class Host:
         """Ends it while no packet says so."""
         self.lose_link()
         self.end()
-
-    def delay(self, milliseconds, kbit):
-        """Has each packet come so much later, at a rate."""
-        self.room.do("ip", "link", "del", self.link)
-        words = ["nsenter", "-t", self.room.inside, "-n", sys.executable, "-m", "tests.hosts", self.link, self.first,
-                 milliseconds, kbit]
-        self.relay = subprocess.Popen(list(map(str, words)), stdin=subprocess.DEVNULL, cwd=ROOT)
-        self.plug()
-
-
-def carry(source, target, delay, rate):
-    """Hands on the frames of a tap, each so much later, at a rate; until a machine has ended."""
-    frames, free = queue.Queue(1000), 0.0
-
-    def write():
-        while True:
-            due, frame = frames.get()
-            time.sleep(max(0.0, due - time.monotonic()))
-            with contextlib.suppress(OSError):  # that end is down
-                os.write(target, frame)
-
-    threading.Thread(target=write, daemon=True).start()
-    with contextlib.suppress(OSError):
-        while True:
-            frame = os.read(source, 65536)
-            free = max(free, time.monotonic()) + len(frame) / rate
-            frames.put((free + delay, frame))
-
-
-def relay(name, process, milliseconds, kbit):
-    """Joins two taps with a delay and a rate, for as long as this process lives."""
-    ends = [os.open("/dev/net/tun", os.O_RDWR) for _ in range(2)]
-    for end, tap in zip(ends, (name, "tap")):
-        fcntl.ioctl(end, 0x400454CA, struct.pack("16sH22x", tap.encode(), 0x1002))  # TUNSETIFF; a tap without a header
-    subprocess.run(["ip", "link", "set", "tap", "netns", process, "name", "eth0"], check=True)
-    how = float(milliseconds) / 1000, float(kbit) * 1000 / 8
-    threading.Thread(target=carry, args=(*ends, *how), daemon=True).start()
-    carry(*ends[::-1], *how)
-
-
-if __name__ == "__main__":
-    relay(*sys.argv[1:])

@@ -7,9 +7,7 @@ from .files import check_readable
 from .messages import NAME, misused
 
 DEFAULT_EMPTIES = "20"  # of ffosolve
-MOST_LINES = 10_000
-MOST_JOBS = 999
-MOST = {"--jobs": MOST_JOBS, "--lines": MOST_LINES}
+MOST = {"--jobs": 999, "--lines": 10_000}
 
 USAGE = f"""{NAME} [OPTIONS] [FOLDER] LIST
        {NAME} --sweep FOLDER
@@ -39,7 +37,7 @@ status:
 OPTIONS = {
     "how the list is solved": (
         ("--jobs", "N", "parts solved at a time on each machine [default: the number of its processors]"),
-        ("--lines", "N", f"lines of a part, 1 to {MOST_LINES} [default: 1000]"),
+        ("--lines", "N", f"lines of a part, 1 to {MOST['--lines']} [default: 1000]"),
         ("--hosts", "FILE", "a file that names the machines, one in each line, as ssh takes them; `:` is this one"),
         ("--scores", None, "solve the parts with ffoscores instead of ffosolve"),
         ("--complete", None, "a line that lists moves has to list every best one: otherwise it differs, or with --scores "
@@ -88,8 +86,7 @@ def parse(words):
         command, others = parser.parse_known_args(words[:end])
     except argparse.ArgumentError as why:
         raise misused(str(why).removeprefix("argument ")) from None
-    if command.help:
-        command.help = parser.format_help()
+    command.help = command.help and parser.format_help()
     for word in others:
         if word.startswith("-") and word != "-" and not command.help:
             raise misused(f"'{word}' is not an option; a file of that name is ./{word}")

@@ -11,7 +11,7 @@ from .._squares import NAMES
 from .arguments import refuse_others
 from .files import is_same, regular, write_whole
 from .messages import DONE, NAME, REFUSED, UNBUILT, UNREADABLE, Refusal, misused, standard_output
-from .parts import header_of
+from .parts import HEADER
 from .programs import Program
 
 OPEN_BOOKS = 200  # that are merged at once
@@ -54,7 +54,7 @@ def whole_book(scoring, paths, scratch):
         with tempfile.NamedTemporaryFile(dir=scratch, delete=False) as file:
             file.writelines(merged(map(entries_of, paths[:OPEN_BOOKS])))
         paths = paths[OPEN_BOOKS:] + [Path(file.name)]
-    yield header_of(scoring)
+    yield HEADER.format(scoring).encode()
     yield from merged(map(entries_of, paths))
 
 
@@ -99,7 +99,7 @@ def merge_books(command, programs):
                 raise Refusal(REFUSED, f"{command.words[0]} has the scoring {scoring} and {name} {other}: "
                                        "only books of one scoring can be merged")
         whole = stack.enter_context(tempfile.NamedTemporaryFile(prefix=f"{NAME}-"))
-        whole.write(header_of(scoring))
+        whole.write(HEADER.format(scoring).encode())
         whole.writelines(merged(map(entries_of, paths, command.words)))
         whole.seek(0)
         scoring_of(program, whole.name, Path(whole.name))

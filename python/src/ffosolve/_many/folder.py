@@ -6,7 +6,6 @@ machine; `job` asks or sweeps a machine, or has a part solved; `ask` is what ano
 """
 import contextlib
 import fcntl
-import hashlib
 import itertools
 import json
 import os
@@ -17,7 +16,7 @@ from pathlib import Path
 
 from .files import digest_of, read_or_nothing, write_whole
 from .messages import NAME, REFUSED, UNREADABLE, Refusal, say
-from .parts import Run, read_parts
+from .parts import Run, cut_list
 from .programs import run_options
 
 SCRIPTS = {path.name: path.read_text() for path in Path(__file__).with_name("shell").iterdir()}
@@ -77,26 +76,22 @@ def check_asked(before, options, listed, source, command):
                                "on: use another folder, or the same list (it may have grown at its end)")
 
 
-def filled(name, run, command):
-    """A script, with what a run says in place of its @words@."""
+def lay_scripts(run, command, *names):
+    """Lays scripts in the run's folder, with what the run says in place of their @words@."""
     book = "book-in" if command.book_in is not None else ""
     words = ["./program", *run_options(command)] + ([f"--book-in={book}"] if book else [])
     values = {"program": shlex.join(words) + (' --book-out="$new.book"' if run.has_book else ""),
               "run": run.name, "book": book, "seconds": str(HOST_SECONDS), "kind": run.endings[0].removeprefix("."),
               "most": "1" if run.has_scores else "0",  # the greatest status of a part that is solved: 1 is a remark
               "endings": " ".join(run.endings), "files": " ".join(f'"$new{ending}"' for ending in run.endings)}
-    return re.sub("@([a-z]+)@", lambda found: values[found[1]], SCRIPTS[name])
-
-
-def lay_scripts(run, command, *names):
-    """Lays scripts in the run's folder."""
     for path in map(run.place.joinpath, names):
-        lay(path, filled(path.name, run, command).encode())
+        lay(path, re.sub("@([a-z]+)@", lambda found: values[found[1]], SCRIPTS[path.name]).encode())
 
 
 def lay(path, content):
-    """Lays a file where it isn't there whole."""
+    """Lays a file, and the folder that it is in, where it isn't there whole."""
     if read_or_nothing(path) != content:
+        path.parent.mkdir(parents=True, exist_ok=True)
         path.write_bytes(content)
 
 
@@ -114,28 +109,18 @@ def prepare(command, source, parts, listed, program, book_in):
     begun = {"mark": MARK, "run": f"run-{os.urandom(6).hex()}", "options": options, "program": ""}
     asked = {**(before or begun), "list": listed}
     run = Run(command.folder, asked["run"], parts, command.scoring, command.scores, command.book_out is not None)
-    is_there = digest_of(run.place / "program") == asked["program"]  # the program of the first run stays
-    if not is_there:
+    if is_lacking := digest_of(run.place / "program") != asked["program"]:  # otherwise that of the first run stays
         asked["program"] = digest_of(program.itself)
     if asked != before:
         write_whole(command.folder / ASKED, [json.dumps(asked, indent=1).encode(), b"\n"])
-    (run.place / "parts").mkdir(parents=True, exist_ok=True)
-    lay_parts(run, command, source)
-    if not is_there:
+    lay_scripts(run, command, "solve")
+    if cut_list(source, command.lines, command.list, lambda part, text: lay(run.path(part), text)) != (parts, listed):
+        raise Refusal(UNREADABLE, f"{command.list} changes while it is read")
+    if is_lacking:
         write_whole(run.place / "program", [program.itself.read_bytes()], 0o755)
     if program.for_all.is_file():
         (run.place / "v2").mkdir(exist_ok=True)
         write_whole(run.place / "v2/program", [program.for_all.read_bytes()], 0o755)
     if book_in:
         lay(run.place / "book-in", book_in.read_bytes())
-    lay_scripts(run, command, "solve")
     return run
-
-
-def lay_parts(run, command, source):
-    """Writes the parts that aren't there whole."""
-    with source.open("rb") as file:
-        for part, text in itertools.zip_longest(run.parts, read_parts(file, command.lines, command.list)):
-            if part is None or text is None or hashlib.sha256(text).hexdigest() != part.digest:
-                raise Refusal(UNREADABLE, f"{command.list} changes while it is read")
-            lay(run.path(part), text)

@@ -6,7 +6,7 @@ import shlex
 import shutil
 from pathlib import Path
 
-from .arguments import MOST_JOBS
+from .arguments import MOST
 from .files import check_readable, read_or_nothing
 from .folder import HOSTS
 from .messages import misused, say
@@ -67,7 +67,7 @@ def read_host(line, place):
     bare = "" if "://" in name else address
     for is_wrong, why in (
             (set(line) & set("'\"\\"), "quotes are not read: put what needs them into ~/.ssh/config"),
-            (jobs and not 1 <= int(jobs) <= MOST_JOBS, f"a machine has from 1 to {MOST_JOBS} jobs"),
+            (jobs and not 1 <= int(jobs) <= MOST["--jobs"], f"a machine has from 1 to {MOST['--jobs']} jobs"),
             (not address or name.startswith("-"), "it names no machine"),
             (name.startswith(("@", "ssh://@")), f"'{name}' names no user before its @"),
             (re.fullmatch(r"[^:]+:\d+", bare), f"a port goes before the name: ssh -p {' '.join(name.split(':')[::-1])}"),

@@ -1,6 +1,7 @@
 """Rounds of work: parts are solved by jobs of this machine and of others, and what fails is tried again."""
 import contextlib
 import os
+import re
 import shutil
 import signal
 import subprocess
@@ -21,10 +22,9 @@ SIGNALS = (signal.SIGINT, signal.SIGTERM, signal.SIGHUP)
 def lay_round(run, command, machines):
     """Lays what a round needs: how all machines are reached, and the jobs of this one, which work while others are asked."""
     place = run.place
-    (place / "parts").mkdir(parents=True, exist_ok=True)
     for name in ("jobs", "out", "asking", "machines", "sockets"):
         shutil.rmtree(place / name, ignore_errors=True)
-        (place / name).mkdir()
+        (place / name).mkdir(parents=True)
     for machine in recorded(run) + machines:
         machine.jobs = str(command.jobs or machine.jobs)
         (place / f"machines/{machine.key}.noise").touch()
@@ -44,14 +44,11 @@ def lay_round(run, command, machines):
 
 def end_session(session):
     """Ends all processes of a session, until none is left."""
-    def is_left(process):
-        fields = read_or_nothing(Path("/proc", process, "stat")).rpartition(b")")[2].split()
-        return len(fields) > 3 and fields[0] not in b"ZX" and int(fields[3]) == session
-
-    while left := [int(process) for process in os.listdir("/proc") if process.isdigit() and is_left(process)]:
-        for process in left:
+    of_it = re.compile(rb".*\) [^ZX] \d+ \d+ %d " % session, re.DOTALL)  # behind a name that may hold anything
+    while left := [path for path in Path("/proc").glob("[0-9]*/stat") if of_it.match(read_or_nothing(path))]:
+        for path in left:
             with contextlib.suppress(ProcessLookupError):
-                os.kill(process, signal.SIGKILL)
+                os.kill(int(path.parent.name), signal.SIGKILL)
         time.sleep(0.01)
 
 

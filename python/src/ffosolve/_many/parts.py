@@ -1,6 +1,5 @@
 """The parts of a list, their reports and other results."""
 import hashlib
-import itertools
 import re
 from typing import NamedTuple
 
@@ -8,7 +7,9 @@ from .._text import MARKS, MOST_BYTES
 from .files import digest_of, read_or_nothing
 from .messages import REFUSED, UNREADABLE, UNSOLVED, Refusal
 
+LARGE = f"has more than {MOST_BYTES} bytes"
 SKIPPED = re.compile(rb"[ \t]*(?:%.*|\r?)", re.DOTALL)
+HEADER = "% ffobook 2 {}\n"  # the first line of a book, with its scoring
 ROW = re.compile(rb"[+-]\d\d (?:[A-H][1-8](?:,[A-H][1-8])*|PS|--) [a-z]+|refused: [^\0]+")
 
 
@@ -24,35 +25,30 @@ class Part(NamedTuple):
         return f"part {self.name} (lines {self.first} to {self.first + self.lines - 1})"
 
 
-def read_parts(file, lines, name):
-    """Each part of an open list; refuses one that is too large to be solved."""
-    for first in itertools.count(1, lines):
-        part, size = [], 0
-        while len(part) < lines and (line := file.readline(MOST_BYTES + 1)):
-            size += len(line)
-            if first == 1 and not part and line.startswith(MARKS):
-                raise Refusal(UNREADABLE, f"cannot read {name}: it begins with a byte-order mark")
-            if first == 1 and not part and not line.endswith(b"\n") and b"\r" in line.rstrip():
-                raise Refusal(UNREADABLE, f"cannot read {name}: its lines end with CR alone")
-            if size > MOST_BYTES and not part:
-                raise Refusal(REFUSED, f"line {first} of {name} has more than {MOST_BYTES} bytes: no part can hold it")
-            if size > MOST_BYTES:
-                raise Refusal(REFUSED, f"part {(first - 1) // lines:07d} (from line {first} of {name} on) has more "
-                                       f"than {MOST_BYTES} bytes: use fewer lines, such as --lines {len(part)}")
-            part.append(line)
-        if not part:
-            return
-        yield b"".join(part)
-
-
-def scan_list(path, lines, name):
-    """The parts of a list, each of so many lines, and how many bytes it has and their SHA-256."""
+def cut_list(path, lines, name, lay=lambda part, text: None):
+    """Cuts a list into parts of so many lines, and lays each. Gives them, and how many bytes the list has, and their
+    SHA-256. Refuses what is no list, and a part that is too large to be solved."""
     parts = []
     with path.open("rb") as file:
-        for number, text in enumerate(read_parts(file, lines, name)):
-            count = text.count(b"\n") + (not text.endswith(b"\n"))
-            parts.append(Part(f"{number:07d}", number * lines + 1, count, hashlib.sha256(text).hexdigest()))
-        return parts, {"bytes": file.tell(), "digest": digest_of(path, file.tell())}
+        while True:
+            first, size, texts = len(parts) * lines + 1, 0, []
+            while len(texts) < lines and (line := file.readline(MOST_BYTES + 1)):
+                size += len(line)
+                if not parts and not texts and line.startswith(MARKS):
+                    raise Refusal(UNREADABLE, f"cannot read {name}: it begins with a byte-order mark")
+                if not parts and not texts and not line.endswith(b"\n") and b"\r" in line.rstrip():
+                    raise Refusal(UNREADABLE, f"cannot read {name}: its lines end with CR alone")
+                if size > MOST_BYTES and not texts:
+                    raise Refusal(REFUSED, f"line {first} of {name} {LARGE}: no part can hold it")
+                if size > MOST_BYTES:
+                    raise Refusal(REFUSED, f"part {len(parts):07d} (from line {first} of {name} on) {LARGE}: "
+                                           f"use fewer lines, such as --lines {len(texts)}")
+                texts.append(line)
+            if not texts:
+                return parts, {"bytes": file.tell(), "digest": digest_of(path, file.tell())}
+            text = b"".join(texts)
+            parts.append(Part(f"{len(parts):07d}", first, len(texts), hashlib.sha256(text).hexdigest()))
+            lay(parts[-1], text)
 
 
 def asked_lines(part):
@@ -78,11 +74,6 @@ def read_report(text, numbers):
     return rows if is_whole else None
 
 
-def header_of(scoring):
-    """The first line of a book."""
-    return b"% ffobook 2 " + scoring.encode() + b"\n"
-
-
 class Run:
     """The parts of a list in their folder, and what their results are."""
 
@@ -101,17 +92,16 @@ class Run:
         """The status of the program that solved a part; None where its results aren't whole."""
         digests = [part.digest, *(digest_of(self.path(part, ending)) for ending in self.endings)]
         sums = "".join(f"{digest}  -\n" for digest in digests)
-        for status in range(1 + self.has_scores):
-            if self.read(part, ".done") == f"{self.name} {status}\n{sums}".encode() and self.is_whole(part):
-                return status
-        return None
+        wholes = [f"{self.name} {status}\n{sums}".encode() for status in range(1 + self.has_scores)]
+        done = self.read(part, ".done")
+        return wholes.index(done) if done in wholes and self.is_whole(part) else None
 
     def is_whole(self, part):
         if self.has_scores:
             scores = self.read(part, ".scores")
             return scores.count(b"\n") == part.lines and scores.endswith(b"\n")
         book = self.read(part, ".book")
-        is_book = book.startswith(header_of(self.scoring)) and book.endswith(b"\n")
+        is_book = book.startswith(HEADER.format(self.scoring).encode()) and book.endswith(b"\n")
         return self.report(part) is not None and (is_book or not self.has_book)
 
     def report(self, part):

@@ -14,7 +14,7 @@ from .folder import LOG, lock_folder, prepare, read_asked
 from .hosts import Machine, read_hosts, recorded
 from .jobs import SIGNALS, solve_parts, sweep
 from .messages import DONE, NAME, UNREADABLE, UNSOLVED, Refusal, misused, outcome, say, standard_output
-from .parts import Run, report_lines, scan_list
+from .parts import Run, cut_list, report_lines
 from .programs import Program, check_tools, run_options
 from .watch import Watch
 
@@ -34,7 +34,7 @@ def solve_list(command, programs):
         program.check(run_options(command) + read, b"" if command.scores else b"[1]\nsolved 0 refused 0\n")
         check_place(command, command.list, program, *read)
         source = regular(command.list, stack)
-        parts, listed = scan_list(source, command.lines, command.list)
+        parts, listed = cut_list(source, command.lines, command.list)
         try:
             lock = lock_folder(command.folder)
             run = prepare(command, source, parts, listed, program, book_in)

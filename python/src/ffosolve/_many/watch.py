@@ -18,7 +18,7 @@ class Watch:
     def __init__(self, run, command, parts):
         self.run, self.quiet, self.has_hosts = run, command.quiet, command.hosts is not None
         self.progress = Progress(run, parts, int(command.max_empties or 0))
-        self.keys, self.told, self.gone, self.unswept, self.is_reached = {}, set(), set(), {}, False
+        self.keys, self.told, self.lost, self.unswept, self.is_reached = {}, set(), {}, {}, False
         self.log, self.shown = (run.folder / LOG).open("a+b"), time.monotonic()
 
     def begin(self, machines):
@@ -26,8 +26,7 @@ class Watch:
         self.log.write(f"{time.time():.2f}\twork\t\t\t\n".encode())
         self.log.flush()
         self.keys = {machine.name: machine.key for machine in machines}
-        self.ready = {machine.name for machine in machines if machine.is_here}
-        self.fails, self.lost = {}, {}
+        self.ready, self.fails = {machine.name for machine in machines if machine.is_here}, {}
 
     def tell(self, text, is_fault=True):
         """Tells a thing once."""
@@ -67,6 +66,8 @@ class Watch:
         if event != "begin":
             self.progress.end(part, is_solved)
         self.is_reached |= event in ("ready", "out")
+        if event in ("ready", "done", "failed") and self.lost.pop(name, None):
+            say(f"{name} is back")
         match event:
             case "begin":
                 self.progress.running[part] = name, at
@@ -76,18 +77,14 @@ class Watch:
                 self.tell(f"{name}: its shell says: {text}", is_fault=False)
             case "unreached" | "out":
                 self.tell(f"{name} is left out: {text}")
+                self.lost.pop(name, None)
             case "lost":
-                self.lost[name] = time.monotonic()
-                if name not in self.gone:
+                if name not in self.lost:
                     others = [*(self.run.place / "jobs").iterdir(), *(self.run.place / "asking").iterdir()]
                     say(f"{name} is lost: {text}; {'its parts go to others' if others else 'it is tried again'}")
-                self.gone.add(name)
+                self.lost[name] = time.monotonic()
             case "done" if is_solved:
                 self.fails[name] = 0
-                self.lost.pop(name, None)
-                if name in self.gone:
-                    say(f"{name} is back")
-                self.gone.discard(name)
             case "done" | "failed":
                 text = text or "its results are not whole"
                 self.fails[name] = self.fails.get(name, 0) + 1
