@@ -1,4 +1,4 @@
-"""The words of the command line, and what --help prints of them."""
+"""The arguments of the command line, and what --help prints about them."""
 import argparse
 import re
 from pathlib import Path
@@ -18,7 +18,7 @@ many, and prints one report.
 """
 MORE = f"""\
 FOLDER keeps the parts of LIST and their results [default: LIST.parts]. After an
-interruption, the same command goes on where it stopped. Options may stand
+interruption, the same command continues where it stopped. Options may stand
 anywhere; `--` ends them. `-` is standard input.
 
 examples:
@@ -27,8 +27,8 @@ examples:
 
 status:
   0  done
-  1  not all parts are solved; with --scores: there is a remark or a refused
-     line in the output
+  1  not all parts are solved; with --scores instead: there is a remark or a
+     refused line in the output
   2  the command line is refused
   3  a file can't be read or written, or another run works in FOLDER; with
      --scores also: not all parts are solved
@@ -36,29 +36,29 @@ status:
 """
 OPTIONS = {
     "how the list is solved": (
-        ("--jobs", "N", "parts solved at a time on each machine [default: the number of its processors]"),
+        ("--jobs", "N", f"parts solved at a time on each machine, 1 to {MOST['--jobs']} [default: one for each of its processors]"),
         ("--lines", "N", f"lines of a part, 1 to {MOST['--lines']} [default: 1000]"),
-        ("--hosts", "FILE", "a file that names the machines, one in each line, as ssh takes them; `:` is this one"),
+        ("--hosts", "FILE", "a file that names the machines, one in each line, as ssh takes them; `:` is this machine"),
         ("--scores", None, "solve the parts with ffoscores instead of ffosolve"),
         ("--complete", None, "a line that lists moves has to list every best one: otherwise it differs, or with --scores "
                              "has a remark"),
         ("--cut", None, "only cut the list, for another scheduler"),
         ("--merge-books", None, "solve nothing, and merge books of one scoring into one"),
         ("--sweep", None, "solve nothing, and remove what runs of FOLDER left on other machines"),
-        ("--quiet", None, "report only what fails"),
+        ("--quiet", None, "write only failures to standard error"),
         ("--version -V", None, "print the version"),
         ("--help -h", None, "print this help")),
     "options of ffosolve, with the same meaning": (
         ("--max-empties", "N", f"solve positions with at most N empty squares, 0 to 60 [default: {DEFAULT_EMPTIES}]"),
         ("--workers", "N", "threads for each part, besides one of its own, 0 to 64 [default: 0]"),
-        ("--table", "N", "entries of the table for each part, 32 bytes each"),
+        ("--table", "N", "entries of the transposition table for each part, 32 bytes each"),
         ("--scoring", "NAME", "how a finished game is scored [default: winner] [possible values: winner, discs, sign]"),
         ("--book-in", "FILE", "a book of claimed answers, which are tested before they are used"),
         ("--book-out", "FILE", "write all solved positions to FILE as a book"))}
 
 
 class Once(argparse.Action):
-    """Keeps the value of an option, which is given once and is not empty; `const` is the greatest of a number."""
+    """Stores the value of an option, which is given once and is not empty; `const` is the greatest one of a number."""
 
     def __call__(self, parser, namespace, value, option_string=None):
         if getattr(namespace, self.dest) is not None:
@@ -71,7 +71,7 @@ class Once(argparse.Action):
 
 
 def parse(words):
-    """The options of a command line, with `words`: those that are no options."""
+    """The options of a command line; `words` has its other arguments."""
     parser = argparse.ArgumentParser(NAME, USAGE, WHAT, MORE, allow_abbrev=False, add_help=False, exit_on_error=False,
                                      formatter_class=argparse.RawDescriptionHelpFormatter)
     for title, options in OPTIONS.items():
