@@ -36,7 +36,8 @@ status:
 """
 OPTIONS = {
     "how the list is solved": (
-        ("--jobs", "N", f"parts solved at a time on each machine, 1 to {MOST['--jobs']} [default: one for each of its processors]"),
+        ("--jobs", "N", f"parts solved at a time on each machine, 1 to {MOST['--jobs']} [default: "
+                        "one for each of its processors]"),
         ("--lines", "N", f"lines of a part, 1 to {MOST['--lines']} [default: 1000]"),
         ("--hosts", "FILE", "a file that names the machines, one in each line, as ssh takes them; `:` is this machine"),
         ("--scores", None, "solve the parts with ffoscores instead of ffosolve"),
