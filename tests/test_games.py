@@ -292,7 +292,8 @@ class Faults(Case):
             (wthor([whole], empties=61), "its theoretical scores are for 61 empty squares, but a game has only 60"),
             (b"f5d6c3d3c4f4c5b3c2\n", "it begins like a text"),
         ):
-            self.reads(content, "", f" is not a WTHOR file of games: {why}", name="none.wtb", status=3)
+            for name in ("NONE.WTB", "none.wtb"):
+                self.reads(content, "", f" is not a WTHOR file of games: {why}", name=name, status=3)
         write("it.wtb", wthor([whole]))
         self.games("none.wtb", "it.wtb", status=3, out=line)
 
