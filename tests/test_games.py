@@ -671,6 +671,9 @@ class Fix(Case):
             *((wthor(self.records[:3] + [it] + self.records[4:], empties=5),
                "its game 4 has another position or theoretical score") for it in fourth),
             (wthor(self.records[:3], empties=5), "it has no game 4"),
+        write("list", Path("list").read_bytes().replace(b", game 1,", b", game 0,"))
+        self.fix(3, why + "it has no game 0")
+        self.write_list("it.wtb")
             (b"text", "it ends within its header of 16 bytes"),
         ):
             write("it.wtb", self.whole)
