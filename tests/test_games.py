@@ -650,14 +650,19 @@ class Fix(Case):
         self.fix(3, "cannot write '': No such file or directory", place="")
 
     def test_a_file_system_without_hard_links(self):
-        """Where a file appears meanwhile it is kept where there are hard links, and no file is left beside."""
+        """Where a file appears meanwhile it is kept where there are hard links, and no file is left beside. The new one is on
+        the disk before it has its name."""
         sys.path.insert(0, str(ROOT / "python/src"))
         self.addCleanup(sys.path.remove, str(ROOT / "python/src"))
         from ffosolve._fixed import write_new
 
-        with unittest.mock.patch("os.link", side_effect=PermissionError):
+        def sync(file):
+            synced.append((os.fstat(file).st_size, os.path.exists("new.wtb")))
+
+        synced, patch = [], unittest.mock.patch
+        with patch("os.link", side_effect=PermissionError), patch("os.fsync", sync):
             write_new("new.wtb", [b"new", b"file"])
-        self.assertEqual(Path("new.wtb").read_bytes(), b"newfile")
+        self.assertEqual((Path("new.wtb").read_bytes(), synced), (b"newfile", [(7, False)]))
         with self.assertRaises(FileExistsError):
             write_new("new.wtb", [b"other"])
         self.assertEqual(Path("new.wtb").read_bytes(), b"newfile")
