@@ -14,7 +14,7 @@ from pathlib import Path
 
 from bench import player
 
-from .support import ROOT, SECONDS, InFolder, built, limit, limited, need, run, stored, wait_until, write
+from .support import ROOT, SECONDS, InFolder, as_at_a_login, built, limit, limited, need, run, stored, wait_until, write
 
 PROGRAM = ROOT / "bin/ffosolve-games"
 UNREADABLE = "ffosolve-games: {}: {}\n"
@@ -715,10 +715,11 @@ class Fix(Case):
         rest = bytes(68 * 2_000_000)
         write("it.wtb", wthor(self.records, empties=5, count=len(self.records) + 2_000_000) + rest)
         for number in (signal.SIGINT, signal.SIGKILL):
-            child = self.start(*self.FIX)
+            child = self.start(*self.FIX, preexec_fn=as_at_a_login)
             wait_until(lambda: list(self.folder.glob("new.wtb.*.new")))
             child.send_signal(number)
             child.communicate(timeout=SECONDS)
+            self.assertEqual(child.returncode, 128 + number if number == signal.SIGINT else -number)
             self.assertFalse((self.folder / "new.wtb").exists())
             self.assertEqual(bool(list(self.folder.glob("new.wtb.*.new"))), number == signal.SIGKILL)
         self.assertEqual(self.games("compare", "list", "report", "--fix", "new.wtb", status=1)[1],
