@@ -144,6 +144,22 @@ class Many(unittest.TestCase):
         self.assertTrue(all(ended))
         self.assertLessEqual(len(calls), 4)
 
+    def test_few_are_read_ahead_of_one_that_takes_long(self):
+        """Though a thread is free, and solves what comes behind it."""
+        begun, taken, solver = itertools.count(), itertools.count(), Solver()
+
+        def solve_all(*words):
+            if next(begun) == 0:
+                time.sleep(1)
+            return 0
+
+        solver._library = types.SimpleNamespace(ffosolve_solve_all=solve_all)
+        (long,) = random_positions(1, [20])  # each is a part of its own
+        told = solver.solve_iter((long for _ in iter(lambda: next(taken), None)), threads=2)
+        next(told)
+        told.close()
+        self.assertLess(next(taken), 100)
+
     def test_refusals_come_behind_the_answers_before(self):
         for bad, error in ((SHARED, ffosolve.SharedSquare), (WIDE, ffosolve.TooManyEmpties)):
             calls = ((self.solver.solve_iter, self.answers), (self.solver.move_scores_iter, self.scores))
