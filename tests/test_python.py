@@ -315,11 +315,12 @@ class Arrays(unittest.TestCase):
             self.assertEqual(self.as_lists(solver, positions, threads), wanted)
 
     def test_threads_call_at_once(self):
-        solver, positions = Solver(scoring=2, entries=7), random_positions(3, [16])
-        wanted = solver.solve_all(positions), solver.move_scores_all(positions)
-        library = solver._library = Meeting(solver._library)
-        self.assertEqual(self.as_lists(solver, positions, threads=3), wanted)
-        self.assertEqual(library.asked, [(2, 7)] * 6)
+        for given, entries in ((7, 7), (None, ffosolve.table_entries(16))):
+            solver, positions = Solver(scoring=2, entries=given), random_positions(3, [16])
+            wanted = solver.solve_all(positions), solver.move_scores_all(positions)
+            library = solver._library = Meeting(solver._library)
+            self.assertEqual(self.as_lists(solver, positions, threads=3), wanted)
+            self.assertEqual(library.asked, [(2, entries)] * 6)
 
     def test_refusals(self):
         for call in (self.solver.solve_arrays, self.solver.move_scores_arrays):
