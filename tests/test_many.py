@@ -683,7 +683,8 @@ class Words(Case):
         how = {"places": {"PATH": str(self.folder / "tools")}}
         self.refused(4, "parallel is not on the path: apt-get install parallel", "list.obf", **how)
         write("tools/parallel", "#!/bin/sh\necho moreutils\n")
-        for tool in ("sha256sum", "flock"):
+        for tool, package in (("sha256sum", "coreutils"), ("flock", "util-linux")):
+            self.refused(4, f"{tool} is not on the path: apt-get install {package}", "list.obf", **how)
             os.symlink(shutil.which(tool), f"tools/{tool}")
         self.refused(4, "parallel on the path is not GNU parallel", "list.obf", **how)
 
