@@ -704,6 +704,8 @@ class Signals(Case):
     def open(self, *program, last="", **how):
         """The command, which goes on meanwhile, in a session of its own; parts from the number `last` on take 45 seconds."""
         return self.start(*program, *self.WORDS, start_new_session=True, preexec_fn=as_at_a_login,
+        self.assertEqual(run("sh", "-c", '"$0" "$@" 2>>joined.book', MANY, *self.WORDS).returncode, 2)
+        self.assertIn("--book-out joined.book is standard error", Path("joined.book").read_text())
                           env={**os.environ, "PAUSE": "0.15", "LAST": str(last)}, **how)
 
     def at_work(self, done):
