@@ -671,14 +671,14 @@ class Fix(Case):
     def test_a_file_that_is_not_that_of_the_list(self):
         why = "it.wtb is not the WTHOR file of the list: "
         another = record(self.games_of_file[0], self.records[3][7])
+        write("list", Path("list").read_bytes().replace(b", game 1,", b", game 0,"))
+        self.fix(3, why + "it has no game 0")
+        self.write_list("it.wtb")
         fourth = another, record([], self.records[3][7]), record(self.games_of_file[3], self.exact[3] + 1)
         for self.whole, told in (
             *((wthor(self.records[:3] + [it] + self.records[4:], empties=5),
                "its game 4 has another position or theoretical score") for it in fourth),
             (wthor(self.records[:3], empties=5), "it has no game 4"),
-        write("list", Path("list").read_bytes().replace(b", game 1,", b", game 0,"))
-        self.fix(3, why + "it has no game 0")
-        self.write_list("it.wtb")
             (b"text", "it ends within its header of 16 bytes"),
         ):
             write("it.wtb", self.whole)

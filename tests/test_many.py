@@ -227,12 +227,15 @@ class Functions(InFolder):
                 self.assertNotIn("@", script)
 
     def test_file_is_on_the_disk_before_it_has_its_name(self):
-        """And then its folder is."""
+        """And then its folder is. Where that fails, the old file stays, and nothing beside it."""
         synced = []
         with mock.patch.object(os, "fsync", lambda file: synced.append((stat.S_ISDIR(os.fstat(file).st_mode), os.listdir()))):
             many.files.write_whole(Path("it"), [b"text"])
         (is_folder, names), *others = synced
         self.assertEqual((is_folder, len(names), "it" in names, others), (False, 1, False, [(True, ["it"])]))
+        with mock.patch.object(os, "fsync", side_effect=OSError), self.assertRaises(OSError):
+            many.files.write_whole(Path("it"), [b"other"])
+        self.assertEqual((os.listdir(), Path("it").read_bytes()), (["it"], b"text"))
 
     def test_jobs_at_a_time_are_those_asked_for(self):
         all_of_them = len(os.sched_getaffinity(0))
@@ -694,6 +697,8 @@ class Words(Case):
             ran = run("sh", "-c", f'"$0" "$@" >>{output}', MANY, *self.WORDS)
             self.assertEqual((ran.returncode, Path("list.obf").read_bytes()), (2, SMALL))
             self.assertIn(told, ran.stderr.decode())
+        self.assertEqual(run("sh", "-c", '"$0" "$@" 2>>joined.book', MANY, *self.WORDS).returncode, 2)
+        self.assertIn("--book-out joined.book is standard error", Path("joined.book").read_text())
 
 
 class Signals(Case):
@@ -704,8 +709,6 @@ class Signals(Case):
     def open(self, *program, last="", **how):
         """The command, which goes on meanwhile, in a session of its own; parts from the number `last` on take 45 seconds."""
         return self.start(*program, *self.WORDS, start_new_session=True, preexec_fn=as_at_a_login,
-        self.assertEqual(run("sh", "-c", '"$0" "$@" 2>>joined.book', MANY, *self.WORDS).returncode, 2)
-        self.assertIn("--book-out joined.book is standard error", Path("joined.book").read_text())
                           env={**os.environ, "PAUSE": "0.15", "LAST": str(last)}, **how)
 
     def at_work(self, done):
