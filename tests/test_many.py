@@ -13,6 +13,7 @@ import signal
 import stat
 import subprocess
 import sys
+import threading
 import time
 import unittest
 from pathlib import Path
@@ -236,6 +237,12 @@ class Functions(InFolder):
         with mock.patch.object(os, "fsync", side_effect=OSError), self.assertRaises(OSError):
             many.files.write_whole(Path("it"), [b"other"])
         self.assertEqual((os.listdir(), Path("it").read_bytes()), (["it"], b"text"))
+
+    def test_lock_is_waited_for(self):
+        """For what a killed run leaves to be ended."""
+        lock = many.folder.lock_folder(Path("work"))
+        threading.Timer(0.5, os.close, [lock]).start()
+        os.close(many.folder.lock_folder(Path("work")))
 
     def test_jobs_at_a_time_are_those_asked_for(self):
         all_of_them = len(os.sched_getaffinity(0))
