@@ -881,9 +881,11 @@ class Hosts(Case):
         self.assertEqual(most, 5)
 
     def test_this_machine_alone_needs_no_ssh(self):
+        """Nor is it told that a file went while find looked at it."""
         write("reach", "#!/bin/sh\ntouch called\nexit 255\n")
+        write("tools/find", f'#!/bin/sh\necho "find: asking/1: No such file" >&2\nexec {shutil.which("find")} "$@"\n')
         for line in (":", "2/:"):
-            told, _ = self.same_on(line, told="on this machine")
+            told, _ = self.same_on(line, told="on this machine", PATH=f"{self.folder}/tools:{os.environ['PATH']}")
             self.assertEqual(told.count("\n"), 2, told)
             shutil.rmtree("work")
         self.assertFalse(Path("called").exists())
