@@ -910,6 +910,13 @@ class Hosts(Case):
         self.assertIn("\tdone\tthis machine", Path("work/log").read_text().partition("\tout\thanging")[0])
         self.assertFalse(Path("work/hosts").exists())  # since nothing can lie there
 
+    def test_machine_is_in_the_record_until_its_own_files_are_gone(self):
+        """Not until those of another are whose name is in its name."""
+        self.same_on("near")
+        write("work/hosts", "near\nnearby\n")
+        self.same_on("near", told="nearby: run-")
+        self.assertEqual(Path("work/hosts").read_text(), "nearby\n")
+
     def test_results_that_come_back_spoiled_are_not_taken(self):
         """Cut, and behind words of the machine's shell, which it did not print when it was asked."""
         for spoil in ('sh -c "$*" | head -c 20; exit', "echo Welcome"):
