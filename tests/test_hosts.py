@@ -260,11 +260,13 @@ class Gone(Case):
         self.assertEqual(self.whole(ran), ["on h1"])
 
     def test_only_machine_is_tried_again(self):
+        """Though it solved nothing before it was lost."""
         self.lost_soon()
-        self.slow(1, self.h1)
+        self.slow(50, self.h1)
         ran = self.start(by="hasty", hosts="1/h1\n")
-        wait_until(lambda: self.begun("h1", "done"))
+        wait_until(lambda: self.sleeps(self.h1, 50))
         self.h1.lose_power()
+        (self.h1.home / "slow").unlink()
         wait_until(lambda: self.is_told("h1 is lost"))
         self.h1.boot()
         told = "h1 is lost: Timeout, server 10.77.0.11 not responding.; it is tried again"
