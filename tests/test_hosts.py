@@ -355,6 +355,7 @@ class Tried(Case):
 
     def test_machine_that_fails_three_parts_in_a_row(self):
         self.write("fails", "ffosolve: out of memory\nand more\n", self.h2.home)
+        self.write(".bashrc", "echo ffosolve >&2\n", self.h2.home)  # of which that reason has more
         self.slow(1, self.h1, self.h2)  # so that h2 is left out before another part fails there
         self.assertIn("h2 is left out: 3 parts failed in a row: ffosolve: out of memory", self.solved(hosts="1/h1\n1/h2\n"))
         self.assertEqual(len(self.begun("h2", "failed")), 3)
