@@ -13,7 +13,7 @@ LINE = re.compile(rb"ffosolve: solved (\d+) of (\d+) in (\d+) s\r?\n")
 def setUpModule():
     global program, LONG, SHORT
     program = built()
-    LONG, SHORT = positions(500, 18, 18, 1), positions(20, 10, 10, 1)
+    LONG, SHORT = positions(500, 18, 18, 1), positions(20, 10, 10, 1) + b"% comment\n-\n"  # one line is refused
 
 
 class Told(InFolder):
