@@ -272,7 +272,8 @@ class Overwrites(Books):
     def test_what_may_go_and_what_stays(self):
         """Also through a link."""
         mine = ((b"", DONE), (b"% ffobook 2 sign\n" + 99 * b"% longer than the new one\n", DONE),
-                *((old, NO_BOOK) for old in (NOTES, TEXT, b"\n", b"% ffobook 3 winner\n", Path(PROGRAM).read_bytes())))
+                *((old, NO_BOOK) for old in (NOTES, TEXT, b"\n", b"% ffobook 3 winner\n", b"% ffobook 2 winners\n",
+                                             Path(PROGRAM).read_bytes())))
         for place in ("it.book", "there"):
             for old, wanted in mine:
                 for of in (0o644, 0o444)[:2 if wanted == NO_BOOK else 1]:
