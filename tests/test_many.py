@@ -45,6 +45,16 @@ if [ "$part" != /dev/null ]; then
 fi
 exec "@real@" "$@"
 """
+# Stands before a program, and fails as often for a part as the last digit of its name says.
+FAILING = """\
+#!/bin/sh
+for part; do :; done
+name=${part##*/} name=${name%%.*}
+case $name in
+000000?) echo >>"$HOSTS/$name"; [ $(wc -l <"$HOSTS/$name") -gt "${name#000000}" ] || exit 1 ;;
+esac
+exec "@real@" "$@"
+"""
 # In place of ssh: runs what it is told in a folder of the machine, after $SPOIL where that is to solve part 0000001.
 REACH = """\
 #!/bin/sh
@@ -909,6 +919,11 @@ class Hosts(Case):
         self.same_on("1/:", "hanging", told="hanging is left out: no answer in 5 seconds", by=by, PAUSE="3")
         self.assertIn("\tdone\tthis machine", Path("work/log").read_text().partition("\tout\thanging")[0])
         self.assertFalse(Path("work/hosts").exists())  # since nothing can lie there
+
+    def test_what_failed_is_tried_again_while_less_of_it_fails(self):
+        """Two times."""
+        self.assertEqual(self.same_on("near", by=install("failing", FAILING))[1], 3 * ["near"])
+        self.assertEqual([Path("hosts", f"000000{part}").read_text() for part in range(3)], ["\n", "\n\n", "\n\n\n"])
 
     def test_machine_is_in_the_record_until_its_own_files_are_gone(self):
         """Not until those of another are whose name is in its name."""
