@@ -348,10 +348,10 @@ class Results(Case):
 
     def test_book_goes_through_a_link_or_into_a_pipe(self):
         """A file keeps its permissions."""
-        write("there", "% ffobook 2 winner\n", 0o640)
+        write("there", "% ffobook 2 winner\n", 0o764)
         os.symlink("there", "joined.book")
         self.same(*self.WORDS)
-        self.assertEqual((os.path.islink("joined.book"), stat.S_IMODE(os.stat("there").st_mode)), (True, 0o640))
+        self.assertEqual((os.path.islink("joined.book"), stat.S_IMODE(os.stat("there").st_mode)), (True, 0o764))
         self.same_book("there")
         os.mkfifo("pipe")
         with subprocess.Popen(["cat", "pipe"], stdout=subprocess.PIPE) as reader:
