@@ -199,7 +199,7 @@ class Functions(InFolder):
             self.assertEqual((line, place), (head + claim + b"\n", ("it", 4)), fields)
 
     def test_hosts_are_read(self):
-        write("hosts", "# all\n\n:\n 8/me@a \nssh -p 22 b # the third\n2 / c\n5/c\n::1\n4/ssh://me@d:22\n")
+        write("hosts", b"# all \xff\n\n:\n 8/me@a \nssh -p 22 b # the third\n2 / c\n5/c\n::1\n4/ssh://me@d:22\n")
         with contextlib.redirect_stderr(io.StringIO()) as told:
             machines = many.hosts.read_hosts("hosts")
         self.assertEqual(told.getvalue(), "ffosolve-many: hosts line 7: c is listed twice; this line counts\n")
