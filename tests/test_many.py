@@ -65,6 +65,13 @@ cd "$HOSTS/$host" || exit
 case "$*" in *"solve 0000001 "*) eval "$SPOIL" ;; esac
 HOME=$PWD exec sh -c "$*"
 """
+# In place of ssh where no connection can be shared, by the program $REACH.
+UNSHARED = """\
+#!/bin/sh
+for word; do case $word in -M | -O) echo "unix_listener: cannot bind to path" >&2; exit 255 ;; esac; done
+while case $1 in -T) shift ;; -*) shift 2 ;; *) false ;; esac; do :; done
+exec "$REACH" "$@"
+"""
 
 
 def install(name, script=None):
@@ -924,6 +931,11 @@ class Hosts(Case):
         """Two times."""
         self.assertEqual(self.same_on("near", by=install("failing", FAILING))[1], 3 * ["near"])
         self.assertEqual([Path("hosts", f"000000{part}").read_text() for part in range(3)], ["\n", "\n\n", "\n\n\n"])
+
+    def test_connection_that_cannot_be_shared(self):
+        write("ssh", UNSHARED)
+        places = {"PARALLEL_SSH": f"{self.folder}/ssh", "REACH": f"{self.folder}/reach"}
+        self.assertEqual(self.same_on("near", told="on near", **places)[1], 3 * ["near"])
 
     def test_machine_is_in_the_record_until_its_own_files_are_gone(self):
         """Not until those of another are whose name is in its name."""
