@@ -272,6 +272,18 @@ class Gone(Case):
         told = "h1 is lost: Timeout, server 10.77.0.11 not responding.; it is tried again"
         self.assertEqual(self.whole(ran), ["on h1", told, "h1 is back"])
 
+    def test_machine_that_comes_back_without_its_files(self):
+        self.lost_soon()
+        self.slow(4, self.h1, self.h2)
+        ran = self.start(by="hasty", hosts="1/h1\n1/h2\n")
+        wait_until(lambda: self.begun("h2", "done"))
+        self.h2.lose_power()
+        shutil.rmtree(self.h2.home / self.left(self.h2)[0])
+        self.slow(0, self.h2)
+        self.h2.boot()
+        self.whole(ran)
+        self.assertGreaterEqual(len(self.begun("h2", "done")), 2)
+
     def test_sshd_that_is_killed_with_all_processes(self):
         self.slow(1, self.h1, self.h2)
         ran = self.start(hosts="1/h1\n1/h2\n")
