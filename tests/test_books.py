@@ -9,8 +9,8 @@ import stat
 import subprocess
 from pathlib import Path
 
-from tests.support import (NOBODY, SECONDS, InFolder, built, lay_many, limit, module_folder, positions, preload, run,
-                           shorter_than, stored, write)
+from tests.support import (NOBODY, SECONDS, InFolder, built, lay_many, limit, module_folder, need, positions, preload,
+                           run, shorter_than, stored, write)
 
 TEXT = stored("examples", "first.obf")
 BOOK = stored("examples", "first.book")
@@ -223,6 +223,18 @@ class Lists(Books):
                     self.solves((3, False, b"ffosolve: cannot write " + name.encode() + b"\n"), name, *lists)
                     self.assertEqual((content("list"), sorted(os.listdir())), (TEXT, ["link", "list", "other", "twin"]))
 
+    def test_files_with_one_number_on_two_file_systems(self):
+        """They are two files."""
+        if os.geteuid() != 0:
+            self.skipTest("file systems are mounted by root alone")
+        need("unshare", "util-linux")
+        write("list", TEXT)
+        script = """mkdir one two; mount -t tmpfs none one; mount -t tmpfs none two; cp list one; : >two/it.book
+            [ $(stat -c %i one/list) = $(stat -c %i two/it.book) ]
+            "$0" --book-out two/it.book one/list >&2; cat two/it.book"""
+        ran = run("unshare", "--mount", "sh", "-ec", script, PROGRAM)
+        self.assertEqual((ran.returncode, ran.stdout), (0, BOOK), ran.stderr)
+
     def test_what_cannot_be_read(self):
         """The book is read before the lists, and all lists before anything is printed."""
         write("list", TEXT)
@@ -265,7 +277,8 @@ class Overwrites(Books):
     def test_what_may_go_and_what_stays(self):
         """Also through a link."""
         mine = ((b"", DONE), (b"% ffobook 2 sign\n" + 99 * b"% longer than the new one\n", DONE),
-                *((old, NO_BOOK) for old in (NOTES, TEXT, b"\n", b"% ffobook 3 winner\n", Path(PROGRAM).read_bytes())))
+                *((old, NO_BOOK) for old in (NOTES, TEXT, b"\n", b"% ffobook 3 winner\n", b"% ffobook 2 winners\n",
+                                             Path(PROGRAM).read_bytes())))
         for place in ("it.book", "there"):
             for old, wanted in mine:
                 for of in (0o644, 0o444)[:2 if wanted == NO_BOOK else 1]:

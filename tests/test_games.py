@@ -255,7 +255,8 @@ class Faults(Case):
             (wthor([whole], empties=61), "its theoretical scores are for 61 empty squares, but a game has only 60"),
             (b"f5d6c3d3c4f4c5b3c2\n", "it begins like a text"),
         ):
-            self.reads(content, "", f" is not a WTHOR file of games: {why}", name="none.wtb", status=3)
+            for name in ("NONE.WTB", "none.wtb"):
+                self.reads(content, "", f" is not a WTHOR file of games: {why}", name=name, status=3)
         write("it.wtb", wthor([whole]))
         self.games("none.wtb", "it.wtb", status=3, out=line)
 
@@ -591,14 +592,19 @@ class Fix(Case):
         self.fix(3, "cannot write '': No such file or directory", place="")
 
     def test_a_file_system_without_hard_links(self):
-        """Where a file appears meanwhile it is kept where there are hard links, and no file is left beside."""
+        """Where a file appears meanwhile it is kept where there are hard links, and no file is left beside. The new one is on
+        the disk before it has its name."""
         sys.path.insert(0, str(ROOT / "python/src"))
         self.addCleanup(sys.path.remove, str(ROOT / "python/src"))
         from ffosolve._fixed import write_new
 
-        with unittest.mock.patch("os.link", side_effect=PermissionError):
+        def sync(file):
+            synced.append((os.fstat(file).st_size, os.path.exists("new.wtb")))
+
+        synced, patch = [], unittest.mock.patch
+        with patch("os.link", side_effect=PermissionError), patch("os.fsync", sync):
             write_new("new.wtb", [b"new", b"file"])
-        self.assertEqual(Path("new.wtb").read_bytes(), b"newfile")
+        self.assertEqual((Path("new.wtb").read_bytes(), synced), (b"newfile", [(7, False)]))
         with self.assertRaises(FileExistsError):
             write_new("new.wtb", [b"other"])
         self.assertEqual(Path("new.wtb").read_bytes(), b"newfile")
@@ -607,6 +613,9 @@ class Fix(Case):
     def test_a_file_that_is_not_that_of_the_list(self):
         why = "it.wtb is not the WTHOR file of the list: "
         another = record(self.games_of_file[0], self.records[3][7])
+        write("list", Path("list").read_bytes().replace(b", game 1,", b", game 0,"))
+        self.fix(3, why + "it has no game 0")
+        self.write_list("it.wtb")
         fourth = another, record([], self.records[3][7]), record(self.games_of_file[3], self.exact[3] + 1)
         for self.whole, told in (
             *((wthor(self.records[:3] + [it] + self.records[4:], empties=5),
@@ -652,6 +661,7 @@ class Fix(Case):
             wait_until(lambda: list(self.folder.glob("new.wtb.*.new")))
             child.send_signal(number)
             child.communicate(timeout=SECONDS)
+            self.assertEqual(child.returncode, 128 + number if number == signal.SIGINT else -number)
             self.assertFalse((self.folder / "new.wtb").exists())
             self.assertEqual(bool(list(self.folder.glob("new.wtb.*.new"))), number == signal.SIGKILL)
         write("it.wtb", self.whole)

@@ -238,14 +238,27 @@ class Gone(Case):
         self.assertEqual(self.whole(ran), ["on h1"])
 
     def test_only_machine_is_tried_again(self):
-        self.slow(2, self.h1)
+        """Though it solved nothing before it was lost."""
+        self.slow(50, self.h1)
         ran = self.start(by="hasty", hosts="1/h1\n")
-        wait_until(lambda: self.begun("h1", "done"))
+        wait_until(lambda: self.sleeps(self.h1, 50))
         self.h1.lose_power()
+        (self.h1.home / "slow").unlink()
         wait_until(lambda: self.is_told("h1 is lost"))
         self.h1.boot()
         told = "h1 is lost: Timeout, server 10.77.0.11 not responding.; it is tried again"
         self.assertEqual(self.whole(ran), ["on h1", told, "h1 is back"])
+
+    def test_machine_that_comes_back_without_its_files(self):
+        self.slow(4, self.h1, self.h2)
+        ran = self.start(by="hasty", hosts="1/h1\n1/h2\n", lines=6)
+        wait_until(lambda: self.begun("h2", "done"))
+        self.h2.lose_power()
+        shutil.rmtree(self.h2.home / self.left(self.h2)[0])
+        self.slow(0, self.h2)
+        self.h2.boot()
+        self.whole(ran)
+        self.assertGreaterEqual(len(self.begun("h2", "done")), 2)
 
 
 class Connections(Case):
@@ -320,6 +333,7 @@ class Tried(Case):
 
     def test_machine_that_fails_three_parts_in_a_row(self):
         self.write("fails", "ffosolve: out of memory\nand more\n", self.h2.home)
+        self.write(".bashrc", "echo ffosolve >&2\n", self.h2.home)  # of which that reason has more
         self.slow(2, self.h1)  # so that parts are left when h2 has failed
         ran = self.start(hosts="1/h1\n1/h2\n", lines=6)
         wait_until(lambda: self.is_told("h2 is left out: 3 parts failed in a row: ffosolve: out of memory"))

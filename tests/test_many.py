@@ -13,6 +13,7 @@ import signal
 import stat
 import subprocess
 import sys
+import threading
 import time
 import unittest
 from pathlib import Path
@@ -44,6 +45,16 @@ if [ "$part" != /dev/null ]; then
 fi
 exec "@real@" "$@"
 """
+# Stands before a program, and fails as often for a part as the last digit of its name says.
+FAILING = """\
+#!/bin/sh
+for part; do :; done
+name=${part##*/} name=${name%%.*}
+case $name in
+000000?) echo >>"$HOSTS/$name"; [ $(wc -l <"$HOSTS/$name") -gt "${name#000000}" ] || exit 1 ;;
+esac
+exec "@real@" "$@"
+"""
 # In place of ssh: runs what it is told in a folder of the machine, after $SPOIL where that is to solve part 0000001.
 REACH = """\
 #!/bin/sh
@@ -52,6 +63,13 @@ host=${1#*@}; shift
 cd "$HOSTS/$host" || exit
 case "$*" in *"solve 0000001 "*) eval "$SPOIL" ;; esac
 HOME=$PWD exec sh -c "$*"
+"""
+# In place of ssh where no connection can be shared, by the program $REACH.
+UNSHARED = """\
+#!/bin/sh
+for word; do case $word in -M | -O) echo "unix_listener: cannot bind to path" >&2; exit 255 ;; esac; done
+while case $1 in -T) shift ;; -*) shift 2 ;; *) false ;; esac; do :; done
+exec "$REACH" "$@"
 """
 
 
@@ -185,7 +203,7 @@ class Functions(InFolder):
             self.assertEqual((line, place), (head + claim + b"\n", ("it", 4)), fields)
 
     def test_hosts_are_read(self):
-        write("hosts", "# all\n\n:\n 8/me@a \nssh -p 22 b # the third\n2 / c\n5/c\n::1\n4/ssh://me@d:22\n")
+        write("hosts", b"# all \xff\n\n:\n 8/me@a \nssh -p 22 b # the third\n2 / c\n5/c\n::1\n4/ssh://me@d:22\n")
         with contextlib.redirect_stderr(io.StringIO()) as told:
             machines = many.hosts.read_hosts("hosts")
         self.assertEqual(told.getvalue(), "ffosolve-many: hosts line 7: c is listed twice; this line counts\n")
@@ -226,12 +244,21 @@ class Functions(InFolder):
                 self.assertNotIn("@", script)
 
     def test_file_is_on_the_disk_before_it_has_its_name(self):
-        """And then its folder is."""
+        """And then its folder is. Where that fails, the old file stays, and nothing beside it."""
         synced = []
         with mock.patch.object(os, "fsync", lambda file: synced.append((stat.S_ISDIR(os.fstat(file).st_mode), os.listdir()))):
             many.files.write_whole(Path("it"), [b"text"])
         (is_folder, names), *others = synced
         self.assertEqual((is_folder, len(names), "it" in names, others), (False, 1, False, [(True, ["it"])]))
+        with mock.patch.object(os, "fsync", side_effect=OSError), self.assertRaises(OSError):
+            many.files.write_whole(Path("it"), [b"other"])
+        self.assertEqual((os.listdir(), Path("it").read_bytes()), (["it"], b"text"))
+
+    def test_lock_is_waited_for(self):
+        """For what a killed run leaves to be ended."""
+        lock = many.folder.lock_folder(Path("work"))
+        threading.Timer(0.5, os.close, [lock]).start()
+        os.close(many.folder.lock_folder(Path("work")))
 
     def test_jobs_at_a_time_are_those_asked_for(self):
         all_of_them = len(os.sched_getaffinity(0))
@@ -327,10 +354,10 @@ class Results(Case):
 
     def test_book_goes_through_a_link_or_into_a_pipe(self):
         """A file keeps its permissions."""
-        write("there", "% ffobook 2 winner\n", 0o640)
+        write("there", "% ffobook 2 winner\n", 0o764)
         os.symlink("there", "joined.book")
         self.same(*self.WORDS)
-        self.assertEqual((os.path.islink("joined.book"), stat.S_IMODE(os.stat("there").st_mode)), (True, 0o640))
+        self.assertEqual((os.path.islink("joined.book"), stat.S_IMODE(os.stat("there").st_mode)), (True, 0o764))
         self.same_book("there")
         os.mkfifo("pipe")
         reader = self.start("cat", "pipe")
@@ -675,7 +702,8 @@ class Words(Case):
         how = {"places": {"PATH": str(self.folder / "tools")}}
         self.refused(4, "parallel is not on the path: apt-get install parallel", "list.obf", **how)
         write("tools/parallel", "#!/bin/sh\necho moreutils\n")
-        for tool in ("sha256sum", "flock"):
+        for tool, package in (("sha256sum", "coreutils"), ("flock", "util-linux")):
+            self.refused(4, f"{tool} is not on the path: apt-get install {package}", "list.obf", **how)
             os.symlink(shutil.which(tool), f"tools/{tool}")
         self.refused(4, "parallel on the path is not GNU parallel", "list.obf", **how)
 
@@ -685,6 +713,8 @@ class Words(Case):
             ran = run("sh", "-c", f'"$0" "$@" >>{output}', MANY, *self.WORDS)
             self.assertEqual((ran.returncode, Path("list.obf").read_bytes()), (2, SMALL))
             self.assertIn(told, ran.stderr.decode())
+        self.assertEqual(run("sh", "-c", '"$0" "$@" 2>>joined.book', MANY, *self.WORDS).returncode, 2)
+        self.assertIn("--book-out joined.book is standard error", Path("joined.book").read_text())
 
 
 class Signals(Case):
@@ -859,9 +889,13 @@ class Hosts(Case):
         self.assertEqual(most, 5)
 
     def test_this_machine_alone_needs_no_ssh(self):
+        """Nor is it told that a file went while find looked at it."""
         write("reach", "#!/bin/sh\ntouch called\nexit 255\n")
-        told, _ = self.same_on("2/:", told="on this machine")
-        self.assertEqual(told.count("\n"), 2, told)
+        write("tools/find", f'#!/bin/sh\necho "find: asking/1: No such file" >&2\nexec {shutil.which("find")} "$@"\n')
+        for line in (":", "2/:"):
+            told, _ = self.same_on(line, told="on this machine", PATH=f"{self.folder}/tools:{os.environ['PATH']}")
+            self.assertEqual(told.count("\n"), 2, told)
+            shutil.rmtree("work")
         self.assertFalse(Path("called").exists())
 
     def test_machine_of_a_lower_level_has_the_program_for_all(self):
@@ -876,6 +910,23 @@ class Hosts(Case):
         shutil.rmtree("work")
         words, places = self.on("near")
         self.ends(1, b"", "near is left out: it can't solve: status 127", *words, by=by, places=places)
+
+    def test_what_failed_is_tried_again_while_less_of_it_fails(self):
+        """Two times."""
+        self.assertEqual(self.same_on("near", by=install("failing", FAILING))[1], 3 * ["near"])
+        self.assertEqual([Path("hosts", f"000000{part}").read_text() for part in range(3)], ["\n", "\n\n", "\n\n\n"])
+
+    def test_connection_that_cannot_be_shared(self):
+        write("ssh", UNSHARED)
+        places = {"PARALLEL_SSH": f"{self.folder}/ssh", "REACH": f"{self.folder}/reach"}
+        self.assertEqual(self.same_on("near", told="on near", **places)[1], 3 * ["near"])
+
+    def test_machine_is_in_the_record_until_its_own_files_are_gone(self):
+        """Not until those of another are whose name is in its name."""
+        self.same_on("near")
+        write("work/hosts", "near\nnearby\n")
+        self.same_on("near", told="nearby: run-")
+        self.assertEqual(Path("work/hosts").read_text(), "nearby\n")
 
     def test_results_that_come_back_spoiled_are_not_taken(self):
         """Cut, and behind words of the machine's shell, which it did not print when it was asked."""

@@ -14,7 +14,7 @@ class Told(InFolder):
     def setUp(self):
         super().setUp()
         write("long", positions(500, 18, 18))
-        write("short", positions(20, 10, 10))
+        write("short", positions(20, 10, 10) + b"% comment\n-\n")  # one line is refused
 
     def begin(self, errors):
         self.start(built(), "--progress", "--workers", "1", "long", stdout=subprocess.DEVNULL, stderr=errors)

@@ -144,6 +144,22 @@ class Many(unittest.TestCase):
         self.assertTrue(all(ended))
         self.assertLessEqual(len(calls), 4)
 
+    def test_few_are_read_ahead_of_one_that_takes_long(self):
+        """Though a thread is free, and solves what comes behind it."""
+        begun, taken, solver = itertools.count(), itertools.count(), Solver()
+
+        def solve_all(*words):
+            if next(begun) == 0:
+                time.sleep(1)
+            return 0
+
+        solver._library = types.SimpleNamespace(ffosolve_solve_all=solve_all)
+        (long,) = random_positions(1, [20])  # each is a part of its own
+        told = solver.solve_iter((long for _ in iter(lambda: next(taken), None)), threads=2)
+        next(told)
+        told.close()
+        self.assertLess(next(taken), 100)
+
     def test_refusals_come_behind_the_answers_before(self):
         for bad, error in ((SHARED, ffosolve.SharedSquare), (WIDE, ffosolve.TooManyEmpties)):
             calls = ((self.solver.solve_iter, self.answers), (self.solver.move_scores_iter, self.scores))
@@ -299,11 +315,12 @@ class Arrays(unittest.TestCase):
             self.assertEqual(self.as_lists(solver, positions, threads), wanted)
 
     def test_threads_call_at_once(self):
-        solver, positions = Solver(scoring=2, entries=7), random_positions(3, [16])
-        wanted = solver.solve_all(positions), solver.move_scores_all(positions)
-        library = solver._library = Meeting(solver._library)
-        self.assertEqual(self.as_lists(solver, positions, threads=3), wanted)
-        self.assertEqual(library.asked, [(2, 7)] * 6)
+        for given, entries in ((7, 7), (None, ffosolve.table_entries(16))):
+            solver, positions = Solver(scoring=2, entries=given), random_positions(3, [16])
+            wanted = solver.solve_all(positions), solver.move_scores_all(positions)
+            library = solver._library = Meeting(solver._library)
+            self.assertEqual(self.as_lists(solver, positions, threads=3), wanted)
+            self.assertEqual(library.asked, [(2, entries)] * 6)
 
     def test_refusals(self):
         for call in (self.solver.solve_arrays, self.solver.move_scores_arrays):
