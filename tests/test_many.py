@@ -892,10 +892,8 @@ class Hosts(Case):
         """Nor is it told that a file went while find looked at it."""
         write("reach", "#!/bin/sh\ntouch called\nexit 255\n")
         write("tools/find", f'#!/bin/sh\necho "find: asking/1: No such file" >&2\nexec {shutil.which("find")} "$@"\n')
-        for line in (":", "2/:"):
-            told, _ = self.same_on(line, told="on this machine", PATH=f"{self.folder}/tools:{os.environ['PATH']}")
-            self.assertEqual(told.count("\n"), 2, told)
-            shutil.rmtree("work")
+        told, _ = self.same_on("2/:", told="on this machine", PATH=f"{self.folder}/tools:{os.environ['PATH']}")
+        self.assertEqual(told.count("\n"), 2, told)
         self.assertFalse(Path("called").exists())
 
     def test_machine_of_a_lower_level_has_the_program_for_all(self):
