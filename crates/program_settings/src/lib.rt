@@ -4,9 +4,9 @@
 //! use program_settings::{MOST_FILES, Settings, check_files};
 //! use othello_rules::Scoring;
 //!
-//! let settings = Settings::new(20, 2, 65_536, Scoring::Winner);
+//! let settings = Settings::new(24, 2, 1_000_000, Scoring::Winner);
 //! let settings = settings.expect(&rt, "no number is too great");
-//! assert!(rt; settings == Settings::default());
+//! assert!(rt; settings.max_empties() == 24 && settings != Settings::default());
 //! assert!(rt; check_files(&files).is_err() || files.len() <= MOST_FILES);
 //! ```
 #![tactic(auto)]
