@@ -24,10 +24,8 @@ use bound_table::BoundTable;
 use endgame_search::Task;
 use obf_text::{Item, read_line};
 use othello_rules::Scoring;
+use program_settings::VERSION_NUMBER;
 use std::alloc::Global;
-
-// The version: 10000 times its first part, plus 100 times the second, plus the third.
-const VERSION: u32 = 10_100;
 
 /// Writes the answer of a position, by a search over a new table of `entries` entries. `scoring` is
 /// 0 for `Winner`, 1 for `Discs` and 2 for `Sign`. The status is 0 where `answer` was written.
@@ -265,10 +263,10 @@ pub extern "C" fn ffosolve_limit(limit: u32) -> usize
     }
 }
 
-/// The version of the library as a number, `VERSION`.
+/// The version of the library as a number, `VERSION_NUMBER`.
 #[unsafe(no_mangle)]
 pub extern "C" fn ffosolve_version() -> u32
-    ensures { result ≡ VERSION }
+    ensures { result ≡ VERSION_NUMBER }
 {
-    VERSION
+    VERSION_NUMBER
 }

@@ -1,3 +1,4 @@
 pub mod Limits
+pub mod Version
 pub mod Settings
 pub mod InputFault

@@ -3,8 +3,10 @@
 use bound_table::BoundTable;
 use endgame_search::Task;
 
-/// The version of the programs, as `--version` prints it.
+/// The version, as `--version` prints it.
 pub const VERSION: &str = "1.1.0";
+/// The version as a number: 10000 times its first part, plus 100 times the second, plus the third.
+pub const VERSION_NUMBER: u32 = 10_100;
 /// The greatest limit of empty squares that settings may have.
 pub const MOST_EMPTIES: u8 = Task::MOST_EMPTIES;
 /// The most worker threads.

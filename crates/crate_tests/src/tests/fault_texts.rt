@@ -1,5 +1,6 @@
 //! What faults print where `thiserror` makes the text, which has no contract.
 
+use super::published::{MOST_ENTRIES, MOST_JOBS, MOST_SENDERS};
 use bound_table::TableFault;
 use endgame_search::TooMany;
 use job_board::{BoardFault, JobFault, Mixed, NoSender, SubmitFault};
@@ -30,14 +31,18 @@ fn texts(alloc: Global) -> Result<String, AllocError> {
     )
 }
 
-const WANTED: &str =
-    "the square is occupied; the move turns nothing; more than 4194304 table entries; \
-out of memory; 61 empty squares are too many; more than 64 senders; out of memory; no such sender; \
-the sender is closed; more than 65535 jobs; out of memory; the job is not taken; \
-the answer is of another position; no such sender; answers mixed; out of memory; cannot write";
+fn wanted(alloc: Global) -> Result<String, AllocError> {
+    format!(in alloc;
+        "the square is occupied; the move turns nothing; more than {MOST_ENTRIES} table entries; \
+out of memory; 61 empty squares are too many; more than {MOST_SENDERS} senders; out of memory; \
+no such sender; the sender is closed; more than {MOST_JOBS} jobs; out of memory; \
+the job is not taken; the answer is of another position; no such sender; answers mixed; \
+out of memory; cannot write"
+    )
+}
 
 #[test]
 fn texts_of_faults(rt: HostRuntime) -> Result<(), AllocError> {
-    assert!(rt; texts(rt.alloc())?.as_str() == WANTED);
+    assert!(rt; texts(rt.alloc())?.as_str() == wanted(rt.alloc())?.as_str());
     Ok(())
 }

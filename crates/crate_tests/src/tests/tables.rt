@@ -6,6 +6,7 @@ ghost use Rattle.std.specs.Prelude.{◌≡◌};
 ghost use Rattle.othello_rules.specs.declared.scoring.Scoring.TheVariants.{Winner};
 ghost use Rattle.bound_table.specs.Range.{IsTrueOf};
 
+use super::published::MOST_ENTRIES;
 use bound_table::{BoundTable, Bounds, NoTable, Range, TableFault};
 use othello_bits::{Pos, Sym};
 use othello_rules::{Scoring, Side};
@@ -89,7 +90,7 @@ fn tables_of_each_size(rt: HostRuntime) -> Result<(), Fail> {
     assert!(rt; keeps_nothing(&empty, &exact));
     let table = BoundTable::new(rt.alloc(), 16, Scoring::Winner)?;
     assert!(rt; table.scoring() == Scoring::Winner && !keeps_nothing(&table, &exact));
-    let too_many = BoundTable::new(rt.alloc(), 4_194_305, Scoring::Winner).err();
+    let too_many = BoundTable::new(rt.alloc(), MOST_ENTRIES as usize + 1, Scoring::Winner).err();
     assert!(rt; too_many == Some(TableFault::TooMany));
     Ok(())
 }

@@ -1,5 +1,6 @@
 //! The most senders of a board, and the most jobs of a sender.
 
+use super::super::published::{MOST_JOBS, MOST_SENDERS};
 use super::task_by;
 use endgame_search::Task;
 use job_board::{Board, BoardFault, SubmitFault};
@@ -24,11 +25,11 @@ fn filled_board(
     task: Task,
     jobs: u32,
 ) -> Result<Board, AllocError> {
-    let Ok(mut board) = Board::new(alloc, 64) else {
+    let Ok(mut board) = Board::new(alloc, MOST_SENDERS) else {
         return Err(AllocError);
     };
     for number in 0..jobs {
-        assert!(rt; submit(&mut board, 63, task) == Ok(number));
+        assert!(rt; submit(&mut board, MOST_SENDERS - 1, task) == Ok(number));
     }
     Ok(board)
 }
@@ -37,12 +38,14 @@ fn filled_board(
 #[test]
 fn most_senders_and_jobs(rt: HostRuntime) -> Result<(), AllocError> {
     let task = task_by(&rt, (0, 0), Scoring::Winner);
-    let mut board = filled_board(&rt, rt.alloc(), task, 65_535)?;
-    assert!(rt; board.submit(63, task) == Err(SubmitFault::Full));
-    assert!(rt; board.submit(64, task) == Err(SubmitFault::NoSender));
-    assert!(rt; board.close(63) == Ok(true));
-    assert!(rt; board.submit(63, task) == Err(SubmitFault::Closed));
-    assert!(rt; submit(&mut board, 62, task) == Ok(0));
-    assert!(rt; Board::new(rt.alloc(), 65).err() == Some(BoardFault::TooManySenders));
+    let mut board = filled_board(&rt, rt.alloc(), task, MOST_JOBS)?;
+    let last = MOST_SENDERS - 1;
+    assert!(rt; board.submit(last, task) == Err(SubmitFault::Full));
+    assert!(rt; board.submit(MOST_SENDERS, task) == Err(SubmitFault::NoSender));
+    assert!(rt; board.close(last) == Ok(true));
+    assert!(rt; board.submit(last, task) == Err(SubmitFault::Closed));
+    assert!(rt; submit(&mut board, last - 1, task) == Ok(0));
+    let too_many = Board::new(rt.alloc(), MOST_SENDERS + 1).err();
+    assert!(rt; too_many == Some(BoardFault::TooManySenders));
     Ok(())
 }

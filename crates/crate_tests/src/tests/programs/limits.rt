@@ -2,6 +2,7 @@
 
 ghost use Rattle.std.specs.Prelude.{◌<◌, ◌^◌};
 
+use super::super::published::{MOST_BYTES, MOST_EMPTIES, MOST_ENTRIES, MOST_FILES, MOST_WORKERS};
 use super::runs::{settings_of, text_of};
 use othello_rules::Scoring;
 use std::alloc::{AllocError, Global};
@@ -74,12 +75,12 @@ fn run_both<R: Threads + Wait + Sync>(
 type Refused = (u32, u32, Option<RunFault>, u32);
 
 const FILES: [Refused; 7] = [
-    (65, 0, Some(RunFault::TooManyFiles), 0),
-    (64, 1_048_577, Some(RunFault::TooManyFiles), 0),
-    (1, 1_048_577, Some(RunFault::FileTooLarge(1)), 0),
-    (0, 1_048_577, Some(RunFault::FileTooLarge(0)), 0),
-    (64, 0, None, 192),
-    (63, 1_048_576, None, 190),
+    (MOST_FILES + 1, 0, Some(RunFault::TooManyFiles), 0),
+    (MOST_FILES, MOST_BYTES + 1, Some(RunFault::TooManyFiles), 0),
+    (1, MOST_BYTES + 1, Some(RunFault::FileTooLarge(1)), 0),
+    (0, MOST_BYTES + 1, Some(RunFault::FileTooLarge(0)), 0),
+    (MOST_FILES, 0, None, 3 * MOST_FILES),
+    (MOST_FILES - 1, MOST_BYTES, None, 3 * MOST_FILES - 2),
     (0, 0, None, 0),
 ];
 
@@ -97,13 +98,13 @@ fn files_are_refused_first(rt: HostRuntime) -> Result<(), Fail> {
 // The limit of empty squares, the workers and the entries, and whether there are such settings.
 const SETTINGS: [(u8, u8, u32, bool); 8] = [
     (0, 0, 0, true),
-    (60, 64, 4_194_304, true),
-    (61, 64, 4_194_304, false),
-    (60, 65, 4_194_304, false),
-    (60, 64, 4_194_305, false),
-    (61, 2, 0, false),
-    (20, 65, 0, false),
-    (20, 2, 4_194_305, false),
+    (MOST_EMPTIES, MOST_WORKERS, MOST_ENTRIES, true),
+    (MOST_EMPTIES + 1, MOST_WORKERS, MOST_ENTRIES, false),
+    (MOST_EMPTIES, MOST_WORKERS + 1, MOST_ENTRIES, false),
+    (MOST_EMPTIES, MOST_WORKERS, MOST_ENTRIES + 1, false),
+    (MOST_EMPTIES + 1, 2, 0, false),
+    (20, MOST_WORKERS + 1, 0, false),
+    (20, 2, MOST_ENTRIES + 1, false),
 ];
 
 #[test]
@@ -114,7 +115,4 @@ fn settings_are_within_limits(rt: HostRuntime) {
             assert!(rt; made.is_some() == is_some);
         }
     }
-    let (settings, scoring) = (Settings::default(), Scoring::Winner);
-    assert!(rt; settings.max_empties() == 20 && settings.workers() == 2);
-    assert!(rt; settings.table() == 65_536 && settings.scoring() == scoring);
 }
