@@ -692,6 +692,8 @@ class Words(Case):
     def test_programs_and_tools_that_are_missing_or_others(self):
         by = install("lacking", "#!/bin/sh\n:\n")
         self.refused(4, "is not the program ffosolve", "list.obf", by=by)
+        shutil.copy(PROGRAMS["ffosolve"], by.with_name("ffoscores"))
+        self.refused(4, "is not the program ffoscores", "--scores", "list.obf", by=by)
         for name, words in (("ffosolve", ()), ("ffoscores", ("--scores",))):
             by.with_name(name).unlink()
             self.refused(4, f"{name} is missing: it has to be next to ffosolve-many", *words, "list.obf", by=by)
@@ -1091,8 +1093,8 @@ class Merging(Case):
         for number, name in enumerate(names):
             write(name, header + entries[number % len(entries)])
         self.same("--merge-books", *names, text=b"".join([header, *entries]), **few)
-        write("other.book", header + b"% X\n" + entries[0][:64] + entries[0][64:].translate(bytes.maketrans(b"+-", b"-+")))
-        self.refused(3, "0.book line 2 and other.book line 3 disagree: ", "--merge-books", *names, "other.book", **few)
+        other = header + b"% X\n" + entries[30][:64] + entries[30][64:].translate(bytes.maketrans(b"+-", b"-+"))
+        self.refused(3, "/dev/stdin line 3 and 30.book line 2 disagree: ", "--merge-books", *names, "-", input=other, **few)
 
     def test_book_in_another_spelling_is_merged(self):
         board = "XXXXXXXXXXXXXXXXXXXXXXXXXXXXOXXXXXXXXXXXXXXXXXXXOXXXXXXX-XXXXXO-"
