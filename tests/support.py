@@ -15,6 +15,8 @@ from pathlib import Path
 ROOT = Path(__file__).resolve().parent.parent
 NOBODY = {"user": 65534, "group": 65534, "extra_groups": []} if os.getuid() == 0 else {}  # without root's rights
 SECONDS = 55  # the longest that a test waits for anything, where it names no other time
+MOST_BYTES = 1_048_576  # of a file that the programs read, as users are promised
+sys.path.insert(0, str(ROOT / "python/src"))  # for `import ffosolve`
 
 
 def lack(what):
@@ -33,11 +35,6 @@ def need(tool, package):
 def stored(*path):
     """The bytes of a file of the checkout."""
     return ROOT.joinpath(*path).read_bytes()
-
-
-def limit(name):
-    """MOST_BYTES of a file that the programs read, or MOST_ENTRIES of a table, as users are promised."""
-    return {"MOST_BYTES": 1_048_576, "MOST_ENTRIES": 4_194_304}[name]
 
 
 def run(*words, **how):

@@ -9,7 +9,7 @@ import stat
 import subprocess
 from pathlib import Path
 
-from tests.support import (NOBODY, SECONDS, InFolder, built, lay_many, limit, module_folder, need, positions, preload,
+from tests.support import (MOST_BYTES, NOBODY, SECONDS, InFolder, built, lay_many, module_folder, need, positions, preload,
                            run, shorter_than, stored, write)
 
 TEXT = stored("examples", "first.obf")
@@ -239,7 +239,7 @@ class Lists(Books):
         """The book is read before the lists, and all lists before anything is printed."""
         write("list", TEXT)
         write("bad.book", b"?\n")
-        write("large.book", b" " * (limit("MOST_BYTES") + 1) + b"\n?")
+        write("large.book", b" " * (MOST_BYTES + 1) + b"\n?")
         folder = os.open(".", os.O_RDONLY)
         self.addCleanup(os.close, folder)
         for words, told in (
@@ -259,11 +259,11 @@ class Lists(Books):
         66th file, whose writer writes nothing, is not read; nor is a position of 60 empty squares solved."""
         write("list", TEXT)
         write("notes", NOTES)
-        write("large", b" " * (limit("MOST_BYTES") + 1))
+        write("large", b" " * (MOST_BYTES + 1))
         write("long", b"-" * 27 + b"OX" + b"-" * 6 + b"XO" + b"-" * 27 + b" X\n")
         os.mkfifo("pipe")
         self.addCleanup(os.close, os.open("pipe", os.O_RDWR))
-        too_large = b"ffosolve: file 2 is larger than %d bytes\n" % limit("MOST_BYTES")
+        too_large = b"ffosolve: file 2 is larger than %d bytes\n" % MOST_BYTES
         for place, told in (("", b"cannot write "), ("no/it.book", b"cannot write no/it.book"),
                             ("notes/it.book", b"cannot write notes/it.book"), ("notes", b"notes is not a book and would be overwritten")):
             with self.subTest(place=place):

@@ -1,11 +1,10 @@
 """What the built programs answer to a command line: help, version, and why it is refused, before anything is read."""
 import os
-import re
 import subprocess
 
-from tests.support import ROOT, InFolder, built, limit, run, stored
+from tests.support import ROOT, InFolder, built, run, stored
+from ffosolve import MOST_ENTRIES
 
-MOST_ENTRIES = limit("MOST_ENTRIES")
 LARGE = MOST_ENTRIES + 1
 PROGRAMS = ("ffosolve", "ffoscores")
 USAGE = "\n\nUsage: {name} [OPTIONS] [FILES]..."
@@ -90,12 +89,6 @@ class CommandLines(InFolder):
             for line in ("--help", "-h", "-hx", "--help --best", "none.obf -h"):
                 with self.subTest(name=name, line=line):
                     self.ends((0, text, b""), name, *line.split())
-
-    def test_default_of_many(self):
-        """ffosolve-many, which passes it on, has the default of ffosolve."""
-        helps = [run(path, "--help").stdout for path in (built(), ROOT / "bin/ffosolve-many")]
-        first, many = (re.search(rb"--max-empties.*?\[default: (\d+)\]", text, re.S)[1] for text in helps)
-        self.assertEqual(many, first)
 
     def test_version(self):
         for name in PROGRAMS:

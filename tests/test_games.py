@@ -13,14 +13,13 @@ from pathlib import Path
 
 from bench import player
 
-from .support import (ROOT, SECONDS, InFolder, as_at_a_login, built, limit, limited, need, run, stored, wait_until,
+from .support import (MOST_BYTES, ROOT, SECONDS, InFolder, as_at_a_login, built, limited, need, run, stored, wait_until,
                       write)
 
 PROGRAM = ROOT / "bin/ffosolve-games"
 UNREADABLE = "ffosolve-games: {}: {}\n"
 NAMES = [column + row for row in "12345678" for column in "ABCDEFGH"]
 SQUARE_BYTES = [10 * row + column for row in range(1, 9) for column in range(1, 9)]  # A1, B1, .. H8 in a WTHOR file
-MOST_BYTES = limit("MOST_BYTES")  # of a line
 
 
 # Positions of the plain player: the discs of the mover and of the other side, and whether Black moves.
@@ -594,8 +593,6 @@ class Fix(Case):
     def test_a_file_system_without_hard_links(self):
         """Where a file appears meanwhile it is kept where there are hard links, and no file is left beside. The new one is on
         the disk before it has its name."""
-        sys.path.insert(0, str(ROOT / "python/src"))
-        self.addCleanup(sys.path.remove, str(ROOT / "python/src"))
         from ffosolve._fixed import write_new
 
         def sync(file):

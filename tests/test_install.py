@@ -258,7 +258,6 @@ class Installed(Case):
             (self.root / "lib/pkgconfig/ffosolve.pc", f"Version: {VERSION}\n"),
             (self.root / "lib/cmake/ffosolve/ffosolve-config-version.cmake", f'set(PACKAGE_VERSION "{VERSION}")\n'),
             (ROOT / "rust/Cargo.toml", f'\nversion = "{VERSION}"\n'),
-            (ROOT / "crates/program_settings/src/limits.rt", f'\npub const VERSION: &str = "{VERSION}";\n'),
             (ROOT / "CHANGELOG.md", f"\n## [{VERSION}] - "),
         ):
             self.assertIn(text, place.read_text(), place)

@@ -19,10 +19,10 @@ from pathlib import Path
 
 from bench import player
 from tests.checkouts import NUMBER, VERSION
-from tests.support import ROOT, built, lack, limit, limited, module_folder, need, run, stored, write
-from tests.test_python import ffosolve, random_positions
-
-from ffosolve._refusals import refusal_of  # which tests.test_python has put on the path
+from tests.support import ROOT, built, lack, limited, module_folder, need, run, stored, write
+from tests.test_python import random_positions
+import ffosolve
+from ffosolve._refusals import refusal_of
 
 TESTS = ROOT / "tests"
 POSITIONS, MOST, DEEP = int(os.environ.get("POSITIONS", 2000)), int(os.environ.get("MOST", 6)), 40
@@ -36,6 +36,7 @@ PIP = [sys.executable, "-m", "pip", "--disable-pip-version-check", "install", "-
 LONGEST = 300  # seconds of a command, since on a busy machine compilers and solvers take a while
 LINES = 10_000  # odd ones
 PIECES = b"| w|ps:-4;|--:0;|I1:+1|h8:64 ;|B2:+65;| |\t|%|;|:|?|-|X|O|b|\r|\0|\x80|\xff".split(b"|")
+RIGHT, WRONG, NONE = (stored("examples/kinds.report").split(b"\n")[row].split()[-1].decode() for row in (1, 2, 4))
 SMALL, LARGE = 9, 10  # positions of examples/masks.txt, without the one of 20 empty squares and with it
 # What the names in tests/library_calls.txt stand for: positions of two empty squares, before a pass, at an end, and refused ones.
 NAMES = {
@@ -44,7 +45,7 @@ NAMES = {
     "SHARED": "3 2", "WIDE": "1 6", "START": "0x0000000810000000 0x0000001008000000",
     "BOARD": "-OXXXXX-XXXXXXXOXXXXXXXXXXXXXXXXXXXOXXXXXXXXXXXXXXXXXXXXXXXXXXXX",
     "READ": "fffffff7ffff7f7c 800008002", "AS_WHITE": "800008002 fffffff7ffff7f7c",
-    "VERSION": VERSION, "NUMBER": NUMBER, "ENTRIES": limit("MOST_ENTRIES"), "MORE": limit("MOST_ENTRIES") + 1,
+    "VERSION": VERSION, "NUMBER": NUMBER, "ENTRIES": ffosolve.MOST_ENTRIES, "MORE": ffosolve.MOST_ENTRIES + 1,
 }
 # What tests/library_nulls.c has to print.
 NULLS = "".join(f"{count} 2 65 {room}: {pointers} 7\n" * 3 for count, room, pointers in (
@@ -305,7 +306,7 @@ class Calls(unittest.TestCase):
     def test_without_memory(self):
         calls = ("solve {} 0 {}", "confirm {} 0 {} 62 0 0x80", "move_scores {} 0 {}", "solve_all 0 {1} 1 {0}",
                  "move_scores_all 0 {1} 1 {0}", "long_line", "solve {} 0 0")
-        calls = [call.format(NAMES["CORNERS"], limit("MOST_ENTRIES")) for call in calls]
+        calls = [call.format(NAMES["CORNERS"], ffosolve.MOST_ENTRIES) for call in calls]
         told = called(calls, preexec_fn=limited("RLIMIT_AS", 60_000_000))
         self.assertEqual(told, ["7"] * 6 + ["0 62/0/80"])
 
@@ -621,14 +622,15 @@ class OddLines(unittest.TestCase):
             self.assertEqual(list(read_in_c(text)), wanted)
 
     def test_as_the_report_says(self):
-        """The numbers of lines, what is refused and why; and of each position its answer, and whether the line agrees."""
+        """The numbers of lines, what is refused and why; and of each position its answer, and whether the line is right."""
         file = PREFIX.work / "odd.obf"
         file.write_bytes(self.text)
-        report, solver = PREFIX.make(built("ffosolve"), file).stdout.splitlines()[1:-1], ffosolve.Solver(str(PREFIX.shared))
+        report = PREFIX.make(built("ffosolve"), "--max-empties=20", file).stdout.splitlines()[1:-1]
+        solver = ffosolve.Solver(str(PREFIX.shared))
         self.assertEqual(report, [self.reported(solver, row) for row in self.rows])
         kinds = collections.Counter(re.sub(r"\d+", "N", row.split(" ", 1)[1]) if "refused" in row else row.split()[-1] for row in report)
         refused = ("N empties, limit N", "board has N of N squares", "bad square at column N", "bad side at column N")
-        for kind in ("agree", "differ", "unlisted", *(f"refused: {why}" for why in refused)):
+        for kind in (RIGHT, WRONG, NONE, *(f"refused: {why}" for why in refused)):
             self.assertGreater(kinds[kind], 0, kinds)
 
     def reported(self, solver, row):
@@ -642,6 +644,6 @@ class OddLines(unittest.TestCase):
         best = answer.squares or ["PS" if kind == ffosolve.Kind.PASS else "--"]
         claims = [(move, int(claim)) for move, claim in (word.split(":") for word in listed)]
         most = max((claim for _, claim in claims), default=None)
-        agrees = most == score and all(move in best for move, claim in claims if claim == most)
-        check = "unlisted" if not claims else "agree" if agrees else "differ"
+        is_right = most == score and all(move in best for move, claim in claims if claim == most)
+        check = NONE if not claims else RIGHT if is_right else WRONG
         return f"{number} {score:+03d} {','.join(best)} {check}"

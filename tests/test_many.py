@@ -7,7 +7,6 @@ import io
 import os
 import random
 import re
-import resource
 import shutil
 import signal
 import stat
@@ -22,8 +21,7 @@ from unittest import mock
 from tests.support import (ROOT, SECONDS, InFolder, as_at_a_login, built, change_many, lay_many, limited, link_to,
                            module_folder, need, positions, processes_with, run, stored, wait_until, write)
 
-sys.path.insert(0, str(ROOT / "python/src"))
-import ffosolve._many.program  # noqa: E402
+import ffosolve._many.program
 
 many = ffosolve._many
 Part, Run = many.parts.Part, many.parts.Run
@@ -37,9 +35,9 @@ ACTING = """\
 #!/bin/sh
 for part; do :; done
 [ -z "$WORDS" ] || echo "$@" >>"$WORDS"
-! grep -q DIE "$part" || kill -s KILL $$
-! grep -q FAIL "$part" || { echo "ffosolve: out of memory" >&2; exit 1; }
-if [ "$part" != /dev/null ]; then
+if [ -f "$part" ]; then
+    ! grep -q DIE "$part" || kill -s KILL $$
+    ! grep -q FAIL "$part" || { echo "ffosolve: out of memory" >&2; exit 1; }
     [ -z "$LAST" ] || [ "${part##*/}" -lt "$LAST" ] || PAUSE=45
     sleep "${PAUSE:-0}"
 fi
@@ -173,12 +171,12 @@ class Functions(InFolder):
         self.assertEqual(process.wait(timeout=SECONDS), -signal.SIGKILL)
 
     def test_report_is_taken_where_it_is_whole(self):
-        whole, numbers = b"[1]\n1 +02 A1 agree\n2 refused: bad side at column 65\nsolved 1 refused 1\n", [1, 2]
-        rows = {1: b"+02 A1 agree", 2: b"refused: bad side at column 65"}
+        whole, numbers = b"[1]\n1 +02 A1 right\n2 refused: bad side at column 65\nsolved 1 refused 1\n", [1, 2]
+        rows = {1: b"+02 A1 right", 2: b"refused: bad side at column 65"}
         self.assertEqual(many.parts.read_report(whole, numbers), rows)
         for end in range(len(whole)):
             self.assertIsNone(many.parts.read_report(whole[:end], numbers), end)
-        for old, new in ((b"[1]", b"[2]"), (b"1 +", b"2 +"), (b"1 +", b"01 +"), (b"A1", b"\0\0"), (b" agree", b""),
+        for old, new in ((b"[1]", b"[2]"), (b"1 +", b"2 +"), (b"1 +", b"01 +"), (b"A1", b"\0\0"), (b" right", b""),
                          (b"solved 1", b"solved 2"), (b"refused 1", b"refused 0"), (b"2 refused: ", b"2 refused "),
                          (b"solved 1 refused 1", b"solved 2 refused 0"), (b"solved", b"Solved"),
                          (b"\nsolved", b"\n\nsolved"), (b"2 refused: bad side at column 65\n", b"")):
@@ -190,7 +188,7 @@ class Functions(InFolder):
         one = Run(self.folder, "run-1", [Part("0000004", 81, 20, "")])
         self.refuses(r"part 0000004 \(lines 81 to 100\) was changed meanwhile", lambda: [*one.rows()])
         write("one", BOARD + b" X; A1:+02;\n" + BOARD.replace(b"-", b"O", 1)[::-1] + b" X; A1:+02;\n")
-        self.refuses("one line 2 is not in order", lambda: [*many.books.merged([many.books.entries_of(Path("one"))])])
+        self.refuses("one line 2 is not in order", lambda: [*many.books.merged([many.books.entries_of(Path("one"), "one")])])
 
     def test_claim_of_a_line_is_the_greatest_score_and_its_moves(self):
         head = BOARD + b" X;"
@@ -229,7 +227,7 @@ class Functions(InFolder):
     def command(self, *words):
         """A command that is whole but for its files."""
         command = many.arguments.parse([*words, "LIST"])
-        command.max_empties, command.scoring = "20", command.scoring or "winner"
+        command.max_empties, command.scoring = "9", command.scoring or "winner"
         return command
 
     def test_scripts_quote_words_and_have_results_on_the_disk_before_they_count(self):
@@ -279,17 +277,6 @@ class Results(Case):
         self.assertEqual(Path("list.obf.parts/log").read_text().count("\tbegin\t"), 9)
         self.assertEqual(self.same(*words, "--quiet"), "")
 
-    def test_books_of_many_parts_are_merged_with_few_open_files(self):
-        header, *entries = Path("one.book").read_bytes().splitlines(keepends=True)
-        paths = [self.folder / f"{number}.book" for number in range(400)]
-        for number, path in enumerate(paths):
-            write(path, header + entries[number % len(entries)])
-        limits = resource.getrlimit(resource.RLIMIT_NOFILE)
-        self.addCleanup(resource.setrlimit, resource.RLIMIT_NOFILE, limits)
-        resource.setrlimit(resource.RLIMIT_NOFILE, (256, limits[1]))
-        write("joined.book", b"".join(many.books.whole_book("winner", paths, self.folder)))
-        self.same_book()
-
     def test_checkout_has_the_program_behind_a_wrapper(self):
         self.same("work", "list.obf", by=ROOT / "bin/ffosolve-many")
         self.assertEqual(self.place("program").read_bytes(), stored("out/ffosolve"))
@@ -302,20 +289,31 @@ class Results(Case):
 
     def test_options_stand_in_any_place_and_come_to_the_program_of_each_part(self):
         """Each has one thread if no more are asked for."""
-        usual, others = "--max-empties=20 --scoring=winner --workers=0", "--max-empties=7 --scoring=discs --workers=1 --table=9"
+        usual, others = "--scoring=winner --workers=0", "--max-empties=7 --scoring=discs --workers=1 --table=9"
         for program, words, given in (("ffosolve", "", usual), ("ffoscores", "--complete", f"{usual} --complete"),
                                       ("ffosolve", others, others)):
             text = run(PROGRAMS[program], *words.split(), "list.obf").stdout
             mode = ["--scores"] if program == "ffoscores" else []
             self.same(*mode, f"work {words}", "--lines=20", "list.obf", *words.split(), "--jobs", 2, text=text, by=ACTS,
                       places={"WORDS": f"{self.folder}/words"})
-            told = [line.rpartition(" ")[0] for line in Path("words").read_text().splitlines()]
-            self.assertEqual(told, [given] * 4)  # one of them with an empty list
+            first, *told = [line.rpartition(" ")[0] for line in Path("words").read_text().splitlines()]
+            self.assertEqual(first, given)  # with a line that is refused, which says what is solved
+            most = re.search(rb"limit (\d+)", run(PROGRAMS[program], *words.split(), input=many.programs.NO_DISCS).stdout)[1]
+            self.assertEqual(told, [given if "max" in given else f"--max-empties={most.decode()} {given}"] * 3)
             Path("words").unlink()
         os.rename("list.obf", "-x")
         self.one = self.solve("--scoring=sign", "--", "-x")
         self.same("--scoring=sign", "--book-out", "joined.book", "--", "work", "-x")
         self.same_book()
+
+    def test_most_empty_squares_are_the_default_of_the_program(self):
+        """The folder is begun with their number, as if it was given."""
+        by = install("other", '#!/bin/sh\ncase "$*" in *max-emp*) ;; *) set -- --max-empties=3 "$@" ;; esac\nexec "@real@" "$@"\n')
+        self.one = self.solve("--max-empties=3", "list.obf")
+        self.same(*self.WORDS, by=by)
+        self.same_book()
+        self.same(*self.WORDS, "--max-empties=3", told=", 3 of them solved before")
+        self.refused(2, "work was begun with --max-empties 3: use another folder", *self.WORDS)
 
     def test_lines_of_each_kind_and_none(self):
         """Also lines that leave out a best move, with --complete."""
@@ -474,20 +472,20 @@ class Resuming(Case):
         self.assertEqual({path: path.read_bytes() for path in before}, before)
 
     def test_other_options_are_told_by_name(self):
-        words = ("--lines=20", "--scoring=discs", "--max-empties=7", "--complete", "--book-in=one.book", "work", "list.obf")
+        words = ("--lines=20", "--scoring=discs", "--max-empties=07", "--complete", "--book-in=one.book", "work", "list.obf")
         write("other.book", b"% ffobook 2 winner\n")
         self.one = self.solve("--scoring=discs", "list.obf")
         self.same(*words)
         for old, new, told in (("--lines=20", "--lines=21", "with --lines 20"),
                                ("--scoring=discs", "--scoring=sign", "with --scoring discs"),
-                               ("--max-empties=7", "--max-empties=8", "with --max-empties 7"),
+                               ("--max-empties=07", "--max-empties=8", "with --max-empties 07"),
                                ("--complete", "--quiet", "with --complete"),
                                ("--complete", "--book-out=new", "with --complete and without --book-out"),
                                ("--book-in=one.book", "--book-in=other.book", "with another book as --book-in"),
                                ("--book-in=one.book", "--quiet", "with --book-in")):
             self.refused(2, f"work was begun {told}: use another folder, or the same options",
                          *(new if word == old else word for word in words))
-        self.refused(2, "begun with --lines 20 and with --scoring discs and with --max-empties 7 and without --scores "
+        self.refused(2, "begun with --lines 20 and with --scoring discs and with --max-empties 07 and without --scores "
                         "and with --complete and with --book-in: use another folder", "--scores", "work", "list.obf")
         self.same(*words, "--table=9", "--workers=1", "--jobs=3", told=", 3 of them solved before")
 
@@ -673,7 +671,7 @@ class Words(Case):
     def test_what_the_program_refuses(self):
         write("bad.book", b"?\n")
         for status, told, *words in ((2, "'61'", "--max-empties", 61), (2, "'a;b'", "--scoring", "a;b"), (2, "'x'", "--workers=x"),
-                                     (2, "'5000000'", "--table=5000000"), (3, "book line 1: bad square", "--book-in=bad.book")):
+                                     (2, "'99999999'", "--table=99999999"), (3, "book line 1: bad square", "--book-in=bad.book")):
             self.ends(status, b"", told, "work", "list.obf", *words)
             self.assertFalse(Path("work").exists())
 
@@ -694,6 +692,8 @@ class Words(Case):
     def test_programs_and_tools_that_are_missing_or_others(self):
         by = install("lacking", "#!/bin/sh\n:\n")
         self.refused(4, "is not the program ffosolve", "list.obf", by=by)
+        shutil.copy(PROGRAMS["ffosolve"], by.with_name("ffoscores"))
+        self.refused(4, "is not the program ffoscores", "--scores", "list.obf", by=by)
         for name, words in (("ffosolve", ()), ("ffoscores", ("--scores",))):
             by.with_name(name).unlink()
             self.refused(4, f"{name} is missing: it has to be next to ffosolve-many", *words, "list.obf", by=by)
@@ -919,6 +919,13 @@ class Hosts(Case):
         places = {"PARALLEL_SSH": f"{self.folder}/ssh", "REACH": f"{self.folder}/reach"}
         self.assertEqual(self.same_on("near", told="on near", **places)[1], 3 * ["near"])
 
+    def test_machine_that_is_up_again_at_once_was_lost(self):
+        """As ssh took up a connection that broke, and then made another, on which nothing was laid."""
+        told = "mux_client_request_session: read from master failed: Broken pipe"
+        told, _ = self.same_on("near", "far", told=f" is lost: {told}; its parts go to others",
+                               SPOIL=f"[ -e ../broken ] || {{ touch ../broken; echo '{told}' >&2; exit 2; }}")
+        self.assertNotIn("failed part", told)
+
     def test_machine_is_in_the_record_until_its_own_files_are_gone(self):
         """Not until those of another are whose name is in its name."""
         self.same_on("near")
@@ -1079,6 +1086,16 @@ class Merging(Case):
         self.same_book("a.book")
         self.assertEqual(run(PROGRAMS["ffosolve"], "--book-in=a.book", "list.obf").stdout, self.one)
 
+    def test_more_books_than_files_that_may_be_open(self):
+        """Each is named where it disagrees. Those of parts are merged by the same call."""
+        header, *entries = Path("one.book").read_bytes().splitlines(keepends=True)
+        names, few = [f"{number}.book" for number in range(80)], {"preexec_fn": limited("RLIMIT_NOFILE", 40)}
+        for number, name in enumerate(names):
+            write(name, header + entries[number % len(entries)])
+        self.same("--merge-books", *names, text=b"".join([header, *entries]), **few)
+        other = header + b"% X\n" + entries[30][:64] + entries[30][64:].translate(bytes.maketrans(b"+-", b"-+"))
+        self.refused(3, "/dev/stdin line 3 and 30.book line 2 disagree: ", "--merge-books", *names, "-", input=other, **few)
+
     def test_book_in_another_spelling_is_merged(self):
         board = "XXXXXXXXXXXXXXXXXXXXXXXXXXXXOXXXXXXXXXXXXXXXXXXXOXXXXXXX-XXXXXO-"
         write("mine.book", f"% my own\n\n {board.lower()}\tb; h8:+52; a8:62 % why\r\n")
@@ -1087,8 +1104,7 @@ class Merging(Case):
 
     def test_merged_book_is_read_before_it_is_handed_over(self):
         by = install("misprinting")
-        header = "whole.write(HEADER.format(scoring).encode())"
-        change_many(by, "books", header, f"{header}; whole.write(b'no entry\\n')")
+        change_many(by, "books", "whole.seek(0)", "whole.write(b'no entry\\n'); whole.seek(0)")
         self.ends(3, b"", "bad square", "--merge-books", "one.book", by=by)
 
     def test_books_that_are_refused(self):

@@ -28,13 +28,10 @@ from bench import player
 
 from .support import ROOT, SECONDS, InFolder, lack, need, run, stored
 from .test_games import discs_of_black, positions_of, random_game, record, squares_of, transcript, wthor
+import ffosolve
+from ffosolve import Answer, Position, Solver
 
-SOURCES = ROOT / "python/src"
-sys.path.insert(0, str(SOURCES))
 os.environ.setdefault("FFOSOLVE_LIBRARY", str(ROOT / "out/library/libffosolve.so"))
-import ffosolve  # noqa: E402
-from ffosolve import Answer, Position, Solver  # noqa: E402
-
 SHARED, WIDE = Position(3, 2), Position(1, 6)
 BOARD = "--XXXXX--OOOXX-O-OOOXXOX-OXOXOXXOXXXOXXX--XOXOXX-XXXOOO--OOOOO-- X;"
 
@@ -340,7 +337,7 @@ class Arrays(unittest.TestCase):
 
     def test_no_program_needs_numpy(self):
         words = "import sys, ffosolve; ffosolve.Solver().solve_all([], threads=2); sys.exit('numpy' in sys.modules)"
-        self.assertEqual(run(sys.executable, "-c", words, env={**os.environ, "PYTHONPATH": str(SOURCES)}).returncode, 0)
+        self.assertEqual(run(sys.executable, "-c", words, cwd=ROOT / "python/src").returncode, 0)
 
 
 class Boards(unittest.TestCase):

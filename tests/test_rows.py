@@ -8,11 +8,10 @@ import os
 import subprocess
 from pathlib import Path
 
-from tests.support import ROOT, InFolder, built, limit, limited, run, shorter_than, stored
+from tests.support import MOST_BYTES, ROOT, InFolder, built, limited, run, shorter_than, stored
 
 ROWS = ROOT / "tests/rows"
 LIST = stored("tests", "rows", "positions.obf")
-LARGEST = limit("MOST_BYTES")
 PROGRAMS = ("ffosolve", "ffoscores")
 NOTHING = b"[1]\nsolved 0 refused 0\n"
 HEADER = b"% ffobook 2 winner\n"
@@ -53,7 +52,7 @@ class Rows(InFolder):
                 with self.subTest(path=path.name):
                     rows, scoring = path.stem.split(".")
                     wanted = (status, path.read_bytes(), b"")
-                    self.ends(wanted, built(name), *words, "--scoring", scoring, ROWS / f"{rows}.obf")
+                    self.ends(wanted, built(name), *words, "--max-empties", "20", "--scoring", scoring, ROWS / f"{rows}.obf")
 
     def reads(self, text, told):
         """A text is read as a book, or refused."""
@@ -95,20 +94,17 @@ class Rows(InFolder):
 
     def test_limits(self):
         """The greatest file is read, the most files are, and no more."""
-        Path("list.obf").write_bytes(b" " * LARGEST)
+        Path("list.obf").write_bytes(b" " * MOST_BYTES)
         Path("empty.obf").write_bytes(b"")
         many = b"".join(b"[%d]\nsolved 0 refused 0\n" % (number + 1) for number in range(64))
-        for words, wanted in (
-            (["list.obf"], (0, NOTHING, b"")),
-            (["empty.obf"] * 64, (0, many, b"")),
-            (["empty.obf"] * 65, (1, b"", b"ffosolve: more than 64 files\n")),
+        for words, text, printed in (
+            (["list.obf"], None, NOTHING),
+            (["empty.obf"] * 64, None, many),
+            ([], b"X" * MOST_BYTES, b"[1]\n1 +64 -- unlisted\nsolved 1 refused 0\n"),
+            (["--max-empties", "1"], LIST.splitlines()[8], b"[1]\n1 refused: 2 empties, limit 1\nsolved 0 refused 1\n"),
         ):
-            self.ends(wanted, built(), *words)
-        line = b"X" * LARGEST
-        ran = run(built(), input=line)
-        self.assertEqual(ran.stdout, b"[1]\n1 +64 -- unlisted\nsolved 1 refused 0\n")
-        ran = run(built(), "--max-empties", "1", input=LIST.splitlines()[8])
-        self.assertEqual(ran.stdout, b"[1]\n1 refused: 2 empties, limit 1\nsolved 0 refused 1\n")
+            self.ends((0, printed, b""), built(), *words, input=text)
+        self.ends((1, b"", b"ffosolve: more than 64 files\n"), built(), *["empty.obf"] * 65)
 
 
 class Streams(InFolder):
@@ -132,7 +128,7 @@ class Streams(InFolder):
         for name, status in zip(PROGRAMS, (1, 3)):
             with open("/dev/full", "wb") as full:
                 how = {"stdout": subprocess.PIPE, "stderr": full, "capture_output": False}
-                ran = run(built(name), input=b" " * (LARGEST + 1), **how)
+                ran = run(built(name), input=b" " * (MOST_BYTES + 1), **how)
             self.assertEqual((ran.returncode, ran.stdout), (status, b""))
 
     def test_endless_input_is_read_no_further_than_it_may_be(self):
@@ -140,8 +136,8 @@ class Streams(InFolder):
         with open("large.obf", "wb") as large:
             large.truncate(256 << 20)
         for name, status in zip(PROGRAMS, (1, 3)):
-            wanted = (status, b"", f"{name}: file 1 is larger than {LARGEST} bytes\n".encode())
+            wanted = (status, b"", f"{name}: file 1 is larger than {MOST_BYTES} bytes\n".encode())
             self.ends(wanted, built(name), "large.obf", preexec_fn=limited("RLIMIT_AS", 64 << 20))
             with open("large.obf", "rb") as large:
                 self.ends(wanted, built(name), stdin=large)
-                self.assertEqual(os.lseek(large.fileno(), 0, os.SEEK_CUR), LARGEST + 1)
+                self.assertEqual(os.lseek(large.fileno(), 0, os.SEEK_CUR), MOST_BYTES + 1)

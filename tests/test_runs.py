@@ -1,7 +1,8 @@
 """What the options that change no report do to a run: they are seen by its memory and its time."""
 import resource
 
-from tests.support import InFolder, built, limit, limited, run, stored
+from tests.support import InFolder, built, limited, run, stored
+from ffosolve import MOST_ENTRIES
 
 KINDS = stored("examples", "kinds.obf")
 HARD = b"-XXXXX----XOOX--XXXXOOOO-OXOOOO-OOXOOX--OOX-OOOOOXXXXXX-X----XXX O\n"  # 17 empty squares
@@ -30,7 +31,7 @@ class Runs(InFolder):
                 words, little = (built(name), "--workers", "0"), limited("RLIMIT_AS", LIMIT)
                 usual = run(*words, input=KINDS)
                 self.ends((usual.returncode, usual.stdout, b""), *words, input=KINDS, preexec_fn=little)
-                self.ends(wanting, *words, "--table", limit("MOST_ENTRIES"), input=KINDS, preexec_fn=little)
+                self.ends(wanting, *words, "--table", MOST_ENTRIES, input=KINDS, preexec_fn=little)
 
     def test_table_saves_time(self):
         """That of positions that come again, on whichever thread: of sixteen lines four threads solve at most eight."""

@@ -3,14 +3,15 @@ import os
 import re
 from pathlib import Path
 
-from tests.support import SECONDS, InFolder, Refusals, built, limit, run, stored
+from tests.support import MOST_BYTES, SECONDS, InFolder, Refusals, built, run, stored
+from ffosolve import MOST_ENTRIES
 
 KINDS, SCORES = stored("examples", "kinds.obf"), stored("examples", "kinds.scores")
 TWO = KINDS.split(b"\n")[1] + b"\n"  # a position of two empty squares, with both moves listed right
 SOLVED = SCORES.split(b"\n")[1] + b"\n"
 BOARD = TWO[:66]
 RIGHT = stored("examples", "first.report").split()[4]  # the word of a line whose scores are right
-LARGE = limit("MOST_BYTES") + 1
+LARGE = MOST_BYTES + 1
 LONGEST = 5 * SECONDS  # of a position of twenty empty squares, beside other work
 
 
@@ -71,7 +72,7 @@ class Lines(Scores):
             ("--max-empties=2", 0, SOLVED, TWO),
             ("--table 0", 1, SCORES, KINDS),
             ("--table 1", 1, SCORES, KINDS),
-            (f"--table {limit('MOST_ENTRIES')}", 1, SCORES, KINDS),
+            (f"--table {MOST_ENTRIES}", 1, SCORES, KINDS),
             ("--scoring=discs", 1, b"%s X; --:+16; %% --:+32 is +16%s\n" % (over[:64], scored[75:]), over + b"\n"),
             ("--scoring sign", 1, BOARD + b"; A1:+01; H1:+01; % H1:+62 is +01, A1:+52 is +01 % listed right\n", TWO),
         ):

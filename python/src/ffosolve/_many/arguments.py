@@ -6,7 +6,6 @@ from pathlib import Path
 from .files import check_readable
 from .messages import NAME, misused
 
-DEFAULT_EMPTIES = "20"  # of ffosolve
 MOST = {"--jobs": 999, "--lines": 10_000}
 
 USAGE = f"""{NAME} [OPTIONS] [FOLDER] LIST
@@ -50,7 +49,7 @@ OPTIONS = {
         ("--version -V", None, "print the version"),
         ("--help -h", None, "print this help")),
     "options of ffosolve, with the same meaning": (
-        ("--max-empties", "N", f"solve positions with at most N empty squares, 0 to 60 [default: {DEFAULT_EMPTIES}]"),
+        ("--max-empties", "N", "solve positions with at most N empty squares, 0 to 60 [default: that of ffosolve]"),
         ("--workers", "N", "threads for each part, besides one of its own, 0 to 64 [default: 0]"),
         ("--table", "N", "entries of the transposition table for each part, 32 bytes each"),
         ("--scoring", "NAME", "how a finished game is scored [default: winner] [possible values: winner, discs, sign]"),
@@ -121,4 +120,3 @@ def complete(command):
         raise misused(f"'{command.list}' has no folder of its own: name a FOLDER before it")
     command.lines = command.lines or 1000
     command.scoring = command.scoring or "winner"
-    command.max_empties = command.max_empties or DEFAULT_EMPTIES

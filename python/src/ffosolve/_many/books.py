@@ -14,23 +14,32 @@ from .messages import DONE, NAME, REFUSED, UNBUILT, UNREADABLE, Refusal, misused
 from .parts import HEADER
 from .programs import Program
 
-OPEN_BOOKS = 200  # that are merged at once
+READ = 4096  # bytes, or a line more, that are read of a book at once
 ENTRY = re.compile(rb"[XO-]{64} X;(?: (?:[A-H][1-8]|PS|--):[+-]\d\d;)+\n")  # as ffosolve writes it
 
 
-def entries_of(path, name=None):
+def lines_of(path):
+    """The lines of a file, which is open only while it is read: there may be more books than files that may be open."""
+    lines, at = [b""], 0
+    while lines:
+        with path.open("rb") as file:
+            file.seek(at)
+            lines, at = file.readlines(READ), file.tell()
+        yield from lines
+
+
+def entries_of(path, name):
     """The entries of a book, rising: each as its position; its line as ffosolve writes it, with the greatest listed score and
     the moves listed with it; and its place."""
-    with path.open("rb") as file:
-        for number, text in enumerate(file, 1):
-            with contextlib.suppress(NoPosition):
-                line = Position.from_obf(text)
-                if not ENTRY.fullmatch(text):
-                    greatest = max(score for _, score in line.listed)
-                    moves = {move for move, score in line.listed if score == greatest}
-                    best = [square for square in NAMES if square in moves] or [max(moves)]  # PS, otherwise --
-                    text = f"{line.to_obf('X')}{''.join(f' {move}:{greatest:+03d};' for move in best)}\n".encode()
-                yield line, text, (name or str(path), number)
+    for number, text in enumerate(lines_of(path), 1):
+        with contextlib.suppress(NoPosition):
+            line = Position.from_obf(text)
+            if not ENTRY.fullmatch(text):
+                greatest = max(score for _, score in line.listed)
+                moves = {move for move, score in line.listed if score == greatest}
+                best = [square for square in NAMES if square in moves] or [max(moves)]  # PS, otherwise --
+                text = f"{line.to_obf('X')}{''.join(f' {move}:{greatest:+03d};' for move in best)}\n".encode()
+            yield line, text, (name, number)
 
 
 def merged(books):
@@ -48,14 +57,10 @@ def merged(books):
         last = entry
 
 
-def whole_book(scoring, paths, scratch):
-    """The lines of one book of those of parts; many are merged by way of larger ones, in a folder for that."""
-    while len(paths) > OPEN_BOOKS:
-        with tempfile.NamedTemporaryFile(dir=scratch, delete=False) as file:
-            file.writelines(merged(map(entries_of, paths[:OPEN_BOOKS])))
-        paths = paths[OPEN_BOOKS:] + [Path(file.name)]
+def whole_book(scoring, paths, names=()):
+    """The lines of one book of others, which are named by their paths where they have no names."""
     yield HEADER.format(scoring).encode()
-    yield from merged(map(entries_of, paths))
+    yield from merged(map(entries_of, paths, names or map(str, paths)))
 
 
 def check_place(command, kept, program, *options):
@@ -99,8 +104,7 @@ def merge_books(command, programs):
                 raise Refusal(REFUSED, f"{command.words[0]} has the scoring {scoring} and {name} {other}: "
                                        "only books of one scoring can be merged")
         whole = stack.enter_context(tempfile.NamedTemporaryFile(prefix=f"{NAME}-"))
-        whole.write(HEADER.format(scoring).encode())
-        whole.writelines(merged(map(entries_of, paths, command.words)))
+        whole.writelines(whole_book(scoring, paths, command.words))
         whole.seek(0)
         scoring_of(program, whole.name, Path(whole.name))
         if command.book_out is not None:

@@ -3,7 +3,6 @@ import contextlib
 import os
 import signal
 import sys
-import tempfile
 from pathlib import Path
 
 from .. import __version__
@@ -31,7 +30,8 @@ def solve_list(command, programs):
     with contextlib.ExitStack() as stack:
         book_in = command.book_in and regular(Path(command.book_in), stack)
         read = [f"--book-in={book_in}"] if book_in else []
-        program.check(run_options(command) + read, b"" if command.scores else b"[1]\nsolved 0 refused 0\n")
+        most = program.check(run_options(command) + read)
+        command.max_empties = command.max_empties or most
         check_place(command, command.list, program, *read)
         source = regular(command.list, stack)
         parts, listed = cut_list(source, command.lines, command.list)
@@ -66,8 +66,7 @@ def finish(run, command, unsolved):
             output.writelines(report_lines(run.rows()))
     if command.book_out is not None:
         paths = [run.path(part, ".book") for part in run.parts]
-        with tempfile.TemporaryDirectory(dir=run.place) as scratch:
-            place_book(command.book_out, whole_book(command.scoring, paths, scratch))
+        place_book(command.book_out, whole_book(command.scoring, paths))
     return max((run.status(part) for part in run.parts), default=DONE) if command.scores else DONE
 
 

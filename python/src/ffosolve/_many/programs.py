@@ -1,10 +1,15 @@
 """ffosolve and ffoscores, which are next to this program, and the tools that the work needs."""
 import os
+import re
 import shutil
 import subprocess
 from pathlib import Path
 
-from .messages import DONE, NAME, UNBUILT, Refusal
+from .messages import NAME, UNBUILT, Refusal
+
+NO_DISCS = b"-" * 64 + b" X;"  # refused with any options, and what is told then of the most empty squares
+LIMITS = {"ffosolve": rb"\[1\]\n1 refused: 64 empties, limit (\d+)\nsolved 0 refused 1\n",
+          "ffoscores": rb"%% refused: 64 empties, limit (\d+): %b\n" % NO_DISCS}
 
 
 class Program:
@@ -24,13 +29,16 @@ class Program:
         ran = subprocess.run([self.start, *words], stdin=subprocess.DEVNULL, stdout=stdout, stderr=subprocess.PIPE, **how)
         return ran.returncode, ran.stderr.decode(errors="replace").strip().removeprefix("ffosolve: ")
 
-    def check(self, options, expected):
-        """Builds it where it isn't built, and has it refuse what it refuses of the options and of the read book."""
-        ran = subprocess.run([self.start, *options, "/dev/null"], stdin=subprocess.DEVNULL, stdout=subprocess.PIPE)
-        if ran.returncode != DONE:
+    def check(self, options):
+        """Builds it where it isn't built, and has it refuse what it refuses of the options and of the read book. Gives the
+        most empty squares of what it solves."""
+        ran = subprocess.run([self.start, *options, "/dev/stdin"], input=NO_DISCS, stdout=subprocess.PIPE)
+        told = re.fullmatch(LIMITS[self.start.name], ran.stdout)
+        if ran.returncode and not told:
             raise SystemExit(ran.returncode if ran.returncode > 0 else UNBUILT)
-        if ran.stdout != expected or not os.access(self.itself, os.X_OK):
+        if not told or not os.access(self.itself, os.X_OK):
             raise Refusal(UNBUILT, f"{self.start} is not the program {self.start.name}")
+        return told[1].decode()
 
 
 def run_options(command):
