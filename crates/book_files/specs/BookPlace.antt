@@ -6,7 +6,7 @@ use Rattle.solved_book.specs.Books.{header}
 use Rattle.book_files.specs.declared.found.Found.{Found}
 use Rattle.book_files.specs.declared.found.Found.TheVariants as found
 use Rattle.book_files.specs.declared.solve_error.SolveError.{SolveError}
-use Rattle.book_files.specs.declared.solve_error.SolveError.TheVariants.{NoBook, NoPlace, ReadBook}
+use Rattle.book_files.specs.declared.solve_error.SolveError.TheVariants.{BadPlace, OverwritesFile, OverwritesBookIn}
 
 -- a file of these lines is empty, or its first line is the header of a book
 abbrev pub GivesWay : List (List ℕ) → Type 0
@@ -16,14 +16,14 @@ GivesWay (line ∷ lines) = (g : Scoring) × (line ≡ header g)
 -- A book may be written over what was found: it is not a regular file, or one that is empty or a
 -- book, and neither a list nor the book that is read.
 abbrev pub IsFree : Found → Type 0
-IsFree found.NoFile = Unit {0}
+IsFree found.NotRegular = Unit {0}
 IsFree found.Empty = Unit {0}
 IsFree found.Book = Unit {0}
 IsFree _ = ⊥
 
 -- the error of a place where this was found, by its name; a place that is free has none
 abbrev pub IsRefusalOf : Found → Bor (List ℕ) → SolveError → Type 0
-IsRefusalOf found.Other name error = error ≡ NoBook name
-IsRefusalOf found.List name error = error ≡ NoPlace name
-IsRefusalOf found.ReadBook name error = error ≡ ReadBook name
+IsRefusalOf found.Other name error = error ≡ OverwritesFile name
+IsRefusalOf found.List name error = error ≡ BadPlace name
+IsRefusalOf found.BookIn name error = error ≡ OverwritesBookIn name
 IsRefusalOf _ name error = ⊥

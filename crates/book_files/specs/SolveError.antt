@@ -9,7 +9,7 @@ use Rattle.suite_runs.specs.declared.run_fault.RunFault.TheVariants as run
 use Rattle.program_parts.specs.ProgramError.{error_reason}
 use Rattle.program_parts.specs.declared.program_error.ProgramError.TheVariants.{Memory, BadInput, BadWords, CannotRead, CannotWrite}
 use Rattle.book_files.specs.declared.solve_error.SolveError.{SolveError}
-use Rattle.book_files.specs.declared.solve_error.SolveError.TheVariants.{Program, Mixed, BadBook, NoPlace, NoBook, ReadBook}
+use Rattle.book_files.specs.declared.solve_error.SolveError.TheVariants.{Program, Mixed, BadBook, BadPlace, OverwritesFile, OverwritesBookIn}
 
 -- the error for a fault of the run
 abbrev pub run_error : RunFault → SolveError
@@ -28,9 +28,9 @@ unfoldable pub solve_error_reason : SolveError → List ℕ
 solve_error_reason (Program error) = error_reason error
 solve_error_reason Mixed = codes "answers mixed"
 solve_error_reason (BadBook fault) = book_fault_text fault
-solve_error_reason (NoPlace name) = codes "cannot write " ++ name.now
-solve_error_reason (NoBook name) = name.now ++ codes " is not a book and would be overwritten"
-solve_error_reason (ReadBook name) =
+solve_error_reason (BadPlace name) = codes "cannot write " ++ name.now
+solve_error_reason (OverwritesFile name) = name.now ++ codes " is not a book and would be overwritten"
+solve_error_reason (OverwritesBookIn name) =
     name.now ++ (codes " is read and would be overwritten: write --book-out NEW, then "
     ++ (codes "ffosolve-many --merge-books " ++ (name.now ++ codes " NEW")))
 
@@ -47,9 +47,9 @@ status_of (Program (CannotRead name)) = 3
 status_of (Program (CannotWrite name)) = 3
 status_of Mixed = 1
 status_of (BadBook fault) = 3
-status_of (NoPlace name) = 3
-status_of (NoBook name) = 3
-status_of (ReadBook name) = 3
+status_of (BadPlace name) = 3
+status_of (OverwritesFile name) = 3
+status_of (OverwritesBookIn name) = 3
 
 -- the error comes before anything is printed; each does except `CannotWrite`
 abbrev pub IsSilent : SolveError → Type 0

@@ -81,10 +81,10 @@ fn check_found<'a>(found: Found, name: &'a str) -> Result<(), SolveError<'a>>
     ensures refused { IfErr result (IsRefusalOf found name.entry) }
 {
     match found {
-        Found::NoFile | Found::Empty | Found::Book => Ok(()),
-        Found::Other => Err(SolveError::NoBook(name)),
-        Found::List => Err(SolveError::NoPlace(name)),
-        Found::ReadBook => Err(SolveError::ReadBook(name)),
+        Found::NotRegular | Found::Empty | Found::Book => Ok(()),
+        Found::Other => Err(SolveError::OverwritesFile(name)),
+        Found::List => Err(SolveError::BadPlace(name)),
+        Found::BookIn => Err(SolveError::OverwritesBookIn(name)),
     }
 }
 
@@ -99,11 +99,11 @@ pub struct BookPlace<'a> {
 /// Tests that the book to be written, if there is one, can be written under its name, and destroys
 /// nothing there, and gives its place; None where there is no name. A file of that name, unless it
 /// is a pipe, has to open for writing. It must be possible to make a file next to it, where it is a
-/// regular file or doesn't exist. The errors are `NoPlace` with the name, even where it is empty or
-/// the file is read as a list; `ReadBook` where the file is the book that is read, by whatever
-/// name; `NoBook` where it isn't empty and doesn't begin as a book; `CannotRead` where that can't
-/// be seen; and out of memory.
-pub fn check_place<'a, T: Files>(
+/// regular file or doesn't exist. The errors are `BadPlace` with the name, even where it is empty or
+/// the file is read as a list; `OverwritesBookIn` where the file is the book that is read, by
+/// whatever name; `OverwritesFile` where it isn't empty and doesn't begin as a book; `CannotRead`
+/// where that can't be seen; and out of memory.
+pub fn find_place<'a, T: Files>(
     rt: &T,
     alloc: Global,
     name: &'a Option<String>,
@@ -119,7 +119,7 @@ pub fn check_place<'a, T: Files>(
         return Ok(None);
     };
     let name = name.as_str();
-    let found = match Found::beside(rt, name, book_in, lists) {
+    let found = match Found::under(rt, name, book_in, lists) {
         Ok(found) => found,
         Err(fault) => return Err(SolveError::Program(read_error(&fault, name))),
     };

@@ -20,8 +20,8 @@ use std::{fs, io};
 // How many bytes of a book are looked at before the rest is read.
 const FRONT: usize = 65_536;
 
-// Whether the result of a book's first bytes holds whatever follows them: a fault does, unless it
-// is that of a last line that may go on.
+// Whether no further bytes can change the result of a book's first bytes: a fault is final, unless
+// it is that of a last line that may go on.
 fn is_final(read: &Result<Claims, BookFault>, front: &[u8]) -> bool {
     let ended = front.iter().filter(|byte| **byte == b'\n').count();
     match read {
@@ -84,8 +84,7 @@ pub fn read_claims<'a, T: Files>(
     };
     let name = name.as_str();
     match claims_of(rt, alloc, name) {
-        Ok(Ok(claims)) => Ok(Some(claims)),
-        Ok(Err(fault)) => Err(SolveError::from(fault)),
+        Ok(read) => Ok(Some(read?)),
         Err(fault) => Err(SolveError::Program(read_error(&fault, name))),
     }
 }

@@ -18,7 +18,7 @@ use std::{fs, io};
 #[derive(Clone, Copy, PartialEq, Eq, Debug)]
 pub enum Found {
     /// Not a regular file: nothing, or a device, a pipe or a folder.
-    NoFile,
+    NotRegular,
     /// An empty regular file.
     Empty,
     /// A regular file that begins with the header of a book.
@@ -28,7 +28,7 @@ pub enum Found {
     /// A regular file that is read as a list.
     List,
     /// The regular file of the book that is read.
-    ReadBook,
+    BookIn,
 }
 
 // Whether the line is the header of a book.
@@ -68,35 +68,19 @@ fn leads_to<T: Files>(rt: &T, name: &str, file: &Metadata) -> bool {
 }
 
 impl Found {
-    /// What is found under this name, whatever the program reads. The error is that of a file that
-    /// can't be read.
-    pub(crate) fn under<T: Files>(rt: &T, name: &str) -> io::Result<Found> {
-        match fs::metadata(rt, name) {
-            Ok(found) => {
-                if !found.is_file() {
-                    return Ok(Found::NoFile);
-                }
-                let mut front = [0u8; 32];
-                let count = fs::open(rt, name)?.read(&mut front)?;
-                Ok(found_in(&front[..count]))
-            }
-            Err(_) => Ok(Found::NoFile),
-        }
-    }
-
     /// What is found under this name, where the program reads this book and these lists. The error
     /// is that of a file that can't be read.
-    pub(crate) fn beside<T: Files>(
+    pub(crate) fn under<T: Files>(
         rt: &T,
         name: &str,
         book_in: &Option<String>,
         lists: &[String],
     ) -> io::Result<Found> {
         let Ok(file) = fs::metadata(rt, name) else {
-            return Ok(Found::NoFile);
+            return Ok(Found::NotRegular);
         };
         if !file.is_file() {
-            return Ok(Found::NoFile);
+            return Ok(Found::NotRegular);
         }
         for list in lists {
             if leads_to(rt, list.as_str(), &file) {
@@ -105,9 +89,11 @@ impl Found {
         }
         if let Some(read) = book_in {
             if leads_to(rt, read.as_str(), &file) {
-                return Ok(Found::ReadBook);
+                return Ok(Found::BookIn);
             }
         }
-        Found::under(rt, name)
+        let mut front = [0u8; 32];
+        let count = fs::open(rt, name)?.read(&mut front)?;
+        Ok(found_in(&front[..count]))
     }
 }

@@ -36,9 +36,9 @@ impl<'a> NewFile<'a> {
 
     /// Writes the text under the file's name. A regular file, or one that doesn't exist yet, is
     /// written next to it and renamed. Anything else, such as a device, a pipe or a link, is opened
-    /// and written. A file that is neither empty nor a book by now stays, and the write fails.
+    /// and written. If the file is by now neither empty nor a book, it stays, and the write fails.
     pub(crate) fn write<T: Files>(&self, rt: &T) -> io::Result<()> {
-        if Found::under(rt, self.name)? == Found::Other {
+        if Found::under(rt, self.name, &None, &[])? == Found::Other {
             return Err(io::Error::from(io::ErrorKind::AlreadyExists));
         }
         match fs::symlink_metadata(rt, self.name) {

@@ -55,7 +55,7 @@ fn write_progress<E: Write>(errors: &mut E, progress: Progress) -> io::Result<()
     }
 }
 
-// Whether five seconds have passed from the one time of a run to the other.
+// Whether five seconds have passed between two times of a run.
 fn is_due(last: Duration, elapsed: Duration) -> bool
     ensures { IsTrue result ↔ (as_nanos last + 5_000_000_000 ≤ as_nanos elapsed) }
 {
@@ -91,9 +91,9 @@ impl<E: Write> Lines<'_, E> {
     }
 }
 
-/// A gate that counts the jobs of a run and those that are finished. After such a job it writes a line
-/// where one is due. No thread waits for another that writes. Where the clock can't be read, no
-/// line is written.
+/// A gate that counts the jobs of a run and those that are finished. After a finished job it writes
+/// a line where one is due. No thread waits for another that writes. Where the clock can't be read,
+/// no line is written.
 #[derive(Drop)]
 pub struct ProgressGate<'a, C: Clock, E: Write> {
     clock: &'a C,
@@ -169,18 +169,18 @@ impl<C: Clock + Sync, E: Write + Send> Gate for ProgressGate<'_, C, E> {
     }
 }
 
-/// Does the work of `run`. With `tells`, lines on `errors` give the number of solved positions: at
-/// most one every five seconds, and one at the end.
-pub fn run_told<T: Clock + Threads + Wait + Sync, E: Write + Send>(
+/// Does the work of `run`. With `progress`, lines on `errors` give the number of solved positions:
+/// at most one every five seconds, and one at the end.
+pub fn run_with_progress<T: Clock + Threads + Wait + Sync, E: Write + Send>(
     rt: &T,
     alloc: Global,
     texts: &[Vec<u8>],
     settings: &Settings,
     claims: Option<&Claims>,
-    tells: bool,
+    progress: bool,
     errors: &mut E,
 ) -> Result<Outcome, RunFault>
-    ensures untold { tells ≡ false → E.contents errors.new ≡ E.contents errors.old }
+    ensures silent { progress ≡ false → E.contents errors.new ≡ E.contents errors.old }
     ensures too_many { IsErrOf result TooManyFiles ↔ most_files < length texts.now }
     ensures too_large { (sender : ℕ) → IsErrOf result (FileTooLarge sender) ↔
         ((length texts.now ≤ most_files) × (first_large (texts_of texts.now) ≡ Some sender)) }
@@ -190,7 +190,7 @@ pub fn run_told<T: Clock + Threads + Wait + Sync, E: Write + Send>(
         settings.now.scoring settings.now.max_empties (texts_of texts.now))
         outcome.book) }
 {
-    if !tells {
+    if !progress {
         return run(rt, alloc, texts, settings, claims, &NoGate);
     }
     let gate = ProgressGate::new(rt, texts.len(), errors);

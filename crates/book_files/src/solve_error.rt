@@ -5,7 +5,7 @@ ghost use Rattle.std.specs.IoError.{error_kind};
 ghost use Rattle.std.specs.Io.KnownBytes.{Appends};
 ghost use Rattle.book_files.specs.SolveError.{IsSilent, book_error, run_error, solve_error_reason, solve_error_text, status_of};
 ghost use Rattle.program_parts.specs.declared.program_error.ProgramError.TheVariants.{BadInput, Memory};
-ghost use Rattle.book_files.specs.declared.solve_error.SolveError.TheVariants.{NoPlace, Program};
+ghost use Rattle.book_files.specs.declared.solve_error.SolveError.TheVariants.{BadPlace, Program};
 
 use program_parts::ProgramError;
 use program_settings::InputFault;
@@ -25,11 +25,11 @@ pub enum SolveError<'a> {
     /// The file of the book to be read is not a book. Out of memory is `Program(Memory)`.
     BadBook(BookFault),
     /// A book can't be written under this name, as a test showed before anything was solved.
-    NoPlace(&'a str),
+    BadPlace(&'a str),
     /// The file of this name, where a book is to be written, is neither empty nor a book.
-    NoBook(&'a str),
+    OverwritesFile(&'a str),
     /// The file of this name, where a book is to be written, is the book that is read.
-    ReadBook(&'a str),
+    OverwritesBookIn(&'a str),
 }
 
 impl<'a> From<ProgramError<'a>> for SolveError<'a> {
@@ -93,9 +93,12 @@ impl fmt::Display for SolveError<'_> {
             SolveError::Program(error) => write!(f, "{error}"),
             SolveError::Mixed => f.write_str("answers mixed"),
             SolveError::BadBook(fault) => write!(f, "{fault}"),
-            SolveError::NoPlace(name) => write!(f, "cannot write {name}"),
-            SolveError::NoBook(name) => write!(f, "{name} is not a book and would be overwritten"),
-            SolveError::ReadBook(name) => write!(
+            SolveError::BadPlace(name) => write!(f, "cannot write {name}"),
+            SolveError::OverwritesFile(name) => write!(
+                f,
+                "{name} is not a book and would be overwritten"
+            ),
+            SolveError::OverwritesBookIn(name) => write!(
                 f,
                 "{name} is read and would be overwritten: write --book-out NEW, then ffosolve-many --merge-books {name} NEW"
             ),
@@ -104,17 +107,17 @@ impl fmt::Display for SolveError<'_> {
 }
 
 // The error for a failed test of a book's place: `Program(Memory)` where memory was refused,
-// otherwise `NoPlace` with the name.
+// otherwise `BadPlace` with the name.
 pub(crate) fn place_error<'a>(fault: &io::Error, name: &'a str) -> SolveError<'a>
     ensures memory { error_kind fault.now ≡ ErrorKind.OutOfMemory → result ≡ Program Memory }
     ensures name { (error_kind fault.now ≡ ErrorKind.OutOfMemory → ⊥)
-        → result ≡ NoPlace name.entry }
+        → result ≡ BadPlace name.entry }
     ensures status { (status_of result ≡ 1) ⊎ (status_of result ≡ 3) }
     ensures silent { IsSilent result }
 {
     match fault.kind() {
         ErrorKind::OutOfMemory => SolveError::Program(ProgramError::Memory),
-        _ => SolveError::NoPlace(name),
+        _ => SolveError::BadPlace(name),
     }
 }
 

@@ -44,9 +44,9 @@ fn error_status(error: &SolveError<'_>) -> u8
         SolveError::Program(ProgramError::BadWords) => 2,
         SolveError::Program(ProgramError::CannotRead(_) | ProgramError::CannotWrite(_))
         | SolveError::BadBook(_)
-        | SolveError::NoPlace(_)
-        | SolveError::NoBook(_)
-        | SolveError::ReadBook(_) => 3,
+        | SolveError::BadPlace(_)
+        | SolveError::OverwritesFile(_)
+        | SolveError::OverwritesBookIn(_) => 3,
     }
 }
 

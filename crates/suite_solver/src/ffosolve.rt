@@ -16,7 +16,8 @@ ghost use Rattle.program_settings.specs.declared.input_fault.InputFault.{InputFa
 use crate::exit_status::print_error;
 use crate::ffosolve_options::{Options, read_options};
 use book_files::{
-    BookPlace, NewFile, SolveError, check_place, read_claims, ready_book, run_told, write_book,
+    BookPlace, NewFile, SolveError, find_place, read_claims, ready_book, run_with_progress,
+    write_book,
 };
 use program_parts::{OptionFault, ProgramError, end_without_options, read_files};
 use program_settings::check_files;
@@ -43,7 +44,7 @@ fn write_reports<W: Write>(output: &mut W, reports: &[Vec<u8>]) -> io::Result<()
 // Solves the positions of the files, whose texts these are, and prints the reports. The text of the
 // book to be written is made before the reports are printed, so that memory can't run out once
 // anything was printed.
-fn solve_files<'a, T: Files + Clock + Threads + Wait + Sync, W: Write, E: Write + Send>(
+fn solve_and_print<'a, T: Files + Clock + Threads + Wait + Sync, W: Write, E: Write + Send>(
     rt: &T,
     alloc: Global,
     asked: &Options,
@@ -62,7 +63,7 @@ fn solve_files<'a, T: Files + Clock + Threads + Wait + Sync, W: Write, E: Write 
         (λ error. status_of error ≡ 1 → W.contents output.new ≡ W.contents output.old) }
     ensures status { IfErr result (λ error. (status_of error ≡ 1) ⊎ (status_of error ≡ 3)) }
 {
-    let outcome = run_told(
+    let outcome = run_with_progress(
         rt,
         alloc,
         texts,
@@ -78,10 +79,10 @@ fn solve_files<'a, T: Files + Clock + Threads + Wait + Sync, W: Write, E: Write 
     }
 }
 
-// Refuses files that are too many or too large, and then a place where the book that is to be
-// written can't be put or would destroy what is there; otherwise gives that place. The run measures
-// the files again, since it takes any.
-fn check_run<'a, T: Files>(
+// The place of the book that is to be written. Files that are too many or too large are refused
+// first, and then a place where the book can't be put or would destroy what is there. `run` checks
+// the files again, since its callers may pass any.
+fn place_of_run<'a, T: Files>(
     rt: &T,
     alloc: Global,
     asked: &'a Options,
@@ -95,7 +96,7 @@ fn check_run<'a, T: Files>(
     ensures status { IfErr result (λ error. (status_of error ≡ 1) ⊎ (status_of error ≡ 3)) }
 {
     check_files(texts)?;
-    check_place(rt, alloc, &asked.book_out, &asked.book_in, &asked.files)
+    find_place(rt, alloc, &asked.book_out, &asked.book_in, &asked.files)
 }
 
 // Reads the book and then the files, tests them and the place of the book to be written, solves,
@@ -118,8 +119,8 @@ fn carry_out<'a, T: Files + Clock + Threads + Wait + Sync, R: Read, W: Write, E:
 {
     let claims = read_claims(rt, alloc, &asked.book_in)?;
     let texts = read_files(rt, alloc, &asked.files, input)?;
-    let place = check_run(rt, alloc, asked, &texts)?;
-    let book = solve_files(
+    let place = place_of_run(rt, alloc, asked, &texts)?;
+    let book = solve_and_print(
         rt,
         alloc,
         asked,
@@ -139,10 +140,10 @@ fn carry_out<'a, T: Files + Clock + Threads + Wait + Sync, R: Read, W: Write, E:
 ///
 /// The status is 0 where everything is done, or where help or the version was asked for and
 /// printed; 1 where the run is refused, for memory or for the number or size of its files; 2 where
-/// the command line is refused; 3 where a file can't be read or is not a book, or where standard
-/// output or the book can't be written or would destroy another file or the book that is read. An
-/// error that ends the program early is printed on standard error, as one line or as clap's text; a
-/// failure of standard error changes nothing. The call may wait for its threads.
+/// the command line is refused; 3 where a file can't be read or is not a book, where standard output
+/// or the book can't be written, or where the book would destroy another file or the book that is
+/// read. An error that ends the program early is printed on standard error, as one line or as
+/// clap's text; a failure of standard error changes nothing. The call may wait for its threads.
 #[tactic(auto, using(crate::proofs::ProgramLemmas::asked_faultless))]
 pub fn program<T: Files + Clock + Threads + Wait + Sync, R: Read, W: Write, E: Write + Send>(
     rt: &T,

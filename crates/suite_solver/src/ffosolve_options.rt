@@ -16,8 +16,8 @@ use std::alloc::{AllocError, Global};
 
 const ABOUT: &str = "\
 Solves Othello endgames exactly. For each position in OBF files it prints the
-exact score in discs for the side to move, every best move, and how the scores
-listed on the line compare.";
+exact score in discs for the side to move, every best move, and whether what
+the line lists agrees with them.";
 
 const AFTER_HELP: &str = "\
 The words of a report:
@@ -42,7 +42,7 @@ Exit status:
      refused, or --book-out would overwrite another file
 
 Examples:
-  # show the lines of a suite whose listed scores are wrong
+  # show the rows of the lines that differ
   ffosolve --workers 4 suite.obf | grep differ
   # write the answers as a book, which --book-in reads
   ffosolve --book-out suite.book suite.obf";
@@ -51,9 +51,9 @@ Examples:
 #[derive(Debug, Drop)]
 pub struct Options {
     pub settings: Settings,
-    /// The name of the file of a book to read, as the words have it; None where there is none.
+    /// The name of the file of a book to read, as given; None where none is to be read.
     pub book_in: Option<String>,
-    /// The name of the file of a book to write, as the words have it; None where there is none.
+    /// The name of the file of a book to write, as given; None where none is to be written.
     pub book_out: Option<String>,
     /// Whether progress is reported on standard error.
     pub progress: bool,

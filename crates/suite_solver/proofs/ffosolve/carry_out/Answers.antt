@@ -13,7 +13,7 @@ returns-clause-reported g c =
     let texts = texts_of c.in_ok-texts.texts.items in
     let fronts = rw c.deref.ensures.value at c.in_ok-texts.ensures.ok in
     let p = rw c.deref-3.ensures.value at c.in_ok-book.ensures.reported in
-    on_ok c.write_book.result (Prints c.args.asked.now.settings names given (g.W.Write.contents c.args.output.now) (g.W.Write.contents c.solve_files.new.output)) (record {
+    on_ok c.write_book.result (Prints c.args.asked.now.settings names given (g.W.Write.contents c.args.output.now) (g.W.Write.contents c.solve_and_print.new.output)) (record {
       texts = texts;
       read = whole_texts names given texts fronts p.small p.few;
       printed = p;
@@ -21,8 +21,8 @@ returns-clause-reported g c =
 
 pub returns-clause-silent : goal.returns-clause-silent
 returns-clause-silent g c =
-    told_late c.write_book.result (g.W.Write.contents c.solve_files.new.output ≡ g.W.Write.contents c.args.output.now) c.write_book.ensures.told
+    told_late c.write_book.result (g.W.Write.contents c.solve_and_print.new.output ≡ g.W.Write.contents c.args.output.now) c.write_book.ensures.told
 
 pub returns-clause-unwritten : goal.returns-clause-unwritten
 returns-clause-unwritten g c =
-    not_refused c.write_book.result (g.W.Write.contents c.solve_files.new.output ≡ g.W.Write.contents c.args.output.now) c.write_book.ensures.status
+    not_refused c.write_book.result (g.W.Write.contents c.solve_and_print.new.output ≡ g.W.Write.contents c.args.output.now) c.write_book.ensures.status

@@ -3,7 +3,7 @@ use Rattle.std.proofs.lemmas.List.{length-map}
 use Rattle.obf_text.specs.LineText.{texts_of}
 use Rattle.program_settings.specs.InputFault.{first_large}
 use Rattle.suite_solver.proofs.ProgramLemmas.{given_few, given_small}
-use Rattle.suite_solver.proofs.ffosolve.solve_files.Goals as goal
+use Rattle.suite_solver.proofs.ffosolve.solve_and_print.Goals as goal
 
 pub returns-in-Ok-clause-reported : goal.returns-in-Ok-clause-reported
 returns-in-Ok-clause-reported g c =
