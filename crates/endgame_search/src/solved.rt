@@ -109,17 +109,15 @@ pub fn solve<T: Bounds>(table: &T, task: Task) -> Solved
 }
 
 /// Solves a task by testing a claim. The result is that of `solve` whatever the claim is, and comes
-/// sooner where the claim is right. Two null windows test the score, and one tests each move. Where
-/// a test fails, `solve` finds the answer. The table must have the scoring of the task.
+/// sooner if the claimed score is right. Two null windows test it. If it is the value, one null
+/// window for each move finds the best moves, whatever is claimed of them. Otherwise `solve` finds
+/// the answer. The table must have the scoring of the task.
 pub fn confirm<T: Bounds>(table: &T, task: Task, claim: Claim) -> Solved
     requires { task.scoring ≡ T.scoring table.now }
     ensures { result ≡ task }
 {
     if is_value(table, task.pos(), claim.score) {
-        let solved = solved_at(table, task, claim.score);
-        if solved.answer().best == claim.best {
-            return solved;
-        }
+        return solved_at(table, task, claim.score);
     }
     solve(table, task)
 }

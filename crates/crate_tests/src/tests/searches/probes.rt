@@ -10,7 +10,7 @@ use super::{
 use bound_table::{BoundTable, Bounds, NoTable, Range};
 use endgame_search::{Claim, Task, confirm, exact_value, solve, value_in};
 use othello_bits::Pos;
-use othello_rules::{Best, Scoring, Side, Square};
+use othello_rules::{Answer, Best, Scoring, Side, Square};
 use std::alloc::Global;
 use std::process::Abort;
 use std::test::Fail;
@@ -220,17 +220,21 @@ fn fewer_empty_squares_are_shown_after_more(rt: HostRuntime) -> Result<(), Fail>
     Ok(())
 }
 
-// Whether a right claim is tested: it takes fewer probes than to search without one.
+// Whether a right score is tested: that takes fewer probes than to search without a claim, whatever
+// is claimed of the moves.
 fn is_claim_tested(counter: &ProbeCounter, task: Task) -> bool
     requires { task.scoring ≡ counter.now.table.scoring }
 {
     let solved = solve(counter, task);
     let probes = counter.probes.replace(0);
-    let claim = Claim {
-        score: solved.answer().score,
-        best: solved.answer().best,
-    };
-    confirm(counter, task, claim) == solved && counter.probes.get() < probes
+    let Answer { score, best } = solved.answer();
+    for best in [best, Best::Over] {
+        let confirmed = confirm(counter, task, Claim { score, best });
+        if confirmed != solved || counter.probes.replace(0) >= probes {
+            return false;
+        }
+    }
+    true
 }
 
 #[test]
