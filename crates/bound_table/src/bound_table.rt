@@ -20,8 +20,8 @@ const ABOVE_ALL_EMPTIES: u8 = 65;
 
 /// A transposition table with a fixed number of entries, which threads share by reference. No call
 /// waits, and only `new` takes memory. An entry holds a canonical position and a range that is true
-/// of it. A store replaces what its entry holds. It is skipped where another thread reads or writes
-/// the entry. A probe shows None where another thread writes the entry, and may show None where one
+/// of it. A store replaces what its entry holds. It is skipped if another thread reads or writes
+/// the entry. A probe shows None if another thread writes the entry, and may show None if one
 /// reads it.
 #[derive(Drop)]
 pub struct BoundTable {
@@ -71,7 +71,7 @@ impl BoundTable {
 
     /// A table under the scoring with `entries` entries, all empty. With 0 entries it
     /// keeps nothing. `TooMany` above `MOST_ENTRIES`, before any memory is asked for. `Memory`
-    /// where memory was refused.
+    /// if memory was refused.
     pub fn new(alloc: Global, entries: usize, scoring: Scoring) -> Result<BoundTable, TableFault>
         ensures too_many { (result ≡ Err fault.TooMany) ↔ (most_entries < entries) }
         ensures made { IfOk result

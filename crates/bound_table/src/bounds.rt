@@ -10,7 +10,7 @@ use othello_rules::Scoring;
 use std::marker::Model;
 
 /// A table of bounds: ranges of positions' values under one scoring. Two probes of one position may
-/// differ: another thread may store between them, and a probe may always show None.
+/// differ: another thread may store between them, and any probe may show None.
 pub trait Bounds {
     ghost scoring: { Self → Scoring };
 

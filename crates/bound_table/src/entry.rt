@@ -1,7 +1,7 @@
 //! An entry of a shared table, in a slot that many threads may read or one may write.
 //!
 //! Each call loads the slot's word and tries once to get a turn. A turn to read ends with a leave,
-//! and a turn to write with a put. Where another thread was first, the turn is lost: its claim is
+//! and a turn to write with a put. If another thread was first, the turn is lost: its claim is
 //! done, nothing is tried again, and nobody waits.
 
 ghost use Rattle.std.specs.Prelude.{◌≡◌, ◌<◌, ◌+◌, ◌^◌, IfSome, IsTrue};
@@ -43,7 +43,7 @@ impl Entry {
         }
     }
 
-    /// The range of the entry. None where the entry holds another position.
+    /// The range of the entry. None if the entry holds another position.
     #[inline]
     pub(crate) fn range_of(self, position: Pos) -> Option<Range>
         ensures { SomeIff result (self.position ≡ position) self.range }
@@ -80,7 +80,7 @@ fn admits_reader(word: u64) -> bool
     word % ONE_READER == PRESENT && word / ONE_READER < MOST_READERS
 }
 
-/// The entry of the slot; None where it was never stored to, a thread writes it, or
+/// The entry of the slot; None if it was never stored to, a thread writes it, or
 /// the turn is lost.
 #[inline]
 pub(crate) fn read(slot: &Slot) -> Option<Entry>
@@ -100,7 +100,7 @@ pub(crate) fn read(slot: &Slot) -> Option<Entry>
     Some(entry)
 }
 
-/// Puts an entry into the slot; does nothing where a thread reads or writes it, or the turn
+/// Puts an entry into the slot; does nothing if a thread reads or writes it, or the turn
 /// is lost.
 #[inline]
 pub(crate) fn write(slot: &Slot, entry: Entry)

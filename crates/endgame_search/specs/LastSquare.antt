@@ -15,7 +15,7 @@ abbrev pub IsFullExcept : PosView → ℕ → Type 0
 IsFullExcept p s = (q : ℕ) → IsEmptySquare p q → q ≡ s
 
 -- no square but l.square is empty, and l.turned is the number of discs that the mover turns by a
--- disc there: 0 where that is not a move
+-- disc there: 0 if that is not a move
 pub record IsLastSquare (l : LastSquare) : Type 0 where
   pub full : IsFullExcept l.position l.square
   pub turned : l.turned ≡ count_ones (flips_of l.position l.square)

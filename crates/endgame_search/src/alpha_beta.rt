@@ -1,6 +1,6 @@
 //! Alpha-beta search of a position's value by null windows alone. The null window at a bound asks
 //! whether the value is above the bound. Its fail-soft score, which each function `search..` that
-//! takes a bound returns, is a lower bound of the value where it is above the bound, otherwise an
+//! takes a bound returns, is a lower bound of the value if it is above the bound, otherwise an
 //! upper bound. A driver searches one null window after another until the value is known, or known
 //! to lie outside a wider window (MTD(f): Plaat, Schaeffer, Pijls and de Bruin, 1996).
 
@@ -122,7 +122,7 @@ fn search_moves<T: Bounds>(table: &T, position: Pos, moves: u64, bound: i8) -> i
 }
 
 // Searches a position in which the mover has a move, by a list of its children. The list has room
-// for 16 where that is enough, since the time to make a list is in proportion to its room.
+// for 16 if that is enough, since the time to make a list is in proportion to its room.
 #[cycle(search)]
 #[inline(always)]
 fn search_by_list<T: Bounds>(table: &T, position: Pos, moves: u64, bound: i8) -> i8

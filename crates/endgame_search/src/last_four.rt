@@ -15,7 +15,7 @@ use bound_table::Bounds;
 use othello_bits::{Pos, lowest, without};
 use othello_rules::{Scoring, Square};
 
-// The number of discs that the mover turns by a disc on the last empty square: 0 where that is not
+// The number of discs that the mover turns by a disc on the last empty square: 0 if that is not
 // a move.
 #[inline(always)]
 fn turned_count(position: Pos, square: Square) -> u8
@@ -136,7 +136,7 @@ struct NextMove {
     rest: u64,
 }
 
-// The first move on a square of the mask, in the order of the squares. None where no square of the
+// The first move on a square of the mask, in the order of the squares. None if no square of the
 // mask is a move.
 #[inline(always)]
 fn next_move(position: Pos, squares: u64) -> Option<NextMove>
@@ -194,7 +194,7 @@ pub(crate) fn search_in_order<T: Bounds>(
     }
 }
 
-// Searches a position in which the mover has no move: a pass, or the end of the game, where the
+// Searches a position in which the mover has no move: a pass, or the end of the game, if the
 // position is not probed.
 #[cycle(last)]
 #[inline(never)]

@@ -34,8 +34,8 @@ pub(crate) fn score_limit(scoring: Scoring) -> i8
     }
 }
 
-// Probes the table for a fail-soft score of the null window at the bound. There is one where the
-// range found lies above the bound, or where no score of it does.
+// Probes the table for a fail-soft score of the null window at the bound. There is one if the
+// range found lies above the bound, or if no score of it does.
 #[inline(always)]
 pub(crate) fn probe_cutoff<T: Bounds>(table: &T, position: Pos, bound: i8) -> Option<i8>
     requires { IsBound bound }
@@ -103,7 +103,7 @@ const FEWEST_PROBED_AHEAD: u8 = 13;
 
 // Probes the children for an enhanced transposition cutoff (Plaat, Schaeffer, Pijls and de Bruin,
 // 1996): a move that is worth more than the bound, by the table's range of its child. Returns a
-// lower bound of the move's worth. None where no child gives a cutoff, or too few squares are
+// lower bound of the move's worth. None if no child gives a cutoff, or too few squares are
 // empty.
 #[inline(always)]
 pub(crate) fn enhanced_cutoff<T: Bounds>(

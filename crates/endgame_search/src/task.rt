@@ -39,7 +39,7 @@ impl Task {
     /// The greatest number of empty squares of a task.
     pub const MOST_EMPTIES: u8 = 60;
 
-    /// The task of a position under a scoring. `TooMany` where the position has more than `limit`
+    /// The task of a position under a scoring. `TooMany` if the position has more than `limit`
     /// empty squares, or more than 60.
     pub fn new(position: Pos, limit: u8, scoring: Scoring) -> Result<Task, TooMany>
         ensures when { IsOk result ↔ (empties_of position ≤ min limit most_empties) }

@@ -56,7 +56,7 @@ abbrev pub IsPossible : FfosolveAnswer → Type 0
 IsPossible claim =
     IsScore claim.score × ((pos 0 ≤ℤ claim.kind) × (claim.kind ≤ℤ pos 2))
 
--- what the move to square q is worth to the mover, or 127 where it is not a move
+-- what the move to square q is worth to the mover, or 127 if it is not a move
 abbrev pub score_at : Scoring → PosView → ℕ → ℤ
 score_at g p q = if in_mask (moves_of p) q then neg_ℤ (value_of g (play_of p q)) else pos 127
 

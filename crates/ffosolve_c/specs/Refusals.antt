@@ -65,7 +65,7 @@ refusal_of_all scoring entries ps room =
     first_of (table_refusal scoring entries)
     (first_of (lengths_refusal (length ps) room) (first_refusal ps))
 
--- the refusal that a failed request returns: its own, or `NoMemory` where it has none
+-- the refusal that a failed request returns: its own, or `NoMemory` if it has none
 abbrev pub IsRefusal : Option CallRefusal → CallRefusal → Type 0
 IsRefusal (Some refusal) told = told ≡ refusal
 IsRefusal None told = told ≡ NoMemory

@@ -48,7 +48,7 @@ pub fn c_answer(answer: Answer) -> FfosolveAnswer
     }
 }
 
-// The best moves, the pass or the end of the game of a claim. None where its kind is not 0, 1 or 2.
+// The best moves, the pass or the end of the game of a claim. None if its kind is not 0, 1 or 2.
 fn claimed_best(kind: i32, moves: u64) -> Option<Best>
     ensures kind { IfSome result (λ best. kind_of best ≡ kind) }
     ensures moves { IfSome result (λ best. kind ≡ pos 0 → moves_in best ≡ moves) }
@@ -62,7 +62,7 @@ fn claimed_best(kind: i32, moves: u64) -> Option<Best>
     }
 }
 
-/// The claim as a search reads it. None where its kind is not 0, 1 or 2, or its score is not from
+/// The claim as a search reads it. None if its kind is not 0, 1 or 2, or its score is not from
 /// -64 to 64: such a claim can't be right.
 pub fn possible_claim(claim: FfosolveAnswer) -> Option<Claim>
     ensures possible { IsPossible claim → IsSome result }

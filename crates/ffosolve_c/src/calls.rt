@@ -28,7 +28,7 @@ use program_settings::VERSION_NUMBER;
 use std::alloc::Global;
 
 /// Writes the answer of a position, by a search over a new table of `entries` entries. `scoring` is
-/// 0 for `Winner`, 1 for `Discs` and 2 for `Sign`. The status is 0 where `answer` was written.
+/// 0 for `Winner`, 1 for `Discs` and 2 for `Sign`. The status is 0 if `answer` was written.
 /// Otherwise `answer` is as it was, and the status is that of a `CallRefusal`: 1, 2, 4, 5 or 7. It
 /// is never 7, out of memory, with 0 entries.
 #[unsafe(no_mangle)]
@@ -81,8 +81,8 @@ pub extern "C" fn ffosolve_confirm(
 
 /// Writes the answer of each position at its index in `answers`, by searches over one new table of
 /// `entries` entries. `scoring` is 0 for `Winner`, 1 for `Discs` and 2 for `Sign`. The status is 0
-/// where all of `answers` was written. Otherwise `answers` is as it was, and the status is that of a
-/// `CallRefusal`: 1, 2, 3, 4, 5 or 7; 3 where there are not as many answers as positions. It is never
+/// if all of `answers` was written. Otherwise `answers` is as it was, and the status is that of a
+/// `CallRefusal`: 1, 2, 3, 4, 5 or 7; 3 if there are not as many answers as positions. It is never
 /// 7, out of memory, with 0 entries. With 4 and 5 `at` is the index, from 0, of the first position
 /// that is refused; otherwise `at` is as it was.
 #[unsafe(no_mangle)]
@@ -111,7 +111,7 @@ pub extern "C" fn ffosolve_solve_all(
 /// Writes the mask of the mover's moves, with square n as bit n, and the score of each move at its
 /// square's number, with 127 at the other squares. A score is as the mover sees it: in discs from
 /// -64 to 64, or 1, 0 or -1 under `Sign`. All searches use one new table of `entries` entries.
-/// `scoring` is 0 for `Winner`, 1 for `Discs` and 2 for `Sign`. The status is 0 where `scores` and
+/// `scoring` is 0 for `Winner`, 1 for `Discs` and 2 for `Sign`. The status is 0 if `scores` and
 /// `moves` were written. Otherwise they are as they were, and the status is that of a `CallRefusal`:
 /// 1, 2, 4, 5 or 7. It is never 7, out of memory, with 0 entries.
 #[unsafe(no_mangle)]
@@ -184,7 +184,7 @@ pub extern "C" fn ffosolve_moves(position: FfosolvePosition, moves: &mut u64) ->
 }
 
 /// Writes the position after the mover's move to `square`, from 0 for A1 to 63 for H8; the other
-/// side is the mover of that position. The status is 0; 4, `SharedSquare`; or 6, `NoMove`, where
+/// side is the mover of that position. The status is 0; 4, `SharedSquare`; or 6, `NoMove`, if
 /// the mover can't move to the square. With 4 and 6 `after` is as it was.
 #[unsafe(no_mangle)]
 pub extern "C" fn ffosolve_play(
@@ -210,12 +210,12 @@ pub extern "C" fn ffosolve_play(
     }
 }
 
-/// Reads one line of OBF text, without its end, as `obf_text::read_line` does. The status is 0 where
+/// Reads one line of OBF text, without its end, as `obf_text::read_line` does. The status is 0 if
 /// the line holds a position. It is written to `line`, and its listed moves to `listed` from the
 /// start, as many as there is room for: `line` says how many there are. Otherwise both are as they
-/// were, and the status is 8 where the line is blank or a comment; 9 where it ends before its 64th
-/// square; 10 where a byte is not a square; 11 where the side to move is missing; or 7, out of
-/// memory, but never where no move is listed. With 9 `at` is the number of squares, and with 10 and
+/// were, and the status is 8 if the line is blank or a comment; 9 if it ends before its 64th
+/// square; 10 if a byte is not a square; 11 if the side to move is missing; or 7, out of
+/// memory, but never if no move is listed. With 9 `at` is the number of squares, and with 10 and
 /// 11 the column, counted from 1 in bytes; otherwise it is as it was.
 #[unsafe(no_mangle)]
 pub extern "C" fn ffosolve_read_line(

@@ -20,7 +20,7 @@ use endgame_search::solve;
 use othello_rules::Scoring;
 use std::alloc::Global;
 
-// The index of the first position that is refused, and its refusal. None where none is refused.
+// The index of the first position that is refused, and its refusal. None if none is refused.
 fn first_refused(positions: &[FfosolvePosition]) -> Option<(usize, CallRefusal)>
     ensures good { IsNone result → AreSolvable positions.now }
     ensures none { IsNone result → first_refusal positions.now ≡ None }

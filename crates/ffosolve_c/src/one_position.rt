@@ -15,7 +15,7 @@ use endgame_search::{Claim, Task, confirm, solve};
 use othello_rules::Answer;
 use std::alloc::Global;
 
-// The answer of a task, by a search that tests the claim first where there is one.
+// The answer of a task, by a search that tests the claim first if there is one.
 fn find_answer(table: &BoundTable, task: Task, claim: Option<Claim>) -> Answer
     requires { task.scoring ≡ table.now.scoring }
     ensures { result ≡ answer_of task.scoring task.position }
@@ -28,7 +28,7 @@ fn find_answer(table: &BoundTable, task: Task, claim: Option<Claim>) -> Answer
 }
 
 /// The answer of a position, by a search over a new table of `entries` entries that tests the claim
-/// first where there is one. `Err` is the first refusal of the request.
+/// first if there is one. `Err` is the first refusal of the request.
 pub fn answer_one(
     alloc: Global,
     position: FfosolvePosition,

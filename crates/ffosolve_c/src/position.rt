@@ -20,7 +20,7 @@ pub struct FfosolvePosition {
     pub opp: u64,
 }
 
-/// The position of the two masks. `SharedSquare` where they share a square.
+/// The position of the two masks. `SharedSquare` if they share a square.
 pub fn position_of(position: FfosolvePosition) -> Result<Pos, CallRefusal>
     ensures apart { IfOk result (λ p. bit_and position.own position.opp ≡ 0) }
     ensures value { IfOk result (λ p. p ≡ discs_at position) }
@@ -33,8 +33,8 @@ pub fn position_of(position: FfosolvePosition) -> Result<Pos, CallRefusal>
     }
 }
 
-/// The task of the position under a scoring. `SharedSquare` where the masks share a square;
-/// `TooManyEmpties` where more than `Task::MOST_EMPTIES` squares are empty.
+/// The task of the position under a scoring. `SharedSquare` if the masks share a square;
+/// `TooManyEmpties` if more than `Task::MOST_EMPTIES` squares are empty.
 #[tactic(auto, unfolding(crate::specs::Refusals::position_refusal))]
 pub fn task_of(position: FfosolvePosition, scoring: Scoring) -> Result<Task, CallRefusal>
     ensures good { IfOk result (λ task. position_refusal position ≡ None) }
@@ -51,8 +51,8 @@ pub fn task_of(position: FfosolvePosition, scoring: Scoring) -> Result<Task, Cal
     }
 }
 
-/// The position after the mover's move to `square`, 0 to 63. `SharedSquare` where the masks share a
-/// square; `NoMove` where the mover can't move to the square.
+/// The position after the mover's move to `square`, 0 to 63. `SharedSquare` if the masks share a
+/// square; `NoMove` if the mover can't move to the square.
 pub fn play_move(position: FfosolvePosition, square: u8) -> Result<FfosolvePosition, CallRefusal>
     ensures apart { IfOk result (λ after. bit_and position.own position.opp ≡ 0) }
     ensures legal { IfOk result (λ after. IsMove (discs_at position) square) }

@@ -26,7 +26,7 @@ pub struct FfosolveMoveScores {
     pub moves: u64,
 }
 
-// The score of the move to the square as the mover sees it, or 127 where it is not a move.
+// The score of the move to the square as the mover sees it, or 127 if it is not a move.
 fn score_at(table: &BoundTable, position: Pos, square: Square) -> i8
     ensures { result ≡ score_at table.now.scoring position square }
 {
@@ -37,7 +37,7 @@ fn score_at(table: &BoundTable, position: Pos, square: Square) -> i8
     }
 }
 
-// Writes at each square's number the score of the move there, or 127 where it is not a move.
+// Writes at each square's number the score of the move there, or 127 if it is not a move.
 fn fill_scores(table: &BoundTable, position: Pos, scores: &mut [i8])
     requires { length scores.old ≡ 64 }
     ensures { scores.new ≡ map (score_at table.now.scoring position) squares }

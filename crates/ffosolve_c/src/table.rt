@@ -18,7 +18,7 @@ fn numbered_scoring(number: u32) -> Option<Scoring>
     Scoring::ALL.get(number as usize).copied()
 }
 
-/// The scoring with the number `number`, for a table of `entries` entries. `UnknownScoring` where
+/// The scoring with the number `number`, for a table of `entries` entries. `UnknownScoring` if
 /// none has the number; `TooManyEntries` above `BoundTable::MOST_ENTRIES`.
 #[tactic(auto, unfolding(crate::specs::Refusals::table_refusal, crate::specs::Answers::numbered_scoring))]
 pub fn table_scoring(number: u32, entries: usize) -> Result<Scoring, CallRefusal>
@@ -38,7 +38,7 @@ pub fn table_scoring(number: u32, entries: usize) -> Result<Scoring, CallRefusal
     Ok(scoring)
 }
 
-/// A new table of `entries` entries. `NoMemory` where memory was refused, but never with 0 entries.
+/// A new table of `entries` entries. `NoMemory` if memory was refused, but never with 0 entries.
 pub fn table_of(alloc: Global, entries: usize, scoring: Scoring) -> Result<BoundTable, CallRefusal>
     requires { entries ≤ most_entries }
     ensures made { IfOk result

@@ -22,7 +22,7 @@ pub fn greatest_is_value()
     ensures { (g : Scoring) (p : PosView) → greatest_listed (score_fields_of g p) ≡ value_of g p }
 {}
 
-/// A move is listed with the value of the position exactly where it is a best move.
+/// A move is listed with the value of the position exactly if it is a best move.
 pub fn best_are_first()
     ensures listed { (g : Scoring) (p : PosView) (q : ℕ) → IsMove p q
         → neg_ℤ (value_of g (play_of p q)) ≡ value_of g p

@@ -32,7 +32,7 @@ pub record IsPass (text : List ℕ) : Type 0 where
   pub p : (first ≡ 80) ⊎ (first ≡ 112)
   pub s : (second ≡ 83) ⊎ (second ≡ 115)
 
--- a square's name, `PS` for a pass, `--` where the game is over
+-- a square's name, `PS` for a pass, `--` if the game is over
 abbrev pub IsMoveText : List ℕ → ListedMove → Type 0
 IsMoveText text (At square) = (square < 64) × IsNameOf text square
 IsMoveText text Pass = IsPass text
@@ -185,7 +185,7 @@ field_of piece = field_of_text (without_blanks piece)
 abbrev pub fields_of : List ℕ → List Field
 fields_of rest = filter_map field_of (pieces_of rest)
 
--- the pieces of the text that is left, or none where no text is left
+-- the pieces of the text that is left, or none if no text is left
 abbrev pub pieces_left : Option (List ℕ) → List (List ℕ)
 pieces_left None = []
 pieces_left (Some text) = slice_split (λ b. b == 59) text

@@ -158,7 +158,7 @@ abbrev pub HasListed : Meaning → Type 0
 HasListed (Holds entry) = 0 < length entry.listed
 HasListed _ = ⊥
 
--- the result says this meaning; it is `Memory` only where fields are listed
+-- the result says this meaning; it is `Memory` only if fields are listed
 abbrev pub Gives : Result Item LineFault → Meaning → Type 0
 Gives (Ok item.Skip) meaning = meaning ≡ Skipped
 Gives (Ok (item.Entry line)) meaning = meaning ≡ Holds (entry_of line)

@@ -54,7 +54,7 @@ fn greatest_of(first: &(ListedMove, i8), others: &[(ListedMove, i8)]) -> i8
     greatest
 }
 
-/// The greatest listed score. None where no move is listed.
+/// The greatest listed score. None if no move is listed.
 #[tactic(auto, unfolding(othello_rules::specs::Value::greatest))]
 pub fn greatest_score(listed: &[(ListedMove, i8)]) -> Option<i8>
     ensures none { IsNone result ↔ (listed.now ≡ []) }

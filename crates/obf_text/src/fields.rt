@@ -12,10 +12,10 @@ use crate::pieces::pieces_of;
 use othello_rules::{GREATEST_SCORE, Square};
 use std::alloc::{AllocError, Global};
 
-// The greatest size of a score: the number without its sign.
+// The greatest absolute value of a score.
 const GREATEST_SIZE: u8 = GREATEST_SCORE as u8;
 
-// The number of a digit. None where the byte is not a digit.
+// The number of a digit. None if the byte is not a digit.
 fn digit_of(byte: u8) -> Option<u8>
     ensures value { result ≡ digit_of byte }
     ensures small { IfSome result (λ d. d ≤ 9) }
@@ -26,7 +26,7 @@ fn digit_of(byte: u8) -> Option<u8>
     }
 }
 
-// The square that two bytes name, the letter in either case. None where they name no square.
+// The square that two bytes name, the letter in either case. None if they name no square.
 fn square_of(first: u8, second: u8) -> Option<ListedMove>
     ensures { result ≡ square_in (column_of_letter first) (row_of_digit second) }
 {
@@ -34,7 +34,7 @@ fn square_of(first: u8, second: u8) -> Option<ListedMove>
     Some(ListedMove::At(square))
 }
 
-// The move that two bytes name: a pass, the end of the game or a square. None where they name no
+// The move that two bytes name: a pass, the end of the game or a square. None if they name no
 // move.
 fn move_of(first: u8, second: u8) -> Option<ListedMove>
     ensures { result ≡ move_of first second }
@@ -67,7 +67,7 @@ fn size_of(digits: &[u8]) -> Option<u8>
     }
 }
 
-// The score of a text: a number after `+`, `-` or no sign. None where the text is not a score.
+// The score of a text: a number after `+`, `-` or no sign. None if the text is not a score.
 fn score_of_text(text: &[u8]) -> Option<i8>
     ensures { result ≡ score_of_text text.now }
 {
@@ -87,7 +87,7 @@ fn score_of_text(text: &[u8]) -> Option<i8>
     }
 }
 
-// The field of a text without blanks at its ends: a move, a colon and a score. None where the text
+// The field of a text without blanks at its ends: a move, a colon and a score. None if the text
 // is not a field.
 fn field_of_text(text: &[u8]) -> Option<(ListedMove, i8)>
     ensures { result ≡ field_of_text text.now }
@@ -128,7 +128,7 @@ pub fn without_blanks(piece: &[u8]) -> &[u8]
     without_last_blanks(without_first_blanks(piece))
 }
 
-/// The move that a piece of a line lists, with its score from -64 to 64. None where the piece is
+/// The move that a piece of a line lists, with its score from -64 to 64. None if the piece is
 /// not a field.
 pub fn field_of(piece: &[u8]) -> Option<(ListedMove, i8)>
     ensures { result ≡ field_of piece.now }
@@ -137,7 +137,7 @@ pub fn field_of(piece: &[u8]) -> Option<(ListedMove, i8)>
 }
 
 // The fields among the pieces of the bytes after the side to move, in their order. Memory is taken
-// only for fields. `Err` where it is refused.
+// only for fields. `Err` if it is refused.
 pub(crate) fn read_fields(alloc: Global, rest: &[u8]) -> Result<Vec<(ListedMove, i8)>, AllocError>
     ensures ok { IfOk result (λ listed. listed.items ≡ fields_of rest.now) }
     ensures err { OnErr result (0 < length (fields_of rest.now)) }

@@ -17,7 +17,7 @@ fn first_percent(rest: &[u8]) -> Option<usize>
     rest.iter().position(|b| *b == b'%')
 }
 
-// The bytes before the first `%`: all bytes where no `%` is among them.
+// The bytes before the first `%`: all bytes if no `%` is among them.
 fn before_comment(rest: &[u8]) -> &[u8]
     ensures { result.now ≡ before_first (λ b. b == 37) rest.now }
 {
@@ -27,7 +27,7 @@ fn before_comment(rest: &[u8]) -> &[u8]
     }
 }
 
-/// The comment of a line: its bytes from the first `%` on. It is empty where the line has no `%`.
+/// The comment of a line: its bytes from the first `%` on. It is empty if the line has no `%`.
 pub fn comment_of(line: &[u8]) -> &[u8]
     ensures { result.now ≡ comment_of line.now }
 {
@@ -59,7 +59,7 @@ fn first_semicolon(text: &[u8]) -> Option<usize>
     text.iter().position(|b| *b == b';')
 }
 
-// The first piece, and the text after the semicolon that ends it. None where the text ends it.
+// The first piece, and the text after the semicolon that ends it. None if the text ends it.
 fn first_piece(text: &[u8]) -> (&[u8], Option<&[u8]>)
     ensures { pieces_left (Some text.now)
         ≡ result.0.now ∷ pieces_left (option_map (λ t. t.now) result.1) }
@@ -94,7 +94,7 @@ pub(crate) fn pieces_of(rest: &[u8]) -> Pieces<'_>
     }
 }
 
-// The bytes after the first `count` bytes: none where there are no more.
+// The bytes after the first `count` bytes: none if there are no more.
 fn behind(bytes: &[u8], count: usize) -> &[u8]
     ensures { result.now ≡ drop count bytes.now }
 {

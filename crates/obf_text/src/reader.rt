@@ -64,20 +64,20 @@ fn read_board(alloc: Global, start: usize, rest: &[u8]) -> Result<Item, LineFaul
 
 /// Reads the bytes of one line, without the line's end.
 ///
-/// A line is skipped where it is blank, or where its first byte after blanks is `%`. Any other line
+/// A line is skipped if it is blank, or if its first byte after blanks is `%`. Any other line
 /// is blanks, 64 squares in the order A1, B1, .. H8, blanks, the side to move, and pieces. Blanks
 /// are spaces and tabs. A square is a letter of a black disc (`X x * B b`) or of a white disc
 /// (`O o W w`), or an empty square (`-` or `.`). The side to move is a letter of its discs. The
 /// pieces are the bytes after it up to the first `%`, cut at each `;`. A piece such as `H1:+62`,
 /// `ps:-4` or `--:0` lists a move with its score. Any other piece is skipped.
 ///
-/// `Err` is the first fault from the left, with its column where it has one, or `Memory` where
+/// `Err` is the first fault from the left, with its column if it has one, or `Memory` if
 /// memory was refused. Memory is taken only for listed moves.
 pub fn read_line(alloc: Global, line: &[u8]) -> Result<Item, LineFault>
     // The result is what the line says by the grammar.
     ensures says { (meaning : Meaning) → Says line.now meaning → Gives result meaning }
     ensures exact { Gives result (item_of line.now) }
-    // The number in a fault is at most the length of the line, and 1 more where the line ends
+    // The number in a fault is at most the length of the line, and 1 more if the line ends
     // before its side.
     ensures place { IfErr result (λ fault. place_of fault ≤ length line.now + 1) }
 {

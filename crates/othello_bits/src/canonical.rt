@@ -27,7 +27,7 @@ impl Image {
         }
     }
 
-    // The other image where its pair (own, opp) is less, own compared first; otherwise this image.
+    // The other image if its pair (own, opp) is less, own compared first; otherwise this image.
     #[inline(always)]
     fn least(self, other: Image) -> Image
         ensures { result ≡ (if is_less other self then other else self) }
@@ -39,7 +39,7 @@ impl Image {
         }
     }
 
-    // The lesser of the images under two symmetries. Where they are equal, the symmetry is `first`.
+    // The lesser of the images under two symmetries. If they are equal, the symmetry is `first`.
     #[inline(always)]
     fn lesser(own: u64, opp: u64, first: Sym, second: Sym) -> Image
         ensures { let one = image_with own opp first in let other = image_with own opp second in

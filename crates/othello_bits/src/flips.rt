@@ -399,7 +399,7 @@ fn mirror_square(square: u8) -> u8
 
 // The mask of the discs that the mover turns to the north-west, north and north-east by a disc on
 // the square. Each mask is turned over by itself: the compiler makes a byte swap of that, and none
-// where the masks are joined first.
+// if the masks are joined first.
 #[inline(always)]
 pub fn to_north(own: u64, opp: u64, square: u8) -> u64
     requires { square < 64 }

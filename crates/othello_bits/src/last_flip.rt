@@ -225,7 +225,7 @@ fn in_rising(own: u64, square: u8) -> u8
     TURNED_IN_LINE[(square % 8) as usize][gathered as usize]
 }
 
-// The number of discs that the mover turns by a disc on the square, where no other square is empty:
+// The number of discs that the mover turns by a disc on the square, if no other square is empty:
 // 0 if the square is occupied.
 #[inline(always)]
 pub fn count_flips(own: u64, opp: u64, square: u8) -> u32

@@ -47,7 +47,7 @@ impl Model for Pos {
 
 impl Pos {
     /// The position with the mover's discs `own` and the opponent's discs `opp`: A1 is bit 0. None
-    /// where the masks share a bit.
+    /// if the masks share a bit.
     pub fn new(own: u64, opp: u64) -> Option<Pos>
         ensures apart { IsSome result ↔ (bit_and own opp ≡ 0) }
         ensures value { IfSome result (λ p. p ≡ discs own opp) }
@@ -104,7 +104,7 @@ impl Pos {
         moves::moves(self.own, self.opp)
     }
 
-    /// The mask of the discs that a move on the square turns: A1 is bit 0. The mask is 0 where the
+    /// The mask of the discs that a move on the square turns: A1 is bit 0. The mask is 0 if the
     /// square is occupied or no disc is turned.
     #[inline(always)]
     pub fn flips(self, square: Square) -> u64
@@ -117,8 +117,8 @@ impl Pos {
         moves::flips(self.own, self.opp, square.number())
     }
 
-    /// The number of discs that a move on the square turns, where no other square is empty. It is 0
-    /// where the square is occupied or no disc is turned.
+    /// The number of discs that a move on the square turns, if no other square is empty. It is 0
+    /// if the square is occupied or no disc is turned.
     #[inline(always)]
     pub fn count_last_flips(self, square: Square) -> u32
         requires last { (q : ℕ) → rules.has (position_of Black self) cell.Empty q ≡ true
@@ -129,7 +129,7 @@ impl Pos {
         count_flips(self.own, self.opp, square.number())
     }
 
-    /// The position after a move on the square, with the opponent to move. None where the square is
+    /// The position after a move on the square, with the opponent to move. None if the square is
     /// occupied or no disc is turned.
     #[inline(always)]
     pub fn play(self, square: Square) -> Option<Pos>

@@ -40,7 +40,7 @@ directions =
     ∷ []
 
 -- how many steps a ray may make in its columns, or in its rows, before the edge; 7, the most of any
--- ray, where it stays in one
+-- ray, if it stays in one
 abbrev pub steps_along : Step → ℕ → ℕ
 steps_along Back at = at
 steps_along Stay at = 7

@@ -17,6 +17,6 @@ abbrev pub square_in_both : Option ℕ → Option ℕ → Option ℕ
 square_in_both (Some c) (Some r) = Some (square_at c r)
 square_in_both _ _ = None
 
--- the neighbour of q in a direction, where the board has one
+-- the neighbour of q in a direction, if the board has one
 abbrev pub neighbour : Direction → ℕ → Option ℕ
 neighbour d q = square_in_both (next_place d.column (column q)) (next_place d.row (row q))

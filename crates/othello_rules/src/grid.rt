@@ -140,7 +140,7 @@ impl Grid {
     }
 
     /// The squares of the discs that a move on the square would turn: direction by direction
-    /// (north, north-east, and so on clockwise), nearest first. There are none where the square is
+    /// (north, north-east, and so on clockwise), nearest first. There are none if the square is
     /// occupied.
     pub fn flips(&self, square: Square) -> ArrayVec<Square, 64>
         ensures value { result.items ≡ flips self.now square }
@@ -166,8 +166,8 @@ impl Grid {
     }
 
     /// The position after a move on the square: the disc put there and all discs that it turns are
-    /// the mover's, and the other side is to move. `Occupied` where the square is occupied;
-    /// `TurnsNothing` where it is empty and no disc would be turned.
+    /// the mover's, and the other side is to move. `Occupied` if the square is occupied;
+    /// `TurnsNothing` if it is empty and no disc would be turned.
     pub fn play(&self, square: Square) -> Result<Grid, RuleFault>
         ensures occupied { (result ≡ Err RuleFault.Occupied)
             ↔ (has self.now Cell.Empty square ≡ false) }

@@ -15,7 +15,7 @@ ghost use Rattle.othello_rules.specs.Value.{greatest, value, best_moves, answer}
 ghost use Rattle.othello_rules.specs.Colours.{colour_swap};
 ghost use Rattle.othello_rules.specs.Answer.{IsScore};
 
-/// The ray from a square is empty where the square has no neighbour in the direction. Otherwise it
+/// The ray from a square is empty if the square has no neighbour in the direction. Otherwise it
 /// is the neighbour, followed by the neighbour's ray.
 pub fn rays_go_step_by_step()
     ensures edge { (d : Direction) (q : ℕ) → Contains directions d → q < 64
@@ -26,7 +26,7 @@ pub fn rays_go_step_by_step()
         → ray d q ≡ next ∷ ray d next }
 {}
 
-/// The value is that of textbook minimax. Where the game is over, it is the final score. Where
+/// The value is that of textbook minimax. If the game is over, it is the final score. If
 /// only the mover has no move, it is minus the value after a pass. Otherwise it is the greatest of
 /// minus the value after each move. The value of at most 64 cells is from -64 to 64.
 pub fn value_is_minimax()

@@ -22,7 +22,7 @@ pub enum Scoring {
     Winner,
     /// The plain disc difference.
     Discs,
-    /// 1, 0 or -1 where the mover has more discs, as many or fewer.
+    /// 1, 0 or -1 if the mover has more discs, as many or fewer.
     Sign,
 }
 

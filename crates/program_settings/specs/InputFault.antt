@@ -27,7 +27,7 @@ refusal_of texts =
     if nat_lt most_files (length texts) then Some TooManyFiles
     else option_map FileTooLarge (first_large texts)
 
--- the result is the refusal of the texts, or Ok where there is none
+-- the result is the refusal of the texts, or Ok if there is none
 abbrev pub Refuses : Result (Unit {0}) InputFault → List (List ℕ) → Type 0
 Refuses (Ok nothing) texts = refusal_of texts ≡ None
 Refuses (Err fault) texts = refusal_of texts ≡ Some fault

@@ -16,14 +16,14 @@ most_files = 64
 abbrev pub most_bytes : ℕ
 most_bytes = 1048576
 
--- the limit of empty squares where none is given
+-- the limit of empty squares if none is given
 abbrev pub default_empties : ℕ
 default_empties = 20
 
--- the worker threads where no number is given
+-- the worker threads if no number is given
 abbrev pub default_workers : ℕ
 default_workers = 2
 
--- the entries of the table where no number is given
+-- the entries of the table if no number is given
 abbrev pub default_entries : ℕ
 default_entries = 65536

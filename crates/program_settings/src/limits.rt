@@ -17,11 +17,11 @@ pub const MOST_ENTRIES: u32 = BoundTable::MOST_ENTRIES as u32;
 pub const MOST_FILES: usize = 64;
 /// The most bytes of a file.
 pub const MOST_BYTES: usize = 1_048_576;
-/// The limit of empty squares where none is given.
+/// The limit of empty squares if none is given.
 pub const DEFAULT_EMPTIES: u8 = 20;
-/// The number of worker threads where none is given.
+/// The number of worker threads if none is given.
 pub const DEFAULT_WORKERS: u8 = 2;
-/// The entries of the table of bounds where no number is given.
+/// The entries of the table of bounds if no number is given.
 pub const DEFAULT_ENTRIES: u32 = 65_536;
 /// `DEFAULT_EMPTIES` as the words of a command line have it.
 pub const DEFAULT_EMPTIES_TEXT: &str = "20";

@@ -56,7 +56,7 @@ impl Model for Settings {
 impl Settings {
     /// Settings by which positions of at most `max_empties` empty squares are solved, on `workers`
     /// threads besides one per file, over a table of `table` entries. A line may leave out best
-    /// moves. None where a number is above its limit: `MOST_EMPTIES`, `MOST_WORKERS` and
+    /// moves. None if a number is above its limit: `MOST_EMPTIES`, `MOST_WORKERS` and
     /// `MOST_ENTRIES`.
     pub fn new(max_empties: u8, workers: u8, table: u32, scoring: Scoring) -> Option<Settings>
         ensures within { IsSome result ↔ IsWithinLimits (record {
