@@ -5,7 +5,8 @@ use Rattle.std.specs.Io.KnownBytes.{Appends}
 use Rattle.scored_lines.specs.Lines.{AppendsFront, lists_right, lists_text}
 use Rattle.program_settings.specs.InputFault.{first_large}
 use Rattle.program_settings.specs.declared.limits.TheConstants.{MOST_FILES}
-use Rattle.ffoscores_program.specs.Options.{ListRequest, demands_of}
+use Rattle.program_settings.specs.Settings.{criteria_of}
+use Rattle.ffoscores_program.specs.Options.{ListRequest}
 use Rattle.ffoscores_program.specs.Lists.{AreLists, PrintsLists, StopsLists}
 use Rattle.program_parts.specs.Inputs.{AreFrontsOf}
 use Rattle.program_parts.specs.declared.program_error.ProgramError.{ProgramError}
@@ -17,13 +18,13 @@ pub lists_read : (names : List (List ℕ)) (given : Option (List ℕ)) (texts : 
 lists_read names given texts fronts few small = record { read = whole_texts names given texts fronts small few; few = few; small = small }
 
 pub printed : (r : Result Bool ProgramError) (q : ListRequest) (given old new : Option (List ℕ)) (texts : List (List ℕ))
-    → AreLists q.files given texts → OnOk r (Appends old new (lists_text q.settings.scoring (demands_of q) texts))
-    → IfOk r (λ right. right ≡ lists_right q.settings.scoring (demands_of q) texts) → IfOk r (PrintsLists q given old new)
+    → AreLists q.files given texts → OnOk r (Appends old new (lists_text q.settings.scoring (criteria_of q.settings) texts))
+    → IfOk r (λ right. right ≡ lists_right q.settings.scoring (criteria_of q.settings) texts) → IfOk r (PrintsLists q given old new)
 printed (Ok right) q given old new texts lists written e = record { texts = texts; lists = lists; written = written; told = e }
 printed (Err error) q given old new texts lists written e = tt
 
 pub stopped : (r : Result Bool ProgramError) (q : ListRequest) (given old new : Option (List ℕ)) (texts : List (List ℕ))
-    → AreLists q.files given texts → OnErr r (AppendsFront old new (lists_text q.settings.scoring (demands_of q) texts))
+    → AreLists q.files given texts → OnErr r (AppendsFront old new (lists_text q.settings.scoring (criteria_of q.settings) texts))
     → OnErr r (StopsLists q given old new)
 stopped (Ok right) q given old new texts lists front = tt
 stopped (Err error) q given old new texts lists front = inr (record { texts = texts; lists = lists; front = front })

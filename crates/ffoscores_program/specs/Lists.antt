@@ -7,12 +7,13 @@ use Rattle.list_printer.specs.declared.lists.ListFault.{ListFault}
 use Rattle.list_printer.specs.declared.lists.ListFault.TheVariants as list
 use Rattle.program_settings.specs.InputFault.{first_large}
 use Rattle.program_settings.specs.Limits.{most_files}
+use Rattle.program_settings.specs.Settings.{criteria_of}
 use Rattle.program_parts.specs.CommandLine.{AsksForText}
 use Rattle.program_parts.specs.Endings.{EndsProgram}
 use Rattle.program_parts.specs.Inputs.{AreTextsOf}
 use Rattle.program_parts.specs.declared.program_error.ProgramError.{ProgramError}
 use Rattle.program_parts.specs.declared.program_error.ProgramError.TheVariants.{BadWords, CannotWrite, Memory}
-use Rattle.ffoscores_program.specs.Options.{AsksLists, ListRequest, demands_of, ffoscores}
+use Rattle.ffoscores_program.specs.Options.{AsksLists, ListRequest, ffoscores}
 
 -- These are the texts of the files of these names, or of standard input, and they are within the
 -- limits: there are not too many, and none is too large.
@@ -28,14 +29,14 @@ pub record PrintsLists (r : ListRequest) (given old new : Option (List ℕ)) (ri
     : Type 0 where
   pub texts : List (List ℕ)
   pub lists : AreLists r.files given texts
-  pub written : Appends old new (lists_text r.settings.scoring (demands_of r) texts)
-  pub told : right ≡ lists_right r.settings.scoring (demands_of r) texts
+  pub written : Appends old new (lists_text r.settings.scoring (criteria_of r.settings) texts)
+  pub told : right ≡ lists_right r.settings.scoring (criteria_of r.settings) texts
 
 -- a front of the lists was printed with every move's score
 pub record PrintsListsFront (r : ListRequest) (given old new : Option (List ℕ)) : Type 0 where
   pub texts : List (List ℕ)
   pub lists : AreLists r.files given texts
-  pub front : AppendsFront old new (lists_text r.settings.scoring (demands_of r) texts)
+  pub front : AppendsFront old new (lists_text r.settings.scoring (criteria_of r.settings) texts)
 
 -- nothing was printed, or a front of the lists was
 abbrev pub StopsLists : ListRequest → Option (List ℕ) → Option (List ℕ) → Option (List ℕ) → Type 0

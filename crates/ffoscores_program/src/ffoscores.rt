@@ -4,7 +4,8 @@ ghost use Rattle.std.specs.Prelude.{◌≡◌, map, IfErr, IfOk, OnErr, OnOk};
 ghost use Rattle.std.specs.Io.KnownBytes.{Appends};
 ghost use Rattle.obf_text.specs.LineText.{texts_of};
 ghost use Rattle.scored_lines.specs.Lines.{AppendsFront, lists_right, lists_text};
-ghost use Rattle.ffoscores_program.specs.Options.{demands_of, list_request_of};
+ghost use Rattle.program_settings.specs.Settings.{criteria_of};
+ghost use Rattle.ffoscores_program.specs.Options.{list_request_of};
 ghost use Rattle.ffoscores_program.specs.Lists.{EndsFfoscores, IsListError, PrintsLists, StopsLists, list_status_of};
 
 use crate::exit_status::print_error;
@@ -12,8 +13,7 @@ use crate::ffoscores_options::{ListOptions, read_list_options};
 use bound_table::BoundTable;
 use list_printer::{ListFault, write_lists};
 use program_parts::{OptionFault, ProgramError, end_without_options, read_files};
-use program_settings::check_files;
-use scored_lines::Demands;
+use program_settings::{Settings, check_files};
 use std::alloc::Global;
 use std::io::{Read, Write};
 use std::rt::Files;
@@ -33,37 +33,30 @@ fn list_error(fault: ListFault) -> ProgramError<'static>
 }
 
 // Prints lists again with every move's score, over one table of bounds. As many positions are
-// scored at once as the settings have workers, plus one. The result says whether
-// nothing in them is wrong.
+// scored at once as the settings have workers, plus one. The result says whether nothing in the
+// lists is wrong.
 fn print_lists<T: Threads + Wait, W: Write>(
     rt: &T,
     alloc: Global,
-    asked: &ListOptions,
+    settings: &Settings,
     texts: &[Vec<u8>],
     output: &mut W,
 ) -> Result<bool, ProgramError<'static>>
     ensures written { OnOk result (Appends (W.contents output.old) (W.contents output.new)
-        (lists_text asked.now.settings.scoring (demands_of (list_request_of asked.now))
-        (texts_of texts.now))) }
+        (lists_text settings.now.scoring (criteria_of settings.now) (texts_of texts.now))) }
     ensures front { OnErr result (AppendsFront (W.contents output.old) (W.contents output.new)
-        (lists_text asked.now.settings.scoring (demands_of (list_request_of asked.now))
-        (texts_of texts.now))) }
+        (lists_text settings.now.scoring (criteria_of settings.now) (texts_of texts.now))) }
     ensures right { IfOk result (λ right. right
-        ≡ lists_right asked.now.settings.scoring (demands_of (list_request_of asked.now))
-        (texts_of texts.now)) }
+        ≡ lists_right settings.now.scoring (criteria_of settings.now) (texts_of texts.now)) }
     ensures status { IfErr result (λ error. list_status_of error ≡ 3) }
 {
-    let settings = &asked.settings;
     let entries = settings.table() as usize;
     let Ok(table) = BoundTable::new(alloc, entries, settings.scoring()) else {
         return Err(ProgramError::Memory);
     };
     let workers = settings.workers();
-    let demands = Demands {
-        limit: settings.max_empties(),
-        listing: asked.listing,
-    };
-    match write_lists(rt, table, alloc, output, demands, workers, texts) {
+    let criteria = settings.criteria();
+    match write_lists(rt, table, alloc, output, criteria, workers, texts) {
         Ok(right) => Ok(right),
         Err(fault) => Err(list_error(fault)),
     }
@@ -88,7 +81,7 @@ fn carry_out<'a, T: Files + Threads + Wait, R: Read, W: Write>(
 {
     let texts = read_files(rt, alloc, &asked.files, input)?;
     check_files(&texts)?;
-    print_lists(rt, alloc, asked, &texts, output)
+    print_lists(rt, alloc, &asked.settings, &texts, output)
 }
 
 /// The whole program `ffoscores`, for the words of its command line, the program's name first. It

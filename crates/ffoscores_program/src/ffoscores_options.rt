@@ -4,7 +4,7 @@ ghost use Rattle.std.specs.Prelude.{◌≡◌, IfOk, IfErr, map};
 ghost use Rattle.clap.specs.Words.{app_of};
 ghost use Rattle.program_parts.specs.CommandLine.{IsFaultFor, IsTakenBy};
 ghost use Rattle.program_parts.specs.declared.option_fault.OptionFault.TheVariants.{Memory};
-ghost use Rattle.ffoscores_program.specs.Options.{AsksLists, ffoscores, is_complete, list_request_of};
+ghost use Rattle.ffoscores_program.specs.Options.{AsksLists, ffoscores, list_request_of};
 
 use clap::Command;
 use othello_rules::Scoring;
@@ -13,7 +13,6 @@ use program_parts::settings_args::{
     bare_command, files_arg, files_of, flag_arg, settings_of, with_settings,
 };
 use program_settings::Settings;
-use scored_lines::Listing;
 use std::alloc::{AllocError, Global};
 
 const ABOUT: &str = "\
@@ -42,10 +41,7 @@ Examples:
 /// The options of a command line of `ffoscores`.
 #[derive(Debug, Drop)]
 pub struct ListOptions {
-    /// The limit of empty squares, the workers, the table and the scoring.
     pub settings: Settings,
-    /// Which moves a line that lists moves has to list.
-    pub listing: Listing,
     /// The names of the files as given, in their order. Without any, standard input is the one
     /// file.
     pub files: Vec<String>,
@@ -68,17 +64,6 @@ fn ffoscores_command<'a>(alloc: Global, names: &'a [&'a str]) -> Result<Command<
     with_complete.arg(files_arg(alloc))
 }
 
-// Which moves a line has to list, by the flag `--complete`.
-fn listing_of(flag: bool) -> Listing
-    ensures { is_complete result ≡ flag }
-{
-    if flag {
-        Listing::Complete
-    } else {
-        Listing::Any
-    }
-}
-
 /// Reads the words of a command line of `ffoscores`, the program's name first. The error is
 /// `Memory` where memory was refused. Any other error has clap's error, which is also the help or
 /// the version where the words ask for one.
@@ -97,10 +82,10 @@ pub fn read_list_options(alloc: Global, words: &[&str]) -> Result<ListOptions, O
     let matches = command.try_get_matches_from(words)?;
     // Each option has a default, and clap keeps each number in its range.
     let settings = settings_of(&matches).unwrap();
+    let complete = matches.get_flag("complete");
     let files = files_of(alloc, &matches)?;
     Ok(ListOptions {
-        settings,
-        listing: listing_of(matches.get_flag("complete")),
+        settings: settings.with_complete(complete),
         files,
     })
 }

@@ -5,7 +5,7 @@ use Rattle.std.specs.Io.KnownBytes.{Appends}
 use Rattle.std.proofs.lemmas.List.{append_assoc, append-nil}
 use Rattle.othello_rules.specs.declared.scoring.Scoring.{Scoring}
 use Rattle.obf_text.specs.LineText.{lines_of}
-use Rattle.scored_lines.specs.declared.demands.Demands.{Demands}
+use Rattle.program_settings.specs.declared.criteria.Criteria.{Criteria}
 use Rattle.scored_lines.specs.Lines.{AppendsFront, Prints, are_right, lists_right, lists_text, lines_text}
 use Rattle.list_printer.specs.Chunks.{all_lines}
 use Rattle.list_printer.specs.Output.{Output, PrintsPart, chunks_output, both, lines_output, lists_output, queue_output}
@@ -111,19 +111,19 @@ front_stopped old now front chunks after cut h =
     (front_part old now front.text (chunks_output after).text h)
 
 -- a further chunk is started: what is left to print stays the same
-pub start_more : (old now : Option (List ℕ)) (g : Scoring) (d : Demands) (all : Output) (right : Bool)
+pub start_more : (old now : Option (List ℕ)) (g : Scoring) (by : Criteria) (all : Output) (right : Bool)
     (chunks wider : List Output) (lines front after : List (List ℕ)) → lines ≡ front ++ after
-    → wider ≡ chunks ++ lines_output g d front ∷ []
-    → PrintsPart old now all (both (queue_output right chunks) (lines_output g d lines))
-    → PrintsPart old now all (both (queue_output right wider) (lines_output g d after))
-start_more old now g d all right chunks wider lines front after cut to h =
+    → wider ≡ chunks ++ lines_output g by front ∷ []
+    → PrintsPart old now all (both (queue_output right chunks) (lines_output g by lines))
+    → PrintsPart old now all (both (queue_output right wider) (lines_output g by after))
+start_more old now g by all right chunks wider lines front after cut to h =
     let printed : Output = record { text = []; right = right } in
-    let x = lines_output g d front in
-    let more = lines_output g d after in
-    let split : lines_output g d lines ≡ both x more =
-    same_output (lines_output g d lines) (both x more)
-    (ap (lines_text g d) cut ∙ lines_both g d front after)
-    (ap (are_right g d) cut ∙ right_both g d front after) in
+    let x = lines_output g by front in
+    let more = lines_output g by after in
+    let split : lines_output g by lines ≡ both x more =
+    same_output (lines_output g by lines) (both x more)
+    (ap (lines_text g by) cut ∙ lines_both g by front after)
+    (ap (are_right g by) cut ∙ right_both g by front after) in
     let wide : queue_output right wider ≡ both (queue_output right chunks) x =
     ap (both printed) (ap chunks_output to ∙ all_snoc chunks x)
     ∙ sym (both_assoc printed (chunks_output chunks) x) in
@@ -147,58 +147,58 @@ start_stop old now next all before more h k =
     printed_stop old now next all (both before more) h
     (front_part now next before.text more.text k)
 
-lines_nothing : (g : Scoring) (d : Demands) → lines_output g d [] ≡ nothing
-lines_nothing g d =
-    same_output (lines_output g d []) nothing (lines_none g d) (right_none g d)
+lines_nothing : (g : Scoring) (by : Criteria) → lines_output g by [] ≡ nothing
+lines_nothing g by =
+    same_output (lines_output g by []) nothing (lines_none g by) (right_none g by)
 
-lists_none : (g : Scoring) (d : Demands) → lists_output g d [] ≡ nothing
+lists_none : (g : Scoring) (by : Criteria) → lists_output g by [] ≡ nothing
 unfolding lists_text lists_right
-lists_none g d = refl
+lists_none g by = refl
 
-lists_cons : (g : Scoring) (d : Demands) (text : List ℕ) (texts : List (List ℕ))
-    → lists_output g d (text ∷ texts) ≡ both (lines_output g d (lines_of text)) (lists_output g d texts)
+lists_cons : (g : Scoring) (by : Criteria) (text : List ℕ) (texts : List (List ℕ))
+    → lists_output g by (text ∷ texts) ≡ both (lines_output g by (lines_of text)) (lists_output g by texts)
 unfolding lists_text lists_right
-lists_cons g d text texts = refl
+lists_cons g by text texts = refl
 
 -- the output for lists is that for their lines
-lists_lines : (g : Scoring) (d : Demands) (texts : List (List ℕ))
-    → lists_output g d texts ≡ lines_output g d (all_lines texts)
-lists_lines g d [] = lists_none g d ∙ sym (lines_nothing g d)
-lists_lines g d (text ∷ texts) =
+lists_lines : (g : Scoring) (by : Criteria) (texts : List (List ℕ))
+    → lists_output g by texts ≡ lines_output g by (all_lines texts)
+lists_lines g by [] = lists_none g by ∙ sym (lines_nothing g by)
+lists_lines g by (text ∷ texts) =
     let first = lines_of text in
     let more = all_lines texts in
-    lists_cons g d text texts ∙ ap (both (lines_output g d first)) (lists_lines g d texts)
-    ∙ sym (same_output (lines_output g d (first ++ more)) (both (lines_output g d first) (lines_output g d more))
-    (lines_both g d first more) (right_both g d first more))
+    lists_cons g by text texts ∙ ap (both (lines_output g by first)) (lists_lines g by texts)
+    ∙ sym (same_output (lines_output g by (first ++ more)) (both (lines_output g by first) (lines_output g by more))
+    (lines_both g by first more) (right_both g by first more))
 
 -- no chunk is started yet
-pub lists_start : (old : Option (List ℕ)) (g : Scoring) (d : Demands) (texts : List (List ℕ))
+pub lists_start : (old : Option (List ℕ)) (g : Scoring) (by : Criteria) (texts : List (List ℕ))
     (right : Bool) (chunks : List Output) → right ≡ true → chunks ≡ []
-    → PrintsPart old old (lists_output g d texts)
-    (both (queue_output right chunks) (lines_output g d (all_lines texts)))
-lists_start old g d texts right chunks is none =
-    let output = lines_output g d (all_lines texts) in
+    → PrintsPart old old (lists_output g by texts)
+    (both (queue_output right chunks) (lines_output g by (all_lines texts)))
+lists_start old g by texts right chunks is none =
+    let output = lines_output g by (all_lines texts) in
     let empty : queue_output right chunks ≡ nothing =
     ap (λ b. queue_output b chunks) is ∙ ap (both nothing) (ap chunks_output none ∙ all_none) in
-    subst (λ queue. PrintsPart old old (lists_output g d texts) (both queue output)) (sym empty)
-    (subst (PrintsPart old old (lists_output g d texts)) (lists_lines g d texts)
-    (printed_start old (lists_output g d texts)))
+    subst (λ queue. PrintsPart old old (lists_output g by texts) (both queue output)) (sym empty)
+    (subst (PrintsPart old old (lists_output g by texts)) (lists_lines g by texts)
+    (printed_start old (lists_output g by texts)))
 
 none_after : (chunks : List Output) → length chunks ≤ 0 → chunks ≡ []
 none_after [] h = refl
 none_after (x ∷ chunks) h = absurd (omega (arith, h))
 
 -- all lines are started, and no chunk is left
-pub lists_end : (old now next : Option (List ℕ)) (g : Scoring) (d : Demands) (all queue : Output)
+pub lists_end : (old now next : Option (List ℕ)) (g : Scoring) (by : Criteria) (all queue : Output)
     (lines : List (List ℕ)) (right : Bool) (chunks : List Output) → lines ≡ []
-    → PrintsPart old now all (both queue (lines_output g d lines))
+    → PrintsPart old now all (both queue (lines_output g by lines))
     → PrintsPart now next queue (queue_output right chunks) → length chunks ≤ 0
     → PrintsPart old next all (queue_output right [])
-lists_end old now next g d all queue lines right chunks none h k few =
+lists_end old now next g by all queue lines right chunks none h k few =
     subst (λ xs. PrintsPart old next all (queue_output right xs)) (none_after chunks few)
     (printed_then old now next all queue (queue_output right chunks)
     (subst (PrintsPart old now all)
-    (ap (both queue) (ap (lines_output g d) none ∙ lines_nothing g d) ∙ both_nothing queue) h) k)
+    (ap (both queue) (ap (lines_output g by) none ∙ lines_nothing g by) ∙ both_nothing queue) h) k)
 
 -- the whole output is printed
 pub all_printed : (old now : Option (List ℕ)) (all : Output) (right : Bool)

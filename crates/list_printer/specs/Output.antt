@@ -4,7 +4,7 @@ use Rattle.std.specs.declared.alloc.AllocError.{AllocError}
 use Rattle.othello_rules.specs.declared.scoring.Scoring.{Scoring}
 use Rattle.obf_text.specs.LineText.{lines_of}
 use Rattle.scored_lines.specs.Lines.{Prints, are_right, lines_text, lists_right, lists_text}
-use Rattle.scored_lines.specs.declared.demands.Demands.{Demands}
+use Rattle.program_settings.specs.declared.criteria.Criteria.{Criteria}
 use Rattle.scored_lines.specs.declared.lines.LinesText.{LinesText}
 use Rattle.list_printer.specs.declared.chunk_threads.ChunkPromise.{ChunkPromise}
 use Rattle.list_printer.specs.declared.chunk_threads.ChunkOutput.{ChunkOutput}
@@ -29,16 +29,16 @@ abbrev pub queue_output : Bool → List Output → Output
 queue_output right chunks = both (record { text = []; right = right }) (chunks_output chunks)
 
 -- the output for lines
-abbrev pub lines_output : Scoring → Demands → List (List ℕ) → Output
-lines_output g d lines = record { text = lines_text g d lines; right = are_right g d lines }
+abbrev pub lines_output : Scoring → Criteria → List (List ℕ) → Output
+lines_output g by lines = record { text = lines_text g by lines; right = are_right g by lines }
 
 -- the output for the lines of a text
-abbrev pub text_output : Scoring → Demands → List ℕ → Output
-text_output g d text = lines_output g d (lines_of text)
+abbrev pub text_output : Scoring → Criteria → List ℕ → Output
+text_output g by text = lines_output g by (lines_of text)
 
 -- the output for the lines of texts, one after the other
-abbrev pub lists_output : Scoring → Demands → List (List ℕ) → Output
-lists_output g d texts = record { text = lists_text g d texts; right = lists_right g d texts }
+abbrev pub lists_output : Scoring → Criteria → List (List ℕ) → Output
+lists_output g by texts = record { text = lists_text g by texts; right = lists_right g by texts }
 
 -- the result is this output; or memory was refused
 abbrev pub Gives : Output → Result LinesText AllocError → Type 0
@@ -46,7 +46,7 @@ Gives output r = IfOk r (λ found. (found.bytes.items ≡ output.text) × (found
 
 -- the output that a chunk's thread promises
 abbrev pub promised_output : ChunkPromise → Output
-promised_output promise = text_output promise.scoring promise.demands promise.text.now
+promised_output promise = text_output promise.scoring promise.criteria promise.text.now
 
 -- the chunk's thread promises this output, or the calling thread made it
 abbrev pub IsOutputOf : Output → ChunkOutput → Type 0

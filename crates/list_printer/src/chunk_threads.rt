@@ -8,7 +8,8 @@ ghost use Rattle.list_printer.specs.Output.{Gives, IsOutputOf, promised_output, 
 use crate::chunks::Chunk;
 use bound_table::{BoundTable, Bounds};
 use othello_rules::Scoring;
-use scored_lines::{Demands, LinesText, lines_text};
+use program_settings::Criteria;
+use scored_lines::{LinesText, lines_text};
 use std::alloc::{AllocError, Global};
 use std::marker::Model;
 use std::sync::Arc;
@@ -20,18 +21,18 @@ use std::thread::{Promise, PromisedHandle, Threads};
 #[derive(Drop)]
 pub(crate) struct Scorer {
     pub table: BoundTable,
-    pub demands: Demands,
+    pub criteria: Criteria,
     /// The number of chunks that are being scored on threads. The calling thread alone adds to it,
     /// and sleeps until it changes.
     pub running: AtomicU64,
 }
 
 /// The promise of a chunk's thread: it gives what is printed for the lines of `text`, under
-/// `scoring`, where `demands` are asked of them.
+/// `scoring` and by `criteria`.
 #[derive(Clone, Copy)]
 pub struct ChunkPromise<'a> {
     pub scoring: Scoring,
-    pub demands: Demands,
+    pub criteria: Criteria,
     pub text: &'a [u8],
 }
 
@@ -53,12 +54,12 @@ pub struct ChunkWork {
 impl ChunkWork {
     // Scores the chunk, and marks it as scored.
     fn run(&self) -> Result<LinesText, AllocError>
-        requires { (arc_value self.now.scorer).demands.limit ≤ most_empties }
+        requires { (arc_value self.now.scorer).criteria.limit ≤ most_empties }
         ensures { Gives (text_output (arc_value self.now.scorer).table.scoring
-            (arc_value self.now.scorer).demands self.now.text.items) result }
+            (arc_value self.now.scorer).criteria self.now.text.items) result }
     {
         let scorer = &*self.scorer;
-        let found = lines_text(&scorer.table, self.alloc, scorer.demands, &self.text);
+        let found = lines_text(&scorer.table, self.alloc, scorer.criteria, &self.text);
         self.done.store(1, Ordering::SeqCst);
         scorer.running.fetch_sub(1, Ordering::SeqCst);
         scorer.running.wake_all();
@@ -134,9 +135,9 @@ fn spawn_chunk<'a, R: Threads>(
     alloc: Global,
     promise: ChunkPromise<'a>,
 ) -> Result<ChunkOutput<'a>, AllocError>
-    requires limit { (arc_value scorer.now).demands.limit ≤ most_empties }
+    requires limit { (arc_value scorer.now).criteria.limit ≤ most_empties }
     requires scoring { promise.scoring ≡ (arc_value scorer.now).table.scoring }
-    requires demands { promise.demands ≡ (arc_value scorer.now).demands }
+    requires criteria { promise.criteria ≡ (arc_value scorer.now).criteria }
     ensures { IfOk result (λ output. IsOutputOf (promised_output promise.entry) output) }
 {
     let work = Arc::new(alloc, work_of(scorer, alloc, promise.text)?)?;
@@ -146,9 +147,9 @@ fn spawn_chunk<'a, R: Threads>(
         rt,
         promise,
         move || -> Result<LinesText, AllocError>
-            requires { (arc_value (arc_value own).scorer).demands.limit ≤ most_empties }
+            requires { (arc_value (arc_value own).scorer).criteria.limit ≤ most_empties }
             ensures { Gives (text_output (arc_value (arc_value own).scorer).table.scoring
-                (arc_value (arc_value own).scorer).demands (arc_value own).text.items) result }
+                (arc_value (arc_value own).scorer).criteria (arc_value own).text.items) result }
         { own.run() },
     );
     match spawned {
@@ -165,14 +166,14 @@ pub(crate) fn start<'a, R: Threads>(
     alloc: Global,
     chunk: Chunk<'a>,
 ) -> StartedChunk<'a>
-    requires { (arc_value scorer.now).demands.limit ≤ most_empties }
+    requires { (arc_value scorer.now).criteria.limit ≤ most_empties }
     ensures { result ≡ text_output (arc_value scorer.now).table.scoring
-        (arc_value scorer.now).demands chunk.entry.front.now }
+        (arc_value scorer.now).criteria chunk.entry.front.now }
 {
     let shared = &**scorer;
     let promise = ChunkPromise {
         scoring: shared.table.scoring(),
-        demands: shared.demands,
+        criteria: shared.criteria,
         text: chunk.front,
     };
     if !chunk.is_for_caller {
@@ -180,7 +181,7 @@ pub(crate) fn start<'a, R: Threads>(
             return StartedChunk { promise, output };
         }
     }
-    let found = lines_text(&shared.table, alloc, shared.demands, chunk.front);
+    let found = lines_text(&shared.table, alloc, shared.criteria, chunk.front);
     StartedChunk {
         promise,
         output: ChunkOutput::Ready(found),

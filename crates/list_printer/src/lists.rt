@@ -12,7 +12,7 @@ ghost use Rattle.list_printer.specs.declared.lists.ListFault.TheVariants.{Cannot
 use crate::chunk_threads::{Scorer, StartedChunk, start};
 use crate::chunks::Lists;
 use bound_table::BoundTable;
-use scored_lines::Demands;
+use program_settings::Criteria;
 use std::alloc::{AllocError, AllocFailed, Global};
 use std::collections::VecDeque;
 use std::io;
@@ -193,20 +193,20 @@ fn print_all<'a, R: Threads + Wait, W: Write>(
     queue: &mut ChunkQueue<'a>,
     texts: &'a [Vec<u8>],
 ) -> Result<(), ListFault>
-    requires limit { (arc_value scorer.now).demands.limit ≤ most_empties }
+    requires limit { (arc_value scorer.now).criteria.limit ≤ most_empties }
     requires empty { queue.old.chunks.items ≡ [] }
     requires right { queue.old.right ≡ true }
     ensures printed { OnOk result (PrintsPart (W.contents writer.old) (W.contents writer.new)
-        (lists_output (arc_value scorer.now).table.scoring (arc_value scorer.now).demands
+        (lists_output (arc_value scorer.now).table.scoring (arc_value scorer.now).criteria
         (texts_of texts.now))
         (queue_output queue.new.right [])) }
     ensures front { OnErr result (AppendsFront (W.contents writer.old) (W.contents writer.new)
-        (lists_text (arc_value scorer.now).table.scoring (arc_value scorer.now).demands
+        (lists_text (arc_value scorer.now).table.scoring (arc_value scorer.now).criteria
         (texts_of texts.now))) }
 {
     let shared = &**scorer;
     let mut lists = Lists { rest: b"", texts };
-    while let Some(chunk) = lists.next_chunk(shared.demands.limit, queue.workers == 0) {
+    while let Some(chunk) = lists.next_chunk(shared.criteria.limit, queue.workers == 0) {
         queue.chunks.push_back(start(rt, scorer, alloc, chunk))?;
         write_ready(rt, writer, shared, queue, MOST_STARTED)?;
     }
@@ -219,8 +219,8 @@ fn print_all<'a, R: Threads + Wait, W: Write>(
 /// A line that is skipped is printed as it is. A position is printed with every move's exact score
 /// under the table's scoring, then the remarks on the moves that its line lists, then the line's
 /// comment. Scores are in discs, or 1, 0 or -1 under `Scoring::Sign`, as the side to move sees
-/// them. A line with a fault, and one whose position has more than `demands.limit` empty squares,
-/// is refused: it is printed as a comment with the reason and the line. Under `Listing::Complete`
+/// them. A line with a fault, and one whose position has more than `criteria.limit` empty squares,
+/// is refused: it is printed as a comment with the reason and the line. Under `criteria.complete`
 /// each best move that a line with moves does not list gets a remark after the other remarks.
 ///
 /// With `workers` above 0, up to `workers` + 1 threads score lines at once, besides the calling
@@ -235,23 +235,23 @@ pub fn write_lists<R: Threads + Wait, W: Write>(
     table: BoundTable,
     alloc: Global,
     writer: &mut W,
-    demands: Demands,
+    criteria: Criteria,
     workers: u8,
     texts: &[Vec<u8>],
 ) -> Result<bool, ListFault>
-    requires { demands.limit ≤ most_empties }
+    requires { criteria.limit ≤ most_empties }
     ensures written { OnOk result (Appends (W.contents writer.old) (W.contents writer.new)
-        (lists_text table.scoring demands (texts_of texts.now))) }
+        (lists_text table.scoring criteria (texts_of texts.now))) }
     ensures front { OnErr result (AppendsFront (W.contents writer.old) (W.contents writer.new)
-        (lists_text table.scoring demands (texts_of texts.now))) }
+        (lists_text table.scoring criteria (texts_of texts.now))) }
     ensures right { IfOk result (λ right. right
-        ≡ lists_right table.scoring demands (texts_of texts.now)) }
+        ≡ lists_right table.scoring criteria (texts_of texts.now)) }
 {
     let scorer = Arc::new(
         alloc,
         Scorer {
             table,
-            demands,
+            criteria,
             running: AtomicU64::new(0),
         },
     )?;

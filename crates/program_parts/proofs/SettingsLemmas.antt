@@ -5,7 +5,7 @@ use Rattle.std.specs.List.{list_any}
 use Rattle.std.specs.Prelude.{pos, slice_get}
 use Rattle.std.specs.Str.{bytes_eq}
 use Rattle.std.proofs.lemmas.Slice.Eq.{bytes_eq-Decides}
-use Rattle.clap.specs.Words.{IsParsedFrom, Shape, Text, first_of, found_of, rows_of, shape_of}
+use Rattle.clap.specs.Words.{IsParsedFrom, Row, Shape, Text, first_of, found_of, rows_of, shape_of}
 use Rattle.clap.specs.Simple.{HasReadyLeaves, is_ready}
 use Rattle.clap.specs.declared.builder.command.Command.{Command}
 use Rattle.clap.specs.declared.builder.value_parser.ValueParser.TheVariants as parser
@@ -97,3 +97,8 @@ settings_given c m names p leaves named rules =
       record { few_empties = max_empties.1; few_workers = workers.1; few_entries = table.1 },
       record { max_empties = max_empties.2; workers = workers.2; table = table.2; scoring = scoring.1 },
     )
+
+-- a flag leaves the numbers and the scoring
+pub with_flag : (s : SettingsView) (b : Bool) (t : SettingsView) (rows : List Row) → t ≡ record s { complete = b }
+    → HasSettings s rows → HasSettings t rows
+with_flag s b t rows e h = rw e (record { max_empties = h.max_empties; workers = h.workers; table = h.table; scoring = h.scoring })

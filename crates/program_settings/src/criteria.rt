@@ -5,6 +5,6 @@
 pub struct Criteria {
     /// The most empty squares of a position that is solved. One with more is refused.
     pub limit: u8,
-    /// Whether a line agrees only where it lists every best move, if it lists moves at all.
+    /// Whether a line that lists moves has to list every best one.
     pub complete: bool,
 }

@@ -13,7 +13,7 @@ use Rattle.obf_text.specs.Fields.{Field}
 use Rattle.obf_text.specs.Obf.{Entry, Holds}
 use Rattle.obf_text.specs.Pieces.{line_pieces}
 use Rattle.scored_lines.specs.Remarks.{has_remarks, line_remarks}
-use Rattle.scored_lines.specs.declared.demands.Demands.{Demands}
+use Rattle.program_settings.specs.declared.criteria.Criteria.{Criteria}
 use Rattle.obf_text.specs.Faults.{too_many_text}
 use Rattle.scored_lines.specs.Lines.{is_right, out_text, refused_text, scored_text}
 use Rattle.move_scores.specs.Scores.{score_fields, score_fields_of}
@@ -23,26 +23,26 @@ pub whole_from : (P : GridView) (p : PosView) → position_of P.mover p ≡ P �
 whole_from P p meaning =
     ap (λ (Q : GridView). length Q.cells) (sym meaning) ∙ length-cells_of P.mover p
 
-module _ (g : Scoring) (d : Demands) (line : List ℕ) (entry : Entry) (p : PosView)
+module _ (g : Scoring) (by : Criteria) (line : List ℕ) (entry : Entry) (p : PosView)
     (whole : length entry.position.cells ≡ 64) (e : p ≡ discs_of entry.position) where
   count : empties_of p ≡ empties entry.position
   count = ap empties_of e ∙ empties-discs_of entry.position whole
 
-  within : empties_of p ≤ d.limit → nat_lt d.limit (empties entry.position) ≡ false
+  within : empties_of p ≤ by.limit → nat_lt by.limit (empties entry.position) ≡ false
   within few =
       let c = count in
-      false_from_ne_true (nat_lt d.limit (empties entry.position))
+      false_from_ne_true (nat_lt by.limit (empties entry.position))
       (λ t.
-      let more : d.limit < empties entry.position = ltb-true d.limit (empties entry.position) t in
+      let more : by.limit < empties entry.position = ltb-true by.limit (empties entry.position) t in
       omega (arith, c))
 
-  beyond : (empties_of p ≤ d.limit → ⊥) → nat_lt d.limit (empties entry.position) ≡ true
+  beyond : (empties_of p ≤ by.limit → ⊥) → nat_lt by.limit (empties entry.position) ≡ true
   beyond many =
-      elim (cases_lt d.limit (empties_of p)) [
+      elim (cases_lt by.limit (empties_of p)) [
         | inl l ↦
             (let c = count in
-            let above : d.limit < empties entry.position = omega (arith, c) in
-            lt-ltb d.limit (empties entry.position) above)
+            let above : by.limit < empties entry.position = omega (arith, c) in
+            lt-ltb by.limit (empties entry.position) above)
         | inr h ↦ absurd (many h)
       ]
 
@@ -50,23 +50,23 @@ module _ (g : Scoring) (d : Demands) (line : List ℕ) (entry : Entry) (p : PosV
       → scores ≡ score_fields g entry.position
   exact scores s = s ∙ ap (score_fields_of g) e ∙ score_fields-discs_of g entry.position whole
 
-  pub out_scored : (scores : List Field) → empties_of p ≤ d.limit → scores ≡ score_fields_of g p
-      → scored_text d.listing entry scores line ≡ out_text g d line (Holds entry)
+  pub out_scored : (scores : List Field) → empties_of p ≤ by.limit → scores ≡ score_fields_of g p
+      → scored_text by.complete entry scores line ≡ out_text g by line (Holds entry)
   unfolding out_text
   out_scored scores few s = rw (within few, exact scores s) refl
 
-  pub right_scored : (scores : List Field) → empties_of p ≤ d.limit → scores ≡ score_fields_of g p
-      → not (has_remarks (line_remarks d.listing scores entry.listed (line_pieces line))) ≡ is_right g d line (Holds entry)
+  pub right_scored : (scores : List Field) → empties_of p ≤ by.limit → scores ≡ score_fields_of g p
+      → not (has_remarks (line_remarks by.complete scores entry.listed (line_pieces line))) ≡ is_right g by line (Holds entry)
   unfolding is_right
   right_scored scores few s = rw (within few, exact scores s) refl
 
-  pub out_many : (found : ℕ) → (empties_of p ≤ d.limit → ⊥) → found ≡ empties_of p
-      → refused_text (too_many_text found d.limit) line ≡ out_text g d line (Holds entry)
+  pub out_many : (found : ℕ) → (empties_of p ≤ by.limit → ⊥) → found ≡ empties_of p
+      → refused_text (too_many_text found by.limit) line ≡ out_text g by line (Holds entry)
   unfolding out_text
   out_many found many f =
       let all : found ≡ empties entry.position = f ∙ count in
       rw (beyond many, all) refl
 
-  pub right_many : (empties_of p ≤ d.limit → ⊥) → false ≡ is_right g d line (Holds entry)
+  pub right_many : (empties_of p ≤ by.limit → ⊥) → false ≡ is_right g by line (Holds entry)
   unfolding is_right
   right_many many = rw (beyond many) refl

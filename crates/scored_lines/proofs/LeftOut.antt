@@ -25,7 +25,6 @@ use Rattle.move_scores.proofs.EitherSide.{of_over, of_pass}
 use Rattle.move_scores.proofs.GreatestScores.{has_move, is_move_in}
 use Rattle.scored_lines.specs.Checks.{is_best, same_move, score_in}
 use Rattle.scored_lines.specs.Remarks.{IsLeftOut, left_out_remark, left_out_remarks, left_out_text}
-use Rattle.scored_lines.specs.declared.demands.Listing.TheVariants.{Complete}
 
 -- what `filter_map` gives comes from an item, and what an item gives is there
 behind : {Y : Type 0} (o : Option Y) (ys : List Y) (y : Y) → Contains ys y
@@ -155,7 +154,7 @@ best_with_value g P q m e =
 
 pub all_remarked : (g : Scoring) (P : GridView) (listed : List Field) (q : ℕ) → listed ≢ []
     → IsLeftOut g P listed q
-    → Contains (left_out_remarks Complete (score_fields g P) listed) (left_out_text (At q))
+    → Contains (left_out_remarks true (score_fields g P) listed) (left_out_text (At q))
 all_remarked g P [] q some h = absurd (some refl)
 all_remarked g P (l ∷ listed) q some h =
     let move : Contains (moves P) q = best_is_move g P q h.best in
@@ -192,7 +191,7 @@ no_square scores listed Over z f r other h e =
     ]
 
 pub remarked_only : (g : Scoring) (P : GridView) (listed : List Field) (r : List ℕ)
-    → Contains (left_out_remarks Complete (score_fields g P) listed) r
+    → Contains (left_out_remarks true (score_fields g P) listed) r
     → (q : ℕ) × IsLeftOut g P listed q × (r ≡ left_out_text (At q))
 remarked_only g P [] r h = absurd (Contains-nil r h)
 remarked_only g P (l ∷ listed) r h =

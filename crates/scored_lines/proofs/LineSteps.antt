@@ -11,31 +11,31 @@ use Rattle.obf_text.specs.declared.entries.Item.TheVariants as item
 use Rattle.obf_text.specs.declared.line_fault.LineFault.{LineFault}
 use Rattle.obf_text.specs.declared.line_fault.LineFault.TheVariants.{Short, BadCell, BadSide, Memory}
 use Rattle.obf_text.specs.Faults.{line_fault_text}
-use Rattle.scored_lines.specs.declared.demands.Demands.{Demands}
+use Rattle.program_settings.specs.declared.criteria.Criteria.{Criteria}
 use Rattle.scored_lines.specs.Lines.{Prints, are_right, is_right}
 use Rattle.scored_lines.specs.Lines.{kept_text, lines_text, out_text}
 use Rattle.scored_lines.specs.Lines.{refused_text}
 use Rattle.scored_lines.proofs.Prints.{prints_end, prints_more}
 
-pub lines_none : (g : Scoring) (d : Demands) → lines_text g d [] ≡ []
+pub lines_none : (g : Scoring) (by : Criteria) → lines_text g by [] ≡ []
 unfolding lines_text
-lines_none g d = refl
+lines_none g by = refl
 
-pub lines_cons : (g : Scoring) (d : Demands) (line : List ℕ) (lines : List (List ℕ))
-    → lines_text g d (line ∷ lines)
-    ≡ out_text g d line (item_of line) ++ lines_text g d lines
+pub lines_cons : (g : Scoring) (by : Criteria) (line : List ℕ) (lines : List (List ℕ))
+    → lines_text g by (line ∷ lines)
+    ≡ out_text g by line (item_of line) ++ lines_text g by lines
 unfolding lines_text
-lines_cons g d line lines = refl
+lines_cons g by line lines = refl
 
-pub right_none : (g : Scoring) (d : Demands) → are_right g d [] ≡ true
+pub right_none : (g : Scoring) (by : Criteria) → are_right g by [] ≡ true
 unfolding are_right
-right_none g d = refl
+right_none g by = refl
 
-pub right_cons : (g : Scoring) (d : Demands) (line : List ℕ) (lines : List (List ℕ))
-    → are_right g d (line ∷ lines)
-    ≡ (is_right g d line (item_of line) && are_right g d lines)
+pub right_cons : (g : Scoring) (by : Criteria) (line : List ℕ) (lines : List (List ℕ))
+    → are_right g by (line ∷ lines)
+    ≡ (is_right g by line (item_of line) && are_right g by lines)
 unfolding are_right
-right_cons g d line lines = refl
+right_cons g by line lines = refl
 
 pub and_true : (b : Bool) → (b && true) ≡ b
 and_true true = refl
@@ -45,78 +45,78 @@ pub and_assoc : (a b c : Bool) → ((a && b) && c) ≡ (a && (b && c))
 and_assoc true b c = refl
 and_assoc false b c = refl
 
-pub lines_both : (g : Scoring) (d : Demands) (lines more : List (List ℕ))
-    → lines_text g d (lines ++ more) ≡ lines_text g d lines ++ lines_text g d more
-lines_both g d [] more = ap (λ t. t ++ lines_text g d more) (sym (lines_none g d))
-lines_both g d (line ∷ lines) more =
-    let one = out_text g d line (item_of line) in
-    lines_cons g d line (lines ++ more)
-    ∙ ap (λ t. one ++ t) (lines_both g d lines more)
-    ∙ sym (append_assoc one (lines_text g d lines) (lines_text g d more))
-    ∙ ap (λ t. t ++ lines_text g d more) (sym (lines_cons g d line lines))
+pub lines_both : (g : Scoring) (by : Criteria) (lines more : List (List ℕ))
+    → lines_text g by (lines ++ more) ≡ lines_text g by lines ++ lines_text g by more
+lines_both g by [] more = ap (λ t. t ++ lines_text g by more) (sym (lines_none g by))
+lines_both g by (line ∷ lines) more =
+    let one = out_text g by line (item_of line) in
+    lines_cons g by line (lines ++ more)
+    ∙ ap (λ t. one ++ t) (lines_both g by lines more)
+    ∙ sym (append_assoc one (lines_text g by lines) (lines_text g by more))
+    ∙ ap (λ t. t ++ lines_text g by more) (sym (lines_cons g by line lines))
 
-pub right_both : (g : Scoring) (d : Demands) (lines more : List (List ℕ))
-    → are_right g d (lines ++ more) ≡ (are_right g d lines && are_right g d more)
-right_both g d [] more = ap (λ b. b && are_right g d more) (sym (right_none g d))
-right_both g d (line ∷ lines) more =
-    let one = is_right g d line (item_of line) in
-    right_cons g d line (lines ++ more)
-    ∙ ap (λ b. one && b) (right_both g d lines more)
-    ∙ sym (and_assoc one (are_right g d lines) (are_right g d more))
-    ∙ ap (λ b. b && are_right g d more) (sym (right_cons g d line lines))
+pub right_both : (g : Scoring) (by : Criteria) (lines more : List (List ℕ))
+    → are_right g by (lines ++ more) ≡ (are_right g by lines && are_right g by more)
+right_both g by [] more = ap (λ b. b && are_right g by more) (sym (right_none g by))
+right_both g by (line ∷ lines) more =
+    let one = is_right g by line (item_of line) in
+    right_cons g by line (lines ++ more)
+    ∙ ap (λ b. one && b) (right_both g by lines more)
+    ∙ sym (and_assoc one (are_right g by lines) (are_right g by more))
+    ∙ ap (λ b. b && are_right g by more) (sym (right_cons g by line lines))
 
 -- the lines of a text
-pub text_more : (old now next : Option (List ℕ)) (g : Scoring) (d : Demands) (line : List ℕ)
+pub text_more : (old now next : Option (List ℕ)) (g : Scoring) (by : Criteria) (line : List ℕ)
     (left lines : List (List ℕ)) (all : List ℕ) → left ≡ line ∷ lines
-    → Prints old now (lines_text g d left) all
-    → Appends now next (out_text g d line (item_of line))
-    → Prints old next (lines_text g d lines) all
-text_more old now next g d line left lines all cut h w =
-    prints_more old now next (out_text g d line (item_of line)) (lines_text g d lines) all
-    (subst (λ t. Prints old now t all) (ap (lines_text g d) cut ∙ lines_cons g d line lines)
+    → Prints old now (lines_text g by left) all
+    → Appends now next (out_text g by line (item_of line))
+    → Prints old next (lines_text g by lines) all
+text_more old now next g by line left lines all cut h w =
+    prints_more old now next (out_text g by line (item_of line)) (lines_text g by lines) all
+    (subst (λ t. Prints old now t all) (ap (lines_text g by) cut ∙ lines_cons g by line lines)
     h) w
 
-pub text_end : (old now : Option (List ℕ)) (g : Scoring) (d : Demands) (left : List (List ℕ))
-    (all : List ℕ) → left ≡ [] → Prints old now (lines_text g d left) all → Appends old now all
-text_end old now g d left all none h =
+pub text_end : (old now : Option (List ℕ)) (g : Scoring) (by : Criteria) (left : List (List ℕ))
+    (all : List ℕ) → left ≡ [] → Prints old now (lines_text g by left) all → Appends old now all
+text_end old now g by left all none h =
     prints_end old now all
-    (subst (λ t. Prints old now t all) (ap (lines_text g d) none ∙ lines_none g d) h)
+    (subst (λ t. Prints old now t all) (ap (lines_text g by) none ∙ lines_none g by) h)
 
-pub right_more : (g : Scoring) (d : Demands) (line : List ℕ) (left lines : List (List ℕ))
-    (now one next all : Bool) → left ≡ line ∷ lines → one ≡ is_right g d line (item_of line)
-    → next ≡ (now && one) → (now && are_right g d left) ≡ all
-    → (next && are_right g d lines) ≡ all
-right_more g d line left lines now one next all cut is to h =
-    ap (λ b. b && are_right g d lines) to ∙ and_assoc now one (are_right g d lines)
-    ∙ ap (λ b. now && (b && are_right g d lines)) is
-    ∙ ap (λ b. now && b) (sym (ap (are_right g d) cut ∙ right_cons g d line lines)) ∙ h
+pub right_more : (g : Scoring) (by : Criteria) (line : List ℕ) (left lines : List (List ℕ))
+    (now one next all : Bool) → left ≡ line ∷ lines → one ≡ is_right g by line (item_of line)
+    → next ≡ (now && one) → (now && are_right g by left) ≡ all
+    → (next && are_right g by lines) ≡ all
+right_more g by line left lines now one next all cut is to h =
+    ap (λ b. b && are_right g by lines) to ∙ and_assoc now one (are_right g by lines)
+    ∙ ap (λ b. now && (b && are_right g by lines)) is
+    ∙ ap (λ b. now && b) (sym (ap (are_right g by) cut ∙ right_cons g by line lines)) ∙ h
 
-pub right_end : (g : Scoring) (d : Demands) (now : Bool) (left : List (List ℕ)) (all : Bool)
-    → left ≡ [] → (now && are_right g d left) ≡ all → now ≡ all
-right_end g d now left all none h =
-    sym (and_true now) ∙ ap (λ b. now && b) (sym (ap (are_right g d) none ∙ right_none g d))
+pub right_end : (g : Scoring) (by : Criteria) (now : Bool) (left : List (List ℕ)) (all : Bool)
+    → left ≡ [] → (now && are_right g by left) ≡ all → now ≡ all
+right_end g by now left all none h =
+    sym (and_true now) ∙ ap (λ b. now && b) (sym (ap (are_right g by) none ∙ right_none g by))
     ∙ h
 
 -- the text of a line, and whether the line is right, by the line's meaning
-pub out_skip : (g : Scoring) (d : Demands) (line : List ℕ) (m : Meaning) → m ≡ Skipped
-    → kept_text line ≡ out_text g d line m
+pub out_skip : (g : Scoring) (by : Criteria) (line : List ℕ) (m : Meaning) → m ≡ Skipped
+    → kept_text line ≡ out_text g by line m
 unfolding out_text
-out_skip g d line m e = rw e refl
+out_skip g by line m e = rw e refl
 
-pub right_skip : (g : Scoring) (d : Demands) (line : List ℕ) (m : Meaning) → m ≡ Skipped
-    → true ≡ is_right g d line m
+pub right_skip : (g : Scoring) (by : Criteria) (line : List ℕ) (m : Meaning) → m ≡ Skipped
+    → true ≡ is_right g by line m
 unfolding is_right
-right_skip g d line m e = rw e refl
+right_skip g by line m e = rw e refl
 
-pub out_fault : (g : Scoring) (d : Demands) (line : List ℕ) (m : Meaning) (f : LineFault)
-    → m ≡ Faulty f → refused_text (line_fault_text f) line ≡ out_text g d line m
+pub out_fault : (g : Scoring) (by : Criteria) (line : List ℕ) (m : Meaning) (f : LineFault)
+    → m ≡ Faulty f → refused_text (line_fault_text f) line ≡ out_text g by line m
 unfolding out_text
-out_fault g d line m f e = rw e refl
+out_fault g by line m f e = rw e refl
 
-pub right_fault : (g : Scoring) (d : Demands) (line : List ℕ) (m : Meaning) (f : LineFault)
-    → m ≡ Faulty f → false ≡ is_right g d line m
+pub right_fault : (g : Scoring) (by : Criteria) (line : List ℕ) (m : Meaning) (f : LineFault)
+    → m ≡ Faulty f → false ≡ is_right g by line m
 unfolding is_right
-right_fault g d line m f e = rw e refl
+right_fault g by line m f e = rw e refl
 
 -- the result of reading a line against the line's meaning
 pub said_skip : (i : Item) (m : Meaning) → i ≡ item.Skip → Gives (Ok i) m → m ≡ Skipped

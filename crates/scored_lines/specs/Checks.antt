@@ -7,8 +7,6 @@ use Rattle.obf_text.specs.Fields.{Field}
 use Rattle.obf_text.specs.declared.entries.ListedMove.{ListedMove}
 use Rattle.obf_text.specs.declared.entries.ListedMove.TheVariants.{At, Pass, Over}
 use Rattle.scored_lines.specs.declared.checks.Wrong.{Wrong}
-use Rattle.scored_lines.specs.declared.demands.Listing.{Listing}
-use Rattle.scored_lines.specs.declared.demands.Listing.TheVariants.{Complete}
 
 abbrev pub same_move : ListedMove → ListedMove → Bool
 same_move (At a) (At b) = a == b
@@ -42,6 +40,6 @@ is_left_out scores listed (At q, score) =
 is_left_out scores listed (_, score) = false
 
 -- every best move is asked for, and the line lists moves
-abbrev pub asks_for_best : Listing → List Field → Bool
-asks_for_best Complete (f ∷ more) = true
+abbrev pub asks_for_best : Bool → List Field → Bool
+asks_for_best true (f ∷ more) = true
 asks_for_best _ _ = false

@@ -13,8 +13,7 @@ use Rattle.obf_text.specs.Pieces.{comment_of, line_pieces}
 use Rattle.obf_text.specs.Written.{entry_text}
 use Rattle.move_scores.specs.Scores.{score_fields}
 use Rattle.scored_lines.specs.Remarks.{has_remarks, line_remarks, remarks_text}
-use Rattle.scored_lines.specs.declared.demands.Demands.{Demands}
-use Rattle.scored_lines.specs.declared.demands.Listing.{Listing}
+use Rattle.program_settings.specs.declared.criteria.Criteria.{Criteria}
 
 -- a line as it is, with its end
 abbrev pub kept_text : List ℕ → List ℕ
@@ -34,49 +33,49 @@ comment_text [] = []
 comment_text (b ∷ more) = 32 ∷ b ∷ more
 
 -- the text of a position: the position with its scores, the remarks on its line, the line's comment
-unfoldable pub scored_text : Listing → Entry → List Field → List ℕ → List ℕ
-scored_text listing entry scores line =
+unfoldable pub scored_text : Bool → Entry → List Field → List ℕ → List ℕ
+scored_text complete entry scores line =
     entry_text entry.position scores
-    ++ (remarks_text false (line_remarks listing scores entry.listed (line_pieces line))
+    ++ (remarks_text false (line_remarks complete scores entry.listed (line_pieces line))
     ++ (comment_text (comment_of line) ++ 10 ∷ []))
 
 -- the text that is printed for a line, by the meaning of the line
-unfoldable pub out_text : Scoring → Demands → List ℕ → Meaning → List ℕ
-out_text g d line Skipped = kept_text line
-out_text g d line (Holds entry) =
-    if nat_lt d.limit (empties entry.position)
-    then refused_text (too_many_text (empties entry.position) d.limit) line
-    else scored_text d.listing entry (score_fields g entry.position) line
-out_text g d line (Faulty fault) = refused_text (line_fault_text fault) line
+unfoldable pub out_text : Scoring → Criteria → List ℕ → Meaning → List ℕ
+out_text g by line Skipped = kept_text line
+out_text g by line (Holds entry) =
+    if nat_lt by.limit (empties entry.position)
+    then refused_text (too_many_text (empties entry.position) by.limit) line
+    else scored_text by.complete entry (score_fields g entry.position) line
+out_text g by line (Faulty fault) = refused_text (line_fault_text fault) line
 
 -- the text that is printed for lines
-unfoldable pub lines_text : Scoring → Demands → List (List ℕ) → List ℕ
-lines_text g d lines = flat_map (λ line. out_text g d line (item_of line)) lines
+unfoldable pub lines_text : Scoring → Criteria → List (List ℕ) → List ℕ
+lines_text g by lines = flat_map (λ line. out_text g by line (item_of line)) lines
 
 -- the text that is printed for a list
-abbrev pub scores_text : Scoring → Demands → List ℕ → List ℕ
-scores_text g d text = lines_text g d (lines_of text)
+abbrev pub scores_text : Scoring → Criteria → List ℕ → List ℕ
+scores_text g by text = lines_text g by (lines_of text)
 
 -- the text that is printed for lists, one after the other
-unfoldable pub lists_text : Scoring → Demands → List (List ℕ) → List ℕ
-lists_text g d texts = flat_map (scores_text g d) texts
+unfoldable pub lists_text : Scoring → Criteria → List (List ℕ) → List ℕ
+lists_text g by texts = flat_map (scores_text g by) texts
 
 -- whether a line is right, by its meaning: it is not refused, and there is no remark on it
-unfoldable pub is_right : Scoring → Demands → List ℕ → Meaning → Bool
-is_right g d line Skipped = true
-is_right g d line (Holds entry) =
-    if nat_lt d.limit (empties entry.position) then false
-    else not (has_remarks (line_remarks d.listing (score_fields g entry.position) entry.listed
+unfoldable pub is_right : Scoring → Criteria → List ℕ → Meaning → Bool
+is_right g by line Skipped = true
+is_right g by line (Holds entry) =
+    if nat_lt by.limit (empties entry.position) then false
+    else not (has_remarks (line_remarks by.complete (score_fields g entry.position) entry.listed
     (line_pieces line)))
-is_right g d line (Faulty fault) = false
+is_right g by line (Faulty fault) = false
 
 -- whether all of some lines are right
-unfoldable pub are_right : Scoring → Demands → List (List ℕ) → Bool
-are_right g d lines = list_all (λ line. is_right g d line (item_of line)) lines
+unfoldable pub are_right : Scoring → Criteria → List (List ℕ) → Bool
+are_right g by lines = list_all (λ line. is_right g by line (item_of line)) lines
 
 -- whether all lines of lists are right
-unfoldable pub lists_right : Scoring → Demands → List (List ℕ) → Bool
-lists_right g d texts = list_all (λ text. are_right g d (lines_of text)) texts
+unfoldable pub lists_right : Scoring → Criteria → List (List ℕ) → Bool
+lists_right g by texts = list_all (λ text. are_right g by (lines_of text)) texts
 
 -- a writer's known bytes grow by a front of `all`, of which `rest` is left
 pub record Prints (old now : Option (List ℕ)) (rest all : List ℕ) : Type 0 where

@@ -11,7 +11,6 @@ use Rattle.obf_text.specs.declared.entries.ListedMove.{ListedMove}
 use Rattle.obf_text.specs.declared.entries.ListedMove.TheVariants.{At}
 use Rattle.scored_lines.specs.Checks.{asks_for_best, is_left_out, wrong_in}
 use Rattle.scored_lines.specs.declared.checks.Wrong.{Wrong}
-use Rattle.scored_lines.specs.declared.demands.Listing.{Listing}
 
 -- the score of a move, or that the position has no such move
 unfoldable pub verdict_text : Option ℤ → List ℕ
@@ -60,9 +59,9 @@ left_out_remark scores listed f =
     if is_left_out scores listed f then Some (left_out_text f.0) else None
 
 -- the remarks on best moves that are not listed, where they are asked for and the line lists moves
-abbrev pub left_out_remarks : Listing → List Field → List Field → List (List ℕ)
-left_out_remarks listing scores listed =
-    if asks_for_best listing listed then filter_map (left_out_remark scores listed) scores else []
+abbrev pub left_out_remarks : Bool → List Field → List Field → List (List ℕ)
+left_out_remarks complete scores listed =
+    if asks_for_best complete listed then filter_map (left_out_remark scores listed) scores else []
 
 -- a best move of the position, which the line does not list
 pub record IsLeftOut (g : Scoring) (P : GridView) (listed : List Field) (q : ℕ) : Type 0 where
@@ -70,9 +69,9 @@ pub record IsLeftOut (g : Scoring) (P : GridView) (listed : List Field) (q : ℕ
   pub unlisted : (score : ℤ) → Contains listed (At q, score) → ⊥
 
 -- the remarks on a line: those on its pieces, and then those on the moves that it leaves out
-abbrev pub line_remarks : Listing → List Field → List Field → List (List ℕ) → List (List ℕ)
-line_remarks listing scores listed pieces =
-    remarks scores pieces ++ left_out_remarks listing scores listed
+abbrev pub line_remarks : Bool → List Field → List Field → List (List ℕ) → List (List ℕ)
+line_remarks complete scores listed pieces =
+    remarks scores pieces ++ left_out_remarks complete scores listed
 
 abbrev pub has_remarks : List (List ℕ) → Bool
 has_remarks [] = false

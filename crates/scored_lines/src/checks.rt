@@ -3,7 +3,8 @@
 ghost use Rattle.std.specs.Prelude.{◌≡◌, option_map};
 ghost use Rattle.std.specs.List.{find};
 ghost use Rattle.obf_text.specs.declared.entries.ListedMove.TheVariants.{At};
-ghost use Rattle.scored_lines.specs.Checks.{is_best, is_left_out, same_move, score_in, wrong_in};
+ghost use Rattle.scored_lines.specs.Checks.{asks_for_best, is_best, is_left_out, same_move};
+ghost use Rattle.scored_lines.specs.Checks.{score_in, wrong_in};
 
 use obf_text::ListedMove;
 use othello_rules::Square;
@@ -98,4 +99,12 @@ pub(crate) fn is_left_out(
         ListedMove::At(_) => { is_best(scores, field.1) && score_in(listed, field.0).is_none() }
         _ => false,
     }
+}
+
+/// Whether every best move is asked for of a line that lists these moves: under `complete`, where
+/// it lists any.
+pub(crate) fn asks_for_best(complete: bool, listed: &[(ListedMove, i8)]) -> bool
+    ensures { result ≡ asks_for_best complete listed.now }
+{
+    complete && !listed.is_empty()
 }

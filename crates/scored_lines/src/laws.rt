@@ -1,6 +1,6 @@
 //! Laws of printed lists. Each function's body is empty: its contract is the law.
 
-ghost use Rattle.std.specs.Prelude.{◌≡◌, ◌≢◌, ℕ, List, [], ◌∷◌, ◌++◌, length, Contains};
+ghost use Rattle.std.specs.Prelude.{◌≡◌, ◌≢◌, ℕ, List, [], ◌∷◌, ◌++◌, length, Contains, true, false};
 ghost use Rattle.othello_rules.specs.declared.scoring.Scoring.{Scoring};
 ghost use Rattle.othello_rules.specs.Rules.{GridView};
 ghost use Rattle.obf_text.specs.Obf.{Holds, item_of};
@@ -9,7 +9,6 @@ ghost use Rattle.obf_text.specs.Fields.{Field};
 ghost use Rattle.obf_text.specs.declared.entries.ListedMove.TheVariants.{At};
 ghost use Rattle.move_scores.specs.Scores.{score_fields};
 ghost use Rattle.scored_lines.specs.Remarks.{IsLeftOut, left_out_remarks, left_out_text};
-ghost use Rattle.scored_lines.specs.declared.demands.Listing.TheVariants.{Any, Complete};
 
 /// The line that is printed for a position says the position with every move's score, or with the
 /// score of its pass or end, and nothing else. This holds whether or not remarks or a comment
@@ -28,11 +27,11 @@ pub fn scores_are_read_again()
 pub fn left_out_moves_are_remarked()
     ensures all { (g : Scoring) (P : GridView) (listed : List Field) (q : ℕ) → listed ≢ []
         → IsLeftOut g P listed q
-        → Contains (left_out_remarks Complete (score_fields g P) listed) (left_out_text (At q)) }
+        → Contains (left_out_remarks true (score_fields g P) listed) (left_out_text (At q)) }
     ensures only { (g : Scoring) (P : GridView) (listed : List Field) (r : List ℕ)
-        → Contains (left_out_remarks Complete (score_fields g P) listed) r
+        → Contains (left_out_remarks true (score_fields g P) listed) r
         → (q : ℕ) × IsLeftOut g P listed q × (r ≡ left_out_text (At q)) }
-    ensures unlisted { (scores : List Field) → left_out_remarks Complete scores [] ≡ [] }
+    ensures unlisted { (scores : List Field) → left_out_remarks true scores [] ≡ [] }
     ensures unasked { (scores : List Field) (listed : List Field)
-        → left_out_remarks Any scores listed ≡ [] }
+        → left_out_remarks false scores listed ≡ [] }
 {}

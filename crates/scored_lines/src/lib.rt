@@ -3,11 +3,9 @@
 #![tactic(auto)]
 
 mod checks;
-mod demands;
 pub mod laws;
 mod lines;
 mod remarks;
 
 pub use checks::{Wrong, wrong_in};
-pub use demands::{Demands, Listing};
 pub use lines::{LinesText, lines_text};

@@ -14,7 +14,6 @@ ghost use Rattle.scored_lines.specs.Lines.{out_text, quoted_text, refused_text, 
 ghost use Rattle.scored_lines.specs.Lines.{scores_text};
 ghost use Rattle.scored_lines.specs.Remarks.{has_remarks, line_remarks};
 
-use crate::demands::{Demands, Listing};
 use crate::remarks::write_line_remarks;
 use bound_table::Bounds;
 use endgame_search::{Task, TooMany};
@@ -24,6 +23,7 @@ use obf_text::{
     write_fault, write_too_many,
 };
 use othello_bits::Pos;
+use program_settings::Criteria;
 use std::alloc::{AllocError, Global};
 use std::io;
 use std::io::Write;
@@ -84,20 +84,20 @@ fn write_comment<W: Write>(writer: &mut W, comment: &[u8]) -> io::Result<()>
 #[tactic(auto, unfolding(crate::specs::Lines::scored_text))]
 fn write_entry_line<W: Write>(
     writer: &mut W,
-    listing: Listing,
+    complete: bool,
     entry: &Line,
     scores: &[(ListedMove, i8)],
     line: &[u8],
 ) -> io::Result<bool>
     requires { All (λ f. nat_abs f.1 < 100) scores.now }
     ensures written { OnOk result (Appends (W.contents writer.old)
-        (W.contents writer.new) (scored_text listing (entry_of entry.now) scores.now line.now)) }
+        (W.contents writer.new) (scored_text complete (entry_of entry.now) scores.now line.now)) }
     ensures right { IfOk result
         (λ right. right ≡ not (has_remarks
-        (line_remarks listing scores.now (entry_of entry.now).listed (line_pieces line.now)))) }
+        (line_remarks complete scores.now (entry_of entry.now).listed (line_pieces line.now)))) }
 {
     write_entry(writer, &entry.grid, scores)?;
-    let found = write_line_remarks(writer, listing, scores, &entry.listed, line)?;
+    let found = write_line_remarks(writer, complete, scores, &entry.listed, line)?;
     write_comment(writer, comment_of(line))?;
     Ok(!found)
 }
@@ -107,23 +107,23 @@ fn write_entry_line<W: Write>(
 fn write_scored<T: Bounds, W: Write>(
     table: &T,
     writer: &mut W,
-    demands: Demands,
+    criteria: Criteria,
     line: &[u8],
     entry: &Line,
 ) -> io::Result<bool>
-    requires { demands.limit ≤ most_empties }
+    requires { criteria.limit ≤ most_empties }
     ensures written { OnOk result (Appends (W.contents writer.old) (W.contents writer.new)
-        (out_text (T.scoring table.now) demands line.now (Holds (entry_of entry.now)))) }
+        (out_text (T.scoring table.now) criteria line.now (Holds (entry_of entry.now)))) }
     ensures right { IfOk result (λ right. right
-        ≡ is_right (T.scoring table.now) demands line.now (Holds (entry_of entry.now))) }
+        ≡ is_right (T.scoring table.now) criteria line.now (Holds (entry_of entry.now))) }
 {
-    match Task::new(Pos::of_grid(&entry.grid), demands.limit, table.scoring()) {
+    match Task::new(Pos::of_grid(&entry.grid), criteria.limit, table.scoring()) {
         Ok(task) => {
             let scored = score_moves(table, task);
-            write_entry_line(writer, demands.listing, entry, scored.fields(), line)
+            write_entry_line(writer, criteria.complete, entry, scored.fields(), line)
         }
         Err(TooMany(found)) => {
-            write_many(writer, found, demands.limit, line)?;
+            write_many(writer, found, criteria.limit, line)?;
             Ok(false)
         }
     }
@@ -162,18 +162,18 @@ fn write_item<T: Bounds, W: Write>(
     table: &T,
     alloc: Global,
     writer: &mut W,
-    demands: Demands,
+    criteria: Criteria,
     line: &[u8],
 ) -> io::Result<bool>
-    requires { demands.limit ≤ most_empties }
+    requires { criteria.limit ≤ most_empties }
     ensures written { OnOk result (Appends (W.contents writer.old) (W.contents writer.new)
-        (out_text (T.scoring table.now) demands line.now (item_of line.now))) }
+        (out_text (T.scoring table.now) criteria line.now (item_of line.now))) }
     ensures right { IfOk result
-        (λ right. right ≡ is_right (T.scoring table.now) demands line.now (item_of line.now)) }
+        (λ right. right ≡ is_right (T.scoring table.now) criteria line.now (item_of line.now)) }
 {
     match read_line(alloc, line) {
         Ok(Item::Skip) => write_skipped(writer, line),
-        Ok(Item::Entry(entry)) => write_scored(table, writer, demands, line, &entry),
+        Ok(Item::Entry(entry)) => write_scored(table, writer, criteria, line, &entry),
         Err(fault) => write_refused(writer, fault, line),
     }
 }
@@ -183,18 +183,18 @@ fn write_items<T: Bounds, W: Write>(
     table: &T,
     alloc: Global,
     writer: &mut W,
-    demands: Demands,
+    criteria: Criteria,
     text: &[u8],
 ) -> io::Result<bool>
-    requires { demands.limit ≤ most_empties }
+    requires { criteria.limit ≤ most_empties }
     ensures written { OnOk result (Appends (W.contents writer.old) (W.contents writer.new)
-        (scores_text (T.scoring table.now) demands text.now)) }
+        (scores_text (T.scoring table.now) criteria text.now)) }
     ensures right { IfOk result
-        (λ right. right ≡ are_right (T.scoring table.now) demands (lines_of text.now)) }
+        (λ right. right ≡ are_right (T.scoring table.now) criteria (lines_of text.now)) }
 {
     let mut right = true;
     for line in split_lines(text) {
-        let line_right = write_item(table, alloc, writer, demands, line)?;
+        let line_right = write_item(table, alloc, writer, criteria, line)?;
         right &= line_right;
     }
     Ok(right)
@@ -214,17 +214,17 @@ pub struct LinesText {
 pub fn lines_text<T: Bounds>(
     table: &T,
     alloc: Global,
-    demands: Demands,
+    criteria: Criteria,
     text: &[u8],
 ) -> Result<LinesText, AllocError>
-    requires { demands.limit ≤ most_empties }
+    requires { criteria.limit ≤ most_empties }
     ensures bytes { IfOk result (λ found. found.bytes.items
-        ≡ scores_text (T.scoring table.now) demands text.now) }
+        ≡ scores_text (T.scoring table.now) criteria text.now) }
     ensures right { IfOk result (λ found. found.right
-        ≡ are_right (T.scoring table.now) demands (lines_of text.now)) }
+        ≡ are_right (T.scoring table.now) criteria (lines_of text.now)) }
 {
     let mut bytes = Vec::new(alloc);
-    match write_items(table, alloc, &mut bytes, demands, text) {
+    match write_items(table, alloc, &mut bytes, criteria, text) {
         Ok(right) => Ok(LinesText { bytes, right }),
         Err(_) => Err(AllocError),
     }

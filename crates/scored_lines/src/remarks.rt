@@ -11,8 +11,7 @@ ghost use Rattle.scored_lines.specs.Remarks.{remark_of, remarks};
 ghost use Rattle.scored_lines.specs.Remarks.{remarks_text, unread_remark, unread_text, verdict_text};
 ghost use Rattle.scored_lines.specs.Remarks.{wrong_text};
 
-use crate::checks::{Wrong, is_left_out, wrong_in};
-use crate::demands::Listing;
+use crate::checks::{Wrong, asks_for_best, is_left_out, wrong_in};
 use obf_text::{ListedMove, field_of, line_pieces, move_bytes, score_bytes, without_blanks};
 use std::io;
 use std::io::Write;
@@ -183,17 +182,17 @@ fn write_left_out_remark<W: Write>(
 // moves. `found` says whether there was a remark before them. Returns whether there is one by now.
 fn write_left_out_remarks<W: Write>(
     writer: &mut W,
-    listing: Listing,
+    complete: bool,
     scores: &[(ListedMove, i8)],
     listed: &[(ListedMove, i8)],
     found: bool,
 ) -> io::Result<bool>
     ensures written { OnOk result (Appends (W.contents writer.old) (W.contents writer.new)
-        (remarks_text found (left_out_remarks listing scores.now listed.now))) }
+        (remarks_text found (left_out_remarks complete scores.now listed.now))) }
     ensures found { IfOk result
-        (λ any. any ≡ (found || has_remarks (left_out_remarks listing scores.now listed.now))) }
+        (λ any. any ≡ (found || has_remarks (left_out_remarks complete scores.now listed.now))) }
 {
-    if !listing.asks_for_best(listed) {
+    if !asks_for_best(complete, listed) {
         return Ok(found);
     }
     let mut any = found;
@@ -207,17 +206,17 @@ fn write_left_out_remarks<W: Write>(
 // out. Returns whether there is a remark.
 pub(crate) fn write_line_remarks<W: Write>(
     writer: &mut W,
-    listing: Listing,
+    complete: bool,
     scores: &[(ListedMove, i8)],
     listed: &[(ListedMove, i8)],
     line: &[u8],
 ) -> io::Result<bool>
     requires { All (λ f. nat_abs f.1 < 100) scores.now }
     ensures written { OnOk result (Appends (W.contents writer.old) (W.contents writer.new)
-        (remarks_text false (line_remarks listing scores.now listed.now (line_pieces line.now)))) }
+        (remarks_text false (line_remarks complete scores.now listed.now (line_pieces line.now)))) }
     ensures found { IfOk result (λ any. any
-        ≡ has_remarks (line_remarks listing scores.now listed.now (line_pieces line.now))) }
+        ≡ has_remarks (line_remarks complete scores.now listed.now (line_pieces line.now))) }
 {
     let found = write_remarks(writer, scores, line)?;
-    write_left_out_remarks(writer, listing, scores, listed, found)
+    write_left_out_remarks(writer, complete, scores, listed, found)
 }

@@ -3,7 +3,7 @@
 use bound_table::BoundTable;
 use list_printer::{ListFault, write_lists};
 use othello_rules::Scoring;
-use scored_lines::{Demands, Listing};
+use program_settings::Criteria;
 use std::alloc::{AllocError, Global};
 use std::io;
 use std::io::Write;
@@ -21,11 +21,11 @@ fn print_text<R: Threads + Wait, W: Write>(
     let Ok(table) = BoundTable::new(alloc, 16, Scoring::Winner) else {
         return Err(AllocError);
     };
-    let demands = Demands {
+    let criteria = Criteria {
         limit: 20,
-        listing: Listing::Any,
+        complete: false,
     };
-    match write_lists(rt, table, alloc, writer, demands, 2, &texts) {
+    match write_lists(rt, table, alloc, writer, criteria, 2, &texts) {
         Err(ListFault::Memory) => Err(AllocError),
         ended => Ok(ended),
     }

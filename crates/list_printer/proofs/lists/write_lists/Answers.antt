@@ -7,13 +7,13 @@ use Rattle.list_printer.proofs.lists.write_lists.Goals as goal
 
 pub returns-clause-written : goal.returns-clause-written
 returns-clause-written g c =
-    (all_printed _ _ (lists_output c.args.table.scoring c.args.demands (texts_of c.args.texts.now))
+    (all_printed _ _ (lists_output c.args.table.scoring c.args.criteria (texts_of c.args.texts.now))
     c.print_all.new.queue.right
     (rw c.in_ok-scorer.ensures.ok at c.in_ok-print_all.ensures.printed)).0
 
 pub returns-clause-right : goal.returns-clause-right
 returns-clause-right g c =
-    (all_printed _ _ (lists_output c.args.table.scoring c.args.demands (texts_of c.args.texts.now))
+    (all_printed _ _ (lists_output c.args.table.scoring c.args.criteria (texts_of c.args.texts.now))
     c.print_all.new.queue.right
     (rw c.in_ok-scorer.ensures.ok at c.in_ok-print_all.ensures.printed)).1
 

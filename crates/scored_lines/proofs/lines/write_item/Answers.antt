@@ -15,7 +15,7 @@ returns-in-Ok-Skip-clause-written g c =
     subst (λ t. OnOk c.write_skipped.result
     (Appends (g.W.Write.contents c.args.writer.now)
     (g.W.Write.contents c.write_skipped.new.writer) t))
-    (out_skip (g.T.Bounds.scoring c.args.table.now) c.args.demands line (item_of line)
+    (out_skip (g.T.Bounds.scoring c.args.table.now) c.args.criteria line (item_of line)
     (said_skip c.in-Ok-Skip.field-0 (item_of line) c.in-Ok-Skip.field-0-is
     c.in-Ok-Skip.ensures.exact))
     c.write_skipped.ensures.written
@@ -24,7 +24,7 @@ pub returns-in-Ok-Skip-clause-right : goal.returns-in-Ok-Skip-clause-right
 returns-in-Ok-Skip-clause-right g c =
     let line = c.args.line.now in
     subst (λ b. IfOk c.write_skipped.result (λ r. r ≡ b))
-    (right_skip (g.T.Bounds.scoring c.args.table.now) c.args.demands line (item_of line)
+    (right_skip (g.T.Bounds.scoring c.args.table.now) c.args.criteria line (item_of line)
     (said_skip c.in-Ok-Skip.field-0 (item_of line) c.in-Ok-Skip.field-0-is
     c.in-Ok-Skip.ensures.exact))
     c.write_skipped.ensures.right
@@ -36,9 +36,9 @@ returns-in-Err-clause-written g c =
     let old = g.W.Write.contents c.args.writer.now in
     let new = g.W.Write.contents c.write_refused.new.writer in
     on_ok c.write_refused.result (Appends old new (refused_text (line_fault_text c.in-Err.fault) line))
-    (Appends old new (out_text s c.args.demands line (item_of line)))
+    (Appends old new (out_text s c.args.criteria line (item_of line)))
     (λ ok. subst (Appends old new)
-    (out_fault s c.args.demands line (item_of line) c.in-Err.fault
+    (out_fault s c.args.criteria line (item_of line) c.in-Err.fault
     (said_fault c.in-Err.fault (item_of line) (c.write_refused.ensures.told ok)
     c.in-Err.ensures.exact)))
     c.write_refused.ensures.written
@@ -48,9 +48,9 @@ returns-in-Err-clause-right g c =
     let s = g.T.Bounds.scoring c.args.table.now in
     let line = c.args.line.now in
     if_ok c.write_refused.result (λ r. r ≡ false)
-    (λ r. r ≡ is_right s c.args.demands line (item_of line))
+    (λ r. r ≡ is_right s c.args.criteria line (item_of line))
     (λ ok r. subst (λ b. r ≡ b)
-    (right_fault s c.args.demands line (item_of line) c.in-Err.fault
+    (right_fault s c.args.criteria line (item_of line) c.in-Err.fault
     (said_fault c.in-Err.fault (item_of line) (c.write_refused.ensures.told ok)
     c.in-Err.ensures.exact)))
     c.write_refused.ensures.right

@@ -6,8 +6,8 @@ use Rattle.scored_lines.proofs.lines.write_items.Given as goal
 abbrev pub invariant-loop-line : goal.invariant-loop-line
 invariant-loop-line g l = record {
   text : Prints (g.W.Write.contents l.fn.writer) (g.W.Write.contents l.writer)
-      (lines_text (g.T.Bounds.scoring l.table) l.demands l.line-iterator)
-      (scores_text (g.T.Bounds.scoring l.table) l.demands l.fn.text);
-  right : (l.right && are_right (g.T.Bounds.scoring l.table) l.demands l.line-iterator)
-      ≡ are_right (g.T.Bounds.scoring l.table) l.demands (lines_of l.fn.text);
+      (lines_text (g.T.Bounds.scoring l.table) l.criteria l.line-iterator)
+      (scores_text (g.T.Bounds.scoring l.table) l.criteria l.fn.text);
+  right : (l.right && are_right (g.T.Bounds.scoring l.table) l.criteria l.line-iterator)
+      ≡ are_right (g.T.Bounds.scoring l.table) l.criteria (lines_of l.fn.text);
 }

@@ -15,7 +15,7 @@ returns-in-Ok-clause-written g c =
     let s = g.T.Bounds.scoring c.args.table.now in
     let p = c.of_grid.result in
     let whole = whole_from c.args.entry.now.grid p c.of_grid.ensures.meaning in
-    let small : empties_of p ≤ c.args.demands.limit = let within = c.in-Ok.ensures.when.0 refl in
+    let small : empties_of p ≤ c.args.criteria.limit = let within = c.in-Ok.ensures.when.0 refl in
     omega arith in
     let task : c.score_moves-scored.result ≡ record { position = p; scoring = s } =
     c.score_moves-scored.ensures ∙ c.in-Ok.ensures.task
@@ -25,7 +25,7 @@ returns-in-Ok-clause-written g c =
     subst (λ t. OnOk c.write_entry_line.result
     (Appends (g.W.Write.contents c.args.writer.now)
     (g.W.Write.contents c.write_entry_line.new.writer) t))
-    (out_scored s c.args.demands c.args.line.now (entry_of c.args.entry.now) p whole
+    (out_scored s c.args.criteria c.args.line.now (entry_of c.args.entry.now) p whole
     c.of_grid.ensures.value c.fields.result.now small scores)
     c.write_entry_line.ensures.written
 
@@ -34,7 +34,7 @@ returns-in-Ok-clause-right g c =
     let s = g.T.Bounds.scoring c.args.table.now in
     let p = c.of_grid.result in
     let whole = whole_from c.args.entry.now.grid p c.of_grid.ensures.meaning in
-    let small : empties_of p ≤ c.args.demands.limit = let within = c.in-Ok.ensures.when.0 refl in
+    let small : empties_of p ≤ c.args.criteria.limit = let within = c.in-Ok.ensures.when.0 refl in
     omega arith in
     let task : c.score_moves-scored.result ≡ record { position = p; scoring = s } =
     c.score_moves-scored.ensures ∙ c.in-Ok.ensures.task
@@ -42,7 +42,7 @@ returns-in-Ok-clause-right g c =
     let scores : c.fields.result.now ≡ score_fields_of s p =
     c.fields.ensures.value ∙ ap (λ (t : TaskView). score_fields_of t.scoring t.position) task in
     subst (λ b. IfOk c.write_entry_line.result (λ r. r ≡ b))
-    (right_scored s c.args.demands c.args.line.now (entry_of c.args.entry.now) p whole
+    (right_scored s c.args.criteria c.args.line.now (entry_of c.args.entry.now) p whole
     c.of_grid.ensures.value c.fields.result.now small scores)
     c.write_entry_line.ensures.right
 
@@ -54,7 +54,7 @@ returns-in_ok-write_many-in-Err-clause-written g c =
     let whole = whole_from c.args.entry.now.grid p c.of_grid.ensures.meaning in
     subst (Appends (g.W.Write.contents c.args.writer.now)
     (g.W.Write.contents c.write_many.new.writer))
-    (out_many s c.args.demands c.args.line.now (entry_of c.args.entry.now) p whole
+    (out_many s c.args.criteria c.args.line.now (entry_of c.args.entry.now) p whole
     c.of_grid.ensures.value c.in-Err.field-0.0
     (λ h. false≢true (c.in-Err.ensures.when.1 (let few = c.requires in omega arith)))
     c.in-Err.ensures.refused)
@@ -65,6 +65,6 @@ returns-in_ok-write_many-in-Err-clause-right g c =
     let s = g.T.Bounds.scoring c.args.table.now in
     let p = c.of_grid.result in
     let whole = whole_from c.args.entry.now.grid p c.of_grid.ensures.meaning in
-    right_many s c.args.demands c.args.line.now (entry_of c.args.entry.now) p whole
+    right_many s c.args.criteria c.args.line.now (entry_of c.args.entry.now) p whole
     c.of_grid.ensures.value
     (λ h. false≢true (c.in-Err.ensures.when.1 (let few = c.requires in omega arith)))

@@ -11,7 +11,7 @@ pub returns-clause-written : goal.returns-clause-written
 returns-clause-written g c =
     let scores = c.args.scores.now in
     let first = remarks scores (line_pieces c.args.line.now) in
-    let more = left_out_remarks c.args.listing scores c.args.listed.now in
+    let more = left_out_remarks c.args.complete scores c.args.listed.now in
     let old = g.W.Write.contents c.args.writer.now in
     let new = g.W.Write.contents c.write_left_out_remarks.new.writer in
     on_ok c.write_left_out_remarks.result _ _
