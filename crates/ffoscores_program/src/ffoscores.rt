@@ -55,15 +55,8 @@ fn print_lists<T: Threads + Wait, W: Write>(
         return Err(ProgramError::Memory);
     };
     let workers = settings.workers();
-    match write_lists(
-        rt,
-        table,
-        alloc,
-        output,
-        settings.criteria(),
-        workers,
-        texts,
-    ) {
+    let criteria = settings.criteria();
+    match write_lists(rt, table, alloc, output, criteria, workers, texts) {
         Ok(right) => Ok(right),
         Err(fault) => Err(list_error(fault)),
     }
