@@ -593,7 +593,7 @@ class Fix(Case):
     def test_a_file_system_without_hard_links(self):
         """Where a file appears meanwhile it is kept where there are hard links, and no file is left beside. The new one is on
         the disk before it has its name."""
-        from ffosolve._fixed import write_new
+        from ffosolve._fix_wthor import write_new
 
         def sync(file):
             synced.append((os.fstat(file).st_size, os.path.exists("new.wtb")))

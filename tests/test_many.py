@@ -21,7 +21,7 @@ from unittest import mock
 from tests.support import (ROOT, SECONDS, InFolder, as_at_a_login, built, change_many, lay_many, limited, link_to,
                            module_folder, need, positions, processes_with, run, stored, wait_until, write)
 
-import ffosolve._many.program
+import ffosolve._many.command
 
 many = ffosolve._many
 Part, Run = many.parts.Part, many.parts.Run
@@ -158,7 +158,7 @@ class Functions(InFolder):
 
     def test_signals_after_the_first_are_ignored(self):
         with mock.patch.object(signal, "signal") as handled, self.assertRaises(KeyboardInterrupt):
-            many.program.catch(signal.SIGTERM, None)
+            many.command.catch(signal.SIGTERM, None)
         self.assertEqual([words[0][0] for words in handled.call_args_list], [*many.jobs.SIGNALS])
         self.assertEqual([words[0][1](0, None) for words in handled.call_args_list], [None] * len(many.jobs.SIGNALS))
 
@@ -800,7 +800,7 @@ class Signals(Case):
 
     def test_interrupt_at_the_start_prints_no_traceback(self):
         by = install("starting")
-        change_many(by, "program", "import contextlib\n", "import contextlib, time\nopen('begun', 'w').close()\ntime.sleep(40)\n")
+        change_many(by, "command", "import contextlib\n", "import contextlib, time\nopen('begun', 'w').close()\ntime.sleep(40)\n")
         ran = self.open(by)
         wait_until(Path("begun").exists)
         ran.send_signal(signal.SIGINT)

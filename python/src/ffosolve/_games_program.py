@@ -10,7 +10,7 @@ import sys
 from typing import Callable, Iterator, List, Optional
 
 from . import __version__
-from ._fixed import Fixed, write_new
+from ._fix_wthor import Fixed, write_new
 from ._games import MOST_DISCS, Game, GameRefused, NotGames, Played, Player, games_in
 from ._library import MOST_EMPTIES, LibraryNotFound, load
 from ._published import Comparison, Unfit
@@ -20,8 +20,8 @@ from ._text import NotText, text_lines
 NAME = "ffosolve-games"
 DONE, REMARKED, MISUSED, UNREADABLE, NO_LIBRARY, INTERRUPTED = 0, 1, 2, 3, 4, 130
 WHAT = """\
-Prints one position of each game as a line of OBF: the first with N empty
-squares.
+Prints one position of each game, the first with N empty squares, as a line of
+OBF.
 
 A FILE is a WTHOR file (.wtb) or a text with one game in each line. A line of a
 text has the squares of the moves, as f5d6c3 or `1. F5 2. D6`, with blanks,

@@ -38,10 +38,9 @@ OPTIONS = {
         ("--jobs", "N", f"parts solved at a time on each machine, 1 to {MOST['--jobs']} [default: "
                         "one for each of its processors]"),
         ("--lines", "N", f"lines of a part, 1 to {MOST['--lines']} [default: 1000]"),
-        ("--hosts", "FILE", "a file that names the machines, one in each line, as ssh takes them; `:` is this machine"),
+        ("--hosts", "FILE", "a file that lists the machines, one in each line, as ssh takes them; `:` is this machine"),
         ("--scores", None, "solve the parts with ffoscores instead of ffosolve"),
-        ("--complete", None, "a line that lists moves has to list every best one: otherwise it differs, or with --scores "
-                             "has a remark"),
+        ("--complete", None, "a line that lists moves but leaves out a best one differs, or with --scores has a remark"),
         ("--cut", None, "only cut the list, for another scheduler"),
         ("--merge-books", None, "solve nothing, and merge books of one scoring into one"),
         ("--sweep", None, "solve nothing, and remove what runs of FOLDER left on other machines"),
@@ -50,7 +49,7 @@ OPTIONS = {
         ("--help -h", None, "print this help")),
     "options of ffosolve, with the same meaning": (
         ("--max-empties", "N", "solve positions with at most N empty squares, 0 to 60 [default: that of ffosolve]"),
-        ("--workers", "N", "threads for each part, besides one of its own, 0 to 64 [default: 0]"),
+        ("--workers", "N", "threads for each part, added to one of its own, 0 to 64 [default: 0]"),
         ("--table", "N", "entries of the transposition table for each part, 32 bytes each"),
         ("--scoring", "NAME", "how a finished game is scored [default: winner] [possible values: winner, discs, sign]"),
         ("--book-in", "FILE", "a book of claimed answers, which are tested before they are used"),

@@ -1,4 +1,4 @@
-"""The program: what a command line asks for is done."""
+"""Does what a command line asks for."""
 import contextlib
 import os
 import signal
