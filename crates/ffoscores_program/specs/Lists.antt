@@ -55,7 +55,7 @@ pub record AreListsBegun (words : List (List ℕ)) (given old new : Option (List
   pub asked : AsksLists words request
   pub stopped : StopsLists request given old new
 
--- A call of `ffoscores` ended: with 0 or 1 after printing the lists that the words ask for, 1 where
+-- A call of `ffoscores` ended: with 0 or 1 after printing the lists that the words ask for, 1 if
 -- something in them is wrong; with 3 after printing nothing, help or the version, or a front.
 pub record EndsFfoscores (words : List (List ℕ)) (given old new : Option (List ℕ)) (status : ℕ)
     : Type 0 where

@@ -52,7 +52,7 @@ pub(crate) fn print_error<E: Write>(error: &ProgramError<'_>, errors: &mut E) ->
 }
 
 /// The whole program, like `list_program`, for the words that `env::args` gives. The result ends
-/// the process with the status, 0 to 3: with 2 where a word is not text, and with 3 where memory
+/// the process with the status, 0 to 3: with 2 if a word is not text, and with 3 if memory
 /// for the words was refused.
 pub fn list_program_of<T: Files + Threads + Wait, R: Read, W: Write, E: ErrorStream>(
     rt: &T,

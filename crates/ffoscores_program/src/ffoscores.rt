@@ -88,10 +88,10 @@ fn carry_out<'a, T: Files + Threads + Wait, R: Read, W: Write>(
 /// reads the lists that the words name, or standard input. It prints them again on standard output
 /// with every move's score, each line as soon as it is solved.
 ///
-/// The status is 0 where nothing in the lists is wrong, or where help or the version was asked for
-/// and printed; 1 where a line is refused or there is a remark; 2 where the command line is
-/// refused; 3 where a list can't be read, is too large or one of too many, where standard output
-/// can't be written, or where memory ran out. An error that ends the program early is printed on
+/// The status is 0 if nothing in the lists is wrong, or if help or the version was asked for
+/// and printed; 1 if a line is refused or there is a remark; 2 if the command line is
+/// refused; 3 if a list can't be read, is too large or one of too many, if standard output
+/// can't be written, or if memory ran out. An error that ends the program early is printed on
 /// standard error, as one line or as clap's text, and the lines that were printed before stay; a
 /// failure of standard error changes nothing.
 pub fn list_program<T: Files + Threads + Wait, R: Read, W: Write, E: Write>(

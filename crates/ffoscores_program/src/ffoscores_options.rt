@@ -65,8 +65,8 @@ fn ffoscores_command<'a>(alloc: Global, names: &'a [&'a str]) -> Result<Command<
 }
 
 /// Reads the words of a command line of `ffoscores`, the program's name first. The error is
-/// `Memory` where memory was refused. Any other error has clap's error, which is also the help or
-/// the version where the words ask for one.
+/// `Memory` if memory was refused. Any other error has clap's error, which is also the help or
+/// the version if the words ask for one.
 pub fn read_list_options(alloc: Global, words: &[&str]) -> Result<ListOptions, OptionFault>
     // For words that clap takes, the only error is `Memory`.
     ensures taken { IsTakenBy ffoscores (map (λ word. word.now) words.now)

@@ -67,7 +67,7 @@ impl ChunkWork {
     }
 }
 
-/// What is printed for a chunk: pending on its thread, beside what that works with; or ready, where
+/// What is printed for a chunk: pending on its thread, beside what that works with; or ready, if
 /// the chunk has no thread.
 #[derive(Drop)]
 pub enum ChunkOutput<'a> {
@@ -75,7 +75,7 @@ pub enum ChunkOutput<'a> {
     Ready(Result<LinesText, AllocError>),
 }
 
-/// A chunk whose scoring was started, and what its thread promises. Where it is dropped, its thread
+/// A chunk whose scoring was started, and what its thread promises. If it is dropped, its thread
 /// runs on.
 #[derive(Drop)]
 pub struct StartedChunk<'a> {
@@ -127,8 +127,8 @@ fn work_of(scorer: &Arc<Scorer>, alloc: Global, text: &[u8]) -> Result<ChunkWork
     })
 }
 
-// Starts a chunk on a thread of its own. Where no thread can be started, the calling thread scores
-// the chunk. `Err` where memory is refused.
+// Starts a chunk on a thread of its own. If no thread can be started, the calling thread scores
+// the chunk. `Err` if memory is refused.
 fn spawn_chunk<'a, R: Threads>(
     rt: &R,
     scorer: &Arc<Scorer>,
@@ -158,7 +158,7 @@ fn spawn_chunk<'a, R: Threads>(
     }
 }
 
-/// Starts the scoring of a chunk: on a thread of its own, or on the calling thread where the chunk
+/// Starts the scoring of a chunk: on a thread of its own, or on the calling thread if the chunk
 /// is for that thread or a thread can't be started.
 pub(crate) fn start<'a, R: Threads>(
     rt: &R,

@@ -38,7 +38,7 @@ fn line_len(text: &[u8]) -> usize
     text.len()
 }
 
-// The number of empty squares among the first 64 bytes of a text's first line; 0 where they are
+// The number of empty squares among the first 64 bytes of a text's first line; 0 if they are
 // more than the limit, since such a line is refused.
 fn empties_in(text: &[u8], limit: u8) -> usize {
     let mut empties = 0usize;
@@ -56,8 +56,8 @@ fn empties_in(text: &[u8], limit: u8) -> usize {
     }
 }
 
-// The number of bytes of a text's first chunk: of one line where the calling thread is to score it,
-// or where it has many empty squares; otherwise of several, up to a line with many.
+// The number of bytes of a text's first chunk: of one line if the calling thread is to score it,
+// or if it has many empty squares; otherwise of several, up to a line with many.
 fn chunk_len(text: &[u8], limit: u8, is_for_caller: bool) -> usize
     requires { 0 < length text.now }
     ensures ended { EndsLine text.now result }
@@ -77,7 +77,7 @@ fn chunk_len(text: &[u8], limit: u8, is_for_caller: bool) -> usize
     end
 }
 
-// The first chunk of a text that is not empty: one line, or several where a thread of their own is
+// The first chunk of a text that is not empty: one line, or several if a thread of their own is
 // to score them and each takes little time.
 fn first_chunk(text: &[u8], limit: u8, has_no_workers: bool) -> Chunk<'_>
     requires { 0 < length text.now }

@@ -58,7 +58,7 @@ impl From<io::Error> for ListFault {
 }
 
 // Writes bytes by one call of the writer. Returns the bytes that the writer did not take: all of
-// them where it was interrupted.
+// them if it was interrupted.
 fn send_some<'a, W: Write>(writer: &mut W, bytes: &'a [u8]) -> io::Result<&'a [u8]>
     ensures taken { IfOk result (λ rest. Prints (W.contents writer.old) (W.contents writer.new)
         rest.now bytes.now) }
@@ -77,7 +77,7 @@ fn send_some<'a, W: Write>(writer: &mut W, bytes: &'a [u8]) -> io::Result<&'a [u
     }
 }
 
-// Writes all bytes and flushes the writer. Where it fails, a prefix of the bytes is written, which
+// Writes all bytes and flushes the writer. If it fails, a prefix of the bytes is written, which
 // `write_all` does not promise.
 fn send<W: Write>(writer: &mut W, bytes: &[u8]) -> io::Result<()>
     ensures written { OnOk result
@@ -225,10 +225,10 @@ fn print_all<'a, R: Threads + Wait, W: Write>(
 ///
 /// With `workers` above 0, up to `workers` + 1 threads score lines at once, besides the calling
 /// thread, which scores lines that take less time than starting a thread. With 0 it scores all.
-/// What is printed is the same. Where `Err` is returned, threads that score lines run on, and are
+/// What is printed is the same. If `Err` is returned, threads that score lines run on, and are
 /// not waited for. The call may wait for its threads.
 ///
-/// Returns whether no line is refused and no remark is made. Where `Err` is returned, a prefix of
+/// Returns whether no line is refused and no remark is made. If `Err` is returned, a prefix of
 /// the whole output is printed.
 pub fn write_lists<R: Threads + Wait, W: Write>(
     rt: &R,

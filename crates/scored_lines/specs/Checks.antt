@@ -14,7 +14,7 @@ same_move Pass Pass = true
 same_move Over Over = true
 same_move _ _ = false
 
--- the score of a move among the scores of a position; none where the position has no such move
+-- the score of a move among the scores of a position; none if the position has no such move
 abbrev pub score_in : List Field → ListedMove → Option ℤ
 score_in scores move = option_map (λ f. f.1) (find (λ f. same_move f.0 move) scores)
 
@@ -25,7 +25,7 @@ abbrev pub wrong_if : Field → Option ℤ → Option Wrong
 wrong_if f None = Some (wrong f None)
 wrong_if f (Some score) = if int_eq score f.1 then None else Some (wrong f (Some score))
 
--- a listed move is wrong where its score is another one, or the position has no such move
+-- a listed move is wrong if its score is another one, or the position has no such move
 abbrev pub wrong_in : List Field → Field → Option Wrong
 wrong_in scores f = wrong_if f (score_in scores f.0)
 

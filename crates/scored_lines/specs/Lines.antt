@@ -27,7 +27,7 @@ quoted_text line = codes ": " ++ kept_text line
 unfoldable pub refused_text : List ℕ → List ℕ → List ℕ
 refused_text reason line = codes "% refused: " ++ (reason ++ quoted_text line)
 
--- the comment of a line after a space, or nothing where the line has none
+-- the comment of a line after a space, or nothing if the line has none
 abbrev pub comment_text : List ℕ → List ℕ
 comment_text [] = []
 comment_text (b ∷ more) = 32 ∷ b ∷ more

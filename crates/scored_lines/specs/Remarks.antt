@@ -27,12 +27,12 @@ wrong_text w =
 unfoldable pub unread_text : List ℕ → List ℕ
 unread_text bytes = codes "not read: " ++ bytes
 
--- the remark on bytes that are not a field; none where there are no bytes
+-- the remark on bytes that are not a field; none if there are no bytes
 abbrev pub unread_remark : List ℕ → Option (List ℕ)
 unread_remark [] = None
 unread_remark (b ∷ bs) = Some (unread_text (b ∷ bs))
 
--- the remark on a listed move; none where its score is right
+-- the remark on a listed move; none if its score is right
 abbrev pub field_remark : List Field → Field → Option (List ℕ)
 field_remark scores f = option_map wrong_text (wrong_in scores f)
 
@@ -53,12 +53,12 @@ remarks scores pieces = filter_map (remark_of scores) pieces
 unfoldable pub left_out_text : ListedMove → List ℕ
 left_out_text move = codes "best move " ++ (move_text move ++ codes " is not listed")
 
--- the remark on a move of the position; none where it is listed, or is not a best move
+-- the remark on a move of the position; none if it is listed, or is not a best move
 abbrev pub left_out_remark : List Field → List Field → Field → Option (List ℕ)
 left_out_remark scores listed f =
     if is_left_out scores listed f then Some (left_out_text f.0) else None
 
--- the remarks on best moves that are not listed, where they are asked for and the line lists moves
+-- the remarks on best moves that are not listed, if they are asked for and the line lists moves
 abbrev pub left_out_remarks : Bool → List Field → List Field → List (List ℕ)
 left_out_remarks complete scores listed =
     if asks_for_best complete listed then filter_map (left_out_remark scores listed) scores else []

@@ -10,7 +10,7 @@ use obf_text::ListedMove;
 use othello_rules::Square;
 
 /// A listed move with a wrong score: `score` is the move's score in the position, as the side to
-/// move sees it, and `claimed` the listed one. `score` is None where the position has no such move.
+/// move sees it, and `claimed` the listed one. `score` is None if the position has no such move.
 #[derive(Clone, Copy, PartialEq, Eq, Debug)]
 pub struct Wrong {
     pub listed: ListedMove,
@@ -47,7 +47,7 @@ fn field_in(scores: &[(ListedMove, i8)], listed: ListedMove) -> Option<&(ListedM
     scores.iter().find(|field| same_move(field.0, listed))
 }
 
-// The score of a move among the scores of a position. None where the position has no such move.
+// The score of a move among the scores of a position. None if the position has no such move.
 fn score_in(scores: &[(ListedMove, i8)], listed: ListedMove) -> Option<i8>
     ensures { result ≡ score_in scores.now listed }
 {
@@ -55,7 +55,7 @@ fn score_in(scores: &[(ListedMove, i8)], listed: ListedMove) -> Option<i8>
     Some(field.1)
 }
 
-/// Compares a listed move and its score with the scores of the position's moves. None where the
+/// Compares a listed move and its score with the scores of the position's moves. None if the
 /// move has this score.
 pub fn wrong_in(scores: &[(ListedMove, i8)], field: &(ListedMove, i8)) -> Option<Wrong>
     ensures { result ≡ wrong_in scores.now field.now }
@@ -101,7 +101,7 @@ pub(crate) fn is_left_out(
     }
 }
 
-/// Whether every best move is asked for of a line that lists these moves: under `complete`, where
+/// Whether every best move is asked for of a line that lists these moves: under `complete`, if
 /// it lists any.
 pub(crate) fn asks_for_best(complete: bool, listed: &[(ListedMove, i8)]) -> bool
     ensures { result ≡ asks_for_best complete listed.now }

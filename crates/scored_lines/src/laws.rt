@@ -22,7 +22,7 @@ pub fn scores_are_read_again()
         ≡ Holds (record { position = P; listed = score_fields g P }) }
 {}
 
-/// Where every best move is asked for and a line lists a move, exactly the best moves of its
+/// If every best move is asked for and a line lists a move, exactly the best moves of its
 /// position that it does not list get a remark that they are left out. On any other line none does.
 pub fn left_out_moves_are_remarked()
     ensures all { (g : Scoring) (P : GridView) (listed : List Field) (q : ℕ) → listed ≢ []

@@ -68,7 +68,7 @@ fn write_many<W: Write>(writer: &mut W, found: u8, limit: u8, line: &[u8]) -> io
     write_quoted(writer, line)
 }
 
-// Writes a space and a line's comment, or nothing where the line has none, and the line's end.
+// Writes a space and a line's comment, or nothing if the line has none, and the line's end.
 fn write_comment<W: Write>(writer: &mut W, comment: &[u8]) -> io::Result<()>
     ensures { OnOk result (Appends (W.contents writer.old)
         (W.contents writer.new) (comment_text comment.now ++ 10 ∷ [])) }
@@ -140,7 +140,7 @@ fn write_skipped<W: Write>(writer: &mut W, line: &[u8]) -> io::Result<bool>
 }
 
 // Writes the comment for a line that is refused for a fault. Returns false: such a line is not
-// right. `Err` where the fault is `Memory`, which is not a fault of the line.
+// right. `Err` if the fault is `Memory`, which is not a fault of the line.
 fn write_refused<W: Write>(writer: &mut W, fault: LineFault, line: &[u8]) -> io::Result<bool>
     ensures written { OnOk result (Appends (W.contents writer.old)
         (W.contents writer.new) (refused_text (line_fault_text fault) line.now)) }

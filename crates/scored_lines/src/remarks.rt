@@ -54,7 +54,7 @@ fn write_unread<W: Write>(writer: &mut W, bytes: &[u8]) -> io::Result<()>
     writer.write_all(bytes)
 }
 
-// Writes the bytes in front of a remark: a comma where `found` says that another remark comes
+// Writes the bytes in front of a remark: a comma if `found` says that another remark comes
 // before it, otherwise the `%` that begins a comment.
 #[tactic(auto, unfolding(crate::specs::Remarks::gap_text))]
 fn write_gap<W: Write>(writer: &mut W, found: bool) -> io::Result<()>
@@ -178,7 +178,7 @@ fn write_left_out_remark<W: Write>(
     Ok(true)
 }
 
-// Writes the remarks on best moves that are not listed, where they are asked for and the line lists
+// Writes the remarks on best moves that are not listed, if they are asked for and the line lists
 // moves. `found` says whether there was a remark before them. Returns whether there is one by now.
 fn write_left_out_remarks<W: Write>(
     writer: &mut W,

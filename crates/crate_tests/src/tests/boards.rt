@@ -1,4 +1,4 @@
-//! A worked list of steps, the order of `take`, and a desk on one thread and on many. Where one request
+//! A worked list of steps, the order of `take`, and a desk on one thread and on many. If one request
 //! for memory is refused, a test ends with that, or makes the refused call again.
 
 mod crowds;

@@ -24,7 +24,7 @@ fn solved_of(rt: &impl Abort, position: Pos, scoring: Scoring) -> Solved
     solve(&NoTable::new(task.scoring()), task)
 }
 
-// Adds a solved position, and says whether it was new. Where memory is refused, the book has as many
+// Adds a solved position, and says whether it was new. If memory is refused, the book has as many
 // positions as before, and the position is added again.
 fn is_added(book: &mut Book, solved: &Solved) -> bool
     requires { solved.now.scoring ≡ book.old.scoring }

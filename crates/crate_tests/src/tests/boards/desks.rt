@@ -209,7 +209,7 @@ fn a_desk_on_one_thread(rt: HostRuntime) {
     }
 }
 
-// Whether a new client's submit is refused with this fault. `Err` where it is refused memory, which
+// Whether a new client's submit is refused with this fault. `Err` if it is refused memory, which
 // comes first.
 fn is_refused<R: Wait>(
     rt: &R,

@@ -17,7 +17,7 @@ fn submit(board: &mut Board, sender: u32, task: Task) -> Result<u32, SubmitFault
     sent
 }
 
-// A board of the most senders, of which the last has `jobs` jobs. `Err` where the board is refused
+// A board of the most senders, of which the last has `jobs` jobs. `Err` if the board is refused
 // memory.
 fn filled_board(
     rt: &impl Abort,

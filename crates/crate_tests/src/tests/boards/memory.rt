@@ -23,7 +23,7 @@ fn job_of(name: Name, tasks: &[Task; 3]) -> Job {
     }
 }
 
-// Whether each submit has its number. `Err` where one is refused memory.
+// Whether each submit has its number. `Err` if one is refused memory.
 fn are_submitted(board: &mut Board, tasks: &[Task; 3]) -> Result<bool, AllocError> {
     for name in AS_SUBMITTED {
         let (sender, number) = *name;
@@ -86,7 +86,7 @@ fn are_drained(board: &mut Board) -> bool {
     board.is_done()
 }
 
-// Whether all steps have their replies at a new board. `Err` where the board or a submit is refused
+// Whether all steps have their replies at a new board. `Err` if the board or a submit is refused
 // memory.
 fn are_served(alloc: Global, tasks: &[Task; 3]) -> Result<bool, AllocError> {
     let Ok(mut board) = Board::new(alloc, 3) else {

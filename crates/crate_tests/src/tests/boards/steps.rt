@@ -15,7 +15,7 @@ use std::process::Abort;
 // A step, its reply, and whether the board is done after it.
 type Row = (Step, Reply, bool);
 
-// How many rows are as the board replies, each step by itself. `Err` where memory is refused.
+// How many rows are as the board replies, each step by itself. `Err` if memory is refused.
 fn count_right(alloc: Global, senders: u32, rows: &[Row]) -> Result<usize, AllocError> {
     let Ok(mut board) = Board::new(alloc, senders) else {
         return Err(AllocError);

@@ -42,7 +42,7 @@ struct Scene {
     event: Event,
 }
 
-// A desk of two senders. Where the event is about a job, the client has sent it, and it is taken.
+// A desk of two senders. If the event is about a job, the client has sent it, and it is taken.
 fn scene_of<R: Wait>(rt: &R, alloc: Global, task: Task, event: Event) -> Result<Scene, AllocError> {
     let Ok(desk) = Desk::new(alloc, 2) else {
         return Err(AllocError);

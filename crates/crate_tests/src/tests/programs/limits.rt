@@ -84,7 +84,7 @@ const FILES: [Refused; 7] = [
     (0, 0, None, 0),
 ];
 
-// No gate is called where files are refused.
+// No gate is called if files are refused.
 #[test]
 fn files_are_refused_first(rt: HostRuntime) -> Result<(), Fail> {
     for (count, spaces, fault, calls) in FILES {

@@ -103,7 +103,7 @@ ffosolve: solved 1 of 2 in 5 s
 ffosolve: solved 2 of 2 in 10 s
 ";
 
-// The clock is read as the run begins, after each job and at the end. Where it can't be read, nothing
+// The clock is read as the run begins, after each job and at the end. If it can't be read, nothing
 // more is reported.
 #[test]
 fn tells_by_its_clock(rt: HostRuntime) {

@@ -149,7 +149,7 @@ pub(super) fn texts_of(alloc: Global, outcome: Outcome) -> Result<(Vec<u8>, Vec<
     Ok((reports.concat(alloc)?, text))
 }
 
-// A run on one thread over both texts, with the claims of the first one's book. Where an allocation
+// A run on one thread over both texts, with the claims of the first one's book. If an allocation
 // is refused that the run can do without, it gives the same.
 #[test]
 fn gives_a_book_serially(rt: HostRuntime) -> Result<(), Fail> {
