@@ -33,7 +33,7 @@ impl Model for Board {
     ghost invariant = { λ b. IsBoard b.senders.items b.waiting.jobs b.taken b.waiting.room };
 }
 
-// Whether all senders are closed.
+// Whether all senders are closed. A function of its own so that a contract says it.
 fn are_closed(senders: &[Sender]) -> bool
     ensures { IsTrue result ↔ All (λ state. state.closed ≡ true) senders.now }
 {

@@ -126,7 +126,8 @@ impl Client {
         self.sent.get(self.received as usize).copied()
     }
 
-    // Counts a delivery that is the client's next answer. `Mixed` for any other.
+    // Counts a delivery that is the client's next answer. `Mixed` for any other, which can come if
+    // two clients share a sender.
     fn accept(&mut self, delivery: Delivery) -> Result<Turn, Mixed>
         requires { delivery.number < most_jobs }
         ensures ok { IfOk result (λ turn.

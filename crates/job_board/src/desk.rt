@@ -3,9 +3,9 @@
 //!
 //! A worker waits until there is a job, or the board is done. A client waits until its next answer
 //! or a job is there, or it is drained. Any thread that waits can take one more waiting job, so
-//! a submit and a give back wake one thread. A finish or a close may be what any of them waits for,
-//! so they wake all. A client that was woken for a job may find its answer, and leave the job. The
-//! finish of that answer wakes all the others, and they look for the job.
+//! `submit` and `give_back` wake one thread. Any of them may wait for what `finish` or `close`
+//! does, so these wake all. A client that was woken for a job may find its answer, and leave the
+//! job. The `finish` that gave the answer wakes all the others, and they look for the job.
 
 ghost use Rattle.std.specs.Prelude.{◌≡◌, ◌<◌, ◌↔◌, IfOk, OnOk, OnErr};
 ghost use Rattle.job_board.specs.Limits.{most_senders};

@@ -1,4 +1,4 @@
-//! The fault of a command line without options.
+//! Why a command line gives no options.
 
 ghost use Rattle.std.specs.Prelude.{◌≡◌};
 ghost use Rattle.program_parts.specs.CommandLine.{IsFaultBy};

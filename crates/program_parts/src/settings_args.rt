@@ -154,7 +154,8 @@ pub fn with_settings<'a>(
     with_table.arg(scoring_arg(alloc, names))
 }
 
-// The number under this option; None where it has no number of 8 bits.
+// The number under this option; None where it has no number of 8 bits. This and `u32_of` are
+// functions of their own so that their contracts say which number clap gives.
 fn u8_of(matches: &ArgMatches<'_>, id: &str) -> Option<u8>
     ensures value { IfSome result (λ n. HasNumber id.now (rows_of (found_of matches.now)) n) }
     ensures found { (n : ℕ) → n < 2 ^ 8 → HasNumber id.now (rows_of (found_of matches.now)) n

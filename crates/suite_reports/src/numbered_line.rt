@@ -1,4 +1,4 @@
-//! The lines of a text: each is read once, and becomes a row when its position is solved.
+//! The lines of a text that are not skipped: each is read once, and becomes a row.
 
 ghost use Rattle.std.specs.Prelude.{◌≡◌, ◌≤◌, length, map, IfOk};
 ghost use Rattle.endgame_search.specs.Limits.{most_empties};

@@ -90,7 +90,7 @@ impl ParsedLine {
     }
 }
 
-// Reads a line; None where it is skipped. The only error is out of memory.
+/// Reads a line; None where it is skipped. The only error is out of memory.
 pub(crate) fn parse_line(
     alloc: Global,
     criteria: Criteria,

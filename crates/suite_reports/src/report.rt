@@ -14,6 +14,8 @@ use othello_rules::{Answer, Best, Square, squares_in};
 use std::io;
 use std::io::Write;
 
+// Each text of `specs/ReportText` has a writer of its own, so that a contract says what it writes.
+
 // Writes a comma and the name of a square.
 #[tactic(auto, unfolding(crate::specs::ReportText::comma_name))]
 fn write_next_name<W: Write>(writer: &mut W, square: Square) -> io::Result<()>

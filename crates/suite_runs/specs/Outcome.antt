@@ -9,11 +9,11 @@ use Rattle.solved_book.specs.Books.{BookView}
 use Rattle.suite_runs.specs.Part.{PartView}
 use Rattle.suite_reports.specs.ReportText.{report_text}
 
--- the report of a sender's part
+-- the report of a file's part
 abbrev pub report_of_view : ℕ × PartView → List ℕ
-report_of_view (sender, y) = report_text sender y.0
+report_of_view (file, y) = report_text file y.0
 
--- the reports of parts, the first of which is the part of sender n
+-- the reports of parts, the first of which is the part of file n
 unfoldable pub reports_of_views : ℕ → List PartView → List (List ℕ)
 reports_of_views n views = map report_of_view (enumerate_from n views)
 

@@ -96,7 +96,7 @@ pub fn send_and_close<R: Wait>(
     Ok(read?)
 }
 
-/// Does the work of `client_part`, where the lines are refused and checked by the criteria.
+/// Does the work of `client_part`, but refuses and checks lines by these criteria.
 pub(crate) fn client_part_by<R: Wait, T: Bounds, G: Gate>(
     rt: &R,
     alloc: Global,

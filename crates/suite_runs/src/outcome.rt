@@ -26,28 +26,28 @@ pub struct Outcome {
     pub book: Book,
 }
 
-// The report of the part of one file. `sender` is the number of the file, counted from 0.
-fn report_of(alloc: Global, sender: u32, part: &Part) -> Result<Vec<u8>, AllocError>
-    ensures { IfOk result (λ made. made.items ≡ report_of_view (sender, part_view_of part.now)) }
+// The report of the part of one file. `file` is the number of the file, counted from 0.
+fn report_of(alloc: Global, file: u32, part: &Part) -> Result<Vec<u8>, AllocError>
+    ensures { IfOk result (λ made. made.items ≡ report_of_view (file, part_view_of part.now)) }
 {
     let mut report = Vec::new(alloc);
-    match write_report(&mut report, sender, &part.rows) {
+    match write_report(&mut report, file, &part.rows) {
         Ok(()) => Ok(report),
         Err(_) => Err(AllocError),
     }
 }
 
-// The reports of the parts, in their order. The first part is that of sender 0.
+// The reports of the parts, in their order. The first part is that of file 0.
 fn reports_of(alloc: Global, parts: &[Part]) -> Result<Vec<Vec<u8>>, AllocError>
     requires few { length parts.now ≤ most_files }
     ensures { IfOk result (λ made. texts_of made.items
         ≡ reports_of_views 0 (map part_view_of parts.now)) }
 {
     let mut reports = Vec::new(alloc);
-    let mut sender: u32 = 0;
+    let mut file: u32 = 0;
     for part in parts {
-        reports.push(report_of(alloc, sender, part)?)?;
-        sender += 1;
+        reports.push(report_of(alloc, file, part)?)?;
+        file += 1;
     }
     Ok(reports)
 }

@@ -37,9 +37,9 @@ fn run_files(
     Ok(outcome_of(alloc, settings, &parts)?)
 }
 
-/// Solves the positions of files on the calling thread, over one table of bounds. The workers of
-/// the settings are not used. A position with a claim under the scoring of the settings is
-/// confirmed, and any other position is solved.
+/// Solves the positions of files on the calling thread, over one table of bounds. No program calls
+/// it. The workers of the settings are not used. A position with a claim under the scoring of the
+/// settings is confirmed, and any other position is solved.
 ///
 /// The reports are those of the files, in the order of the files. The book holds the canonical form
 /// of each solved position, and nothing else. Reports and book depend neither on the size of the

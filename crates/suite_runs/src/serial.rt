@@ -1,4 +1,4 @@
-//! The parts of the files, solved on the calling thread.
+//! The parts of the files, solved on the calling thread, for `run_serial`.
 
 ghost use Rattle.std.specs.Prelude.{◌≡◌, ◌≤◌, length, All, IfOk, None};
 ghost use Rattle.endgame_search.specs.Limits.{most_empties};

@@ -64,6 +64,7 @@ fn start<'a, E, R: Threads + Wait + Sync, G: Gate>(
             ensures { GivesPart shared.entry.now.table.scoring (criteria_of shared.entry.now.settings)
                 text.entry.now result }
         {
+            // A second call, since a closure knows only the types of what it captures.
             let criteria = shared.settings.criteria();
             let worker = shared.worker(claims, gate);
             client_part_by(rt, shared.alloc, text, sender, criteria, &worker)
@@ -154,6 +155,7 @@ pub(crate) fn solve_texts_on_threads<R: Threads + Wait + Sync, G: Gate>(
     ensures { GivesParts settings.now.scoring (criteria_of settings.now) (texts_of files.now) result }
 {
     let shared = Shared::new(alloc, files, settings)?;
+    // An empty list stands for None: `Crew` says why.
     let none = Claims::new(alloc, settings.scoring());
     let claims = claims.unwrap_or(&none);
     let shared = &shared;

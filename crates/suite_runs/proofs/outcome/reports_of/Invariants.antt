@@ -7,6 +7,6 @@ use Rattle.suite_runs.proofs.outcome.reports_of.Given as goal
 -- the reports so far, and those of the parts that are left, are all reports
 abbrev pub invariant-loop-part : goal.invariant-loop-part
 invariant-loop-part l = record {
-  sender : l.sender ≡ l.part-index;
+  file : l.file ≡ l.part-index;
   whole : texts_of l.reports.items ++ reports_of_views l.part-index (map part_view_of (drop l.part-index l.parts)) ≡ reports_of_views 0 (map part_view_of l.parts);
 }
