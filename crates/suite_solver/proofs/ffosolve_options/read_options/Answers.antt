@@ -1,4 +1,4 @@
-use Rattle.std.proofs.Common.{◌≡◌, ◌∙◌, Bool, List, [], Option, ap, inl, inr, map, refl, subst, sym, true, codes}
+use Rattle.std.proofs.Common.{◌≡◌, ◌∙◌, List, [], Option, ap, inl, inr, map, refl, subst, sym, true, codes}
 use Rattle.std.specs.Prelude.{IfSome, unwrap_or}
 use Rattle.std.specs.Borrow.{Bor}
 use Rattle.std.specs.List.{list_all}
@@ -9,7 +9,7 @@ use Rattle.clap.specs.Simple.{HasReadyLeaves, is_ready_leaf}
 use Rattle.clap.proofs.OnLiterals.{clap_on_literals}
 use Rattle.clap.proofs.WalkLemmas.{first_value-rows, one_text-rows, raw_values-rows}
 use Rattle.program_settings.specs.Settings.{SettingsView}
-use Rattle.program_parts.proofs.SettingsLemmas.{HasSettingsRules, settings_given}
+use Rattle.program_parts.proofs.SettingsLemmas.{HasSettingsRules, settings_given, with_flag}
 use Rattle.program_parts.specs.CommandLine.{HasSettings, NameList, NamesScorings}
 use Rattle.suite_solver.specs.Options.{IsFaultOf, ffosolve}
 use Rattle.program_parts.specs.declared.option_fault.OptionFault.{OptionFault}
@@ -46,10 +46,6 @@ unwrap-settings-requires c =
     let rules = subst (λ (a : App). HasSettingsRules names a.top) (sym app) (settings_rules names) in
     let given = settings_given c.in_ok-command.command c.in_ok-matches.matches names c.in_ok-matches.ensures.parsed leaves named rules in
     c.settings_of.ensures.found given.0 given.1 given.2
-
--- a flag leaves the numbers and the scoring
-with_flag : (s : SettingsView) (b : Bool) (t : SettingsView) (rows : List Row) → t ≡ record s { complete = b } → HasSettings s rows → HasSettings t rows
-with_flag s b t rows e h = rw e (record { max_empties = h.max_empties; workers = h.workers; table = h.table; scoring = h.scoring })
 
 pub returns-clause-asked : goal.returns-clause-asked
 returns-clause-asked c =
