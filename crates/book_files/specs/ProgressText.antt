@@ -2,7 +2,7 @@
 use Rattle.std.specs.Prelude.{ℕ, List, [], ◌∷◌, ◌++◌, Option, Some, None, codes}
 use Rattle.std.specs.Fmt.{decimal}
 
--- how many positions there are in all, where that is known
+-- how many positions there are in all, if that is known
 unfoldable pub total_text : Option ℕ → List ℕ
 total_text None = []
 total_text (Some total) = codes " of " ++ decimal total

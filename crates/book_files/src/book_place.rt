@@ -36,7 +36,7 @@ fn try_beside<T: Files>(rt: &T, alloc: Global, name: &str) -> io::Result<()> {
     fs::remove_file(rt, beside.as_str())
 }
 
-// Tests that the file `name` can be opened for writing. Its content is left as it is. Where the
+// Tests that the file `name` can be opened for writing. Its content is left as it is. If the
 // name is that of a link to no file, an empty file is made.
 fn try_open<T: Files>(rt: &T, name: &str) -> io::Result<()> {
     OpenOptions::new().write(true).create(true).open(rt, name)?;
@@ -97,12 +97,12 @@ pub struct BookPlace<'a> {
 }
 
 /// Tests that the book to be written, if there is one, can be written under its name, and destroys
-/// nothing there, and gives its place; None where there is no name. A file of that name, unless it
-/// is a pipe, has to open for writing. It must be possible to make a file next to it, where it is a
-/// regular file or doesn't exist. The errors are `BadPlace` with the name, even where it is empty or
-/// the file is read as a list; `OverwritesBookIn` where the file is the book that is read, by
-/// whatever name; `OverwritesFile` where it isn't empty and doesn't begin as a book; `CannotRead`
-/// where that can't be seen; and out of memory.
+/// nothing there, and gives its place; None if there is no name. A file of that name, unless it
+/// is a pipe, has to open for writing. It must be possible to make a file next to it, if it is a
+/// regular file or doesn't exist. The errors are `BadPlace` with the name, even if it is empty or
+/// the file is read as a list; `OverwritesBookIn` if the file is the book that is read, by
+/// whatever name; `OverwritesFile` if it isn't empty and doesn't begin as a book; `CannotRead`
+/// if that can't be seen; and out of memory.
 pub fn find_place<'a, T: Files>(
     rt: &T,
     alloc: Global,

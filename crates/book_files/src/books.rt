@@ -68,7 +68,7 @@ fn claims_of<T: Files>(rt: &T, alloc: Global, name: &str) -> io::Result<Result<C
     claims_in(alloc, &mut file)
 }
 
-/// Reads the claims of the book in the file of this name; None where there is no name. The errors
+/// Reads the claims of the book in the file of this name; None if there is no name. The errors
 /// are a file that can't be read, or is neither a regular file nor a pipe; a text that is not a
 /// book; and out of memory.
 pub fn read_claims<'a, T: Files>(
@@ -100,7 +100,7 @@ fn text_of(alloc: Global, book: &Book) -> Result<Vec<u8>, AllocError>
     }
 }
 
-/// Makes the file of the book that is to be written at this place, with the book's text; None where
+/// Makes the file of the book that is to be written at this place, with the book's text; None if
 /// there is no place. Nothing is opened. The only error is out of memory.
 pub fn ready_book<'a, T: Files>(
     rt: &T,
@@ -121,7 +121,7 @@ pub fn ready_book<'a, T: Files>(
     Ok(Some(file))
 }
 
-/// Writes the book, where one is to be written. The error is `CannotWrite` with the book's name.
+/// Writes the book, if one is to be written. The error is `CannotWrite` with the book's name.
 pub fn write_book<'a, T: Files>(rt: &T, book: &Option<NewFile<'a>>) -> Result<(), SolveError<'a>>
     ensures told { IfErr result (λ error. IsSilent error → ⊥) }
     ensures status { IfErr result (λ error. status_of error ≡ 3) }

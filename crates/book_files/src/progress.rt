@@ -29,7 +29,7 @@ use suite_runs::{Gate, NoGate, Outcome, RunFault, run};
 // The least time from one line to the next, in nanoseconds, except for the last line.
 const PAUSE: u128 = 5_000_000_000;
 
-// How far a run is: how many positions are solved, how many there are in all, where that is known,
+// How far a run is: how many positions are solved, how many there are in all, if that is known,
 // and how long the run has taken.
 #[derive(Clone, Copy, Drop)]
 struct Progress {
@@ -62,7 +62,7 @@ fn is_due(last: Duration, elapsed: Duration) -> bool
     elapsed.saturating_sub(last).as_nanos() >= PAUSE
 }
 
-// Writes a line where one is due, after the last one at `last`. Where all positions are
+// Writes a line if one is due, after the last one at `last`. If all positions are
 // solved, it leaves that to the line at the end. Returns the time of what is now the last line. A
 // failure of the stream changes nothing.
 fn tell_if_due<E: Write>(errors: &mut E, last: Duration, progress: Progress) -> Duration
@@ -92,7 +92,7 @@ impl<E: Write> Lines<'_, E> {
 }
 
 /// A gate that counts the jobs of a run and those that are finished. After a finished job it writes
-/// a line where one is due. No thread waits for another that writes. Where the clock can't be read,
+/// a line if one is due. No thread waits for another that writes. If the clock can't be read,
 /// no line is written.
 #[derive(Drop)]
 pub struct ProgressGate<'a, C: Clock, E: Write> {
@@ -130,7 +130,7 @@ impl<'a, C: Clock, E: Write> ProgressGate<'a, C, E> {
         }
     }
 
-    // How far the run is; None where the clock can't be read.
+    // How far the run is; None if the clock can't be read.
     fn progress(&self) -> Option<Progress> {
         let elapsed = self.start?.elapsed(self.clock).ok()?;
         Some(Progress {

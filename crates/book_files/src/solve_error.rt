@@ -106,7 +106,7 @@ impl fmt::Display for SolveError<'_> {
     }
 }
 
-// The error for a failed test of a book's place: `Program(Memory)` where memory was refused,
+// The error for a failed test of a book's place: `Program(Memory)` if memory was refused,
 // otherwise `BadPlace` with the name.
 pub(crate) fn place_error<'a>(fault: &io::Error, name: &'a str) -> SolveError<'a>
     ensures memory { error_kind fault.now ≡ ErrorKind.OutOfMemory → result ≡ Program Memory }

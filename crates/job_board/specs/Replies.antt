@@ -42,7 +42,7 @@ abbrev pub after_submit : BoardView → ℕ → TaskView → Result ℕ SubmitFa
 after_submit c s t (Ok n) = content_with c s (with_task t)
 after_submit c s t (Err e) = c
 
--- the lawful replies of a take: any job that waits, with its own task; None only where none waits
+-- the lawful replies of a take: any job that waits, with its own task; None only if none waits
 abbrev pub Takes : BoardView → Option Job → Type 0
 Takes c (Some job) =
     (stage_at c job.id.sender job.id.number ≡ Some Waiting)
@@ -81,7 +81,7 @@ abbrev pub after_give_back : BoardView → JobId → Result (Unit {0}) JobFault 
 after_give_back c id (Ok u) = content_with c id.sender (with_stage id.number Waiting)
 after_give_back c id (Err e) = c
 
--- the answer of a job at this stage; None where it is not finished
+-- the answer of a job at this stage; None if it is not finished
 abbrev pub answer_in : Option Stage → Option TaskView
 answer_in (Some (Finished a)) = Some a
 answer_in _ = None
@@ -92,9 +92,9 @@ deliver_reply_at state (Some (Finished a)) =
 deliver_reply_at state _ =
     if state.closed && (state.handed == length state.tasks) then handed.Drained else handed.Waiting
 
--- the reply of a deliver to one sender: where k answers were delivered and job k is finished, the
--- answer of job k; otherwise `Drained` where the sender is closed and all its answers were
--- delivered, and `Waiting` where not
+-- the reply of a deliver to one sender: if k answers were delivered and job k is finished, the
+-- answer of job k; otherwise `Drained` if the sender is closed and all its answers were
+-- delivered, and `Waiting` if not
 abbrev pub deliver_reply_of : SenderView → Handed
 deliver_reply_of state = deliver_reply_at state (slice_get state.stages state.handed)
 

@@ -36,7 +36,7 @@ abbrev pub stage_in : ℕ → Option SenderView → Option Stage
 stage_in k None = None
 stage_in k (Some state) = slice_get state.stages k
 
--- the stage of job k of sender s; None where there is no such job
+-- the stage of job k of sender s; None if there is no such job
 abbrev pub stage_at : BoardView → ℕ → ℕ → Option Stage
 stage_at c s k = stage_in k (slice_get c s)
 
@@ -44,7 +44,7 @@ abbrev pub task_in : ℕ → Option SenderView → Option TaskView
 task_in k None = None
 task_in k (Some state) = slice_get state.tasks k
 
--- the task of job k of sender s; None where there is no such job
+-- the task of job k of sender s; None if there is no such job
 abbrev pub task_at : BoardView → ℕ → ℕ → Option TaskView
 task_at c s k = task_in k (slice_get c s)
 

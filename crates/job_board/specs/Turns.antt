@@ -20,14 +20,14 @@ abbrev pub IsServed : ClientView → Type 0
 IsServed me = me.received ≡ length me.sent
 
 -- what a turn may return, and the client's view after it: the next answer, which is counted; or a
--- job; or `Drained`, where the answers of all sent tasks came back
+-- job; or `Drained`, if the answers of all sent tasks came back
 abbrev pub TurnGives : ClientView → ClientView → Turn → Type 0
 TurnGives old new (Next d) = IsNext old d × (new ≡ record old { received = old.received + 1 })
 TurnGives old new (Work job) = new ≡ old
 TurnGives old new Drained = (new ≡ old) × IsServed old
 
 -- One hold of the lock in a turn at a board of view c, by the reply of the board's deliver: what
--- the turn finds, and the board's view after it. It finds None where the client has to wait.
+-- the turn finds, and the board's view after it. It finds None if the client has to wait.
 abbrev pub LooksAt : BoardView → ClientView → Handed → Option (Result Turn Mixed) → BoardView → Type 0
 LooksAt c me (handed.Next d) (Some (Ok turn)) new =
     (turn ≡ Next d) × IsNext me d × (new ≡ content_with c me.sender with_one_handed)

@@ -53,7 +53,7 @@ impl Board {
     pub const MOST_SENDERS: u32 = 64;
 
     /// A board of `senders` senders, numbered from 0, with no jobs. `TooManySenders` above
-    /// `MOST_SENDERS`, before any memory is asked for; `Memory` where memory was refused.
+    /// `MOST_SENDERS`, before any memory is asked for; `Memory` if memory was refused.
     pub fn new(alloc: Global, senders: u32) -> Result<Board, BoardFault>
         ensures too_many { (result ≡ Err fault.TooManySenders) ↔ (most_senders < senders) }
         ensures empty { IfOk result (λ board. board ≡ empty_content senders) }
@@ -76,7 +76,7 @@ impl Board {
 
     /// Accepts a task for a sender, and returns the number of its job: how many tasks of the sender
     /// were accepted before. All memory that the job will ever need is taken here, including the
-    /// room to wait again. Where several faults of `SubmitFault` apply, the first is returned.
+    /// room to wait again. If several faults of `SubmitFault` apply, the first is returned.
     /// `Err` leaves what the board holds as it was.
     pub fn submit(&mut self, sender: u32, task: Task) -> Result<u32, SubmitFault>
         ensures lawful { Submits self.old sender result }
@@ -94,7 +94,7 @@ impl Board {
     }
 
     /// Takes the waiting job with the most empty squares. Among equal ones it takes a job of the
-    /// first sender, and among those the one with the least number. None where no job waits.
+    /// first sender, and among those the one with the least number. None if no job waits.
     pub fn take(&mut self) -> Option<Job>
         ensures lawful { Takes self.old result }
         ensures content { self.new ≡ after_take self.old result }
@@ -110,7 +110,7 @@ impl Board {
     }
 
     /// Finishes a taken job by the answer of its own position under its own scoring. `NotTaken`
-    /// where the job is unknown, waiting or finished; `OtherPosition` where the answer is that of
+    /// if the job is unknown, waiting or finished; `OtherPosition` if the answer is that of
     /// another position or scoring. `Err` changes nothing.
     pub fn finish(&mut self, id: JobId, solved: Solved) -> Result<(), JobFault>
         ensures lawful { Finishes self.old id solved result }
@@ -124,7 +124,7 @@ impl Board {
         Ok(())
     }
 
-    /// Lets a taken job wait again. `NotTaken` where the job is unknown, waiting or finished;
+    /// Lets a taken job wait again. `NotTaken` if the job is unknown, waiting or finished;
     /// nothing is changed then.
     pub fn give_back(&mut self, id: JobId) -> Result<(), JobFault>
         ensures lawful { result ≡ give_back_reply self.old id }
@@ -143,9 +143,9 @@ impl Board {
     }
 
     /// Returns the next answer of a sender, in the order of its submits, and counts it as
-    /// delivered. `Waiting` where the sender's next job is not finished, or where all its answers
-    /// were delivered and it is open; `Drained` where all were delivered and it is closed;
-    /// `NoSender` where the board has no such sender.
+    /// delivered. `Waiting` if the sender's next job is not finished, or if all its answers
+    /// were delivered and it is open; `Drained` if all were delivered and it is closed;
+    /// `NoSender` if the board has no such sender.
     pub fn deliver(&mut self, sender: u32) -> Handed
         ensures lawful { result ≡ deliver_reply self.old sender }
         ensures content { self.new ≡ after_deliver self.old sender result }
@@ -157,7 +157,7 @@ impl Board {
     }
 
     /// Closes a sender, which accepts no task from then on. Its jobs are still solved and
-    /// delivered. True where it was open; `Err` where the board has no such sender.
+    /// delivered. True if it was open; `Err` if the board has no such sender.
     pub fn close(&mut self, sender: u32) -> Result<bool, NoSender>
         ensures lawful { result ≡ close_reply self.old sender }
         ensures content { self.new ≡ after_close self.old sender result }

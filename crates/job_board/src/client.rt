@@ -82,7 +82,7 @@ impl Client {
         self.sender
     }
 
-    /// Submits a task to the board, and adds an accepted task to the client's list. `Memory` where
+    /// Submits a task to the board, and adds an accepted task to the client's list. `Memory` if
     /// memory for that list is refused, before the board is asked.
     pub(crate) fn send(&mut self, board: &mut Board, task: Task) -> Result<u32, SubmitFault>
         ensures ok { OnOk result (self.new ≡ with_sent task self.old) }
@@ -97,8 +97,8 @@ impl Client {
         Ok(number)
     }
 
-    /// Asks the board for the client's next answer, and takes a job where the board replies
-    /// `Waiting`. None where no job waits either: the client has to wait.
+    /// Asks the board for the client's next answer, and takes a job if the board replies
+    /// `Waiting`. None if no job waits either: the client has to wait.
     pub(crate) fn look(&mut self, board: &mut Board) -> Option<Result<Turn, Mixed>>
         ensures ok { IfSome result (λ found. IfOk found (TurnGives self.old self.new)) }
         ensures err { IfSome result (λ found. OnErr found (self.new ≡ self.old)) }
@@ -119,7 +119,7 @@ impl Client {
         }
     }
 
-    // The task whose answer comes next. None where all tasks that were sent have their answers.
+    // The task whose answer comes next. None if all tasks that were sent have their answers.
     fn awaited(&self) -> Option<Task>
         ensures { result ≡ slice_get self.now.sent self.now.received }
     {
@@ -144,7 +144,7 @@ impl Client {
         Ok(Turn::Next(delivery))
     }
 
-    // `Drained` where all answers came back, otherwise `Mixed`.
+    // `Drained` if all answers came back, otherwise `Mixed`.
     fn check_drained(&self) -> Result<Turn, Mixed>
         ensures ok { IfOk result (λ turn. (turn ≡ Drained) × IsServed self.now) }
         ensures err { OnErr result (IsServed self.now → ⊥) }

@@ -44,7 +44,7 @@ impl Desk {
 
     /// Submits a task for the client's sender, and returns the number of its job, as
     /// `Board::submit` does. `Err` changes neither the client nor what the board holds. `Memory`
-    /// where memory for the client's list is refused, before the board is asked.
+    /// if memory for the client's list is refused, before the board is asked.
     pub fn submit<R: Wait>(
         &self,
         rt: &R,
@@ -94,11 +94,11 @@ impl Desk {
         Ok(())
     }
 
-    /// Returns the client's next answer if it is there, and counts it; `Drained` where the
+    /// Returns the client's next answer if it is there, and counts it; `Drained` if the
     /// sender is closed and all answers came back; otherwise a job, which the client has now taken.
-    /// While there is none of these, the calling thread waits. `Mixed` where the board delivers an
-    /// answer that is not the client's next, where the board replies `Drained` before the client
-    /// has all answers, or where the board has no such sender. `Err` leaves the client as it was;
+    /// While there is none of these, the calling thread waits. `Mixed` if the board delivers an
+    /// answer that is not the client's next, if the board replies `Drained` before the client
+    /// has all answers, or if the board has no such sender. `Err` leaves the client as it was;
     /// an answer that is not the client's next counts as delivered at the board.
     pub fn turn<R: Wait>(&self, rt: &R, client: &mut Client) -> Result<Turn, Mixed>
         ensures ok { IfOk result (TurnGives client.old client.new) }
@@ -115,7 +115,7 @@ impl Desk {
     }
 
     /// Closes the client's sender, as `Board::close` does, and then wakes all threads that wait at
-    /// the desk. True where the sender was open; `Err` where the board has no such sender.
+    /// the desk. True if the sender was open; `Err` if the board has no such sender.
     pub fn close<R: Wait>(&self, rt: &R, client: &Client) -> Result<bool, NoSender> {
         let was_open = self.board.lock(rt).close(client.sender())?;
         self.changed.notify_all();

@@ -17,8 +17,8 @@ pub enum BoardFault {
     Memory,
 }
 
-/// Why a task is not accepted. Where several apply, `Board::submit` returns the first of these.
-/// `Desk::submit` returns `Memory` before the others where memory for the client's list is refused.
+/// Why a task is not accepted. If several apply, `Board::submit` returns the first of these.
+/// `Desk::submit` returns `Memory` before the others if memory for the client's list is refused.
 #[derive(Clone, Copy, PartialEq, Eq, Debug, Error)]
 pub enum SubmitFault {
     /// The board has no sender of that number.
@@ -61,7 +61,7 @@ pub struct NoSender;
 
 /// The board's reply does not fit the client. It is an answer that is not the client's next; or
 /// `Drained` before the client has all answers; or the board has no such sender. This can happen
-/// where two clients share one sender.
+/// if two clients share one sender.
 #[derive(Clone, Copy, PartialEq, Eq, Debug, Error)]
 #[error("answers mixed")]
 pub struct Mixed;

@@ -79,7 +79,7 @@ impl JobQueue {
         };
     }
 
-    /// Takes out the first job. None where the queue is empty.
+    /// Takes out the first job. None if the queue is empty.
     pub(crate) fn pop(&mut self) -> Option<JobId>
         ensures some { IfSome result (λ id. IsPermutation self.old.jobs (id ∷ self.new.jobs)) }
         ensures none { IfNone result ((self.old.jobs ≡ []) × (self.new.jobs ≡ [])) }

@@ -32,7 +32,7 @@ ghost use Rattle.job_board.specs.Traces.{trace_steps, trace_replies};
 use crate::board::Board;
 
 /// In a legal history the answers that are delivered to a sender are, in order and each once, those
-/// of a prefix of its accepted tasks. Where the sender is drained they are those of all its
+/// of a prefix of its accepted tasks. If the sender is drained they are those of all its
 /// accepted tasks, and from then on none of its tasks is accepted and no answer is delivered. After
 /// it is closed, none of its tasks is accepted.
 pub fn deliveries_are_in_order()
@@ -54,7 +54,7 @@ pub fn deliveries_are_in_order()
 
 /// Take any list of the accepted submits and the turns of a client at a desk, whatever other
 /// threads do there. The answers that the client received are, in order and each once, those of a
-/// prefix of the tasks that it sent. Where its last turn returns `Drained`, they are those of all
+/// prefix of the tasks that it sent. If its last turn returns `Drained`, they are those of all
 /// these tasks. `Client::sent` is the list of these tasks, and `Client::received` the number of
 /// these answers.
 pub fn clients_receive_in_order()

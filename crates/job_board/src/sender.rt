@@ -53,14 +53,14 @@ impl Sender {
         }
     }
 
-    /// The task of job `number`. None where the sender has no such job.
+    /// The task of job `number`. None if the sender has no such job.
     pub(crate) fn task(&self, number: u32) -> Option<Task>
         ensures { result ≡ slice_get self.now.tasks number }
     {
         self.tasks.get(number as usize).copied()
     }
 
-    /// The stage of job `number`. None where the sender has no such job.
+    /// The stage of job `number`. None if the sender has no such job.
     pub(crate) fn stage(&self, number: u32) -> Option<Stage>
         ensures { result ≡ slice_get self.now.stages number }
     {
@@ -113,8 +113,8 @@ impl Sender {
         self.stages[number as usize] = stage;
     }
 
-    /// Finishes a taken job by the answer of its own task. `NotTaken` where job `number` is
-    /// unknown, waiting or finished; `OtherPosition` where the answer is not that of its task.
+    /// Finishes a taken job by the answer of its own task. `NotTaken` if job `number` is
+    /// unknown, waiting or finished; `OtherPosition` if the answer is not that of its task.
     pub(crate) fn finish(&mut self, number: u32, solved: Solved) -> Result<(), JobFault>
         ensures reply { FinishAs
             (slice_get self.old.stages number) (slice_get self.old.tasks number) solved result }
@@ -133,7 +133,7 @@ impl Sender {
         }
     }
 
-    /// Lets a taken job wait again. `NotTaken` where job `number` is unknown, waiting or finished.
+    /// Lets a taken job wait again. `NotTaken` if job `number` is unknown, waiting or finished.
     pub(crate) fn give_back(&mut self, number: u32) -> Result<(), JobFault>
         ensures reply { result ≡ give_back_reply_at (slice_get self.old.stages number) }
         ensures ok { OnOk result (self.new ≡ with_stage number Waiting self.old) }
@@ -146,7 +146,7 @@ impl Sender {
         Ok(())
     }
 
-    /// The answer of job `number`. None where the job is unknown or not finished.
+    /// The answer of job `number`. None if the job is unknown or not finished.
     fn answer(&self, number: u32) -> Option<Solved>
         ensures { result ≡ answer_in (slice_get self.now.stages number) }
     {
@@ -156,8 +156,8 @@ impl Sender {
         }
     }
 
-    /// Returns the next answer, in the order of the submits, and counts it. `Waiting` where the
-    /// next job is not finished, or where there is none and the sender is open; `Drained` where
+    /// Returns the next answer, in the order of the submits, and counts it. `Waiting` if the
+    /// next job is not finished, or if there is none and the sender is open; `Drained` if
     /// there is none and the sender is closed.
     pub(crate) fn deliver(&mut self) -> Handed
         requires { self.old.handed ≤ most_jobs }
@@ -176,7 +176,7 @@ impl Sender {
         }
     }
 
-    /// Closes the sender. True where it was open.
+    /// Closes the sender. True if it was open.
     pub(crate) fn close(&mut self) -> bool
         ensures was { result ≡ not self.old.closed }
         ensures state { self.new ≡ closed_state self.old }

@@ -137,7 +137,7 @@ abbrev pub IsFaultFor : Program → List Text → OptionFault → Type 0
 IsFaultFor program words Memory = Unit {0}
 IsFaultFor program words (Refused error) = HasFaultBy program words (kind_of error)
 
--- the fault for an error of clap: `Memory` where clap ran out of memory, otherwise `Refused` with
+-- the fault for an error of clap: `Memory` if clap ran out of memory, otherwise `Refused` with
 -- the error
 abbrev pub IsFaultBy : Error → OptionFault → Type 0
 IsFaultBy error fault =

@@ -3,7 +3,7 @@ use Rattle.std.specs.Prelude.{◌≡◌, ◌≢◌, ◌⊎◌, ℕ, ◌≤◌, L
 use Rattle.program_parts.specs.CommandLine.{AsksForText, IsTakenBy, Program}
 
 -- A call of a program over these words ended with this status. Standard output held `old` before
--- and holds `new` now; `Done` is what 0 says, where the words ask for neither help nor the version.
+-- and holds `new` now; `Done` is what 0 says, if the words ask for neither help nor the version.
 pub record EndsProgram (program : Program) (words : List (List ℕ)) (old new : Option (List ℕ))
     (status : ℕ) (Done : Type 0) : Type 0 where
   pub in_range : status ≤ 3

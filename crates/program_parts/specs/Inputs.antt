@@ -9,7 +9,7 @@ abbrev pub names_of : List (String Global) → List (List ℕ)
 names_of names = map string_bytes names
 
 -- These are the fronts of the texts of a run, as they are read. Without file names there is one:
--- the first bytes of standard input, one more than a file may have, where these are known.
+-- the first bytes of standard input, one more than a file may have, if these are known.
 -- Otherwise there is one for each of the first names, one more than a run may have; the content of
 -- a file is not known.
 abbrev pub AreFrontsOf : List (List ℕ) → Option (List ℕ) → List (List ℕ) → Type 0
@@ -18,7 +18,7 @@ AreFrontsOf (name ∷ names) given fronts =
     length fronts ≡ min (most_files + 1) (length (name ∷ names))
 
 -- These are the texts of a run. Without file names there is one, which is the text on standard
--- input, where that is known. Otherwise there is one for each name; the content of a file is not
+-- input, if that is known. Otherwise there is one for each name; the content of a file is not
 -- known.
 abbrev pub AreTextsOf : List (List ℕ) → Option (List ℕ) → List (List ℕ) → Type 0
 AreTextsOf [] given texts = IfSome given (λ text. texts ≡ text ∷ [])

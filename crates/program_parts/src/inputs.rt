@@ -13,7 +13,7 @@ use std::io::Read;
 use std::rt::Files;
 use std::{fs, io};
 
-// Reads the first bytes of a reader: one more than a file may have, or all bytes where there are
+// Reads the first bytes of a reader: one more than a file may have, or all bytes if there are
 // fewer. That one byte shows that a file is too large. The error is that of the reader, or out of
 // memory.
 fn read_front<R: Read>(alloc: Global, reader: &mut R) -> io::Result<Vec<u8>>
@@ -77,7 +77,7 @@ fn read_named<'a, T: Files>(
     Ok(files)
 }
 
-/// Reads the files of these names, in their order, or standard input where there is no name.
+/// Reads the files of these names, in their order, or standard input if there is no name.
 pub fn read_files<'a, T: Files, R: Read>(
     rt: &T,
     alloc: Global,

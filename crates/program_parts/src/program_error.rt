@@ -66,7 +66,7 @@ impl fmt::Display for ProgramError<'_> {
     }
 }
 
-/// The error for a failed read of the file or stream of this name: `Memory` where memory was
+/// The error for a failed read of the file or stream of this name: `Memory` if memory was
 /// refused, otherwise `CannotRead` with the name.
 pub fn read_error<'a>(fault: &io::Error, name: &'a str) -> ProgramError<'a>
     ensures memory { error_kind fault.now ≡ ErrorKind.OutOfMemory → result ≡ Memory }
@@ -80,7 +80,7 @@ pub fn read_error<'a>(fault: &io::Error, name: &'a str) -> ProgramError<'a>
     }
 }
 
-/// The error for a command line that can't be read: `Memory` where memory was refused, otherwise
+/// The error for a command line that can't be read: `Memory` if memory was refused, otherwise
 /// `BadWords`.
 pub fn words_error(fault: &io::Error) -> ProgramError<'static>
     ensures { (result ≡ Memory) ⊎ (result ≡ BadWords) }

@@ -154,7 +154,7 @@ pub fn with_settings<'a>(
     with_table.arg(scoring_arg(alloc, names))
 }
 
-// The number under this option; None where it has no number of 8 bits. This and `u32_of` are
+// The number under this option; None if it has no number of 8 bits. This and `u32_of` are
 // functions of their own so that their contracts say which number clap gives.
 fn u8_of(matches: &ArgMatches<'_>, id: &str) -> Option<u8>
     ensures value { IfSome result (λ n. HasNumber id.now (rows_of (found_of matches.now)) n) }
@@ -164,7 +164,7 @@ fn u8_of(matches: &ArgMatches<'_>, id: &str) -> Option<u8>
     matches.get_one::<u8>(id)
 }
 
-// The number under this option; None where it has no number of 32 bits.
+// The number under this option; None if it has no number of 32 bits.
 fn u32_of(matches: &ArgMatches<'_>, id: &str) -> Option<u32>
     ensures value { IfSome result (λ n. HasNumber id.now (rows_of (found_of matches.now)) n) }
     ensures found { (n : ℕ) → n < 2 ^ 32 → HasNumber id.now (rows_of (found_of matches.now)) n
@@ -173,7 +173,7 @@ fn u32_of(matches: &ArgMatches<'_>, id: &str) -> Option<u32>
     matches.get_one::<u32>(id)
 }
 
-/// The settings in the matches; None where an option has no value, or a number above its limit.
+/// The settings in the matches; None if an option has no value, or a number above its limit.
 pub fn settings_of(matches: &ArgMatches<'_>) -> Option<Settings>
     ensures value { IfSome result
         (λ settings. HasSettings settings (rows_of (found_of matches.now))) }

@@ -49,7 +49,7 @@ fn explain<W: Write, E: Write>(
 
 /// Prints what clap returns in place of options: help and the version on standard output, the
 /// reason of a refusal on standard error. The result is the exit status of the program: 0 for help
-/// and the version, 2 for a refusal, and 3 where standard output can't be written, which is
+/// and the version, 2 for a refusal, and 3 if standard output can't be written, which is
 /// reported on standard error.
 pub fn end_without_options<W: Write, E: Write>(
     program: &str,

@@ -34,7 +34,7 @@ pub record ClaimsView : Type 0 where
 
 -- ---- the first line
 
--- the scoring of a first line: that of a header; None where the line begins as a header and is
+-- the scoring of a first line: that of a header; None if the line begins as a header and is
 -- not one; otherwise `Winner`
 abbrev pub scoring_in : List ℕ → Option Scoring
 scoring_in line =
@@ -61,7 +61,7 @@ is_canonical_entry P = is_black_side P.mover && same_discs (canonical_of (discs_
 abbrev pub lists_nothing : Entry → Bool
 lists_nothing entry = nat_eq (length entry.listed) 0
 
--- the claim of a line, None where it is skipped; or its fault
+-- the claim of a line, None if it is skipped; or its fault
 abbrev pub LineOutcome : Type 0
 LineOutcome = Result (Option PositionClaim) BookFault
 

@@ -24,7 +24,7 @@ lists_pass score (Over, listed) = false
 unfoldable pub listed_squares : ℤ → List Field → ℕ
 listed_squares score fields = mask_where (λ q. list_any (lists_square score q) fields)
 
--- the squares that are listed with this score; where there is none, a pass if one is listed with
+-- the squares that are listed with this score; if there is none, a pass if one is listed with
 -- this score, otherwise the end of the game
 abbrev pub best_by : ℕ → Bool → Best
 best_by squares pass =

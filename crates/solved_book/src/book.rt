@@ -103,8 +103,8 @@ impl Book {
         self.answers.len()
     }
 
-    /// Adds the canonical position of a solved position, with its answer. True where the book did
-    /// not hold it before. `Err` where memory was refused: the book is as it was.
+    /// Adds the canonical position of a solved position, with its answer. True if the book did
+    /// not hold it before. `Err` if memory was refused: the book is as it was.
     pub fn add(&mut self, solved: &Solved) -> Result<bool, AllocError>
         requires { solved.now.scoring ≡ self.old.scoring }
         ensures new { IfOk result (λ added. IsTrue added

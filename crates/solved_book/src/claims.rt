@@ -81,11 +81,11 @@ impl Claims {
     /// Each line that is not skipped has to be a line of OBF text with at least one listed move.
     /// Its position has to be canonical, with Black to move, and greater than the position before
     /// it. The claimed score is the greatest listed score. The claimed best moves are the squares
-    /// that are listed with this score; where there is none, the claim is a pass if one is listed
+    /// that are listed with this score; if there is none, the claim is a pass if one is listed
     /// with this score, otherwise the end of the game.
     ///
-    /// `Err` is the fault of the first faulty line; where this line has several, the first of them
-    /// in the order of `BookFault`. It is `Memory` where memory is refused before a fault is found.
+    /// `Err` is the fault of the first faulty line; if this line has several, the first of them
+    /// in the order of `BookFault`. It is `Memory` if memory is refused before a fault is found.
     pub fn read(alloc: Global, text: &[u8]) -> Result<Claims, BookFault>
         ensures { GivesAdvice result (claims_of text.now) }
     {
@@ -112,7 +112,7 @@ impl Claims {
     }
 
     /// The claim of a position: the claim of its canonical position, with the best moves mapped
-    /// back to the position. None where the canonical position has no claim.
+    /// back to the position. None if the canonical position has no claim.
     pub fn find(&self, position: &Pos) -> Option<Claim>
         ensures { result ≡ claim_for self.now position.now }
     {

@@ -50,7 +50,7 @@ fn claim_in_entry(
     }
 }
 
-/// The claim of line `number`, from 1, with the masks of its position. None where the line is
+/// The claim of line `number`, from 1, with the masks of its position. None if the line is
 /// skipped. `before` has the masks of the last claim's position.
 pub(crate) fn claim_in_line(
     alloc: Global,

@@ -21,7 +21,7 @@ pub(crate) fn write_header<W: Write>(writer: &mut W, scoring: Scoring) -> io::Re
     write!(writer, "% ffobook 2 {name}\n")
 }
 
-// The scoring that a first line names: `Winner` where it is not a header, None where it is an
+// The scoring that a first line names: `Winner` if it is not a header, None if it is an
 // unknown one.
 fn read_header(line: &[u8]) -> Option<Scoring>
     ensures { result ≡ scoring_in line.now }

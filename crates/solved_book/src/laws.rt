@@ -36,7 +36,7 @@ pub fn book_is_read_again()
         → claim_for a p ≡ None }
 {}
 
-/// A text is read as claims exactly where it is a book of them: its first line names their scoring;
+/// A text is read as claims exactly if it is a book of them: its first line names their scoring;
 /// each line is skipped, or holds an entry that lists a move, of a canonical position with Black to
 /// move; the claims are those of the entries, in their order; and their positions rise. So each
 /// claim is that of a line, and the claim of each line that holds an entry is among them.

@@ -11,7 +11,7 @@ use obf_text::{ListedMove, greatest_score};
 use othello_bits::including;
 use othello_rules::Best;
 
-// The mask `squares`, with the bit of the field's square where the field lists one with `score`.
+// The mask `squares`, with the bit of the field's square if the field lists one with `score`.
 fn with_listed(squares: u64, field: &(ListedMove, i8), score: i8) -> u64
     ensures { (q : ℕ) → q < 64
         → in_mask result q ≡ (lists_square score q field.now || in_mask squares q) }
@@ -56,7 +56,7 @@ fn is_pass_listed(listed: &[(ListedMove, i8)], score: i8) -> bool
     listed.iter().any(|(listed_move, listed_score)| lists_pass(*listed_move, *listed_score, score))
 }
 
-// The squares that are listed with a score; where there is none, a pass if one is listed with it,
+// The squares that are listed with a score; if there is none, a pass if one is listed with it,
 // otherwise the end of the game.
 fn listed_best(listed: &[(ListedMove, i8)], score: i8) -> Best
     ensures { result ≡ listed_best score listed.now }
@@ -73,7 +73,7 @@ fn listed_best(listed: &[(ListedMove, i8)], score: i8) -> Best
 }
 
 /// The greatest listed score, and the moves, the pass or the end of the game that is claimed with
-/// it. None where nothing is listed.
+/// it. None if nothing is listed.
 pub(crate) fn claim_of(listed: &[(ListedMove, i8)]) -> Option<Claim>
     ensures none { IsNone result ↔ (listed.now ≡ []) }
     ensures claim { IfSome result (λ claim. claim ≡ claim_of listed.now) }

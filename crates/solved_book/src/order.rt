@@ -15,7 +15,7 @@ pub(crate) fn masks_of(position: Pos) -> Masks
     (position.own(), position.opp())
 }
 
-/// Whether a position is greater than the one before it. True where there is none before it.
+/// Whether a position is greater than the one before it. True if there is none before it.
 pub(crate) fn is_behind(before: Option<Masks>, masks: Masks) -> bool
     ensures { result ≡ is_behind (option_map position_at before) (position_at masks) }
 {

@@ -16,8 +16,8 @@ use Rattle.suite_reports.specs.declared.check.Check.TheVariants.{Agree, Differ, 
 abbrev pub fields_with : ℤ → List Field → List Field
 fields_with score fields = filter (λ f. int_eq f.1 score) fields
 
--- a listed move is best: a square that is one of the best moves, a pass where the answer is a pass,
--- or the end where the game is over
+-- a listed move is best: a square that is one of the best moves, a pass if the answer is a pass,
+-- or the end if the game is over
 abbrev pub is_best_in : Best → ListedMove → Bool
 is_best_in (best.Moves mask) (listed.At q) = in_mask mask q
 is_best_in best.Pass listed.Pass = true
@@ -33,7 +33,7 @@ unfoldable pub agrees : List Field → AnswerView → Bool
 agrees fields answer =
     int_eq (greatest_listed fields) answer.score && are_best_in answer.best answer.score fields
 
--- `Unlisted` where no score is listed, otherwise whether the fields agree with the answer
+-- `Unlisted` if no score is listed, otherwise whether the fields agree with the answer
 unfoldable pub check : List Field → AnswerView → Check
 check [] answer = Unlisted
 check (f ∷ fs) answer = if agrees (f ∷ fs) answer then Agree else Differ
@@ -47,13 +47,13 @@ is_square q _ = false
 abbrev pub lists_square : List Field → ℤ → ℕ → Bool
 lists_square fields score q = list_any (λ f. int_eq f.1 score && is_square q f.0) fields
 
--- Each best move is listed with the score. Where the mover has to pass, or the game is over, there
+-- Each best move is listed with the score. If the mover has to pass, or the game is over, there
 -- is nothing to choose, so nothing can be left out.
 abbrev pub lists_best : List Field → ℤ → Best → Bool
 lists_best fields score (best.Moves mask) = list_all (lists_square fields score) (squares_of mask)
 lists_best fields score _ = true
 
--- `Unlisted` where no score is listed, otherwise whether the fields agree with the answer and list
+-- `Unlisted` if no score is listed, otherwise whether the fields agree with the answer and list
 -- every best move
 unfoldable pub complete_check : List Field → AnswerView → Check
 complete_check [] answer = Unlisted

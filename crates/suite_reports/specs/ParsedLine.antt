@@ -11,7 +11,7 @@ use Rattle.suite_reports.specs.declared.report_row.RowResult.{RowResult}
 use Rattle.suite_reports.specs.declared.report_row.RowResult.TheVariants.{Solved, Refused}
 use Rattle.suite_reports.specs.declared.numbered_line.NumberedLine.{NumberedLine}
 
--- the task of a line; none where the line is refused
+-- the task of a line; none if the line is refused
 abbrev pub task_in : ParsedLine → Option TaskView
 task_in (parsed.Position task listed complete) = Some task
 task_in (parsed.Refused refusal) = None

@@ -26,7 +26,7 @@ names_text squares = join_with_byte 44 (map name_of squares)
 unfoldable pub comma_name : ℕ → List ℕ
 comma_name square = 44 ∷ name_of square
 
--- the names of the best moves; `PS` for a pass, `--` where the game is over
+-- the names of the best moves; `PS` for a pass, `--` if the game is over
 unfoldable pub best_text : Best → List ℕ
 best_text (Moves mask) = names_text (squares_of mask)
 best_text Pass = codes "PS"

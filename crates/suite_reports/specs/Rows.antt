@@ -16,7 +16,7 @@ use Rattle.suite_reports.specs.declared.report_row.RowResult.{RowResult}
 use Rattle.suite_reports.specs.declared.report_row.RowResult.TheVariants.{Solved, Refused}
 use Rattle.suite_reports.specs.declared.report_row.ReportRow.{ReportRow}
 
--- the result of a position: its answer with the check; or a refusal, where it has more empty
+-- the result of a position: its answer with the check; or a refusal, if it has more empty
 -- squares than the limit
 abbrev pub entry_result : Scoring → Criteria → Entry → RowResult
 entry_result g c entry =
@@ -32,7 +32,7 @@ fault_result (fault.BadCell column) = Some (Refused (refusal.BadCell column))
 fault_result (fault.BadSide column) = Some (Refused (refusal.BadSide column))
 fault_result fault.Memory = None
 
--- the task of a line: its position, where that has no more empty squares than the limit
+-- the task of a line: its position, if that has no more empty squares than the limit
 abbrev pub task_of : Scoring → ℕ → Meaning → Option TaskView
 task_of g limit (Holds entry) =
     if nat_lt limit (empties entry.position)

@@ -37,8 +37,8 @@ impl fmt::Display for Check {
     }
 }
 
-// Whether a listed move is best: a square that is one of the best moves, a pass where the answer is
-// a pass, or the end where the game is over.
+// Whether a listed move is best: a square that is one of the best moves, a pass if the answer is
+// a pass, or the end if the game is over.
 fn is_best_in(best: Best, listed: ListedMove) -> bool
     ensures { result ≡ is_best_in best listed }
 {
@@ -105,7 +105,7 @@ fn lists_squares(listed: &[(ListedMove, i8)], score: i8, squares: &[Square]) -> 
         .all(|square| lists_square(listed, score, *square))
 }
 
-// Whether each best move is listed with the score. Where the mover has to pass, or the game is
+// Whether each best move is listed with the score. If the mover has to pass, or the game is
 // over, there is nothing to choose, so nothing can be left out.
 fn lists_best(listed: &[(ListedMove, i8)], score: i8, best: Best) -> bool
     ensures { result ≡ lists_best listed.now score best }

@@ -23,7 +23,7 @@ pub struct NumberedLine {
 }
 
 impl NumberedLine {
-    /// The task of the line; None where the line is refused.
+    /// The task of the line; None if the line is refused.
     pub fn task(&self) -> Option<Task>
         ensures { result ≡ task_in self.now.parsed }
     {

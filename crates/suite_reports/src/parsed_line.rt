@@ -29,7 +29,7 @@ pub(crate) enum ParsedLine {
         task: Task,
         /// The moves and scores that the line lists.
         listed: Vec<(ListedMove, i8)>,
-        /// Whether the line has to list every best move where it lists any.
+        /// Whether the line has to list every best move if it lists any.
         complete: bool,
     },
     /// Why the line is refused.
@@ -37,7 +37,7 @@ pub(crate) enum ParsedLine {
 }
 
 impl ParsedLine {
-    // The line of a position: a task, or a refusal where it has more empty squares than the limit.
+    // The line of a position: a task, or a refusal if it has more empty squares than the limit.
     fn of_entry(criteria: Criteria, scoring: Scoring, entry: Line) -> ParsedLine
         requires { criteria.limit ≤ most_empties }
         ensures result { parsed_result result ≡ entry_result scoring criteria (entry_of entry) }
@@ -54,7 +54,7 @@ impl ParsedLine {
         }
     }
 
-    /// The task of the line; None where the line is refused.
+    /// The task of the line; None if the line is refused.
     pub(crate) fn task(&self) -> Option<Task>
         ensures { result ≡ task_in self.now }
     {
@@ -90,7 +90,7 @@ impl ParsedLine {
     }
 }
 
-/// Reads a line; None where it is skipped. The only error is out of memory.
+/// Reads a line; None if it is skipped. The only error is out of memory.
 pub(crate) fn parse_line(
     alloc: Global,
     criteria: Criteria,

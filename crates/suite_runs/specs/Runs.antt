@@ -29,7 +29,7 @@ pub record Solves (c : SettingsView) (texts : List (List ℕ)) (outcome : Outcom
   pub reports : texts_of outcome.reports.items ≡ reports c.scoring (criteria_of c) texts
   pub book : IsBookOf c.scoring (all_tasks c.scoring c.max_empties texts) outcome.book
 
--- The result of a run: where nothing is refused, the reports and the book of the texts, or out of
+-- The result of a run: if nothing is refused, the reports and the book of the texts, or out of
 -- memory, or mixed answers; otherwise the refusal.
 abbrev pub Answers : Result Outcome RunFault → SettingsView → List (List ℕ) → Type 0
 Answers (Ok outcome) c texts =

@@ -4,7 +4,7 @@ use Rattle.endgame_search.specs.Task.{TaskView}
 use Rattle.endgame_search.specs.declared.solved.Claim.{Claim}
 use Rattle.solved_book.specs.Claims.{ClaimsView, claim_for}
 
--- `found` is what the claims say of the task's position, where there are claims and these are under
+-- `found` is what the claims say of the task's position, if there are claims and these are under
 -- the task's scoring; otherwise it is None
 abbrev pub Advises : Option ClaimsView → TaskView → Option Claim → Type 0
 Advises None t found = found ≡ None

@@ -42,8 +42,8 @@ fn send_all<R: Wait>(
 }
 
 // Receives the answers of all tasks that the client sent, in the order of the tasks. Between two
-// answers the thread solves the jobs that it takes. `Memory` where the list can't grow; `Mixed`
-// where the desk or a job is refused.
+// answers the thread solves the jobs that it takes. `Memory` if the list can't grow; `Mixed`
+// if the desk or a job is refused.
 fn receive_all<R: Wait, T: Bounds, G: Gate>(
     rt: &R,
     alloc: Global,
@@ -71,8 +71,8 @@ fn receive_all<R: Wait, T: Bounds, G: Gate>(
 }
 
 /// Submits the tasks of the lines, and then closes the client's sender in any case, since
-/// workers wait until each sender is closed. Returns the lines. `Memory` where `read` is
-/// an error, or where a submit was refused for memory; `Mixed` for any other refusal of the desk.
+/// workers wait until each sender is closed. Returns the lines. `Memory` if `read` is
+/// an error, or if a submit was refused for memory; `Mixed` for any other refusal of the desk.
 pub fn send_and_close<R: Wait>(
     rt: &R,
     desk: &Desk,
@@ -127,10 +127,10 @@ pub(crate) fn client_part_by<R: Wait, T: Bounds, G: Gate>(
 /// own answers came back. A position with more than `limit` empty squares is refused, and a line may
 /// leave out best moves; the tasks are under the scoring of the table.
 ///
-/// Where the result is Ok, its rows are those of the text, and its solved positions are those of
+/// If the result is Ok, its rows are those of the text, and its solved positions are those of
 /// the text's lines, in their order: at any desk, for any claims, and whatever other threads do
-/// there. `Memory` comes where memory was refused; `Mixed` where the desk refused a step for
-/// another reason, or where a job under another scoring was taken. After a fault the desk keeps the
+/// there. `Memory` comes if memory was refused; `Mixed` if the desk refused a step for
+/// another reason, or if a job under another scoring was taken. After a fault the desk keeps the
 /// steps that were made, and the sender is closed. The call may wait for other threads.
 pub fn client_part<R: Wait, T: Bounds, G: Gate>(
     rt: &R,

@@ -4,7 +4,7 @@ use std::marker::Sync;
 use std::sync::Wait;
 
 /// Calls that the threads of a run make: one when a file's jobs are at the desk, two before and after
-/// each job is solved, and one where its answer was accepted. `sender` is the number of the job's
+/// each job is solved, and one if its answer was accepted. `sender` is the number of the job's
 /// file, and `number` the number of the job in that file; both are counted from 0.
 pub trait Gate: Sync {
     /// Called after all jobs of a file were submitted, `count` in all. Other threads may have solved
@@ -18,7 +18,7 @@ pub trait Gate: Sync {
     /// Called after the desk accepted or refused the answer of the job.
     fn leave<R: Wait>(&self, rt: &R, sender: u32, number: u32);
 
-    /// Called after `leave`, where the desk accepted the answer of the job. The provided method does
+    /// Called after `leave`, if the desk accepted the answer of the job. The provided method does
     /// nothing.
     fn finished<R: Wait>(&self, _rt: &R, _sender: u32, _number: u32) {}
 }

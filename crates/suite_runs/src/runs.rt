@@ -46,7 +46,7 @@ fn run_files(
 /// table nor on the claims.
 ///
 /// Errors: `TooManyFiles` for more than `MOST_FILES` files, otherwise `FileTooLarge` for the first
-/// file of more than `MOST_BYTES` bytes, both before anything is solved; `Memory` where memory was refused.
+/// file of more than `MOST_BYTES` bytes, both before anything is solved; `Memory` if memory was refused.
 /// `Mixed` never comes.
 pub fn run_serial(
     alloc: Global,
@@ -90,7 +90,7 @@ fn run_threads<R: Threads + Wait + Sync, G: Gate>(
 ///
 /// Reports and book are those of `run_serial`, for every number of workers and every gate. So are
 /// `TooManyFiles` and `FileTooLarge`, which come before a thread is started or the gate is called.
-/// Where a part ran out of memory, the error is `Memory`; where none did, but the desk refused a
+/// If a part ran out of memory, the error is `Memory`; if none did, but the desk refused a
 /// step, it is `Mixed`.
 pub fn run<R: Threads + Wait + Sync, G: Gate>(
     rt: &R,

@@ -10,7 +10,7 @@ use program_settings::Settings;
 use solved_book::Claims;
 use std::alloc::{AllocError, Global};
 
-/// A table of bounds, and the claims of a book where one was read. Tasks are solved by it.
+/// A table of bounds, and the claims of a book if one was read. Tasks are solved by it.
 #[derive(Drop)]
 pub struct Solver<'a, T: Bounds> {
     table: &'a T,
@@ -43,7 +43,7 @@ impl<'a, T: Bounds> Solver<'a, T> {
         claims.find(&task.pos())
     }
 
-    /// The task's position with its exact answer. `confirm` gives it where the position has a
+    /// The task's position with its exact answer. `confirm` gives it if the position has a
     /// claim, otherwise `solve`.
     pub fn answer(&self, task: Task) -> Solved
         requires { task.scoring ≡ T.scoring self.now.table.now }

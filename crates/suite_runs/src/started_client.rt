@@ -23,7 +23,7 @@ impl<'a> Promise<Result<Part, RunFault>> for PartPromise<'a> {
         GivesPart promise.scoring promise.criteria promise.text.now result };
 }
 
-/// The thread of a client; or, where no thread could be started, its result on the calling thread.
+/// The thread of a client; or, if no thread could be started, its result on the calling thread.
 #[derive(Drop)]
 pub enum ClientThread<'a> {
     Spawned(PromisedHandle<Result<Part, RunFault>, PartPromise<'a>>),

@@ -34,7 +34,7 @@ struct Crew<'a, R, G> {
     gate: &'a G,
 }
 
-// Starts a client on a thread of its own. Where no thread can be started, the calling thread does
+// Starts a client on a thread of its own. If no thread can be started, the calling thread does
 // the part of the client.
 fn start<'a, E, R: Threads + Wait + Sync, G: Gate>(
     scope: &Scope<'a, E>,

@@ -21,7 +21,7 @@ pub struct Worker<'a, T: Bounds, G: Gate> {
 
 impl<'a, T: Bounds, G: Gate> Worker<'a, T, G> {
     /// Solves a taken job and finishes it at the desk. A job under a scoring other than the table's
-    /// is given back instead. The fault is `Mixed` where the job is given back, or where the desk
+    /// is given back instead. The fault is `Mixed` if the job is given back, or if the desk
     /// refuses the answer.
     pub(crate) fn solve_job<R: Wait>(&self, rt: &R, job: Job) -> Result<(), RunFault>
         ensures { IfErr result (λ fault. fault ≡ Mixed) }

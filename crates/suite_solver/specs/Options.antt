@@ -24,7 +24,7 @@ ffosolve names = with_rule (with_rule (with_rule (with_rule (with_rule
     (flag_rule (codes "progress")))
     files_rule
 
--- a request to `ffosolve`: settings, the names of a book to read and of a book to write, where
+-- a request to `ffosolve`: settings, the names of a book to read and of a book to write, if
 -- there are any, whether to report progress, and the names of files
 pub record Request : Type 0 where
   pub settings : SettingsView

@@ -60,7 +60,7 @@ pub(crate) fn print_error<E: Write>(error: &SolveError<'_>, errors: &mut E) -> u
 }
 
 /// The whole program, like `program`, for the words that `env::args` gives. The result ends the
-/// process with the status, 0 to 3: with 2 where a word is not text, and with 1 where memory for
+/// process with the status, 0 to 3: with 2 if a word is not text, and with 1 if memory for
 /// the words was refused.
 pub fn program_of<T: Files + Clock + Threads + Wait + Sync, R: Read, W: Write, E: ErrorStream>(
     rt: &T,

@@ -138,10 +138,10 @@ fn carry_out<'a, T: Files + Clock + Threads + Wait + Sync, R: Read, W: Write, E:
 /// reports, in the order of the files, on standard output. Then it writes the book that the words
 /// name.
 ///
-/// The status is 0 where everything is done, or where help or the version was asked for and
-/// printed; 1 where the run is refused, for memory or for the number or size of its files; 2 where
-/// the command line is refused; 3 where a file can't be read or is not a book, where standard output
-/// or the book can't be written, or where the book would destroy another file or the book that is
+/// The status is 0 if everything is done, or if help or the version was asked for and
+/// printed; 1 if the run is refused, for memory or for the number or size of its files; 2 if
+/// the command line is refused; 3 if a file can't be read or is not a book, if standard output
+/// or the book can't be written, or if the book would destroy another file or the book that is
 /// read. An error that ends the program early is printed on standard error, as one line or as
 /// clap's text; a failure of standard error changes nothing. The call may wait for its threads.
 #[tactic(auto, using(crate::proofs::ProgramLemmas::asked_faultless))]

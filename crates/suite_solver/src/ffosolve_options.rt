@@ -51,9 +51,9 @@ Examples:
 #[derive(Debug, Drop)]
 pub struct Options {
     pub settings: Settings,
-    /// The name of the file of a book to read, as given; None where none is to be read.
+    /// The name of the file of a book to read, as given; None if none is to be read.
     pub book_in: Option<String>,
-    /// The name of the file of a book to write, as given; None where none is to be written.
+    /// The name of the file of a book to write, as given; None if none is to be written.
     pub book_out: Option<String>,
     /// Whether progress is reported on standard error.
     pub progress: bool,
@@ -108,7 +108,7 @@ fn ffosolve_command<'a>(alloc: Global, names: &'a [&'a str]) -> Result<Command<'
     telling.arg(files_arg(alloc))
 }
 
-// The name of a book's file under this option; None where the words have none.
+// The name of a book's file under this option; None if the words have none.
 fn book_name_of(
     alloc: Global,
     matches: &ArgMatches<'_>,
@@ -124,8 +124,8 @@ fn book_name_of(
 }
 
 /// Reads the words of a command line of `ffosolve`, the program's name first. The error is `Memory`
-/// where memory was refused. Any other error has clap's error, which is also the help or the
-/// version where the words ask for one.
+/// if memory was refused. Any other error has clap's error, which is also the help or the
+/// version if the words ask for one.
 pub fn read_options(alloc: Global, words: &[&str]) -> Result<Options, OptionFault>
     // For words that clap takes, the only error is `Memory`.
     ensures taken { IsTaken (map (λ word. word.now) words.now)
