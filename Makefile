@@ -77,8 +77,8 @@ $(programs:%=out/%): out/%: out/$(CPU)/% always
 
 # Writes a text with the version, the greatest table and places in it: $(call fill,FILE,TO).
 number = $(shell echo $(version) | awk -F . '{ print 10000 * $$1 + 100 * $$2 + $$3 }')
-entries = $(shell awk '/const MOST_ENTRIES/ { gsub("[^0-9]", ""); print }' crates/bound_table/src/bound_table.rt)
-fill = sed -e 's/@VERSION@/$(version)/g; s/@NUMBER@/$(number)/g; s/@MAJOR@/$(major)/g; s/@ENTRIES@/$(entries)/g' \
+entries = $(shell awk -F '[ ;]+' '/const MOST_ENTRIES/ { print $$(NF - 1) }' crates/bound_table/src/bound_table.rt)
+fill = sed -e 's/@VERSION@/$(version)/g; s/@NUMBER@/$(number)/g; s/@MAJOR@/$(major)/g; s/@ENTRIES@/$(subst _,,$(entries))/g' \
     -e "s|@BINDIR@|$(BINDIR)|g; s|@INCLUDE@|$$(realpath -ms --relative-to='$(LIBDIR)' '$(INCLUDEDIR)')|g" $1 | install -D -m 644 /dev/stdin $2
 
 # The library for programs under development. The shared one has two names; rt refuses a checkout in which one is a link.
@@ -89,6 +89,9 @@ library: out/$(CPU)/libffosolve.a out/$(CPU)/libffosolve.so ## builds libffosolv
 
 # Both levels of everything, for tests and packages.
 levels: $(programs:%=out/%) library $(objects:.o=) $(foreach level,$(levels),out/$(level)/libffosolve.so out/$(level)/libffosolve.a)
+
+constants: ## writes the greatest number of table entries into the packages for Python and Rust
+	sed -i -E 's/(MOST_ENTRIES(: usize)? = )[0-9_]+/\1$(entries)/' python/src/ffosolve/_library.py rust/src/solvers.rs
 
 look: export list = $(LIST)
 look: ## solves three positions in about a minute, with nothing proved; LIST=FILE solves a small list of yours
@@ -176,4 +179,4 @@ help: ## lists the targets
 	sed -n 's/^\([a-z-]*\):.*## /make \1	/p' $(MAKEFILE_LIST) | expand -t 20
 
 always:
-.PHONY: all levels library look check install uninstall help always
+.PHONY: all levels library constants look check install uninstall help always

@@ -7,7 +7,7 @@ import stat
 from pathlib import Path
 
 from tests.checkouts import FIRST, LEVELS, NUMBER, VERSION, copied_checkout, make_all, names_of_files, path_without
-from tests.support import NOBODY, ROOT, InFolder, is_v3, lack, module_folder, need, run, write
+from tests.support import NOBODY, ROOT, InFolder, is_v3, lack, module_folder, need, run, stored, write
 
 PREFIX = "/opt/a prefix"
 COMMANDS = ["ffosolve", "ffoscores", "ffosolve-many", "ffosolve-games"]
@@ -261,6 +261,18 @@ class Installed(Case):
             (ROOT / "CHANGELOG.md", f"\n## [{VERSION}] - "),
         ):
             self.assertIn(text, place.read_text(), place)
+
+    def test_greatest_table_of_the_packages(self):
+        """`make constants` takes it from the crates."""
+        source, *packages = "crates/bound_table/src/bound_table.rt", "python/src/ffosolve/_library.py", "rust/src/solvers.rs"
+        for name in ("Makefile", "VERSION", "packaging/packages.mk", source, *packages):
+            write(name, stored(name))
+        old = re.search(r"const MOST_ENTRIES: usize = (\w+)", Path(source).read_text())[1]
+        for entries in (old, "1_234_567"):
+            write(source, stored(source).decode().replace(old, entries))
+            self.assertEqual(run("make", "-s", "constants").returncode, 0)
+            for name in packages:
+                self.assertEqual(Path(name).read_text(), stored(name).decode().replace(old, entries))
 
 
 ZSHRC = """
