@@ -90,8 +90,10 @@ library: out/$(CPU)/libffosolve.a out/$(CPU)/libffosolve.so ## builds libffosolv
 # Both levels of everything, for tests and packages.
 levels: $(programs:%=out/%) library $(objects:.o=) $(foreach level,$(levels),out/$(level)/libffosolve.so out/$(level)/libffosolve.a)
 
-constants: ## writes the greatest number of table entries into the packages for Python and Rust
+comma = ,
+constants: ## writes the greatest number of table entries into the packages for Python and Rust, and into the user guide
 	sed -i -E 's/(MOST_ENTRIES(: usize)? = )[0-9_]+/\1$(entries)/' python/src/ffosolve/_library.py rust/src/solvers.rs
+	sed -i -E 's/(has at most )[0-9,]+( entries)/\1$(subst _,$(comma),$(entries))\2/' docs/user-guide.md
 
 look: export list = $(LIST)
 look: ## solves three positions in about a minute, with nothing proved; LIST=FILE solves a small list of yours

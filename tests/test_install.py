@@ -264,15 +264,17 @@ class Installed(Case):
 
     def test_greatest_table_of_the_packages(self):
         """`make constants` takes it from the crates."""
-        source, *packages = "crates/bound_table/src/bound_table.rt", "python/src/ffosolve/_library.py", "rust/src/solvers.rs"
-        for name in ("Makefile", "VERSION", "packaging/packages.mk", source, *packages):
+        source, *others = ("crates/bound_table/src/bound_table.rt", "python/src/ffosolve/_library.py", "rust/src/solvers.rs",
+                           "docs/user-guide.md")
+        for name in ("Makefile", "VERSION", "packaging/packages.mk", source, *others):
             write(name, stored(name))
         old = re.search(r"const MOST_ENTRIES: usize = (\w+)", Path(source).read_text())[1]
         for entries in (old, "1_234_567"):
             write(source, stored(source).decode().replace(old, entries))
             self.assertEqual(run("make", "-s", "constants").returncode, 0)
-            for name in packages:
-                self.assertEqual(Path(name).read_text(), stored(name).decode().replace(old, entries))
+            for name in others:
+                wanted = stored(name).decode().replace(old, entries).replace(old.replace("_", ","), entries.replace("_", ","))
+                self.assertEqual(Path(name).read_text(), wanted)
 
 
 ZSHRC = """
