@@ -9,9 +9,7 @@ ghost use Rattle.ffoscores_program.specs.Options.{AsksLists, ffoscores, list_req
 use clap::Command;
 use othello_rules::Scoring;
 use program_parts::OptionFault;
-use program_parts::settings_args::{
-    bare_command, files_arg, files_of, flag_arg, settings_of, with_settings,
-};
+use program_parts::settings_args::{bare_command, files_arg, files_of, settings_of, with_settings};
 use program_settings::Settings;
 use std::alloc::{AllocError, Global};
 
@@ -54,14 +52,9 @@ fn ffoscores_command<'a>(alloc: Global, names: &'a [&'a str]) -> Result<Command<
     let bare = bare_command(alloc, "ffoscores", ABOUT, AFTER_HELP);
     let workers =
         "Score up to N + 1 positions at once, for N from 0 to\n64; the output stays the same";
-    let with_settings = with_settings(alloc, bare, workers, names)?;
-    let complete = flag_arg(
-        alloc,
-        "complete",
-        "Add a remark for each best move that a line with\nlisted moves leaves out",
-    );
-    let with_complete = with_settings.arg(complete)?;
-    with_complete.arg(files_arg(alloc))
+    let complete = "Add a remark for each best move that a line with\nlisted moves leaves out";
+    let with_settings = with_settings(alloc, bare, workers, complete, names)?;
+    with_settings.arg(files_arg(alloc))
 }
 
 /// Reads the words of a command line of `ffoscores`, the program's name first. The error is
@@ -82,10 +75,6 @@ pub fn read_list_options(alloc: Global, words: &[&str]) -> Result<ListOptions, O
     let matches = command.try_get_matches_from(words)?;
     // Each option has a default, and clap keeps each number in its range.
     let settings = settings_of(&matches).unwrap();
-    let complete = matches.get_flag("complete");
     let files = files_of(alloc, &matches)?;
-    Ok(ListOptions {
-        settings: settings.with_complete(complete),
-        files,
-    })
+    Ok(ListOptions { settings, files })
 }

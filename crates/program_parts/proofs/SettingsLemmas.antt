@@ -1,11 +1,11 @@
 -- A parse that succeeds finds settings, since each of their options has a default.
-use Rattle.std.proofs.Common.{◌≡◌, ◌∙◌, ◌≤◌, ◌||◌, Bool, true, false, ℕ, List, [], ◌∷◌, Some, ap, map, refl, sym, arith, codes, true≢false}
+use Rattle.std.proofs.Common.{◌≡◌, ◌∙◌, ◌≤◌, ◌||◌, Bool, true, false, ℕ, List, [], ◌∷◌, Option, None, Some, ap, map, refl, sym, arith, codes, true≢false}
 use Rattle.std.specs.Borrow.{Bor}
 use Rattle.std.specs.List.{list_any}
 use Rattle.std.specs.Prelude.{pos, slice_get}
 use Rattle.std.specs.Str.{bytes_eq}
 use Rattle.std.proofs.lemmas.Slice.Eq.{bytes_eq-Decides}
-use Rattle.clap.specs.Words.{IsParsedFrom, Row, Shape, Text, first_of, found_of, rows_of, shape_of}
+use Rattle.clap.specs.Words.{IsParsedFrom, Shape, Text, first_of, found_of, one_of, rows_of, shape_of}
 use Rattle.clap.specs.Simple.{HasReadyLeaves, is_ready}
 use Rattle.clap.specs.declared.builder.command.Command.{Command}
 use Rattle.clap.specs.declared.builder.value_parser.ValueParser.TheVariants as parser
@@ -85,6 +85,11 @@ scoring_given c m names p ready leaves named at one =
     let g = named_scoring all_scorings read.0 among in
     (g.0, sym (first_value-rows (found_of m) (codes "scoring")) ∙ read.1 ∙ ap Some (sym g.1))
 
+-- whether the value of a flag is `true`
+abbrev is_set : Option Text → Bool
+is_set None = false
+is_set (Some text) = bytes_eq text (codes "true")
+
 pub settings_given : (c : Command) (m : ArgMatches) (names : NameList) → IsParsedFrom c m → HasReadyLeaves c
     → NamesScorings names → HasSettingsRules names (shape_of c)
     → (s : SettingsView) × IsWithinLimits s × HasSettings s (rows_of (found_of m))
@@ -92,13 +97,15 @@ settings_given c m names p leaves named rules =
     let max_empties = number_within c m 0 (codes "max-empties") MOST_EMPTIES default_empties p rules.ready leaves rules.max_empties rules.one_max_empties refl in
     let workers = number_within c m 1 (codes "workers") MOST_WORKERS default_workers p rules.ready leaves rules.workers rules.one_workers refl in
     let table = number_within c m 2 (codes "table") MOST_ENTRIES default_entries p rules.ready leaves rules.table rules.one_table refl in
-    let scoring = scoring_given c m names p rules.ready leaves named rules.scoring rules.one_scoring in (
-      record { max_empties = max_empties.0; workers = workers.0; table = table.0; scoring = scoring.0; complete = false },
+    let scoring = scoring_given c m names p rules.ready leaves named rules.scoring rules.one_scoring in
+    let complete = is_set (one_of (codes "complete") (rows_of (found_of m))) in (
+      record { max_empties = max_empties.0; workers = workers.0; table = table.0; scoring = scoring.0; complete = complete },
       record { few_empties = max_empties.1; few_workers = workers.1; few_entries = table.1 },
-      record { max_empties = max_empties.2; workers = workers.2; table = table.2; scoring = scoring.1 },
+      record {
+        max_empties = max_empties.2;
+        workers = workers.2;
+        table = table.2;
+        scoring = scoring.1;
+        complete = record { set = λ e. ap is_set e; unset = λ e. ap is_set e };
+      },
     )
-
--- a flag leaves the numbers and the scoring
-pub with_flag : (s : SettingsView) (b : Bool) (t : SettingsView) (rows : List Row) → t ≡ record s { complete = b }
-    → HasSettings s rows → HasSettings t rows
-with_flag s b t rows e h = rw e (record { max_empties = h.max_empties; workers = h.workers; table = h.table; scoring = h.scoring })

@@ -72,11 +72,12 @@ versioned name = on_top (λ (s : Shape). record s { has_version = true }) (new_a
 
 -- the command with the options of the settings added
 abbrev pub with_settings : App → NameList → App
-with_settings app names = with_rule (with_rule (with_rule (with_rule app
+with_settings app names = with_rule (with_rule (with_rule (with_rule (with_rule app
     (number_rule (codes "max-empties") most_empties default_empties))
     (number_rule (codes "workers") most_workers default_workers))
     (number_rule (codes "table") most_entries default_entries))
-    (scoring_rule names)
+    (scoring_rule names))
+    (flag_rule (codes "complete"))
 
 -- ---- the matches of words
 
@@ -87,17 +88,18 @@ pub record HasNumber (name : Text) (rows : List Row) (n : ℕ) : Type 0 where
   pub numeral : IsNumeral 10 (without_leading_plus text)
   pub value : n ≡ digits_value 10 (without_leading_plus text)
 
--- the numbers and the scoring of the settings are the values of the options
+-- whether the flag is among the words
+pub record HasFlag (name : Text) (rows : List Row) (b : Bool) : Type 0 where
+  pub set : one_of name rows ≡ Some (codes "true") → b ≡ true
+  pub unset : one_of name rows ≡ Some (codes "false") → b ≡ false
+
+-- the settings are the values of the options
 pub record HasSettings (c : SettingsView) (rows : List Row) : Type 0 where
   pub max_empties : HasNumber (codes "max-empties") rows c.max_empties
   pub workers : HasNumber (codes "workers") rows c.workers
   pub table : HasNumber (codes "table") rows c.table
   pub scoring : first_of (codes "scoring") rows ≡ Some (scoring_name c.scoring)
-
--- whether the flag is among the words
-pub record HasFlag (name : Text) (rows : List Row) (b : Bool) : Type 0 where
-  pub set : one_of name rows ≡ Some (codes "true") → b ≡ true
-  pub unset : one_of name rows ≡ Some (codes "false") → b ≡ false
+  pub complete : HasFlag (codes "complete") rows c.complete
 
 -- ---- words that are refused
 

@@ -139,11 +139,13 @@ fn table_arg<'a>(alloc: Global) -> Arg<'a>
     )
 }
 
-/// The command with the options of the settings added. `workers` is the help of `--workers`.
+/// The command with the options of the settings added. `workers` and `complete` are the helps of
+/// `--workers` and `--complete`.
 pub fn with_settings<'a>(
     alloc: Global,
     bare: Command<'a>,
     workers: &'a str,
+    complete: &'a str,
     names: &'a [&'a str],
 ) -> Result<Command<'a>, AllocError>
     ensures { IfOk result (λ c. app_of c ≡ with_settings (app_of bare.entry) names.entry) }
@@ -151,7 +153,8 @@ pub fn with_settings<'a>(
     let with_empties = bare.arg(max_empties_arg(alloc))?;
     let with_workers = with_empties.arg(workers_arg(alloc, workers))?;
     let with_table = with_workers.arg(table_arg(alloc))?;
-    with_table.arg(scoring_arg(alloc, names))
+    let with_scoring = with_table.arg(scoring_arg(alloc, names))?;
+    with_scoring.arg(flag_arg(alloc, "complete", complete))
 }
 
 // The number under this option; None if it has no number of 8 bits. This and `u32_of` are
@@ -184,7 +187,8 @@ pub fn settings_of(matches: &ArgMatches<'_>) -> Option<Settings>
     let workers = u8_of(matches, "workers")?;
     let table = u32_of(matches, "table")?;
     let scoring = Scoring::from_name(matches.get_str("scoring")?.as_bytes())?;
-    Settings::new(max_empties, workers, table, scoring)
+    let settings = Settings::new(max_empties, workers, table, scoring)?;
+    Some(settings.with_complete(matches.get_flag("complete")))
 }
 
 // Copies of the names, in their order.

@@ -16,9 +16,8 @@ book_rule name = record (new_rule name) { long = Some name; value_names = 1 }
 
 -- the whole command `ffosolve`
 abbrev pub ffosolve : NameList → App
-ffosolve names = with_rule (with_rule (with_rule (with_rule (with_rule
+ffosolve names = with_rule (with_rule (with_rule (with_rule
     (with_settings (versioned (codes "ffosolve")) names)
-    (flag_rule (codes "complete")))
     (book_rule (codes "book-in")))
     (book_rule (codes "book-out")))
     (flag_rule (codes "progress")))
@@ -50,7 +49,6 @@ pub record Asks (words : List Text) (r : Request) : Type 0 where
   pub named : NamesScorings names
   pub faultless : fault_of (ffosolve names) words ≡ []
   pub settings : HasSettings r.settings (matches_of (ffosolve names) words)
-  pub complete : HasFlag (codes "complete") (matches_of (ffosolve names) words) r.settings.complete
   pub book_in : r.book_in ≡ first_of (codes "book-in") (matches_of (ffosolve names) words)
   pub book_out : r.book_out ≡ first_of (codes "book-out") (matches_of (ffosolve names) words)
   pub progress : HasFlag (codes "progress") (matches_of (ffosolve names) words) r.progress

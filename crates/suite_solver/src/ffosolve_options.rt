@@ -79,19 +79,14 @@ fn ffosolve_command<'a>(alloc: Global, names: &'a [&'a str]) -> Result<Command<'
 {
     let bare = bare_command(alloc, "ffosolve", ABOUT, AFTER_HELP);
     let workers = "Use N solver threads besides one per file, 0 to 64;\nreports stay the same";
-    let for_runs = with_settings(alloc, bare, workers, names)?;
-    let complete = flag_arg(
-        alloc,
-        "complete",
-        "Also report differ where a line lists moves, but not\nevery best one",
-    );
-    let asking = for_runs.arg(complete)?;
+    let complete = "Also report differ where a line lists moves, but not\nevery best one";
+    let for_runs = with_settings(alloc, bare, workers, complete, names)?;
     let book_in = book_arg(
         alloc,
         "book-in",
         "Read a book of solved positions and test its claims\nfirst; reports stay the same",
     );
-    let reading_books = asking.arg(book_in)?;
+    let reading_books = for_runs.arg(book_in)?;
     let book_out = book_arg(
         alloc,
         "book-out",
@@ -141,12 +136,11 @@ pub fn read_options(alloc: Global, words: &[&str]) -> Result<Options, OptionFaul
     let matches = command.try_get_matches_from(words)?;
     // Each option has a default, and clap keeps each number in its range.
     let settings = settings_of(&matches).unwrap();
-    let complete = matches.get_flag("complete");
     let book_in = book_name_of(alloc, &matches, "book-in")?;
     let book_out = book_name_of(alloc, &matches, "book-out")?;
     let files = files_of(alloc, &matches)?;
     Ok(Options {
-        settings: settings.with_complete(complete),
+        settings,
         book_in,
         book_out,
         progress: matches.get_flag("progress"),

@@ -1,8 +1,7 @@
 use Rattle.std.proofs.Common.{◌≡◌, ◌∙◌, ◌≤◌, [], Option, None, Some, ap, arith, codes, is_some, option_map, subst, sym, true≢false}
 use Rattle.std.specs.Prelude.{unwrap_or}
-use Rattle.std.proofs.lemmas.Option.{IfSome_then}
 use Rattle.clap.specs.Words.{Text, first_of, found_of, rows_of}
-use Rattle.clap.proofs.WalkLemmas.{first_value-rows}
+use Rattle.clap.proofs.WalkLemmas.{first_value-rows, one_text-rows}
 use Rattle.othello_rules.specs.Scores.{scoring_name}
 use Rattle.program_parts.specs.CommandLine.{HasSettings}
 use Rattle.program_settings.specs.Settings.{SettingsView}
@@ -16,13 +15,17 @@ returns-clause-value c =
     let named = sym c.as_bytes.ensures.value ∙ c.in_ok-scoring.ensures.named in
     let scoring : first_of (codes "scoring") (rows_of found) ≡ Some (scoring_name c.in_ok-scoring.scoring) =
     sym (first_value-rows found (codes "scoring")) ∙ sym c.get_str.ensures ∙ ap (option_map (λ s. s.now)) got ∙ ap Some named in
-    IfSome_then c.new.result c.new.ensures.value
-    (λ s e. subst (λ (x : SettingsView). HasSettings x (rows_of found)) (sym e) (record {
+    let made = c.with_complete.ensures ∙ ap (λ (s : SettingsView). record s { complete = c.get_flag.result }) c.in_ok-settings.ensures.value in
+    subst (λ (s : SettingsView). HasSettings s (rows_of found)) (sym made) (record {
       max_empties = c.in_ok-max_empties.ensures.value;
       workers = c.in_ok-workers.ensures.value;
       table = c.in_ok-table.ensures.value;
       scoring = scoring;
-    }))
+      complete = record {
+        set = λ e. c.get_flag.ensures.value (one_text-rows found (codes "complete") ∙ e);
+        unset = λ e. c.get_flag.ensures.other (one_text-rows found (codes "complete") ∙ e);
+      };
+    })
 
 not_both : {T : Type 0} (o : Option T) (x : T) → o ≡ Some x → o ≡ None → ⊥
 not_both o x some none = true≢false (sym (ap is_some some) ∙ ap is_some none)

@@ -8,8 +8,7 @@ use Rattle.clap.specs.Kinds.{HasKind}
 use Rattle.clap.specs.Simple.{HasReadyLeaves, is_ready_leaf}
 use Rattle.clap.proofs.OnLiterals.{clap_on_literals}
 use Rattle.clap.proofs.WalkLemmas.{first_value-rows, one_text-rows, raw_values-rows}
-use Rattle.program_settings.specs.Settings.{SettingsView}
-use Rattle.program_parts.proofs.SettingsLemmas.{HasSettingsRules, settings_given, with_flag}
+use Rattle.program_parts.proofs.SettingsLemmas.{HasSettingsRules, settings_given}
 use Rattle.program_parts.specs.CommandLine.{HasSettings, NameList, NamesScorings}
 use Rattle.suite_solver.specs.Options.{IsFaultOf, ffosolve}
 use Rattle.program_parts.specs.declared.option_fault.OptionFault.{OptionFault}
@@ -59,13 +58,8 @@ returns-clause-asked c =
       names = names;
       named = ap (map (λ (name : Bor Text). name.now)) c.as_slice.ensures ∙ c.names-names.ensures;
       faultless = ap (λ (a : App). fault_of a words) (sym app) ∙ c.in_ok-matches.ensures.kinds (ap is_simple_and_free app ∙ free names);
-      settings = with_flag c.unwrap-settings.result c.get_flag-complete.result _ _ c.with_complete.ensures
-          (subst (λ (r : List Row). HasSettings c.unwrap-settings.result r) rows
-          (subst (λ o. IfSome o (λ s. HasSettings s (rows_of found))) c.unwrap-settings.ensures c.settings_of.ensures.value));
-      complete = record {
-        set = λ e. ap (λ (s : SettingsView). s.complete) c.with_complete.ensures ∙ c.get_flag-complete.ensures.value (one_text-rows found (codes "complete") ∙ ap (one_of (codes "complete")) rows ∙ e);
-        unset = λ e. ap (λ (s : SettingsView). s.complete) c.with_complete.ensures ∙ c.get_flag-complete.ensures.other (one_text-rows found (codes "complete") ∙ ap (one_of (codes "complete")) rows ∙ e);
-      };
+      settings = subst (λ (r : List Row). HasSettings c.unwrap-settings.result r) rows
+          (subst (λ o. IfSome o (λ s. HasSettings s (rows_of found))) c.unwrap-settings.ensures c.settings_of.ensures.value);
       book_in = c.in_ok-book_in.ensures ∙ first_value-rows found (codes "book-in") ∙ ap (first_of (codes "book-in")) rows;
       book_out = c.in_ok-book_out.ensures ∙ first_value-rows found (codes "book-out") ∙ ap (first_of (codes "book-out")) rows;
       progress = record {
