@@ -2,7 +2,8 @@
 use Rattle.std.proofs.Common.{◌≡◌, ◌≤◌, ℕ, List, length, inr}
 use Rattle.std.specs.Prelude.{Bool, Option, None, Result, Ok, Err, IfOk, OnErr, OnOk}
 use Rattle.std.specs.Io.KnownBytes.{Appends}
-use Rattle.scored_lines.specs.Lines.{AppendsFront, lists_right, lists_text}
+use Rattle.scored_lines.specs.Lines.{lists_right, lists_text}
+use Rattle.list_printer.specs.Output.{AppendsFront}
 use Rattle.program_settings.specs.InputFault.{first_large}
 use Rattle.program_settings.specs.declared.limits.TheConstants.{MOST_FILES}
 use Rattle.program_settings.specs.Settings.{criteria_of}

@@ -2,7 +2,8 @@
 use Rattle.std.specs.Prelude.{◌≡◌, ◌⊎◌, ℕ, ◌≤◌, Bool, true, false, List, codes, length}
 use Rattle.std.specs.Prelude.{Option, None}
 use Rattle.std.specs.Io.KnownBytes.{Appends}
-use Rattle.scored_lines.specs.Lines.{AppendsFront, lists_right, lists_text}
+use Rattle.scored_lines.specs.Lines.{lists_right, lists_text}
+use Rattle.list_printer.specs.Output.{AppendsFront}
 use Rattle.list_printer.specs.declared.lists.ListFault.{ListFault}
 use Rattle.list_printer.specs.declared.lists.ListFault.TheVariants as list
 use Rattle.program_settings.specs.InputFault.{first_large}

@@ -3,7 +3,8 @@
 ghost use Rattle.std.specs.Prelude.{◌≡◌, map, IfErr, IfOk, OnErr, OnOk};
 ghost use Rattle.std.specs.Io.KnownBytes.{Appends};
 ghost use Rattle.obf_text.specs.LineText.{texts_of};
-ghost use Rattle.scored_lines.specs.Lines.{AppendsFront, lists_right, lists_text};
+ghost use Rattle.scored_lines.specs.Lines.{lists_right, lists_text};
+ghost use Rattle.list_printer.specs.Output.{AppendsFront};
 ghost use Rattle.program_settings.specs.Settings.{criteria_of};
 ghost use Rattle.ffoscores_program.specs.Options.{list_request_of};
 ghost use Rattle.ffoscores_program.specs.Lists.{EndsFfoscores, IsListError, PrintsLists, StopsLists, list_status_of};

@@ -6,13 +6,14 @@ use Rattle.std.proofs.lemmas.List.{append_assoc, append-nil}
 use Rattle.othello_rules.specs.declared.scoring.Scoring.{Scoring}
 use Rattle.obf_text.specs.LineText.{lines_of}
 use Rattle.program_settings.specs.declared.criteria.Criteria.{Criteria}
-use Rattle.scored_lines.specs.Lines.{AppendsFront, Prints, are_right, lists_right, lists_text, lines_text}
+use Rattle.scored_lines.specs.Lines.{are_right, lists_right, lists_text, lines_text}
 use Rattle.list_printer.specs.Chunks.{all_lines}
-use Rattle.list_printer.specs.Output.{Output, PrintsPart, chunks_output, both, lines_output, lists_output, queue_output}
+use Rattle.list_printer.specs.Output.{AppendsFront, Output, PrintsPart, both, chunks_output}
+use Rattle.list_printer.specs.Output.{lines_output, lists_output, queue_output}
 use Rattle.scored_lines.proofs.LineSteps.{and_assoc, and_true, lines_both, lines_none}
 use Rattle.scored_lines.proofs.LineSteps.{right_both, right_none}
-use Rattle.scored_lines.proofs.Prints.{prints_both, prints_end, prints_front, prints_more}
-use Rattle.scored_lines.proofs.Prints.{prints_part, prints_start, prints_stop}
+use Rattle.list_printer.proofs.Prints.{front_both, front_part, prints_both, prints_end}
+use Rattle.list_printer.proofs.Prints.{prints_part, prints_start}
 
 abbrev nothing : Output
 nothing = record { text = []; right = true }
@@ -61,21 +62,15 @@ printed_then old now next all left after h k = record {
 pub printed_stop : (old now next : Option (List ℕ)) (all left : Output)
     → PrintsPart old now all left → AppendsFront now next left.text → AppendsFront old next all.text
 printed_stop old now next all left h k =
-    prints_front old now next left.text all.text h.written k
+    front_both old now next left.text all.text h.written k
 
 -- more follows what is printed
 part : (old now : Option (List ℕ)) (before after more : Output)
     → PrintsPart old now before after → PrintsPart old now (both before more) (both after more)
 part old now before after more h = record {
-  written = prints_part old old now before.text after.text more.text (before.text ++ more.text)
-      (prints_start old (before.text ++ more.text)) h.written;
+  written = prints_part old now before.text after.text more.text h.written;
   told = ap (λ r. r && more.right) h.told;
 }
-
-front_part : (old now : Option (List ℕ)) (before more : List ℕ) → AppendsFront old now before
-    → AppendsFront old now (before ++ more)
-front_part old now before more h =
-    prints_stop old old now before more (before ++ more) (prints_start old (before ++ more)) h
 
 -- the front chunk is printed
 pub front_printed : (old now : Option (List ℕ)) (front : Output) (chunks after : List Output)
@@ -84,11 +79,12 @@ pub front_printed : (old now : Option (List ℕ)) (front : Output) (chunks after
     → PrintsPart old now (queue_output right chunks) (queue_output next after)
 front_printed old now front chunks after right next cut w to =
     let is = ap chunks_output cut ∙ all_cons front after in
-    let text = ap (λ (output : Output). output.text) is in
     record {
-      written = prints_more old old now front.text (chunks_output after).text (chunks_output chunks).text
-          (subst (λ t. Prints old old t (chunks_output chunks).text) text
-          (prints_start old (chunks_output chunks).text)) w;
+      written = record {
+        done = front.text;
+        whole = ap (λ (output : Output). output.text) is;
+        written = w;
+      };
       told = ap (λ b. b && (chunks_output after).right) to
           ∙ and_assoc right front.right (chunks_output after).right
           ∙ ap (λ (output : Output). right && output.right) (sym is);

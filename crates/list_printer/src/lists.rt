@@ -5,8 +5,9 @@ ghost use Rattle.std.specs.Arc.{arc_value};
 ghost use Rattle.std.specs.Io.KnownBytes.{Appends};
 ghost use Rattle.endgame_search.specs.Limits.{most_empties};
 ghost use Rattle.obf_text.specs.LineText.{texts_of};
-ghost use Rattle.scored_lines.specs.Lines.{AppendsFront, Prints, lists_right, lists_text};
-ghost use Rattle.list_printer.specs.Output.{PrintsPart, chunks_output, lists_output, queue_output};
+ghost use Rattle.scored_lines.specs.Lines.{lists_right, lists_text};
+ghost use Rattle.list_printer.specs.Output.{AppendsFront, Prints, PrintsPart, chunks_output};
+ghost use Rattle.list_printer.specs.Output.{lists_output, queue_output};
 ghost use Rattle.list_printer.specs.declared.lists.ListFault.TheVariants.{CannotWrite, Memory};
 
 use crate::chunk_threads::{Scorer, StartedChunk, start};

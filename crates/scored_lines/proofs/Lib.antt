@@ -1,7 +1,6 @@
 -- Lemmas about what is written for each line of a list, and that scores are read back.
--- Begin with Prints and LineSteps; docs/architecture.md has the argument and the reading order.
+-- Begin with LineSteps; docs/architecture.md has the argument and the reading order.
 pub mod Results
-pub mod Prints
 pub mod RemarkSteps
 pub mod LeftOut
 pub mod SmallClaims

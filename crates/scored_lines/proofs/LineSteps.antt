@@ -11,11 +11,10 @@ use Rattle.obf_text.specs.declared.entries.Item.TheVariants as item
 use Rattle.obf_text.specs.declared.line_fault.LineFault.{LineFault}
 use Rattle.obf_text.specs.declared.line_fault.LineFault.TheVariants.{Short, BadCell, BadSide, Memory}
 use Rattle.obf_text.specs.Faults.{line_fault_text}
+use Rattle.obf_text.proofs.WriterLemmas.{Completes, completes_end, completes_more}
 use Rattle.program_settings.specs.declared.criteria.Criteria.{Criteria}
-use Rattle.scored_lines.specs.Lines.{Prints, are_right, is_right}
-use Rattle.scored_lines.specs.Lines.{kept_text, lines_text, out_text}
+use Rattle.scored_lines.specs.Lines.{are_right, is_right, kept_text, lines_text, out_text}
 use Rattle.scored_lines.specs.Lines.{refused_text}
-use Rattle.scored_lines.proofs.Prints.{prints_end, prints_more}
 
 pub lines_none : (g : Scoring) (by : Criteria) → lines_text g by [] ≡ []
 unfolding lines_text
@@ -68,19 +67,19 @@ right_both g by (line ∷ lines) more =
 -- the lines of a text
 pub text_more : (old now next : Option (List ℕ)) (g : Scoring) (by : Criteria) (line : List ℕ)
     (left lines : List (List ℕ)) (all : List ℕ) → left ≡ line ∷ lines
-    → Prints old now (lines_text g by left) all
+    → Completes old now (lines_text g by left) all
     → Appends now next (out_text g by line (item_of line))
-    → Prints old next (lines_text g by lines) all
+    → Completes old next (lines_text g by lines) all
 text_more old now next g by line left lines all cut h w =
-    prints_more old now next (out_text g by line (item_of line)) (lines_text g by lines) all
-    (subst (λ t. Prints old now t all) (ap (lines_text g by) cut ∙ lines_cons g by line lines)
+    completes_more old now next (out_text g by line (item_of line)) (lines_text g by lines) all
+    (subst (λ t. Completes old now t all) (ap (lines_text g by) cut ∙ lines_cons g by line lines)
     h) w
 
 pub text_end : (old now : Option (List ℕ)) (g : Scoring) (by : Criteria) (left : List (List ℕ))
-    (all : List ℕ) → left ≡ [] → Prints old now (lines_text g by left) all → Appends old now all
+    (all : List ℕ) → left ≡ [] → Completes old now (lines_text g by left) all → Appends old now all
 text_end old now g by left all none h =
-    prints_end old now all
-    (subst (λ t. Prints old now t all) (ap (lines_text g by) none ∙ lines_none g by) h)
+    completes_end old now all
+    (subst (λ t. Completes old now t all) (ap (lines_text g by) none ∙ lines_none g by) h)
 
 pub right_more : (g : Scoring) (by : Criteria) (line : List ℕ) (left lines : List (List ℕ))
     (now one next all : Bool) → left ≡ line ∷ lines → one ≡ is_right g by line (item_of line)

@@ -1,7 +1,6 @@
 -- The text that is printed for a list: one line with every move's score for each line of the list.
-use Rattle.std.specs.Prelude.{◌≡◌, ℕ, ◌∷◌, ◌++◌, [], List, Bool, true, false, not, nat_lt}
-use Rattle.std.specs.Prelude.{Option, codes, if◌then◌else◌}
-use Rattle.std.specs.Io.KnownBytes.{Appends}
+use Rattle.std.specs.Prelude.{ℕ, ◌∷◌, ◌++◌, [], List, Bool, true, false, not, nat_lt}
+use Rattle.std.specs.Prelude.{codes, if◌then◌else◌}
 use Rattle.std.specs.List.{flat_map, list_all}
 use Rattle.othello_rules.specs.declared.scoring.Scoring.{Scoring}
 use Rattle.othello_rules.specs.Value.{empties}
@@ -76,16 +75,3 @@ are_right g by lines = list_all (λ line. is_right g by line (item_of line)) lin
 -- whether all lines of lists are right
 unfoldable pub lists_right : Scoring → Criteria → List (List ℕ) → Bool
 lists_right g by texts = list_all (λ text. are_right g by (lines_of text)) texts
-
--- a writer's known bytes grow by a front of `all`, of which `rest` is left
-pub record Prints (old now : Option (List ℕ)) (rest all : List ℕ) : Type 0 where
-  pub done : List ℕ
-  pub whole : all ≡ done ++ rest
-  pub written : Appends old now done
-
--- a writer's known bytes grow by a front of `bytes`
-pub record AppendsFront (old new : Option (List ℕ)) (bytes : List ℕ) : Type 0 where
-  pub front : List ℕ
-  pub rest : List ℕ
-  pub whole : bytes ≡ front ++ rest
-  pub written : Appends old new front

@@ -1,11 +1,11 @@
-use Rattle.scored_lines.proofs.Prints.{prints_both, prints_front}
 use Rattle.scored_lines.proofs.Results.{on_err}
+use Rattle.list_printer.proofs.Prints.{front_both, prints_both}
 use Rattle.list_printer.proofs.lists.send.Goals as goal
 
 pub returns-in_err-rest-clause-front : goal.returns-in_err-rest-clause-front
 returns-in_err-rest-clause-front g c =
     on_err c.from_residual.result _
-    (prints_front _ _ _ c.loop.rest.now c.args.bytes.now c.loop.invariant
+    (front_both _ _ _ c.loop.rest.now c.args.bytes.now c.loop.invariant
     c.in_err-rest.ensures.front)
 
 pub loop-preserved : goal.loop-preserved

@@ -1,4 +1,4 @@
-use Rattle.scored_lines.specs.Lines.{Prints}
+use Rattle.list_printer.specs.Output.{Prints}
 use Rattle.list_printer.proofs.lists.send.Given as goal
 
 abbrev pub invariant-loop : goal.invariant-loop
