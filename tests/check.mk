@@ -1,14 +1,13 @@
-# Runs the tests, each module of tests/ by itself, as many side by side as make is told by -j, or as there are processors.
-# Of each it prints how many passed, of one that failed what it printed too, and as the last line the sum of all. That the
-# checkout is left as git found it is one test more.
+# Runs each module of tests/, as many at once as -j says, by default one for each processor. Prints how many tests of each
+# passed, the output of a module that failed, and last the sum. One more test: `git status` is the same afterwards.
 #
-#     make -f tests/check.mk                          all, as make check does once all is built
+#     make -f tests/check.mk                          all, as `make check` does after building
 #     make -f tests/check.mk TESTS='books many'       tests/test_books.py and tests/test_many.py
 ifeq ($(filter -j% --jobserver%,$(MAKEFLAGS)),)
 MAKEFLAGS += -j$(shell nproc)
 endif
 TESTS = $(patsubst tests/test_%.py,%,$(wildcard tests/test_*.py))
-TEST_SECONDS = 3000# after which a module is ended
+TEST_SECONDS = 3000# the longest that a module may run
 PYTHON = python3
 modules = $(TESTS:%=test_%)
 at = out/tests/$(@:test_%=%)

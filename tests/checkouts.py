@@ -1,4 +1,4 @@
-"""Copies of the checkout with what it has built, for tests that install from one, and search paths without a tool."""
+"""Built copies of the checkout, for tests that install from one, and search paths that lack a tool."""
 import os
 import shutil
 import subprocess
@@ -10,22 +10,23 @@ FIRST = stored("examples", "first.report").decode()
 VERSION = stored("VERSION").decode().strip()
 NUMBER = sum(int(part) * 100 ** place for place, part in enumerate(VERSION.split(".")[::-1]))
 LEVELS = ["x86-64-v2", "x86-64-v3"]
-WITHOUT_GIT = {name: text for name, text in os.environ.items() if not name.startswith("GIT_")}  # as a hook of git sets it
+WITHOUT_GIT = {name: text for name, text in os.environ.items() if not name.startswith("GIT_")}  # which a git hook sets
 
 
 def make_all(*words):
-    """Builds in the checkout what is installed from it."""
+    """Builds these targets of make in the checkout."""
     if subprocess.run(["make", "-s", "-C", ROOT, *words], stdin=subprocess.DEVNULL, stdout=subprocess.DEVNULL).returncode:
         raise AssertionError(f"make {' '.join(words)} failed")
 
 
 def names_of_files():
-    told = run("git", "-c", f"safe.directory={ROOT}", "-C", ROOT, "ls-files", "-zco", "--exclude-standard", env=WITHOUT_GIT, check=True)
-    return [name for name in told.stdout.decode().split("\0") if name and os.path.lexists(ROOT / name)]
+    """Returns the names of the checkout's files, new ones too, but not of those that git ignores."""
+    ran = run("git", "-c", f"safe.directory={ROOT}", "-C", ROOT, "ls-files", "-zco", "--exclude-standard", env=WITHOUT_GIT, check=True)
+    return [name for name in ran.stdout.decode().split("\0") if name and os.path.lexists(ROOT / name)]
 
 
 def copied_checkout(folder):
-    """Copies the files of git, as they are, with their times, and what is built, so that everybody may read them."""
+    """Copies the checkout and its programs, with the times of the files, readable by everybody; returns the folder."""
     folder = Path(folder)
     for name in names_of_files():
         (folder / name).parent.mkdir(parents=True, exist_ok=True)
@@ -36,7 +37,7 @@ def copied_checkout(folder):
 
 
 def path_without(tool, folder):
-    """A search path as the caller's, on which there is everything but a tool; folders that have it stand in by links."""
+    """Returns the search path without a tool: a folder that has it is replaced by one with links to everything else."""
     places = []
     for at, place in enumerate(os.environ["PATH"].split(":")):
         if os.path.lexists(os.path.join(place, tool)):

@@ -1,6 +1,6 @@
-# Counts what `python3 -m unittest -v` tells, in a line `N passed, N failed`. status is that of its end; where it is not 0,
-# or nothing ran, something failed.
-/^======/ { is_listing = 1 } # of what failed: a heading for each, and also for each case of a test
+# Counts the output of `python3 -m unittest -v`: prints `N passed, N failed`. At least one failed if `status`, its exit
+# status, is not 0, or if nothing ran.
+/^======/ { is_listing = 1 } # the failures: a heading for each, and for each failed subtest
 is_listing && /^(FAIL|ERROR): / && !seen[$2, $3]++ { failed++ }
 !is_listing && /(^|\.\.\. )ok$/ { passed++ }
 !is_listing && /(^|\.\.\. )skipped ./ { skipped++ }

@@ -1,15 +1,15 @@
-/* Makes the call of ffosolve.h that each line of standard input names, and prints its status and what it wrote: what is still
-   99 is left out. Compiled as C and as C++. Numbers are as in C, masks in hexadecimal, and a text is its bytes in hexadecimal.
+/* For each line of standard input, makes the call of ffosolve.h that it names, and prints the status and what was written:
+   a field that still is 99 was not. Compiled as C and as C++. Printed masks, and texts to read, are in hexadecimal.
 
        solve OWN OPP SCORING ENTRIES                  SCORE/KIND/BEST
        confirm OWN OPP SCORING ENTRIES SCORE KIND BEST    likewise
-       solve_all SCORING ENTRIES ROOM OWN OPP ..      at INDEX, and each answer behind its index
-       move_scores OWN OPP SCORING ENTRIES            the mask, the scores by squares, and + how many squares have none
-       move_scores_all SCORING ENTRIES ROOM OWN OPP ..    likewise, each behind its index
+       solve_all SCORING ENTRIES ROOM OWN OPP ..      at INDEX, and each answer after its index
+       move_scores OWN OPP SCORING ENTRIES            the mask, SQUARE:SCORE of each move, + how many squares have none
+       move_scores_all SCORING ENTRIES ROOM OWN OPP ..    likewise, each after its index
        moves OWN OPP, play OWN OPP SQUARE             masks
        read_line ROOM TEXT                            at INDEX, OWN OPP SIDE LISTED, and each listed KIND/SQUARE/SCORE
        long_line                                      a line of 8,000,000 listed moves
-       names                                          the numbers of the header's names, and the texts of statuses */
+       names                                          the values of the header's constants, and the text of each status */
 #include "ffosolve.h"
 
 #include <inttypes.h>
@@ -17,7 +17,7 @@
 #include <stdlib.h>
 #include <string.h>
 
-enum { UNTOLD = 99, ROOM = 4, WORDS = 16, LONGEST = 10000 };
+enum { UNSET = 99, ROOM = 4, WORDS = 16, LONGEST = 10000 };
 
 static uint64_t number[WORDS];
 static size_t numbers;
@@ -33,32 +33,32 @@ static ffosolve_answer answer_of(uint64_t score, uint64_t kind, uint64_t best) {
 }
 
 static void show_answer(ffosolve_answer answer) {
-    if (answer.score == UNTOLD && answer.kind == UNTOLD && answer.best == UNTOLD) return;
+    if (answer.score == UNSET && answer.kind == UNSET && answer.best == UNSET) return;
     printf(" %" PRId32 "/%" PRId32 "/%" PRIx64, answer.score, answer.kind, answer.best);
 }
 
 static void show_scores(const int8_t scores[64], uint64_t moves) {
     int others = 0;
-    if (moves != UNTOLD) printf(" %" PRIx64, moves);
+    if (moves != UNSET) printf(" %" PRIx64, moves);
     for (int square = 0; square < 64; square++) {
         others += scores[square] == FFOSOLVE_NO_SCORE;
-        if (scores[square] != UNTOLD && scores[square] != FFOSOLVE_NO_SCORE) printf(" %d:%d", square, scores[square]);
+        if (scores[square] != UNSET && scores[square] != FFOSOLVE_NO_SCORE) printf(" %d:%d", square, scores[square]);
     }
     if (others > 0) printf(" +%d", others);
 }
 
 static void show_index(size_t at) {
-    if (at != UNTOLD) printf(" at %zu", at);
+    if (at != UNSET) printf(" at %zu", at);
 }
 
 static void solve_one(const char *call) {
     const ffosolve_position position = position_at(0);
     const uint32_t scoring = (uint32_t)number[2];
     const size_t entries = (size_t)number[3];
-    ffosolve_answer answer = answer_of(UNTOLD, UNTOLD, UNTOLD);
+    ffosolve_answer answer = answer_of(UNSET, UNSET, UNSET);
     int8_t scores[64];
-    uint64_t moves = UNTOLD;
-    memset(scores, UNTOLD, sizeof scores);
+    uint64_t moves = UNSET;
+    memset(scores, UNSET, sizeof scores);
     if (strcmp(call, "solve") == 0) {
         printf("%" PRId32, ffosolve_solve(position, scoring, entries, &answer));
     } else if (strcmp(call, "confirm") == 0) {
@@ -77,19 +77,19 @@ static void solve_list(const char *call) {
     ffosolve_position positions[WORDS];
     ffosolve_answer answers[ROOM];
     ffosolve_move_scores_of found[ROOM];
-    size_t at = UNTOLD;
+    size_t at = UNSET;
     for (size_t i = 0; i < count; i++) positions[i] = position_at(3 + 2 * i);
     for (size_t i = 0; i < ROOM; i++) {
-        answers[i] = answer_of(UNTOLD, UNTOLD, UNTOLD);
-        memset(found[i].scores, UNTOLD, sizeof found[i].scores);
-        found[i].moves = UNTOLD;
+        answers[i] = answer_of(UNSET, UNSET, UNSET);
+        memset(found[i].scores, UNSET, sizeof found[i].scores);
+        found[i].moves = UNSET;
     }
     printf("%" PRId32, strcmp(call, "solve_all") == 0
                            ? ffosolve_solve_all(positions, count, scoring, entries, answers, room, &at)
                            : ffosolve_move_scores_all(positions, count, scoring, entries, found, room, &at));
     show_index(at);
     for (size_t i = 0; i < ROOM; i++) {
-        if (answers[i].score == UNTOLD && found[i].moves == UNTOLD) continue;
+        if (answers[i].score == UNSET && found[i].moves == UNSET) continue;
         printf(" %zu:", i);
         show_answer(answers[i]);
         show_scores(found[i].scores, found[i].moves);
@@ -97,27 +97,27 @@ static void solve_list(const char *call) {
 }
 
 static void moves_or_play(const char *call) {
-    ffosolve_position after = {UNTOLD, UNTOLD};
-    uint64_t moves = UNTOLD;
+    ffosolve_position after = {UNSET, UNSET};
+    uint64_t moves = UNSET;
     printf("%" PRId32, strcmp(call, "moves") == 0 ? ffosolve_moves(position_at(0), &moves)
                                                   : ffosolve_play(position_at(0), (uint8_t)number[2], &after));
-    if (moves != UNTOLD) printf(" %" PRIx64, moves);
-    if (after.own != UNTOLD || after.opp != UNTOLD) printf(" %" PRIx64 " %" PRIx64, after.own, after.opp);
+    if (moves != UNSET) printf(" %" PRIx64, moves);
+    if (after.own != UNSET || after.opp != UNSET) printf(" %" PRIx64 " %" PRIx64, after.own, after.opp);
 }
 
 static void read_line(const char *text, size_t length, size_t room) {
-    ffosolve_line line = {{UNTOLD, UNTOLD}, UNTOLD, UNTOLD};
-    const ffosolve_listed untold = {UNTOLD, UNTOLD, UNTOLD};
+    ffosolve_line line = {{UNSET, UNSET}, UNSET, UNSET};
+    const ffosolve_listed unset = {UNSET, UNSET, UNSET};
     ffosolve_listed listed[2 * ROOM];
-    size_t at = UNTOLD;
-    for (size_t i = 0; i < 2 * ROOM; i++) listed[i] = untold;
+    size_t at = UNSET;
+    for (size_t i = 0; i < 2 * ROOM; i++) listed[i] = unset;
     printf("%" PRId32, ffosolve_read_line(text, length, &line, listed, room, &at));
     show_index(at);
-    if (line.side != UNTOLD || line.listed != UNTOLD || line.position.own != UNTOLD) {
+    if (line.side != UNSET || line.listed != UNSET || line.position.own != UNSET) {
         printf(" %" PRIx64 " %" PRIx64 " %" PRId32 " %zu", line.position.own, line.position.opp, line.side, line.listed);
     }
     for (size_t i = 0; i < 2 * ROOM; i++) {
-        if (listed[i].score == UNTOLD && listed[i].kind == UNTOLD && listed[i].square == UNTOLD) continue;
+        if (listed[i].score == UNSET && listed[i].kind == UNSET && listed[i].square == UNSET) continue;
         printf(" %" PRId32 "/%d/%" PRId32, listed[i].kind, listed[i].square, listed[i].score);
     }
 }

@@ -1,10 +1,10 @@
-/* The inline forms of ffosolve.h, by the names of the calls, over stand-ins for these: no null pointer may reach those, and
-   any other pointer is handed on. Prints the numbers that reached them, how each pointer did, and the status. */
+/* Calls the inline functions of ffosolve.h over stand-ins for the library's own: no null pointer may reach these, and any other
+   pointer is passed on. Prints the numbers that reached a stand-in, what became of each pointer, and the status. */
 #include "ffosolve.h"
 
 #include <stdio.h>
 
-/* Whether a pointer is given to each call, and how much stands at it or has room there. */
+/* Which pointers are not null, and how many elements each points to or has room for. */
 static const struct {
     size_t has_from, count, has_to, room, has_at;
 } ways[] = {{0, 0, 0, 0, 0}, {1, 1, 1, 1, 1}, {0, 0, 1, 1, 1}, {1, 1, 0, 0, 1}, {1, 0, 1, 0, 1}};
@@ -33,27 +33,27 @@ int main(void) {
 #undef ffosolve_move_scores_all
 #undef ffosolve_read_line
 
-static void tell(const void *pointer, const void *given) {
+static void show(const void *pointer, const void *given) {
     printf(" %s", !pointer ? "null" : pointer == given ? "given" : "other");
 }
 
 int32_t ffosolve_solve_all(const ffosolve_position *positions, size_t count, uint32_t scoring, size_t entries,
                            ffosolve_answer *answers, size_t room, size_t *where) {
     printf("%zu %u %zu %zu:", count, scoring, entries, room);
-    tell(positions, &position), tell(answers, &answer), tell(where, &at);
+    show(positions, &position), show(answers, &answer), show(where, &at);
     return FFOSOLVE_NO_MEMORY;
 }
 
 int32_t ffosolve_move_scores_all(const ffosolve_position *positions, size_t count, uint32_t scoring, size_t entries,
                                  ffosolve_move_scores_of *scores, size_t room, size_t *where) {
     printf("%zu %u %zu %zu:", count, scoring, entries, room);
-    tell(positions, &position), tell(scores, &found), tell(where, &at);
+    show(positions, &position), show(scores, &found), show(where, &at);
     return FFOSOLVE_NO_MEMORY;
 }
 
 int32_t ffosolve_read_line(const char *bytes, size_t length, ffosolve_line *to, ffosolve_listed *moves, size_t room,
                            size_t *where) {
     printf("%zu 2 65 %zu:", length, room);
-    tell(bytes, text), tell(moves, &listed), tell(where, &at);
+    show(bytes, text), show(moves, &listed), show(where, &at);
     return to == &line ? FFOSOLVE_NO_MEMORY : FFOSOLVE_DONE;
 }

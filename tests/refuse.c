@@ -1,5 +1,4 @@
-// Counts the requests for memory of a program, and refuses the one whose number stands in REFUSED. A file of the name
-// in REFUSED_FILE tells then that it came.
+// Counts a program's requests for memory, refuses number REFUSED, and then creates the file REFUSED_FILE.
 #define _GNU_SOURCE
 #include <dlfcn.h>
 #include <errno.h>

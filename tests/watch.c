@@ -1,5 +1,5 @@
-// Tells the calls by which a program puts a new file into an old one's place, in their order, in the file of the name in
-// WATCHED. Where NO_SYNC is set, the disk takes nothing.
+// Appends `sync ` or `rename ` to the file WATCHED for each of these calls that a program makes. If NO_SYNC is set, a sync
+// fails, as on a broken disk.
 #define _GNU_SOURCE
 #include <dlfcn.h>
 #include <errno.h>
@@ -8,7 +8,7 @@
 #include <string.h>
 #include <unistd.h>
 
-static void tell(const char *call) {
+static void record(const char *call) {
     int file = open(getenv("WATCHED"), O_CREAT | O_WRONLY | O_APPEND, 0600);
     if (write(file, call, strlen(call)) < 0) abort();
     close(file);
@@ -16,7 +16,7 @@ static void tell(const char *call) {
 
 static int sync_by(const char *call, int file) {
     int (*next)(int) = dlsym(RTLD_NEXT, call);
-    tell("sync ");
+    record("sync ");
     if (!getenv("NO_SYNC")) return next(file);
     errno = EIO;
     return -1;
@@ -28,6 +28,6 @@ int fdatasync(int file) { return sync_by("fdatasync", file); }
 
 int rename(const char *from, const char *to) {
     int (*next)(const char *, const char *) = dlsym(RTLD_NEXT, "rename");
-    tell("rename ");
+    record("rename ");
     return next(from, to);
 }
