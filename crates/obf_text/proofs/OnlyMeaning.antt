@@ -33,9 +33,6 @@ side_starts : (b : ℕ) (s : Side) → side_of b ≡ Some s → is_content b ≡
 side_starts b s h = grind (arith, nat_tests)
 
 -- the meaning of the bytes behind the blanks, by the number of their cells
-board_start : (start : ℕ) (b : ℕ) (rest : List ℕ) → (b == 37) ≡ false → content_item start (b ∷ rest) ≡ board_item start (position_or_len is_no_cell (b ∷ rest)) (b ∷ rest)
-board_start start b rest h = rw h refl
-
 content_board : (n : ℕ) (xs : List ℕ) → 0 < length xs → (get_or xs 0 0 == 37) ≡ false → content_item n xs ≡ board_item n (position_or_len is_no_cell xs) xs
 content_board n [] some h = absurd (omega arith)
 content_board n (b ∷ rest) some h = rw h refl

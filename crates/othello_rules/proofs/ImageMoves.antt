@@ -75,13 +75,6 @@ is_move-sent_yes r P q full b h =
     let t : Contains (flips (image_by r.back P) (r.to q)) (r.to s.0) = flips-sent r P q s.0 full b s.1 in
     is_nonempty_yes (flips (image_by r.back P) (r.to q)) (λ e. Contains-nil (r.to s.0) (rw e at t))
 
--- the other way, by the renaming that undoes this one
-pub flips-sent_back : (r : Renaming) (P : GridView) (q s : ℕ) → length P.cells ≡ 64 → q < 64 → s < 64 → Contains (flips (image_by r.back P) (r.to q)) (r.to s) → Contains (flips P q) s
-flips-sent_back r P q s full b l h =
-    let t : Contains (flips (image_by r.to (image_by r.back P)) (r.back (r.to q))) (r.back (r.to s)) = flips-sent (flipped r) (image_by r.back P) (r.to q) (r.to s) (length-moved_cells r.back P.cells) (r.there.on_board q b) h in
-    let e : flips (image_by r.to (image_by r.back P)) (r.back (r.to q)) ≡ flips P q = λ i. flips (image_by-back r P full i) (r.there.comes_back q b i) in
-    rw (e, r.there.comes_back s l) at t
-
 pub is_move-sent : (r : Renaming) (P : GridView) (q : ℕ) → length P.cells ≡ 64 → q < 64 → is_move (image_by r.back P) (r.to q) ≡ is_move P q
 is_move-sent r P q full b =
     let e : is_move (image_by r.to (image_by r.back P)) (r.back (r.to q)) ≡ is_move P q = λ i. is_move (image_by-back r P full i) (r.there.comes_back q b i) in

@@ -8,7 +8,7 @@ use Rattle.std.proofs.lemmas.List.Sums.{sum_by-cons}
 use Rattle.othello_rules.specs.declared.scoring.Scoring.{Scoring}
 use Rattle.othello_rules.specs.declared.discs.Cell.TheVariants.{Empty}
 use Rattle.othello_rules.specs.Board.{squares}
-use Rattle.othello_rules.specs.Rules.{GridView, own, opposing, is_move, moves, pass, play, count_of, IsOver}
+use Rattle.othello_rules.specs.Rules.{GridView, own, opposing, is_move, moves, pass, play, count_of}
 use Rattle.othello_rules.specs.Scores.{score_of, final}
 use Rattle.othello_rules.specs.Masks.{mask_of}
 use Rattle.othello_rules.specs.Value.{greatest, can_move, worth, best_worth, empties, value_at, value, is_best, best_moves, best, answer}
@@ -19,7 +19,7 @@ use Rattle.othello_rules.proofs.ListLaws.{Contains-filter, Contains-from_filter,
 use Rattle.othello_rules.proofs.MoveLaws.{move_on_board, square_below}
 use Rattle.othello_rules.proofs.CountLaws.{length-play}
 use Rattle.othello_rules.proofs.ValueLaws.{some_move, value_at-zero, value_at-over, value_at-move, value_at-pass}
-use Rattle.othello_rules.proofs.BoundLaws.{le-greatest, greatest_reached, Contains-map, Contains-from_map, can_move-moves_none, moves_none}
+use Rattle.othello_rules.proofs.BoundLaws.{le-greatest, greatest_reached, Contains-map, Contains-from_map}
 use Rattle.othello_rules.proofs.Reorder.{sum_by-map}
 use Rattle.othello_rules.proofs.Renaming.{Renaming, flipped, length-moved_cells, image_by-back, count_of-image_by}
 use Rattle.othello_rules.proofs.ImageMoves.{is_move-sent, moves-sent, can_move-image_by, play-sent}
@@ -89,13 +89,6 @@ pub value-image_by : (g : Scoring) (r : Renaming) (P : GridView) → length P.ce
 unfolding value
 value-image_by g r P full = ap (λ n. value_at g n (image_by r.back P)) (count_of-image_by r P Empty full) ∙ value_at-image_by g r (empties P) P full
 
--- the game is over at both, or at neither
-pub IsOver-image_by : (r : Renaming) (P : GridView) → length P.cells ≡ 64 → IsOver P → IsOver (image_by r.back P)
-IsOver-image_by r P full h = (
-  moves_none (image_by r.back P) (can_move-image_by r P full ∙ can_move-moves_none P h.0),
-  moves_none (pass (image_by r.back P)) (can_move-image_by r (pass P) full ∙ can_move-moves_none (pass P) h.1),
-)
-
 -- the best moves of the image are the images of the best moves
 pub is_best-sent : (g : Scoring) (r : Renaming) (P : GridView) (q : ℕ) → length P.cells ≡ 64 → q < 64 → is_best g (image_by r.back P) (r.to q) ≡ is_best g P q
 is_best-sent g r P q full b =
@@ -164,10 +157,3 @@ answer-image_by_none g r P full h =
       | inr k ↦ best_is_over g (image_by r.back P) (can_move-image_by r P full ∙ h) (can_move-image_by r (pass P) full ∙ k) ∙ sym (best_is_over g P h k)
     ] in
     λ i. record { score = value-image_by g r P full i; best = e i }
-
-pub moves-sent_back : (r : Renaming) (P : GridView) (q : ℕ) → length P.cells ≡ 64 → Contains (moves (image_by r.back P)) q → Contains (moves P) (r.back q)
-moves-sent_back r P q full h =
-    subst (λ Q. Contains (moves Q) (r.back q)) (image_by-back r P full) (moves-sent (flipped r) (image_by r.back P) q (length-moved_cells r.back P.cells) h)
-
-pub IsOver-image_by_back : (r : Renaming) (P : GridView) → length P.cells ≡ 64 → IsOver (image_by r.back P) → IsOver P
-IsOver-image_by_back r P full h = subst IsOver (image_by-back r P full) (IsOver-image_by (flipped r) (image_by r.back P) (length-moved_cells r.back P.cells) h)
