@@ -13,7 +13,7 @@ use Rattle.othello_rules.proofs.BoundLaws as bounds
 use Rattle.othello_rules.proofs.RangeLaws.{value-IsScore}
 use Rattle.othello_rules.proofs.CountLaws as counts
 use Rattle.othello_rules.proofs.ValueLaws as laws
-use Rattle.othello_bits.specs.Pos.{mask_where, PosView, cells_of, position_of, discs_of, moves_of, play_of, pass_of, IsMove, HasNoMove, IsOver, empties_of, final_of, value_of, answer_of}
+use Rattle.othello_bits.specs.Pos.{mask_where, PosView, cells_of, position_of, discs_of, moves_of, play_of, pass_of, IsMove, HasNoMove, NeitherHasMove, empties_of, final_of, value_of, answer_of}
 use Rattle.othello_bits.proofs.CellLaws.{length-cells_of}
 use Rattle.othello_bits.proofs.PlayMeaning.{position_of-discs_of}
 use Rattle.othello_bits.proofs.CountMeaning.{count-empty}
@@ -82,7 +82,7 @@ can_go p n =
 contained : (p : PosView) (q : ℕ) → IsMove p q → Contains (rules.moves (position_of Black p)) q
 contained p q m = moves.Contains-moves (position_of Black p) q (IsMove-on_board p q m) (is_move-from_IsMove p q m)
 
-pub value-over : (g : Scoring) (p : PosView) → IsOver p → value_of g p ≡ final_of g p
+pub value-over : (g : Scoring) (p : PosView) → NeitherHasMove p → value_of g p ≡ final_of g p
 unfolding value_of final_of
 value-over g p (h, k) = laws.value-over g (position_of Black p) (cannot_move p h) (cannot_reply p k)
 

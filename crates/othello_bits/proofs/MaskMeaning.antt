@@ -16,7 +16,7 @@ use Rattle.othello_rules.proofs.BoundLaws.{can_move_none, can_move_with, moves_n
 use Rattle.othello_rules.specs.Masks.{in_mask}
 use Rattle.othello_bits.specs.Shifts.{turns_any, is_turned}
 use Rattle.othello_bits.proofs.TurnedMasks.{own_after, opp_after, zero_from_none, some_of, not_empty, after_own, after_opp, after_apart}
-use Rattle.othello_bits.specs.Pos.{mem, mask_where, PosView, discs, position_of, moves_of, flips_of, pass_of, play_of, discs_of, IsMove, IsOver}
+use Rattle.othello_bits.specs.Pos.{mem, mask_where, PosView, discs, position_of, moves_of, flips_of, pass_of, play_of, discs_of, IsMove, NeitherHasMove}
 use Rattle.othello_bits.proofs.TestMasks.{in_mask-where, where_lt, is_where}
 use Rattle.othello_bits.proofs.Bits.{in_mask-above, none_from_zero, some_square}
 use Rattle.othello_bits.proofs.CellLaws.{AreApart, slice_get_off_board}
@@ -111,7 +111,7 @@ module _ (p passed : PosView) (a b : ℕ) (here : a ≡ moves_of p) (there : b �
         let e : rules.moves (position_of (other s) passed) ≡ rules.moves (rules.pass (position_of s p)) = ap rules.moves (meaning s) in
         (λ t z. (mine.0 z, sym e ∙ n.0 (eqb-true b 0 t)), λ o. (mine.1 o.0, eq-eqb b 0 (n.1 (e ∙ o.1))))
 
-    pub over_masks : (eqb b 0 ≡ true → a ≡ 0 → IsOver p) × (IsOver p → (a ≡ 0) × (eqb b 0 ≡ true))
+    pub over_masks : (eqb b 0 ≡ true → a ≡ 0 → NeitherHasMove p) × (NeitherHasMove p → (a ≡ 0) × (eqb b 0 ≡ true))
     over_masks =
         let e : moves_of (pass_of p) ≡ b = ap moves_of (sym value) ∙ sym there in
         (λ t z. (sym here ∙ z, e ∙ eqb-true b 0 t), λ o. (here ∙ o.0, eq-eqb b 0 (sym e ∙ o.1)))

@@ -81,8 +81,8 @@ abbrev pub HasNoMove : PosView → Type 0
 HasNoMove p = moves_of p ≡ 0
 
 -- neither side has a move
-abbrev pub IsOver : PosView → Type 0
-IsOver p = HasNoMove p × HasNoMove (pass_of p)
+abbrev pub NeitherHasMove : PosView → Type 0
+NeitherHasMove p = HasNoMove p × HasNoMove (pass_of p)
 
 -- the number of empty squares
 unfoldable pub empties_of : PosView → ℕ

@@ -38,7 +38,7 @@ inverse TurnRight = TurnLeft
 inverse TurnLeft = TurnRight
 inverse AntiTranspose = AntiTranspose
 
--- the seven besides the identity, in their order
+-- all but the identity, in their order
 unfoldable pub others : List Sym
 others = FlipColumns ∷ FlipRows ∷ HalfTurn ∷ Transpose ∷ TurnRight ∷ TurnLeft ∷ AntiTranspose ∷ []
 

@@ -12,7 +12,7 @@ ghost use Rattle.othello_rules.specs.Masks.{in_mask};
 ghost use Rattle.othello_rules.specs.Rules.{GridView, is_move, play};
 ghost use Rattle.othello_rules.specs.Answer.{IsScore};
 ghost use Rattle.othello_rules.specs.Value.{value, answer, best_moves};
-ghost use Rattle.othello_bits.specs.Pos.{PosView, IsMove, HasNoMove, IsOver};
+ghost use Rattle.othello_bits.specs.Pos.{PosView, IsMove, HasNoMove, NeitherHasMove};
 ghost use Rattle.othello_bits.specs.Pos.{position_of, discs_of, moves_of, play_of, pass_of};
 ghost use Rattle.othello_bits.specs.Pos.{empties_of, final_of, value_of, answer_of, best_answer};
 ghost use Rattle.othello_bits.specs.Symmetries.{target, inverse, symmetries, place};
@@ -25,7 +25,7 @@ ghost use Rattle.othello_bits.specs.declared.sym.Sym.TheVariants as sym;
 /// The value of a position of two masks is that of textbook minimax, from -64 to 64. A move
 /// fills one empty square, and a pass fills none.
 pub fn value_is_minimax()
-    ensures over { (g : Scoring) (p : PosView) → IsOver p → value_of g p ≡ final_of g p }
+    ensures over { (g : Scoring) (p : PosView) → NeitherHasMove p → value_of g p ≡ final_of g p }
     ensures passed { (g : Scoring) (p : PosView) → HasNoMove p → moves_of (pass_of p) ≢ 0
         → value_of g p ≡ neg_ℤ (value_of g (pass_of p)) }
     ensures at_least { (g : Scoring) (p : PosView) (q : ℕ) → IsMove p q

@@ -9,7 +9,7 @@ ghost use Rattle.othello_rules.specs.Rules as rules;
 ghost use Rattle.othello_rules.specs.Scores.{final};
 ghost use Rattle.othello_rules.specs.Answer.{IsScore};
 ghost use Rattle.othello_rules.specs.Masks.{in_mask};
-ghost use Rattle.othello_bits.specs.Pos.{IsMove, IsOver, mem, discs, position_of, discs_of};
+ghost use Rattle.othello_bits.specs.Pos.{IsMove, NeitherHasMove, mem, discs, position_of, discs_of};
 ghost use Rattle.othello_bits.specs.Pos.{moves_of, flips_of, play_of, pass_of};
 ghost use Rattle.othello_bits.specs.Pos.{empties_of, final_of};
 ghost use Rattle.othello_bits.specs.Symmetries.{image, image_of};
@@ -229,7 +229,7 @@ impl Pos {
     #[inline]
     pub fn is_over(self) -> bool
         ensures meaning { (s : Side) → IsTrue result ↔ rules.IsOver (position_of s self) }
-        ensures value { IsTrue result ↔ IsOver self }
+        ensures value { IsTrue result ↔ NeitherHasMove self }
     {
         self.moves() == 0 && self.pass().moves() == 0
     }

@@ -20,11 +20,11 @@ use Rattle.othello_rules.specs.Value.{greatest, can_move, best_worth, value_at, 
 black_board : List Cell
 black_board = replicate 64 Black
 
--- three rows X, two rows empty, three rows O: nobody can move, and nobody has more
+-- three rows X, two rows empty, three rows O: neither side can move, and neither has more
 level_halves : List Cell
 level_halves = replicate 24 Black ++ replicate 16 Empty ++ replicate 24 White
 
--- four rows X, two rows empty, two rows O: nobody can move, and Black has more
+-- four rows X, two rows empty, two rows O: neither side can move, and Black has more
 unequal_halves : List Cell
 unequal_halves = replicate 32 Black ++ replicate 16 Empty ++ replicate 16 White
 

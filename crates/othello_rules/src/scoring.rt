@@ -17,7 +17,7 @@ pub const GREATEST_SCORE: i8 = 64;
 /// outcome alone.
 #[derive(Clone, Copy, PartialEq, Eq, Debug)]
 pub enum Scoring {
-    /// The disc difference, with all empty squares for the side that has more discs, and for nobody
+    /// The disc difference, with all empty squares for the side that has more discs, or for neither
     /// in a draw: the practice of endgame solvers and of the published FFO results.
     Winner,
     /// The plain disc difference.
