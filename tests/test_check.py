@@ -1,4 +1,4 @@
-"""How make check runs modules and counts them, and .ci/run sums up, over a small checkout with stand-ins for rt."""
+"""How make check runs and counts the modules, and .ci/run adds the gate, in a small checkout with a stand-in for rt."""
 import os
 import re
 import shutil
@@ -26,26 +26,25 @@ class Check(InFolder):
             shutil.copy(ROOT / name, name)
         Path(".gitignore").write_text("__pycache__/\nout/\n")
         run("git", "init", "-q", check=True)
-        self.place = {name: text for name, text in os.environ.items() if name != "CI"}
+        self.environment = {name: text for name, text in os.environ.items() if name != "CI"}
 
     @staticmethod
     def module(name, tests):
         write(f"tests/test_{name}.py", MODULE + tests)
 
-    def ends(self, status, last, *told, words=MAKE, **places):
-        ran = run(*words, env={**self.place, **places}, text=True)
+    def ends(self, status, last, *texts, words=MAKE, **variables):
+        """Asserts a command's status, its last line, and texts that it prints."""
+        ran = run(*words, env={**self.environment, **variables}, text=True)
         self.assertEqual((ran.returncode, ran.stdout.splitlines()[-1:]), (status, [last]), ran)
-        for text in told:
+        for text in texts:
             self.assertIn(text, ran.stdout)
 
 
 class Modules(Check):
-    def test_what_is_counted(self):
-        """Of one module, beside one that passes, with the name of a target: what fails is shown, also where it does not run, is
-        killed, hangs or changes the checkout; a missing tool is a failure where CI=true."""
+    def test_passes_and_failures_are_counted_and_failures_are_shown(self):
         self.ends(2, "0 passed, 0 failed")
-        self.module("check", PASSES)
-        for tests, passed, failed, told in (
+        self.module("check", PASSES)  # the name of a target of make
+        for tests, passed, failed, shown in (
             (PASSES + PASSES.replace("_a", "_c"), 2, 0, "tests.test_one: 2 passed, 0 failed, in "),
             (PASSES + FAILS + FAILS.replace("_b", "_c"), 1, 2, "AssertionError: 'b' != 2"),
             ("    def test_a(self)\n", 0, 1, "SyntaxError"),
@@ -57,9 +56,12 @@ class Modules(Check):
         ):
             with self.subTest(tests=tests):
                 self.module("one", tests)
-                self.ends(2 if failed else 0, f"{passed + 1} passed, {failed} failed", told, words=(*MAKE, "TEST_SECONDS=8"))
+                self.ends(2 if failed else 0, f"{passed + 1} passed, {failed} failed", shown, words=(*MAKE, "TEST_SECONDS=8"))
         self.ends(0, "1 passed, 0 failed", words=(*MAKE, "TESTS=check"))
         self.ends(2, "0 passed, 1 failed", words=(*MAKE, "TESTS=three"))
+
+    def test_a_missing_tool_skips_a_test_and_fails_it_if_ci_is_true(self):
+        self.module("check", PASSES)
         self.module("one", PASSES + LACKS)
         self.ends(0, "2 passed, 0 failed, 1 skipped")
         self.ends(2, "2 passed, 1 failed", "no-such (Debian: a-package) is missing", CI="true")
@@ -67,8 +69,7 @@ class Modules(Check):
         self.ends(0, "1 passed, 0 failed, 1 skipped")
         self.ends(2, "1 passed, 1 failed", CI="true")
 
-    def test_signal_ends_all(self):
-        """An interrupt to the whole group of processes, as typed on a terminal, and one that ends make alone."""
+    def test_an_interrupt_from_the_terminal_and_a_signal_to_make_alone_end_all_processes(self):
         self.module("one", f"    def test_a(self):\n        run('sh', '-c', 'echo >{self.folder}/begun; exec sleep 50')\n")
         for kill, number in ((os.killpg, signal.SIGINT), (os.kill, signal.SIGTERM)):
             Path("begun").unlink(missing_ok=True)
@@ -79,9 +80,7 @@ class Modules(Check):
             self.assertNotEqual(make.returncode, 0)
             wait_until(lambda: not processes_with("cwd", self.folder), 30)
 
-    def test_what_is_handed_on(self):
-        """No word of make to a make that a test calls, which would wait for the jobs of this one, or tell that it can't; and no
-        interrupt that is ignored, as where make check was begun in the background."""
+    def test_a_module_inherits_no_flags_of_make_and_no_ignored_interrupt(self):
         Path("Makefile").write_text("check:\n\t$(MAKE) -f tests/check.mk\n\nsome:\n\techo made\n")
         self.module("one", """    def test_a(self):
         self.assertEqual(run("sh", "-c", "make -s some 2>&1", cwd=ROOT).stdout, b"made\\n")
@@ -91,8 +90,7 @@ class Modules(Check):
 
 
 class Gate(Check):
-    def test_both_are_run_and_summed(self):
-        """.ci/run, by what rt ci and make check print and how they end; one that counts nothing fails."""
+    def test_counts_of_rt_ci_and_make_check_are_added_and_one_that_counts_nothing_fails(self):
         all_pass = ("7 passed, 0 failed", 0)
         for status, last, ci, check in (
             (0, "14 passed, 0 failed", all_pass, all_pass),
@@ -108,17 +106,16 @@ class Gate(Check):
                 write(f"tools/{name}", f'#!/bin/sh\n[ "$CI" = true ] || exit 9\necho "{name} $*"; printf "{text}\\n"; exit {ends}\n')
             self.ends(status, last, "rt ci\n", "make check", words=(".ci/run",), PATH=f"{self.folder}/tools:{os.environ['PATH']}")
 
-    def test_any_word_is_refused(self):
+    def test_any_argument_of_ci_run_is_refused(self):
         for words in (["--help"], [""], ["ci", "check"]):
-            ran = run(".ci/run", *words, text=True, env={**self.place, "PATH": "/usr/bin:/bin"})
+            ran = run(".ci/run", *words, text=True, env={**self.environment, "PATH": "/usr/bin:/bin"})
             self.assertEqual((ran.returncode, ran.stdout), (2, ""))
-            self.assertEqual(ran.stderr, "usage: .ci/run, without any word: runs rt ci and then make check\n")
+            self.assertEqual(ran.stderr, "usage: .ci/run (no arguments): runs rt ci and then make check\n")
         self.assertFalse(Path("out").exists())
 
 
 class Sources(unittest.TestCase):
-    def test_no_program_names_a_fixed_place_for_temporary_files(self):
-        """Two at once would share it."""
+    def test_no_program_names_a_temporary_file_that_two_runs_would_share(self):
         for folder in ("bin", "scripts", "tests"):
             for path in ROOT.joinpath(folder).iterdir():
                 if path.is_file() and path.name != "test_check.py":
