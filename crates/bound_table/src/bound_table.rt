@@ -52,17 +52,33 @@ fn hash_of(position: Pos) -> u64 {
     (products ^ (products >> 29)).wrapping_mul(0xbf58_476d_1ce4_e5b9)
 }
 
-// The number of the entry of a position, counted from 0. The upper half of the position's hash,
-// over 2^32, is a fraction of 1. The number is that fraction of the number of entries, rounded
-// down.
+// The quarter of the table that holds positions with this number of empty squares. A store replaces
+// what its entry holds, and most stores are of positions with few empty squares. In a quarter of
+// their own they can't replace the positions that took longest to search. The borders were chosen
+// by the time of the FFO endgame test.
+#[inline]
+fn quarter_of(empties: u8) -> u64
+    ensures { result < 4 }
+{
+    match empties {
+        0..=12 => 0,
+        13..=15 => 1,
+        16..=18 => 2,
+        _ => 3,
+    }
+}
+
+// The number of the entry of a position, counted from 0. The position's quarter, plus the upper half
+// of its hash over 2^32, is from 0 to 4, and a fourth of that is a fraction of 1. The number is that
+// fraction of the number of entries, rounded down.
 #[inline]
 fn entry_index(position: Pos, entries: usize) -> usize
     requires some { 0 < entries }
     requires few { entries ≤ most_entries }
     ensures { result < entries }
 {
-    let fraction = hash_of(position) >> 32;
-    ((fraction * entries as u64) >> 32) as usize
+    let fraction = (quarter_of(position.empties()) << 32) + (hash_of(position) >> 32);
+    ((fraction * entries as u64) >> 34) as usize
 }
 
 impl BoundTable {

@@ -1,11 +1,12 @@
 -- The bounds between which the driver of null windows looks for a value.
-use Rattle.std.proofs.Common.{◌≡◌, ℤ, pos, negsuc, neg_ℤ, ◌-ℤ◌, ◌≤ℤ◌, ◌<ℤ◌, ◌<◌, ℕ, ◌+◌, ◌-◌, true, false, arith}
+use Rattle.std.proofs.Common.{◌≡◌, ℤ, pos, negsuc, ◌-ℤ◌, ◌≤ℤ◌, ◌<ℤ◌, ◌<◌, ℕ, ◌+◌, ◌-◌, true, false, arith}
 use borrow.Author.Differences.{up, down}
 use lib.Signed.{lt_z, le_z}
 use Rattle.std.specs.Int.{int_max, int_min}
 use Rattle.std.proofs.lemmas.Int.{ints, clamps}
 use Rattle.othello_rules.specs.Answer.{IsScore}
-use Rattle.endgame_search.specs.Windows.{IsBound, IsWindow, IsWithin, IsFailSoft, IsNullWindowScore}
+use Rattle.bound_table.specs.Range.{RangeView, IsRange}
+use Rattle.endgame_search.specs.Windows.{IsBound, IsWindow, IsFailSoft, IsNullWindowScore}
 use Rattle.endgame_search.proofs.Windows.{shown, shown_same, score_same}
 
 -- the value v is no less than lower where that is above the lower end of the window, and no more than upper where that
@@ -20,15 +21,18 @@ pub record IsBetween (low high v lower upper : ℤ) : Type 0 where
 abbrev pub gap : ℤ → ℤ → ℕ
 gap lower upper = (up upper + down lower) - (up lower + down upper)
 
--- at first the ends of the window, but no more than the scores from minus m to m
-begun : (low high v m lower upper : ℤ) → IsWindow low high → pos 1 ≤ℤ m → m ≤ℤ pos 64 → IsWithin m v
-    → lower ≡ int_max low (neg_ℤ m) → upper ≡ int_min high m → IsBetween low high v lower upper
-begun low high v m lower upper w a b within l u =
+-- at first the ends of the window, but no more than the scores of a range that holds the value
+begun : (low high v lower upper : ℤ) (i : RangeView) → IsWindow low high → IsRange i → (i.low ≤ℤ v) × (v ≤ℤ i.high)
+    → lower ≡ int_max low i.low → upper ≡ int_min high i.high → IsBetween low high v lower upper
+begun low high v lower upper i w range holds l u =
+    let a = range.least in
+    let b = range.ordered in
+    let k = range.most in
     let c = w.0 in
     let d = w.1 in
     let e = w.2 in
-    let f = within.0 in
-    let g = within.1 in
+    let f = holds.0 in
+    let g = holds.1 in
     record {
       below = λ x. omega (arith, ints, clamps);
       above = λ x. omega (arith, ints, clamps);
@@ -36,19 +40,23 @@ begun low high v m lower upper w a b within l u =
       upper_score = record { low = omega (arith, ints, clamps); high = omega (arith, ints, clamps) };
     }
 
-pub at_first : (low high v m lower upper : ℤ) → IsWindow low high → pos 1 ≤ℤ m → m ≤ℤ pos 64 → IsWithin m v
-    → lower ≡ int_max (shown low) (shown (pos 0 -ℤ shown m)) → upper ≡ int_min (shown high) (shown m) → IsBetween (shown low) (shown high) v (shown lower) (shown upper)
-at_first low high v m lower upper w a b within l u =
+pub at_first : (low high v l h lower upper : ℤ) (i : RangeView) → IsWindow low high → IsRange i → (i.low ≤ℤ v) × (v ≤ℤ i.high)
+    → l ≡ i.low → h ≡ i.high → lower ≡ int_max (shown low) (shown l) → upper ≡ int_min (shown high) (shown h)
+    → IsBetween (shown low) (shown high) v (shown lower) (shown upper)
+at_first low high v l h lower upper i w range holds is_low is_high raised' lowered' =
+    let a = range.least in
+    let b = range.ordered in
+    let k = range.most in
     let c = w.0 in
     let d = w.1 in
     let e = w.2 in
     let x : shown low ≡ low = shown_same low c (omega (arith, ints)) in
     let y : shown high ≡ high = shown_same high (omega (arith, ints)) e in
-    let z : shown m ≡ m = shown_same m (omega (arith, ints)) (omega (arith, ints)) in
-    let n : shown (pos 0 -ℤ shown m) ≡ neg_ℤ m = omega (arith, ints) in
-    let i : shown lower ≡ int_max (shown low) (neg_ℤ m) = omega (arith, ints, clamps, l, n, x, a, b, c, d, e) in
-    let j : shown upper ≡ int_min (shown high) m = omega (arith, ints, clamps, u, z, y, a, b, c, d, e) in
-    begun (shown low) (shown high) v m (shown lower) (shown upper) (omega (arith, ints, x, c), omega (arith, ints, x, y, d), omega (arith, ints, y, e)) a b within i j
+    let z : shown l ≡ i.low = omega (arith, ints) in
+    let n : shown h ≡ i.high = omega (arith, ints) in
+    let m : shown lower ≡ int_max (shown low) i.low = omega (arith, ints, clamps, raised', z, x, a, b, k, c, d, e) in
+    let o : shown upper ≡ int_min (shown high) i.high = omega (arith, ints, clamps, lowered', n, y, a, b, k, c, d, e) in
+    begun (shown low) (shown high) v (shown lower) (shown upper) i (omega (arith, ints, x, c), omega (arith, ints, x, y, d), omega (arith, ints, y, e)) range holds m o
 
 -- the bound asked lies between them, so that its score brings them closer
 module _ (lower upper s m b : ℤ) (l : IsScore lower) (u : IsScore upper) (small : negsuc 127 ≤ℤ s) (great : s ≤ℤ pos 127) (open' : lt_z lower upper ≡ true)

@@ -9,7 +9,7 @@ use Rattle.othello_rules.specs.declared.scoring.Scoring.{Scoring}
 use Rattle.othello_bits.specs.Pos.{PosView, moves_of, play_of, pass_of, empties_of, value_of, HasNoMove}
 use Rattle.othello_bits.proofs.GameLaws.{value_above, value_reached, value-pass, empties_positive, empties-play, empties-pass}
 use Rattle.endgame_search.specs.declared.move_order.Child.{Child}
-use Rattle.endgame_search.specs.declared.move_order.ChildWithoutReplies.{ChildWithoutReplies}
+use Rattle.endgame_search.specs.declared.move_order.NextChild.{NextChild}
 use Rattle.endgame_search.specs.Children.{IsChildOf, AreChildrenOf, UnlistedAreAtMost, AreSplitAt, squares_of}
 
 -- what the move to a child is worth, and how many squares are empty there
@@ -76,7 +76,7 @@ unlisted_sorted g p best items sorted permuted unlisted =
     }
 
 -- the children after one without replies that was searched
-pub unlisted_after_first : (g : Scoring) (p : PosView) (s : ChildWithoutReplies) (items more : List Child) (best : ℤ) → AreSplitAt p s items → neg_ℤ (value_of g s.child.position) ≤ℤ best
+pub unlisted_after_first : (g : Scoring) (p : PosView) (s : NextChild) (items more : List Child) (best : ℤ) → AreSplitAt p s items → neg_ℤ (value_of g s.child.position) ≤ℤ best
     → All (IsChildOf p) more → ((q : ℕ) → (in_mask s.rest q ≡ true) ⊎ Contains (squares_of items) q → Contains (squares_of more) q)
     → UnlistedAreAtMost g p best more
 unlisted_after_first g p s items more best split worth each every =

@@ -1,17 +1,16 @@
 -- What taking the squares out of a mask one by one leaves, and the list of children that it fills.
-use Rattle.std.proofs.Common.{◌≡◌, ◌≢◌, ℕ, zero, suc, ◌+◌, ◌<◌, ◌≤◌, ◌^◌, ◌⊎◌, Bool, true, false, cond, not, ◌&&◌, nat_eq, List, [], ◌∷◌, ◌++◌, length, All, Contains, refl, sym, ap, ◌∙◌, subst, inl, inr, arith}
+use Rattle.std.proofs.Common.{◌≡◌, ◌≢◌, ℕ, zero, suc, ◌+◌, ◌<◌, ◌≤◌, ◌^◌, ◌⊎◌, Bool, true, false, cond, not, ◌&&◌, nat_eq, List, [], ◌∷◌, ◌++◌, All, Contains, refl, sym, ap, ◌∙◌, subst, inl, inr, arith}
 use Rattle.std.specs.Int.Count.{ones}
 use Rattle.std.proofs.lemmas.Bool.{cases_eq, cases_lt, eq-eqb, ne_eqb, and_parts, both_ways}
 use Rattle.std.proofs.lemmas.List.{map-append}
 use Rattle.std.proofs.lemmas.List.Elements.{All-same, All-push, Contains-append_left, Contains-push}
-use Rattle.arrayvec.specs.ArrayVec.{ArrayVec, array_vec_len}
 use Rattle.othello_rules.specs.Masks.{in_mask}
-use Rattle.othello_bits.specs.Pos.{PosView, IsMove}
+use Rattle.othello_bits.specs.Pos.{PosView}
 use Rattle.othello_bits.proofs.Bits.{in_mask-above, none_from_zero}
-use Rattle.othello_bits.proofs.MaskMeaning.{IsMove-on_board}
 use Rattle.othello_bits.proofs.Numbers.{count_below, is_number, ones_number}
 use Rattle.endgame_search.specs.declared.move_order.Child.{Child}
-use Rattle.endgame_search.specs.Children.{squares_of}
+use Rattle.endgame_search.specs.declared.move_order.NextChild.{NextChild}
+use Rattle.endgame_search.specs.Children.{squares_of, IsNextChild}
 
 module _ (f h : ℕ → Bool) (r : ℕ) (taken : (i : ℕ) → h i ≡ (f i && not (nat_eq r i))) where
   pub other : (i : ℕ) → i ≢ r → h i ≡ f i
@@ -66,10 +65,6 @@ module _ (old new r : ℕ) (here : in_mask old r ≡ true) (taken : (i : ℕ) �
       let b : ones old ≡ count_below 64 (in_mask old) = ap ones (is_number old (in_mask old) ho (λ i l. refl)) ∙ ones_number 64 (in_mask old) in
       omega (arith, a, b, less_above (in_mask old) (in_mask new) r taken 64 hr here)
 
--- a move is taken out of a mask of moves, which leaves one move less
-pub fewer : (p : PosView) (old new r : ℕ) → in_mask old r ≡ true → ((i : ℕ) → in_mask new i ≡ (in_mask old i && not (nat_eq r i))) → old < 2 ^ 64 → new < 2 ^ 64 → IsMove p r → ones new + 1 ≡ ones old
-fewer p old new r here taken ho hn legal = one_less old new r here taken ho hn (IsMove-on_board p r legal)
-
 pub each_more : (P : Child → Type 0) (items grown : List Child) (x : Child) → grown ≡ items ++ x ∷ [] → All P items → P x → All P grown
 each_more P items grown x e all one = All-same P grown (items ++ x ∷ []) e (All-push P items x all one)
 
@@ -82,17 +77,16 @@ listed_more items grown x e q h =
       | inr i ↦ subst (λ y. Contains (squares_of items ++ x.square ∷ []) y) (sym i) (Contains-push (squares_of items) x.square)
     ])
 
--- a square of the mask or of the list, where r is taken out of the mask and a child by that move is put into the list
-pub still_held : (old new r : ℕ) → in_mask old r ≡ true → ((i : ℕ) → in_mask new i ≡ (in_mask old i && not (nat_eq r i)))
-    → (items grown : List Child) (x : Child) → grown ≡ items ++ x ∷ [] → x.square ≡ r
-    → (q : ℕ) → (in_mask old q ≡ true) ⊎ Contains (squares_of items) q → (in_mask new q ≡ true) ⊎ Contains (squares_of grown) q
-still_held old new r here taken items grown x e made q h =
+-- a square of the mask or of the list, where the next child is taken out of the mask and put into the list
+pub still_held : (p : PosView) (moves : ℕ) (n : NextChild) → IsNextChild p moves n → (items grown : List Child) → grown ≡ items ++ n.child ∷ []
+    → (q : ℕ) → (in_mask moves q ≡ true) ⊎ Contains (squares_of items) q → (in_mask n.rest q ≡ true) ⊎ Contains (squares_of grown) q
+still_held p moves n next items grown e q h =
     elim h [
-      | inl b ↦ elim (still_there old new r here taken q b) [
-        | inl s ↦ inr (listed_more items grown x e q (inr (s ∙ sym made)))
-        | inr n ↦ inl n
+      | inl b ↦ elim (next.every q b) [
+        | inl s ↦ inr (listed_more items grown n.child e q (inr s))
+        | inr l ↦ inl l
       ]
-      | inr l ↦ inr (listed_more items grown x e q (inl l))
+      | inr l ↦ inr (listed_more items grown n.child e q (inl l))
     ]
 
 pub on_board : (m i : ℕ) → m < 2 ^ 64 → in_mask m i ≡ true → i < 64
@@ -118,10 +112,3 @@ pub all_listed : (items : List Child) (rest : ℕ) → rest ≡ 0
     → (q : ℕ) → (in_mask rest q ≡ true) ⊎ Contains (squares_of items) q → Contains (squares_of items) q
 all_listed items rest none q h =
     elim h [ inl b ↦ absurd (both_ways (in_mask rest q) (none_from_zero rest none q) b) | inr l ↦ l ]
-
--- an empty list
-pub no_items : (v : ArrayVec Child) → v.items ≡ [] → array_vec_len v ≡ 0
-no_items v e = ap length e
-
-pub none_each : (P : Child → Type 0) (items : List Child) → items ≡ [] → All P items
-none_each P items e = All-same P items [] e (λ k x h. absurd (omega (arith, h)))

@@ -13,7 +13,7 @@ ghost use Rattle.endgame_search.specs.Children.{UnlistedAreAtMost};
 use crate::move_order::{Child, add_children, add_until_no_replies, sort_children};
 use crate::shallow::{MOST_SHALLOW_EMPTIES, search_shallow};
 use crate::table_cutoff::{
-    BELOW_ALL_SCORES, enhanced_cutoff, probe_cutoff, score_limit, store_always, store_if_deep,
+    BELOW_ALL_SCORES, enhanced_cutoff, possible_scores, probe_cutoff, store_always, store_if_deep,
 };
 use arrayvec::ArrayVec;
 use bound_table::Bounds;
@@ -23,8 +23,10 @@ use othello_bits::Pos;
 /// scoring and as the mover sees it: in discs, or 1, 0 or -1 under `Sign`. The ends are from -65 to
 /// 65, and `low` is less than `high`. The result is from -64 to 64. Strictly between the ends it is
 /// the value. At `low` or below it is an upper bound of the value, at `high` or above a lower
-/// bound. Each position that is searched is probed before its moves are, unless its game is over.
-/// The table is offered the range that the result proves, however few squares are empty.
+/// bound. The position is probed first, and one probe ends the search if it shows the value, or
+/// shows that the value lies at an end of the window or beyond it. Each position that is searched is
+/// probed before its moves are, unless its game is over. The table is offered the range that the
+/// result proves, however few squares are empty.
 pub fn value_in<T: Bounds>(table: &T, position: Pos, low: i8, high: i8) -> i8
     requires least { negsuc 64 ≤ℤ low }
     requires ordered { low <ℤ high }
@@ -42,16 +44,16 @@ pub fn value_in<T: Bounds>(table: &T, position: Pos, low: i8, high: i8) -> i8
 
 // A fail-soft score of the window from `low` to `high`. The first null window is at the guess. Each
 // later one is at the lower bound that the last one proved, or at one below the upper bound. No
-// null window lies outside the scores, so the search ends at a score that is the greatest or the
-// least.
+// null window lies outside the scores that are possible at first, so the search ends at the
+// greatest or the least of them.
 pub(crate) fn search_window<T: Bounds>(table: &T, position: Pos, guess: i8, low: i8, high: i8) -> i8
     requires { IsWindow low high }
     ensures { IsFailSoft low high (value_of (T.scoring table.now) position) result }
 {
-    let limit = score_limit(table.scoring());
+    let possible = possible_scores(table, position);
     let moves = position.moves();
-    let mut lower = low.max(-limit);
-    let mut upper = high.min(limit);
+    let mut lower = low.max(possible.low());
+    let mut upper = high.min(possible.high());
     let mut score = guess;
     while lower < upper {
         let bound = score.max(lower).min(upper - 1);

@@ -4,7 +4,7 @@ ghost use Rattle.std.specs.Prelude.{◌≡◌, ◌<ℤ◌, ◌≤ℤ◌, IfSome,
 ghost use Rattle.othello_rules.specs.Answer.{IsScore};
 ghost use Rattle.othello_rules.specs.Limits.{least_score, greatest_score};
 ghost use Rattle.othello_bits.specs.Pos.{PosView, value_of};
-ghost use Rattle.bound_table.specs.Range.{range_view};
+ghost use Rattle.bound_table.specs.Range.{range_view, IsTrueOf};
 ghost use Rattle.endgame_search.specs.Children.{IsChildOf};
 ghost use Rattle.endgame_search.specs.Windows.{IsBound, IsWindow, IsWithin};
 ghost use Rattle.endgame_search.specs.Windows.{IsFailSoft, IsNullWindowScore};
@@ -32,6 +32,18 @@ pub(crate) fn score_limit(scoring: Scoring) -> i8
         Scoring::Winner | Scoring::Discs => GREATEST_SCORE,
         Scoring::Sign => 1,
     }
+}
+
+// The scores that the value of a position can be, by the scoring and by a probe of the table.
+#[inline(always)]
+pub(crate) fn possible_scores<T: Bounds>(table: &T, position: Pos) -> Range
+    ensures { IsTrueOf (T.scoring table.now) position result }
+{
+    let limit = score_limit(table.scoring());
+    let Some(range) = table.probe(&position) else {
+        return Range::new(-limit, limit).unwrap();
+    };
+    Range::new(range.low().max(-limit), range.high().min(limit)).unwrap()
 }
 
 // Probes the table for a fail-soft score of the null window at the bound. There is one if the

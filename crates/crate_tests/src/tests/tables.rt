@@ -1,5 +1,6 @@
 //! What no contract says: that a store is shown, to every image, and which calls succeed.
 
+mod quarters;
 mod threads;
 
 ghost use Rattle.std.specs.Prelude.{◌≡◌};
@@ -115,7 +116,7 @@ fn count_shown(rt: &impl Abort, table: &BoundTable) -> usize
 
 #[test]
 fn positions_have_entries_of_their_own(rt: HostRuntime) -> Result<(), Fail> {
-    let table = BoundTable::new(rt.alloc(), 16, Scoring::Winner)?;
+    let table = BoundTable::new(rt.alloc(), 64, Scoring::Winner)?;
     assert!(rt; count_shown(&rt, &table) >= 8);
     Ok(())
 }

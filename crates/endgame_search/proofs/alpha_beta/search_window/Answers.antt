@@ -5,8 +5,8 @@ use Rattle.endgame_search.proofs.alpha_beta.search_window.Goals as goal
 
 pub loop-lower-init : goal.loop-lower-init
 loop-lower-init g c =
-    let limit = c.score_limit-limit.ensures in
-    at_first c.args.low c.args.high _ c.score_limit-limit.result _ _ c.requires limit.some limit.most (rw c.scoring.ensures at (limit.bounds c.args.position)) c.max-lower.ensures.value c.min-upper.ensures.value
+    let possible = c.possible_scores-possible in
+    at_first c.args.low c.args.high _ c.low.result c.high.result _ _ possible.result c.requires c.low.ensures.ordered possible.ensures c.low.ensures.value c.high.ensures.value c.max-lower.ensures.value c.min-upper.ensures.value
 
 pub search-score-requires-clause-bound : goal.search-score-requires-clause-bound
 search-score-requires-clause-bound g c =

@@ -1,0 +1,58 @@
+//! That positions with few empty squares don't replace those with many.
+
+use super::shows;
+use bound_table::BoundTable;
+use endgame_search::value_in;
+use othello_bits::Pos;
+use othello_rules::Scoring;
+use std::process::Abort;
+use std::test::Fail;
+
+// XOOO---- and seven rows of X in which these squares of rows 3 to 8 are empty. The one move, E1,
+// turns all discs of the opponent, so the value is 64.
+fn with_empty_squares(rt: &impl Abort, squares: u64) -> Pos {
+    Pos::new(!(squares << 16 | 0xfe), 0xe).expect(rt, "no square is taken twice")
+}
+
+// The same with this number of empty squares, 4 to 52.
+fn with_empties(rt: &impl Abort, empties: u32) -> Pos {
+    with_empty_squares(rt, !(u64::MAX << (empties.wrapping_sub(4) & 63)))
+}
+
+// Whether a position with this number of empty squares is shown after one with one more is stored,
+// by a table with one entry in each quarter.
+fn is_shown_after_one_more(rt: &impl Abort, table: &BoundTable, empties: u32) -> bool {
+    let position = with_empties(rt, empties);
+    for stored in [position, with_empties(rt, empties.wrapping_add(1))] {
+        let _ = value_in(table, stored, -65, 65);
+    }
+    shows(table, position, 64)
+}
+
+#[test]
+fn a_quarter_begins_at_13_16_and_19_empty_squares(rt: HostRuntime) -> Result<(), Fail> {
+    let table = BoundTable::new(rt.alloc(), 4, Scoring::Winner)?;
+    for empties in 4..52u32 {
+        let ends_quarter = [12, 15, 18].contains(&empties);
+        assert!(rt; is_shown_after_one_more(&rt, &table, empties) == ends_quarter);
+    }
+    Ok(())
+}
+
+#[test]
+fn many_stores_of_few_empty_squares_replace_none_of_many(rt: HostRuntime) -> Result<(), Fail> {
+    let table = BoundTable::new(rt.alloc(), 64, Scoring::Winner)?;
+    for empties in [13, 16, 19] {
+        let _ = value_in(&table, with_empties(&rt, empties), -65, 65);
+    }
+    // 3,302 positions with 4 to 11 empty squares.
+    for squares in 0..4096u64 {
+        if squares.count_ones() <= 7 {
+            let _ = value_in(&table, with_empty_squares(&rt, squares), -65, 65);
+        }
+    }
+    for empties in [13, 16, 19] {
+        assert!(rt; shows(&table, with_empties(&rt, empties), 64));
+    }
+    Ok(())
+}
