@@ -1,7 +1,6 @@
-"""How the built program tries the place of a book, and puts the book there, what it opens and does not read; and that a book
-destroys no other file: not what is not a book, and not the book that is read.
+"""ffosolve --book-out: which places it takes, that a book is written whole, and that no other file is overwritten.
 
-Run as root, it gives up its rights for the files that may not be written.
+As root, tests of permissions drop root's rights.
 """
 import os
 import shutil
@@ -15,18 +14,18 @@ from tests.support import (MOST_BYTES, NOBODY, SECONDS, InFolder, built, lay_man
 TEXT = stored("examples", "first.obf")
 BOOK = stored("examples", "first.book")
 OLD = BOOK + b"% an old book, longer than the new one\n" * 99
-NOTES = b"notes, and no book\n"
-# The status, whether anything is printed, and what is told: before anything is solved, and behind the reports.
+NOTES = b"notes, not a book\n"
+# How a run ends: its status, whether it prints a report, and its error. A place is refused before anything is solved.
+DONE = (0, True, b"")
 REFUSED = (3, False, b"ffosolve: cannot write it.book\n")
 UNWRITTEN = (3, True, b"ffosolve: cannot write it.book\n")
 UNREAD = (3, False, b"ffosolve: cannot read it.book\n")
 NO_BOOK = (3, False, b"ffosolve: it.book is not a book and would be overwritten\n")
-DONE = (0, True, b"")
 
 
 def setUpModule():
     global PROGRAM
-    PROGRAM = shutil.copy(built(), module_folder())  # nobody may not be let into the checkout
+    PROGRAM = shutil.copy(built(), module_folder())  # the checkout may be closed to NOBODY
 
 
 def content(name):
@@ -35,21 +34,20 @@ def content(name):
 
 class Books(InFolder):
     def solves(self, wanted, name="it.book", *words, **how):
-        """A run with a book in this place ends as wanted. The report goes to a pipe."""
+        """Asserts how a run with this place for its book ends."""
         ran = run(PROGRAM, "--book-out", name, *words, input=TEXT, **how)
         self.assertTrue(ran.stdout == b"" or ran.stdout.startswith(b"[1]\n"), ran)
         self.assertEqual((ran.returncode, ran.stdout != b"", ran.stderr), wanted)
 
     def left(self, files):
-        """The folder has these files alone, which then go."""
+        """Asserts that the folder has exactly these files, and removes them."""
         self.assertEqual({name: content(name) for name in os.listdir()}, files)
         for name in files:
             os.remove(name)
 
 
 class Files(Books):
-    def test_book_of_each_scoring(self):
-        """Also where a book of another scoring is read, or stands in its place."""
+    def test_a_book_has_the_scoring_asked_for_whatever_book_was_read_or_stood_there(self):
         list_of_one = b"--OOOOO" + b"X" * 57 + b" X\n"
         for scoring, score in (("discs", b"+63"), ("winner", b"+64"), ("sign", b"+01")):
             with self.subTest(scoring=scoring):
@@ -59,29 +57,28 @@ class Files(Books):
                 book = b"%% ffobook 2 %s\n%s X; G8:%s;\n" % (scoring.encode(), b"X" * 57 + b"OOOOO--", score)
                 self.assertEqual((content("it.book"), content("read.book")), (book, BOOK))
 
-    def test_book_of_many_positions(self):
-        """A thousand random positions, no two of which are alike; the book is read again."""
+    def test_a_thousand_positions_are_written_and_read_again(self):
         write("list", positions(1000, 3, 6))
         run(PROGRAM, "--book-out", "it.book", "list", check=True)
         self.assertEqual(len(content("it.book").splitlines()), 1 + 1000)
         run(PROGRAM, "--book-in", "it.book", "--book-out", "again.book", "list", check=True)
         self.assertEqual(content("again.book"), content("it.book"))
 
-    def test_old_file_keeps_its_permissions(self):
-        """A new file takes its place: a second name of it has what it had."""
+    def test_a_new_file_with_the_old_permissions_replaces_the_old_book(self):
         write("it.book", OLD, 0o640)
         os.link("it.book", "twin.book")
         self.solves(DONE)
         self.assertEqual(stat.S_IMODE(os.lstat("it.book").st_mode), 0o640)
         self.left({"it.book": BOOK, "twin.book": OLD})
 
-    def test_what_nobody_may_write(self):
-        """The folder, the file or where a link leads. One that may be written and not read may be no book; where each may replace
-        its own files alone, no new file takes the place of one of root."""
+    def test_a_place_without_permission_is_refused(self):
         self.addCleanup(os.chmod, ".", 0o755)
         for place, folder_mode, file_mode, wanted in (
-            ("it.book", 0o555, 0o666, REFUSED), ("it.book", 0o777, 0o444, REFUSED), ("there", 0o777, 0o444, REFUSED),
-            ("it.book", 0o777, 0o222, UNREAD), *[("it.book", 0o1777, 0o666, UNWRITTEN)] * (os.getuid() == 0),
+            ("it.book", 0o555, 0o666, REFUSED),
+            ("it.book", 0o777, 0o444, REFUSED),
+            ("there", 0o777, 0o444, REFUSED),  # by a link
+            ("it.book", 0o777, 0o222, UNREAD),  # it might not be a book
+            *[("it.book", 0o1777, 0o666, UNWRITTEN)] * (os.getuid() == 0),  # only root may replace root's file
         ):
             with self.subTest(place=place, folder=oct(folder_mode), file=oct(file_mode)):
                 write(place, OLD, file_mode)
@@ -93,11 +90,11 @@ class Files(Books):
                 self.left({place: OLD, "it.book": OLD})
 
     def watched(self, **more):
-        """An environment in which the calls that put a file into its place are told in the file `watched`."""
+        """Returns an environment in which tests/watch.c records syncs and renames in the file WATCHED."""
         place = Path(PROGRAM).parent
         return {**os.environ, "LD_PRELOAD": str(preload("watch", place)), "WATCHED": str(place / "watched"), **more}
 
-    def test_disk_that_is_full_or_does_not_keep_it(self):
+    def test_a_full_or_broken_disk_keeps_the_old_book(self):
         for how in ({"preexec_fn": lambda: shorter_than(100)}, {"env": self.watched(NO_SYNC="1")}):
             for old in ({"it.book": OLD}, {}):
                 for name, text in old.items():
@@ -105,15 +102,14 @@ class Files(Books):
                 self.solves(UNWRITTEN, **how)
                 self.left(old)
 
-    def test_new_file_is_synced_before_it_takes_the_old_ones_place(self):
-        told = Path(self.watched()["WATCHED"])
-        told.unlink(missing_ok=True)
+    def test_a_new_file_is_synced_before_it_is_renamed(self):
+        calls = Path(self.watched()["WATCHED"])
+        calls.unlink(missing_ok=True)
         for _ in range(2):
             self.solves(DONE, env=self.watched())
-        self.assertEqual(told.read_text(), "sync rename " * 2)
+        self.assertEqual(calls.read_text(), "sync rename " * 2)
 
-    def test_files_beside_are_left_alone(self):
-        """Also where they have all names; a new file takes one that is free."""
+    def test_other_files_with_names_of_new_files_are_left_alone(self):
         others = dict.fromkeys(("it.book.part", *(f"it.book.{number}.part" for number in range(100))), b"of another")
         for name, text in {"it.book": OLD, **others}.items():
             write(name, text)
@@ -125,17 +121,16 @@ class Files(Books):
         self.left({"it.book": BOOK, **others})
 
     def changed_meanwhile(self, place, change):
-        """A run that may not put its book there, since something changes once it prints: its report is more than a pipe holds."""
+        """Asserts that a run can't write its book after a change that comes once it prints more than a pipe holds."""
         write("list", TEXT * 2000)
         program = self.start(PROGRAM, "--book-out", place, "list", **NOBODY)
         begun = program.stdout.read(1)
         change()
-        report, told = program.communicate(timeout=SECONDS)
+        report, error = program.communicate(timeout=SECONDS)
         self.assertEqual((begun, report[-3:], program.returncode), (b"[", b" 0\n", 3))
-        self.assertEqual(told, f"ffosolve: cannot write {place}\n".encode())
+        self.assertEqual(error, f"ffosolve: cannot write {place}\n".encode())
 
-    def test_what_comes_meanwhile_stays(self):
-        """In the place, or in that of the name beside."""
+    def test_a_file_that_appears_during_the_run_stays(self):
         os.chmod(".", 0o777)
         for name, new, new_mode in (("it.book", NOTES, 0o666), ("it.book", BOOK, 0o444),
                                     ("it.book", OLD, 0o222), ("it.book.0.part", b"of another", 0o666)):
@@ -145,7 +140,7 @@ class Files(Books):
                 os.chmod(name, 0o644)
                 self.left({"list": TEXT * 2000, "it.book": OLD, name: new})
 
-    def test_folder_that_is_closed_meanwhile(self):
+    def test_a_folder_that_is_closed_during_the_run_keeps_the_old_book(self):
         os.mkdir("there")
         self.addCleanup(os.chmod, "there", 0o755)
         for old in ({}, {"it.book": OLD}):
@@ -156,8 +151,7 @@ class Files(Books):
             os.chmod("there", 0o755)
             self.assertEqual({name: content(f"there/{name}") for name in os.listdir("there")}, old)
 
-    def test_places_of_no_file(self):
-        """A name that is too long, a folder that is missing, a folder that is a file, and a folder."""
+    def test_a_long_name_a_missing_folder_and_a_folder_are_refused(self):
         write("some.book", OLD)
         for name in ("b" * 251, "no/it.book", "some.book/it.book"):
             self.solves((3, False, f"ffosolve: cannot write {name}\n".encode()), name)
@@ -166,9 +160,7 @@ class Files(Books):
         self.solves(REFUSED)
         self.assertEqual(os.listdir("it.book"), [])
 
-
-class Links(Books):
-    def test_link_to_a_file_and_to_none(self):
+    def test_a_link_stays_and_its_target_is_written(self):
         os.symlink("there", "it.book")
         for _ in range(2):
             self.solves(DONE)
@@ -181,8 +173,7 @@ class Links(Books):
 
 
 class Streams(Books):
-    def test_pipe(self):
-        """By its name, and by a link to it."""
+    def test_a_pipe_gets_the_book(self):
         os.mkfifo("it.book")
         os.symlink("it.book", "link.book")
         for name in ("it.book", "link.book"):
@@ -193,26 +184,25 @@ class Streams(Books):
         self.assertTrue(stat.S_ISFIFO(os.lstat("it.book").st_mode) and os.path.islink("link.book"))
 
     def device(self, name, number):
-        """A device of memory in the folder, since root can replace those of the machine."""
+        """Returns a device of the machine, or for root, who could replace it, one like it in the folder."""
         if os.getuid() != 0:
             return f"/dev/{name}"
         os.mknod(name, stat.S_IFCHR | 0o666, os.makedev(1, number))
         return name
 
-    def test_full_device(self):
+    def test_a_full_device_stays_and_is_reported(self):
         name = self.device("full", 7)
         self.solves((3, True, f"ffosolve: cannot write {name}\n".encode()), name)
         self.assertTrue(stat.S_ISCHR(os.lstat(name).st_mode))
 
-    def test_device_that_is_read(self):
+    def test_a_device_can_be_both_list_and_book(self):
         name = self.device("null", 3)
         self.solves(DONE, name, name)
         self.assertTrue(stat.S_ISCHR(os.lstat(name).st_mode))
 
 
 class Lists(Books):
-    def test_list_that_is_read(self):
-        """By its name, another form of its name, a second name and a link."""
+    def test_a_list_that_is_read_is_not_overwritten_by_any_of_its_names(self):
         for name in ("list", "other"):
             write(name, TEXT)
         os.link("list", "twin")
@@ -223,10 +213,9 @@ class Lists(Books):
                     self.solves((3, False, b"ffosolve: cannot write " + name.encode() + b"\n"), name, *lists)
                     self.assertEqual((content("list"), sorted(os.listdir())), (TEXT, ["link", "list", "other", "twin"]))
 
-    def test_files_with_one_number_on_two_file_systems(self):
-        """They are two files."""
+    def test_files_with_one_inode_number_on_two_file_systems_are_two(self):
         if os.geteuid() != 0:
-            self.skipTest("file systems are mounted by root alone")
+            self.skipTest("only root mounts file systems")
         need("unshare", "util-linux")
         write("list", TEXT)
         script = """mkdir one two; mount -t tmpfs none one; mount -t tmpfs none two; cp list one; : >two/it.book
@@ -235,14 +224,13 @@ class Lists(Books):
         ran = run("unshare", "--mount", "sh", "-ec", script, PROGRAM)
         self.assertEqual((ran.returncode, ran.stdout), (0, BOOK), ran.stderr)
 
-    def test_what_cannot_be_read(self):
-        """The book is read before the lists, and all lists before anything is printed."""
+    def test_the_book_is_read_before_the_lists_and_these_before_anything_is_printed(self):
         write("list", TEXT)
         write("bad.book", b"?\n")
         write("large.book", b" " * (MOST_BYTES + 1) + b"\n?")
         folder = os.open(".", os.O_RDONLY)
         self.addCleanup(os.close, folder)
-        for words, told in (
+        for words, error in (
             ("", "cannot read standard input"),
             ("list .", "cannot read ."),
             ("list none.obf none", "cannot read none.obf"),
@@ -252,54 +240,50 @@ class Lists(Books):
             ("--book-in large.book none.obf", "book line 2: bad square at column 1"),
         ):
             with self.subTest(words=words):
-                self.ends((3, b"", f"ffosolve: {told}\n".encode()), PROGRAM, *words.split(), stdin=folder)
+                self.ends((3, b"", f"ffosolve: {error}\n".encode()), PROGRAM, *words.split(), stdin=folder)
 
-    def test_order_of_what_is_tried(self):
-        """Files are counted and measured first, then the place of the book is tried, and then hours of work begin. A pipe as the
-        66th file, whose writer writes nothing, is not read; nor is a position of 60 empty squares solved."""
+    def test_files_are_counted_and_measured_then_the_place_is_tried_then_positions_are_solved(self):
         write("list", TEXT)
         write("notes", NOTES)
         write("large", b" " * (MOST_BYTES + 1))
-        write("long", b"-" * 27 + b"OX" + b"-" * 6 + b"XO" + b"-" * 27 + b" X\n")
-        os.mkfifo("pipe")
+        write("long", b"-" * 27 + b"OX" + b"-" * 6 + b"XO" + b"-" * 27 + b" X\n")  # would never be solved
+        os.mkfifo("pipe")  # would never end
         self.addCleanup(os.close, os.open("pipe", os.O_RDWR))
         too_large = b"ffosolve: file 2 is larger than %d bytes\n" % MOST_BYTES
-        for place, told in (("", b"cannot write "), ("no/it.book", b"cannot write no/it.book"),
-                            ("notes/it.book", b"cannot write notes/it.book"), ("notes", b"notes is not a book and would be overwritten")):
+        for place, error in (("", b"cannot write "), ("no/it.book", b"cannot write no/it.book"),
+                             ("notes/it.book", b"cannot write notes/it.book"),
+                             ("notes", b"notes is not a book and would be overwritten")):
             with self.subTest(place=place):
                 self.solves((1, False, b"ffosolve: more than 64 files\n"), place, *["list"] * 65, "pipe")
                 self.solves((1, False, too_large), place, "list", "large")
-                self.solves((3, False, b"ffosolve: " + told + b"\n"), place, "--max-empties", "60", "long")
+                self.solves((3, False, b"ffosolve: " + error + b"\n"), place, "--max-empties", "60", "long")
         self.assertEqual((content("notes"), os.path.exists("it.book")), (NOTES, False))
 
 
 class Overwrites(Books):
-    def test_what_may_go_and_what_stays(self):
-        """Also through a link."""
-        mine = ((b"", DONE), (b"% ffobook 2 sign\n" + 99 * b"% longer than the new one\n", DONE),
+    def test_only_a_book_or_an_empty_file_is_overwritten(self):
+        rows = ((b"", DONE), (b"% ffobook 2 sign\n" + 99 * b"% longer than the new one\n", DONE),
                 *((old, NO_BOOK) for old in (NOTES, TEXT, b"\n", b"% ffobook 3 winner\n", b"% ffobook 2 winners\n",
                                              Path(PROGRAM).read_bytes())))
         for place in ("it.book", "there"):
-            for old, wanted in mine:
-                for of in (0o644, 0o444)[:2 if wanted == NO_BOOK else 1]:
-                    with self.subTest(old=old[:40], place=place, mode=of):
-                        write(place, old, of)
+            for old, wanted in rows:
+                for mode in (0o644, 0o444)[:2 if wanted == NO_BOOK else 1]:
+                    with self.subTest(old=old[:40], place=place, mode=mode):
+                        write(place, old, mode)
                         place == "it.book" or os.symlink(place, "it.book")
                         self.solves(wanted)
                         self.left(dict.fromkeys((place, "it.book"), BOOK if wanted == DONE else old))
 
-    def test_log_that_is_written_on(self):
-        """As /dev/stdout leads to it: where it is that of earlier runs, and where nothing is but the report that the run puts there."""
+    def test_the_log_that_standard_output_goes_to_is_not_overwritten(self):
         os.symlink("/proc/self/fd/1", "out")
-        for old, told in ((NOTES, b"out is not a book and would be overwritten"), (b"", b"cannot write out")):
+        for old, error in ((NOTES, b"out is not a book and would be overwritten"), (b"", b"cannot write out")):
             write("log", old)
             with self.subTest(old=old), open("log", "ab") as log:
                 ran = run(PROGRAM, "--book-out", "out", input=TEXT, capture_output=False, stdout=log, stderr=subprocess.PIPE)
-                self.assertEqual((ran.returncode, ran.stderr), (3, b"ffosolve: " + told + b"\n"))
+                self.assertEqual((ran.returncode, ran.stderr), (3, b"ffosolve: " + error + b"\n"))
                 self.assertTrue(content("log").startswith(old or b"[1]\n"))
 
-    def test_book_that_is_read(self):
-        """By its name, other forms of it, a link and a second name; and the way that is told instead."""
+    def test_the_book_that_is_read_is_not_overwritten_and_can_be_merged_as_the_error_says(self):
         write("it.book", b"% ffobook 2 winner\n" + b"X" * 64 + b" X; --:+64;\n")
         read = content("it.book")
         os.symlink("it.book", "link")
@@ -307,8 +291,9 @@ class Overwrites(Books):
         for name in ("it.book", "./it.book", os.path.abspath("it.book"), "link", "twin"):
             for book in ("it.book", "twin"):
                 with self.subTest(name=name, book=book):
-                    told = f"ffosolve: {name} is read and would be overwritten: write --book-out NEW, then ffosolve-many --merge-books {name} NEW\n"
-                    self.solves((3, False, told.encode()), name, "--book-in", book)
+                    advice = f"write --book-out NEW, then ffosolve-many --merge-books {name} NEW"
+                    error = f"ffosolve: {name} is read and would be overwritten: {advice}\n"
+                    self.solves((3, False, error.encode()), name, "--book-in", book)
                     self.assertEqual((content("it.book"), len(os.listdir())), (read, 3))
         self.solves(DONE, "new", "--book-in", "it.book")
         many = lay_many("many")
@@ -316,7 +301,7 @@ class Overwrites(Books):
         merged = run(many, "--merge-books", "it.book", "new", check=True).stdout
         self.assertEqual(set(merged.splitlines()), set(BOOK.splitlines() + read.splitlines()))
 
-    def test_two_at_once(self):
+    def test_two_runs_at_once_leave_one_whole_book(self):
         write("first", TEXT)
         write("other", TEXT.splitlines(keepends=True)[1])
         self.assertEqual(run(PROGRAM, "--book-out", "other.book", "other").returncode, 0)

@@ -1,4 +1,4 @@
-"""The tests of the crates, unproved and with all checks of `rt try` on. The gate proves them."""
+"""The tests of the crates, unproved, with all runtime checks of `rt try`. The gate proves them."""
 import os
 import re
 import shutil
@@ -8,22 +8,20 @@ from tests.support import ROOT, lack, run
 
 
 class Crates(unittest.TestCase):
-    def test_crates(self):
-        """They are in one crate; from nothing, beside other work, they take 400 seconds."""
+    def test_all_are_in_one_crate_and_pass(self):
         if shutil.which("rt") is None:
             lack("rt (of a Rattle kit)")
         sources = {path: path.read_text().count("#[test]") for path in ROOT.glob("crates/*/src/**/*.rt")}
         crate = ROOT / "crates/crate_tests"
         self.assertEqual([path for path, count in sources.items() if count and crate not in path.parents], [])
-        ran = run("rt", "try", "--test", "--seconds", 900, cwd=crate, text=True, timeout=2700)
-        told = ran.stdout + ran.stderr
-        self.assertIn("run=ended status=0 ", told)
-        self.assertEqual(len(re.findall(r"^test \S+ \.\.\. ok$", told, re.M)), sum(sources.values()), told)
+        ran = run("rt", "try", "--test", "--seconds", 900, cwd=crate, text=True, timeout=2700)  # 400 seconds on a busy machine
+        printed = ran.stdout + ran.stderr
+        self.assertIn("run=ended status=0 ", printed)
+        self.assertEqual(len(re.findall(r"^test \S+ \.\.\. ok$", printed, re.M)), sum(sources.values()), printed)
 
 
 class Links(unittest.TestCase):
-    def test_checkout_has_no_link(self):
-        """rt all and rt ci refuse a link anywhere, also in what make has built in out/."""
+    def test_the_checkout_has_no_link_which_rt_ci_would_refuse(self):
         links = []
         for at, folders, names in os.walk(ROOT):
             folders[:] = [name for name in folders if name != ".git"]

@@ -1,9 +1,8 @@
 """What the documents show is what is printed, and what they name is there.
 
-A fenced block `console` has commands behind `$ ` (and `> ` where one goes on), each followed by what it prints on
-standard output and standard error together. The commands of a document run one after the other in one folder of their
-own, which has the checkout's folders by links. A fenced block `sh` is not run here: it is for another machine, or takes
-long. What either leaves behind must be a file that git ignores.
+In a fenced block `console`, a command follows `$ `, its further lines `> `, and then comes what it prints on standard
+output and standard error. The commands of a document run in one folder with links to the checkout's files. A block `sh`
+isn't run: it is for another machine, or takes long. Git has to ignore every file that the commands of either leave.
 """
 import difflib
 import os
@@ -16,7 +15,7 @@ from tests.support import ROOT, InFolder, built, need, run, stored
 DOCUMENTS = ["README.md", "CONTRIBUTING.md", *sorted(f"docs/{path.name}" for path in ROOT.glob("docs/*.md"))]
 TEXTS = {name: stored(name).decode() for name in DOCUMENTS}
 END = "\x01end\x01"
-LONGEST = 600  # seconds of the commands of a document, since some of them solve for a while
+LONGEST = 600  # seconds for the commands of a document, some of which solve hard positions
 
 
 def blocks_of(text, language):
@@ -24,7 +23,7 @@ def blocks_of(text, language):
 
 
 def commands_in(block):
-    """The commands of a block, each with the text that stands below it."""
+    """Returns [command, text shown below it] for each command of a block."""
     found = []
     for line in block.splitlines():
         if line.startswith("$ "):
@@ -36,36 +35,36 @@ def commands_in(block):
     return found
 
 
-def blanks(text):
-    """The lines of a text without blanks at their ends, which documents don't keep, and without CR."""
+def stripped(text):
+    """Returns the lines of a text without the blanks and CR at their ends, which documents don't keep."""
     return [line.rstrip() for line in text.splitlines()]
 
 
 def made_by_blocks(text):
-    """What the commands of blocks `sh` make: behind `-o` and `>`, and the folder of a list that is solved in parts."""
+    """Returns the files that the commands of blocks `sh` would make: after `-o` or `>`, or as a folder of ffosolve-many."""
     block = "\n".join(blocks_of(text, "sh"))
     found = re.findall(r"(?: -o |[^<>&\d]>|bin/ffosolve-many (?:--hosts \w+ )?)([\w./-]+)", block)
     return [name for name in found if not name.startswith("/")]
 
 
 def is_ignored(name):
-    """Whether git ignores a name at the top; where there is no git checkout, out/ alone."""
+    """Returns whether git ignores a name in the top folder; without git, whether it is `out`."""
     if not (ROOT / ".git").exists():
         return name == "out"
     return run("git", "-C", ROOT, "check-ignore", "-q", "--no-index", name).returncode == 0
 
 
 def printed_by(commands):
-    """What each of the commands prints, by one shell, whose standard input is empty."""
+    """Returns what each command prints, run by one shell with an empty standard input."""
     one = "{{ {}\n}} </dev/null; status=$?; echo; echo '" + END + "'; (exit $status)\n"
     script = "".join(one.format(command) for command in commands)
     words = ("timeout", LONGEST, "bash", "-c", script)
-    told = run(*words, timeout=LONGEST + 60, capture_output=False, stdout=subprocess.PIPE, stderr=subprocess.STDOUT).stdout
-    return told.decode(errors="replace").split(f"\n{END}\n")
+    ran = run(*words, timeout=LONGEST + 60, capture_output=False, stdout=subprocess.PIPE, stderr=subprocess.STDOUT)
+    return ran.stdout.decode(errors="replace").split(f"\n{END}\n")
 
 
 class Commands(InFolder):
-    def test_each_document(self):
+    def test_commands_print_what_is_shown_and_leave_only_ignored_files(self):
         need("parallel", "parallel")
         built()
         for name in DOCUMENTS:
@@ -79,14 +78,13 @@ class Commands(InFolder):
                 self.shows(TEXTS[name])
 
     def shows(self, text):
-        """Each command prints what is shown, and leaves nothing that git would ask about."""
         commands = [one for block in blocks_of(text, "console") for one in commands_in(block)]
         printed = printed_by([command for command, _ in commands])
         self.assertEqual(len(printed), len(commands) + 1, f"no end after: {commands[len(printed) - 1:][:1]}")
         wrong = []
-        for (command, shown), told in zip(commands, printed):
-            if blanks(shown) != blanks(told):
-                wrong += [command, *difflib.unified_diff(blanks(shown), blanks(told), "shown", "printed", lineterm="")]
+        for (command, shown), text in zip(commands, printed):
+            if stripped(shown) != stripped(text):
+                wrong += [command, *difflib.unified_diff(stripped(shown), stripped(text), "shown", "printed", lineterm="")]
         self.assertFalse(wrong, "\n".join(wrong))
         left = [name for name in os.listdir() if not os.path.islink(name)] + made_by_blocks(text)
         if (ROOT / ".git").exists():
@@ -94,13 +92,12 @@ class Commands(InFolder):
 
 
 class Names(unittest.TestCase):
-    def test_links_lead_somewhere(self):
+    def test_targets_of_links_exist(self):
         for name, text in TEXTS.items():
             links = [to for to in re.findall(r"\]\(([^)#]+)[^)]*\)", text) if "://" not in to]
             self.assertEqual([to for to in links if not (ROOT / name).parent.joinpath(to).exists()], [], name)
 
-    def test_files_are_there(self):
-        """Those between backticks that begin with a folder of the checkout, but for what a build or an installation makes."""
+    def test_files_between_backticks_exist_unless_a_build_or_installation_makes_them(self):
         folders = "bench bin crates docs examples include packaging python rust scripts share tests .ci".split()
         path = re.compile(rf"`((?:{'|'.join(map(re.escape, folders))})/[\w./-]*\w)")
         for name, text in TEXTS.items():
@@ -109,7 +106,7 @@ class Names(unittest.TestCase):
 
 
 def defines(sources, word):
-    """Whether one of the files declares the word: a definition or a field, a function, a constant, a type or a variant."""
+    """Returns whether a file declares a word as a definition, field, function, constant, type or variant."""
     kinds = "record|data|fn|const|struct|enum|trait|type"
     forms = rf"(?:[\w()]+ )*{word} *:", rf"(?:[\w()]+ )*(?:{kinds}) {word}\b", rf"{word}[,({{]", rf"pub use [^;]*\b{word}\b"
     declared = re.compile(rf"^ *(?:{'|'.join(forms)})", re.M)
@@ -117,10 +114,8 @@ def defines(sources, word):
 
 
 class Definitions(unittest.TestCase):
-    """Names between backticks of what sources declare."""
-
     def test_qualified_names_are_declared(self):
-        """Such as `Rules.flips`, of a module of specs/, and `laws::books_are_one` and `Task::new`, of a module or a type."""
+        """Tests names such as `Rules.flips` of a definition, and `laws::books_are_one` or `Task::new` of code."""
         sources = {path: path.read_text() for path in ROOT.glob("crates/*/src/**/*.rt")}
         for name in ("definitions.md", "guarantees.md", "architecture.md"):
             for owner, mark, word in re.findall(r"`([A-Z]\w*(?=\.)|\w+(?=::))(\.(?!antt|md)|::)(\w+)`", TEXTS[f"docs/{name}"]):
@@ -129,8 +124,8 @@ class Definitions(unittest.TestCase):
                 files = files if mark == "::" else ROOT.glob(f"crates/*/specs/{owner}.antt")
                 self.assertTrue(defines(files, word), f"{name}: {owner}{mark}{word}")
 
-    def test_other_names_stand_in_sources(self):
-        """Those of definitions.md that are written as a definition is: `AreRanked`, `lists_text`."""
+    def test_other_names_of_definitions_occur_in_sources(self):
+        """Tests names such as `AreRanked` and `lists_text` in definitions.md."""
         sources = [*ROOT.glob("crates/*/specs/*.antt"), *ROOT.glob("crates/*/src/**/*.rt")]
         words = set(re.findall(r"\w+", "\n".join(source.read_text() for source in sources)))
         named = re.findall(r"`([A-Z]\w*[a-z][A-Z]\w*|[a-z]+_\w+)`", TEXTS["docs/definitions.md"])
@@ -138,7 +133,7 @@ class Definitions(unittest.TestCase):
 
 
 class Reports(InFolder):
-    def test_stored_reports_are_what_the_program_prints(self):
+    def test_stored_reports_are_what_ffosolve_prints(self):
         reports = sorted(ROOT.glob("examples/*.report"))
         self.assertTrue(reports)
         for report in reports:
