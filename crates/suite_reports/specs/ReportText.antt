@@ -44,12 +44,12 @@ refusal_text (BadSide column) = line_fault_text (fault.BadSide column)
 refusal_text (Empties found limit) = too_many_text found limit
 
 -- the score, a space, and the best moves
-unfoldable pub answer_text : AnswerView → List ℕ
-answer_text answer = score_text answer.score ++ (codes " " ++ best_text answer.best)
+unfoldable pub score_and_best_text : AnswerView → List ℕ
+score_and_best_text answer = score_text answer.score ++ (codes " " ++ best_text answer.best)
 
 -- the result in a row: the score, the best moves and the check; or why the line was refused
 unfoldable pub result_text : RowResult → List ℕ
-result_text (Solved answer check) = answer_text answer ++ (codes " " ++ check_text check)
+result_text (Solved answer check) = score_and_best_text answer ++ (codes " " ++ check_text check)
 result_text (Refused refusal) = codes "refused: " ++ refusal_text refusal
 
 -- the line of a row: the number of the line in its file, and the result

@@ -18,10 +18,10 @@ mod check;
 pub mod laws;
 mod numbered_line;
 mod parsed_line;
-mod report;
 mod report_row;
+mod report_writer;
 
 pub use check::{Check, check_of, complete_check_of};
 pub use numbered_line::{NumberedLine, parse_lines, rows_of};
-pub use report::write_report;
 pub use report_row::{Refusal, ReportRow, RowResult};
+pub use report_writer::write_report;

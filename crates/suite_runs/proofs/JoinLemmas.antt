@@ -36,11 +36,6 @@ pub join_step : (done : List StartedClientView) (a : StartedClientView) (old new
 join_step done a old new before after (Ok part) ok err gives h = rw (ok.0, ok.1) (part_joined done a old part before gives h)
 join_step done a old new before after (Err fault) ok err gives h = rw err (worse_kept before fault gives)
 
-pub all_joined : (done clients left : List StartedClientView) (parts : List Part) (fault : Option RunFault) → left ≡ [] → done ++ left ≡ clients → AreJoined done parts fault → AreJoined clients parts fault
-all_joined done clients left parts fault none whole h =
-    let k = rw none at whole in
-    rw (← (sym (append-nil done) ∙ k)) h
-
 -- the parts that were joined are those of the texts
 pub joined_parts : (g : Scoring) (by : Criteria) (texts : List (List ℕ)) (parts : List Part) (fault : Option RunFault) → AreJoined (map (started_view g by) texts) parts fault
     → fault ≡ None → map part_view_of parts ≡ map (part_view g by) texts

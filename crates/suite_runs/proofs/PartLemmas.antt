@@ -1,5 +1,5 @@
 -- The reports and the book of a run, built from one part after the other.
-use Rattle.std.proofs.Common.{◌≡◌, ◌<◌, ◌+◌, ℕ, List, [], ◌∷◌, ◌++◌, length, map, take, drop, get_or, All, Contains, refl, sym, ap, ap₂, ◌∙◌, subst, inl, inr, arith, Vec, Global}
+use Rattle.std.proofs.Common.{◌≡◌, ◌<◌, ◌≤◌, ◌+◌, ℕ, List, [], ◌∷◌, ◌++◌, length, map, take, drop, get_or, All, Contains, refl, sym, ap, ap₂, ◌∙◌, subst, inl, inr, arith, Vec, Global}
 use Rattle.std.specs.Prelude.{◌↔◌, ◌⊎◌}
 use Rattle.std.proofs.lemmas.List.{append_assoc, append-nil, drop_more, length-map, map-append, map_more}
 use Rattle.std.proofs.lemmas.Grind.{flat_map-append}
@@ -13,8 +13,9 @@ use Rattle.solved_book.specs.Books.{BookView}
 use Rattle.solved_book.specs.Order.{AreBookPositions}
 use Rattle.solved_book.proofs.OneOrder.{same_order}
 use Rattle.program_settings.specs.declared.criteria.Criteria.{Criteria}
+use Rattle.program_settings.specs.declared.limits.TheConstants.{MOST_FILES}
 use Rattle.suite_runs.specs.Outcome.{IsBookOf, canonicals, report_of_view, reports_of_views, tasks_of_views}
-use Rattle.suite_runs.specs.Part.{PartView, part_view, part_view_of}
+use Rattle.suite_runs.specs.Part.{AreScored, PartView, part_view, part_view_of}
 use Rattle.suite_reports.specs.Reports.{report, reports_from}
 use Rattle.suite_reports.specs.Rows.{tasks}
 use Rattle.obf_text.specs.LineText.{texts_of}
@@ -46,9 +47,6 @@ views_reported g by n (text ∷ texts) = ap (λ l. report g by (n, text) ∷ l) 
 pub views_tasks : (g : Scoring) (by : Criteria) (texts : List (List ℕ)) → tasks_of_views (map (part_view g by) texts) ≡ all_tasks g by.limit texts
 views_tasks g by [] = refl
 views_tasks g by (text ∷ texts) = ap (λ l. tasks g by.limit text ++ l) (views_tasks g by texts)
-
-abbrev pub AreScored : Scoring → PartView → Type 0
-AreScored g y = All (HasScoring g) y.1
 
 pub views_scored : (g : Scoring) (by : Criteria) (texts : List (List ℕ)) → All (AreScored g) (map (part_view g by) texts)
 views_scored g by [] = All-nil (AreScored g)
@@ -135,12 +133,13 @@ book_more old new parts i d solved lt e before added p =
 
 -- ---- the outcome
 
-pub parts_few : (parts : List Part) (g : Scoring) (by : Criteria) (files : List File) → map part_view_of parts ≡ map (part_view g by) (texts_of files) → length parts ≡ length files
-parts_few parts g by files e =
-    sym (length-map parts part_view_of) ∙ ap length e ∙ length-map (texts_of files) (part_view g by) ∙ length-map files (λ (f : File). f.items)
-
-pub parts_scored : (ys : List PartView) (g : Scoring) (by : Criteria) (texts : List (List ℕ)) → ys ≡ map (part_view g by) texts → All (AreScored g) ys
-parts_scored ys g by texts e = All-same (AreScored g) ys (map (part_view g by) texts) e (views_scored g by texts)
+-- there are as many parts as texts, and all are scored as the texts are
+pub parts_fit : (parts : List Part) (s g : Scoring) (by : Criteria) (files : List File) → length files ≤ MOST_FILES → s ≡ g
+    → map part_view_of parts ≡ map (part_view g by) (texts_of files) → (length parts ≤ MOST_FILES) × All (AreScored s) (map part_view_of parts)
+parts_fit parts s g by files few same e =
+    let count : length parts ≡ length files = sym (length-map parts part_view_of) ∙ ap length e ∙ length-map (texts_of files) (part_view g by) ∙ length-map files (λ (f : File). f.items) in
+    let all = All-same (AreScored g) (map part_view_of parts) (map (part_view g by) (texts_of files)) e (views_scored g by (texts_of files)) in
+    (omega arith, subst (λ k. All (AreScored k) (map part_view_of parts)) (sym same) all)
 
 pub outcome_reports : (ys : List PartView) (g : Scoring) (by : Criteria) (texts : List (List ℕ)) → ys ≡ map (part_view g by) texts → reports_of_views 0 ys ≡ reports_from g by 0 texts
 outcome_reports ys g by texts e = ap (reports_of_views 0) e ∙ views_reported g by 0 texts

@@ -1,40 +1,39 @@
 -- The refusal of a run.
 use Rattle.std.proofs.Common.{◌≡◌, ℕ, ◌<◌, ◌≤◌, inl, inr, List, length, refl, sym, ◌∙◌, ap, arith}
 use Rattle.std.specs.Prelude.{◌↔◌, Option, Some, None, Result, Ok, Err, IsErrOf, option_map}
-use Rattle.program_settings.specs.Settings.{SettingsView}
 use Rattle.program_settings.specs.InputFault.{first_large, refusal_of}
 use Rattle.program_settings.specs.declared.input_fault.InputFault.{InputFault}
 use Rattle.program_settings.specs.declared.input_fault.InputFault.TheVariants as input
 use Rattle.program_settings.specs.declared.limits.TheConstants.{MOST_FILES}
 use Rattle.program_settings.proofs.InputFaultLemmas.{refusal_cases}
+use Rattle.suite_runs.specs.Part.{IsPartFault}
 use Rattle.suite_runs.specs.RunFault.{run_fault_of}
 use Rattle.suite_runs.specs.Runs.{Answers}
 use Rattle.suite_runs.specs.declared.run_fault.RunFault.{RunFault}
 use Rattle.suite_runs.specs.declared.run_fault.RunFault.TheVariants.{Memory, Mixed, TooManyFiles, FileTooLarge}
-use Rattle.suite_runs.specs.declared.outcome.Outcome.{Outcome}
 
-abbrev refused : Result Outcome RunFault → Option InputFault
+abbrev refused : {X : Type 0} → Result X RunFault → Option InputFault
 refused (Ok given) = None
 refused (Err Memory) = None
 refused (Err Mixed) = None
 refused (Err TooManyFiles) = Some input.TooManyFiles
 refused (Err (FileTooLarge s)) = Some (input.FileTooLarge s)
 
-answers_refused : (r : Result Outcome RunFault) (s : SettingsView) (texts : List (List ℕ)) → Answers r s texts → refused r ≡ refusal_of texts
-answers_refused (Ok given) s texts a = sym a.0
-answers_refused (Err Memory) s texts a = sym a
-answers_refused (Err Mixed) s texts a = sym a
-answers_refused (Err TooManyFiles) s texts a = sym a
-answers_refused (Err (FileTooLarge n)) s texts a = sym a
+answers_refused : {X : Type 0} (P : X → Type 0) (r : Result X RunFault) (texts : List (List ℕ)) → Answers P texts r → refused r ≡ refusal_of texts
+answers_refused P (Ok given) texts a = sym a.0
+answers_refused P (Err Memory) texts a = sym a
+answers_refused P (Err Mixed) texts a = sym a
+answers_refused P (Err TooManyFiles) texts a = sym a
+answers_refused P (Err (FileTooLarge n)) texts a = sym a
 
-err_many : (r : Result Outcome RunFault) → refused r ≡ Some input.TooManyFiles → r ≡ Err TooManyFiles
+err_many : {X : Type 0} (r : Result X RunFault) → refused r ≡ Some input.TooManyFiles → r ≡ Err TooManyFiles
 err_many (Ok given) e = cc
 err_many (Err Memory) e = cc
 err_many (Err Mixed) e = cc
 err_many (Err TooManyFiles) e = refl
 err_many (Err (FileTooLarge s)) e = cc
 
-err_large : (r : Result Outcome RunFault) (s : ℕ) → refused r ≡ Some (input.FileTooLarge s) → r ≡ Err (FileTooLarge s)
+err_large : {X : Type 0} (r : Result X RunFault) (s : ℕ) → refused r ≡ Some (input.FileTooLarge s) → r ≡ Err (FileTooLarge s)
 err_large (Ok given) s e = cc
 err_large (Err Memory) s e = cc
 err_large (Err Mixed) s e = cc
@@ -49,9 +48,13 @@ is_first : (o : Option ℕ) (s : ℕ) → option_map input.FileTooLarge o ≡ So
 is_first None s e = cc
 is_first (Some t) s e = cc
 
-pub many_iff : (r : Result Outcome RunFault) (s : SettingsView) (texts : List (List ℕ)) → Answers r s texts → IsErrOf r TooManyFiles ↔ MOST_FILES < length texts
-many_iff r s texts a =
-    let same = answers_refused r s texts a in (
+none_first : (o : Option ℕ) → option_map input.FileTooLarge o ≡ None → o ≡ None
+none_first None e = refl
+none_first (Some t) e = cc
+
+pub many_iff : {X : Type 0} (P : X → Type 0) (r : Result X RunFault) (texts : List (List ℕ)) → Answers P texts r → IsErrOf r TooManyFiles ↔ MOST_FILES < length texts
+many_iff P r texts a =
+    let same = answers_refused P r texts a in (
       (λ e. elim (refusal_cases texts) [
         | inl h ↦ h.0
         | inr h ↦ absurd (not_many (first_large texts) (sym h.1 ∙ sym same ∙ ap refused e))
@@ -62,10 +65,10 @@ many_iff r s texts a =
       ]),
     )
 
-pub large_iff : (r : Result Outcome RunFault) (c : SettingsView) (n : ℕ) (texts : List (List ℕ)) → length texts ≡ n → Answers r c texts → (s : ℕ)
+pub large_iff : {X : Type 0} (P : X → Type 0) (r : Result X RunFault) (n : ℕ) (texts : List (List ℕ)) → length texts ≡ n → Answers P texts r → (s : ℕ)
     → IsErrOf r (FileTooLarge s) ↔ ((n ≤ MOST_FILES) × (first_large texts ≡ Some s))
-large_iff r c n texts len a s =
-    let same = answers_refused r c texts a in (
+large_iff P r n texts len a s =
+    let same = answers_refused P r texts a in (
       (λ e. elim (refusal_cases texts) [
         | inl h ↦ absurd (let bad : Some input.TooManyFiles ≡ Some (input.FileTooLarge s) = sym h.1 ∙ sym same ∙ ap refused e in cc)
         | inr h ↦ (let few = h.0 in omega arith, is_first (first_large texts) s (sym h.1 ∙ sym same ∙ ap refused e))
@@ -76,11 +79,31 @@ large_iff r c n texts len a s =
       ]),
     )
 
+-- texts that are not refused are few, and none is large
+pub none_refused : (texts : List (List ℕ)) → refusal_of texts ≡ None → (length texts ≤ MOST_FILES) × (first_large texts ≡ None)
+none_refused texts none = elim (refusal_cases texts) [
+  | inl h ↦ absurd (let bad : Some input.TooManyFiles ≡ None = sym h.1 ∙ none in cc)
+  | inr h ↦ (h.0, none_first (first_large texts) (sym h.1 ∙ none))
+]
+
 -- what is refused is the answer
-pub refused_answers : (refused : InputFault) (fault : RunFault) (c : SettingsView) (texts : List (List ℕ))
-    → refusal_of texts ≡ Some refused → fault ≡ run_fault_of refused → Answers (Err fault) c texts
-refused_answers input.TooManyFiles fault c texts e same = rw same e
-refused_answers (input.FileTooLarge n) fault c texts e same = rw same e
+pub refused_answers : {X : Type 0} (P : X → Type 0) (refused : InputFault) (fault : RunFault) (texts : List (List ℕ))
+    → refusal_of texts ≡ Some refused → fault ≡ run_fault_of refused → Answers {X = X} P texts (Err fault)
+refused_answers P input.TooManyFiles fault texts e same = rw same e
+refused_answers P (input.FileTooLarge n) fault texts e same = rw same e
+
+-- so is a fault of a part
+pub part_fault_answers : {X : Type 0} (P : X → Type 0) (fault : RunFault) (texts : List (List ℕ))
+    → refusal_of texts ≡ None → IsPartFault fault → Answers {X = X} P texts (Err fault)
+part_fault_answers P fault texts none (inl e) = rw e none
+part_fault_answers P fault texts none (inr e) = rw e none
+
+-- and the fault of a run before it
+pub fault_answers : {X Y : Type 0} (P : X → Type 0) (Q : Y → Type 0) (fault : RunFault) (texts : List (List ℕ)) → Answers {X = X} P texts (Err fault) → Answers {X = Y} Q texts (Err fault)
+fault_answers P Q Memory texts a = a
+fault_answers P Q Mixed texts a = a
+fault_answers P Q TooManyFiles texts a = a
+fault_answers P Q (FileTooLarge n) texts a = a
 
 pub refused_unmixed : (refused : InputFault) (fault : RunFault) → fault ≡ run_fault_of refused → fault ≡ Mixed → ⊥
 refused_unmixed input.TooManyFiles fault same h = let bad : TooManyFiles ≡ Mixed = sym same ∙ h in cc

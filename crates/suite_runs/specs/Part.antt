@@ -1,5 +1,5 @@
 -- The part of each file in a run: its rows and its solved positions.
-use Rattle.std.specs.Prelude.{◌≡◌, ◌⊎◌, ℕ, List, map, Result, Ok, Err, Vec}
+use Rattle.std.specs.Prelude.{◌≡◌, ◌⊎◌, ℕ, List, map, All, Result, Ok, Err, Vec}
 use Rattle.std.specs.declared.alloc.Global.{Global}
 use Rattle.othello_rules.specs.declared.scoring.Scoring.{Scoring}
 use Rattle.endgame_search.specs.Task.{TaskView}
@@ -20,6 +20,10 @@ part_view_of part = (part.rows.items, part.solved.items)
 -- the part that a text defines
 abbrev pub part_view : Scoring → Criteria → List ℕ → PartView
 part_view g by text = (rows g by text, tasks g by.limit text)
+
+-- the solved positions of a part are all solved under this scoring
+abbrev pub AreScored : Scoring → PartView → Type 0
+AreScored g y = All (λ (t : TaskView). t.scoring ≡ g) y.1
 
 -- the faults that a part may have
 abbrev pub IsPartFault : RunFault → Type 0

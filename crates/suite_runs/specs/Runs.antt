@@ -12,6 +12,7 @@ use Rattle.suite_reports.specs.Rows.{tasks}
 use Rattle.suite_runs.specs.declared.run_fault.RunFault.{RunFault}
 use Rattle.suite_runs.specs.declared.run_fault.RunFault.TheVariants.{Memory, Mixed, TooManyFiles, FileTooLarge}
 use Rattle.suite_runs.specs.declared.outcome.Outcome.{Outcome}
+use Rattle.suite_runs.specs.declared.solved_files.SolvedFiles.{SolvedFiles}
 use Rattle.suite_runs.specs.declared.part.Part.{Part}
 use Rattle.program_settings.specs.InputFault.{refusal_of}
 use Rattle.program_settings.specs.declared.input_fault.InputFault.TheVariants as input
@@ -24,17 +25,21 @@ ArePartsOf c texts parts = map part_view_of parts ≡ map (part_view c.scoring (
 abbrev pub all_tasks : Scoring → ℕ → List (List ℕ) → List TaskView
 all_tasks g limit texts = flat_map (tasks g limit) texts
 
+-- the files are solved: under the scoring of the settings, each part is the part of its text
+pub record AreFilesOf (c : SettingsView) (texts : List (List ℕ)) (files : SolvedFiles) : Type 0 where
+  pub scoring : files.scoring ≡ c.scoring
+  pub parts : ArePartsOf c texts files.parts.items
+
 -- the outcome has the reports of the texts, and a book of their tasks
 pub record Solves (c : SettingsView) (texts : List (List ℕ)) (outcome : Outcome) : Type 0 where
   pub reports : texts_of outcome.reports.items ≡ reports c.scoring (criteria_of c) texts
   pub book : IsBookOf c.scoring (all_tasks c.scoring c.max_empties texts) outcome.book
 
--- The result of a run: if nothing is refused, the reports and the book of the texts, or out of
+-- The result of a run on texts: if nothing is refused, a value of which `P` is true, or out of
 -- memory, or mixed answers; otherwise the refusal.
-abbrev pub Answers : Result Outcome RunFault → SettingsView → List (List ℕ) → Type 0
-Answers (Ok outcome) c texts =
-    (refusal_of texts ≡ None) × Solves c texts outcome
-Answers (Err Memory) c texts = refusal_of texts ≡ None
-Answers (Err Mixed) c texts = refusal_of texts ≡ None
-Answers (Err TooManyFiles) c texts = refusal_of texts ≡ Some input.TooManyFiles
-Answers (Err (FileTooLarge sender)) c texts = refusal_of texts ≡ Some (input.FileTooLarge sender)
+abbrev pub Answers : {X : Type 0} → (X → Type 0) → List (List ℕ) → Result X RunFault → Type 0
+Answers P texts (Ok made) = (refusal_of texts ≡ None) × P made
+Answers P texts (Err Memory) = refusal_of texts ≡ None
+Answers P texts (Err Mixed) = refusal_of texts ≡ None
+Answers P texts (Err TooManyFiles) = refusal_of texts ≡ Some input.TooManyFiles
+Answers P texts (Err (FileTooLarge sender)) = refusal_of texts ≡ Some (input.FileTooLarge sender)

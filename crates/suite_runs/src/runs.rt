@@ -7,14 +7,14 @@ ghost use Rattle.program_settings.specs.Settings.{criteria_of};
 ghost use Rattle.suite_runs.specs.Outcome.{IsBookOf};
 ghost use Rattle.suite_reports.specs.Reports.{reports};
 ghost use Rattle.obf_text.specs.LineText.{texts_of};
-ghost use Rattle.suite_runs.specs.Runs.{Answers, all_tasks};
+ghost use Rattle.suite_runs.specs.Runs.{Answers, Solves, all_tasks};
 ghost use Rattle.suite_runs.specs.declared.run_fault.RunFault.TheVariants.{Mixed, TooManyFiles, FileTooLarge};
 
 use crate::gate::Gate;
 use crate::outcome::{Outcome, outcome_of};
 use crate::run_fault::RunFault;
 use crate::serial::solve_texts;
-use crate::threads::solve_texts_on_threads;
+use crate::threads::solve_files;
 use program_settings::{Settings, check_files};
 use solved_book::Claims;
 use std::alloc::Global;
@@ -29,12 +29,12 @@ fn run_files(
     settings: &Settings,
     claims: Option<&Claims>,
 ) -> Result<Outcome, RunFault>
-    ensures answers { Answers result settings.now (texts_of files.now) }
+    ensures answers { Answers (Solves settings.now (texts_of files.now)) (texts_of files.now) result }
     ensures unmixed { result ≢ Err Mixed }
 {
     check_files(files)?;
-    let parts = solve_texts(alloc, files, settings, claims)?;
-    Ok(outcome_of(alloc, settings, &parts)?)
+    let solved = solve_texts(alloc, files, settings, claims)?;
+    Ok(outcome_of(alloc, &solved)?)
 }
 
 /// Solves the positions of files on the calling thread, over one table of bounds. No program calls
@@ -75,18 +75,14 @@ fn run_threads<R: Threads + Wait + Sync, G: Gate>(
     claims: Option<&Claims>,
     gate: &G,
 ) -> Result<Outcome, RunFault>
-    ensures { Answers result settings.now (texts_of files.now) }
+    ensures { Answers (Solves settings.now (texts_of files.now)) (texts_of files.now) result }
 {
-    check_files(files)?;
-    let parts = solve_texts_on_threads(rt, alloc, files, settings, claims, gate)?;
-    Ok(outcome_of(alloc, settings, &parts)?)
+    let solved = solve_files(rt, alloc, files, settings, claims, gate)?;
+    Ok(outcome_of(alloc, &solved)?)
 }
 
-/// Solves the positions of files on threads: a client for each file and the workers of the
-/// settings, at one desk and over one table of bounds. A worker whose thread can't be started is
-/// left out. The calling thread does the part of a client whose thread can't be started. The gate
-/// is called once the jobs of a file are submitted, and before and after each job. The call returns
-/// when all threads have ended, and may wait for them.
+/// Solves the positions of files on threads, as `solve_files` does, and makes their reports and
+/// their book.
 ///
 /// Reports and book are those of `run_serial`, for every number of workers and every gate. So are
 /// `TooManyFiles` and `FileTooLarge`, which come before a thread is started or the gate is called.

@@ -2,15 +2,16 @@
 
 ghost use Rattle.std.specs.Prelude.{◌≡◌, ◌≤◌, length, All, IfOk, None};
 ghost use Rattle.endgame_search.specs.Limits.{most_empties};
-ghost use Rattle.program_settings.specs.Limits.{most_bytes};
+ghost use Rattle.program_settings.specs.Limits.{most_bytes, most_files};
 ghost use Rattle.endgame_search.specs.Task.{TaskView};
 ghost use Rattle.suite_runs.specs.Part.{part_view, part_view_of};
 ghost use Rattle.suite_reports.specs.ParsedLine.{tasks_in};
 ghost use Rattle.obf_text.specs.LineText.{texts_of};
 ghost use Rattle.program_settings.specs.InputFault.{first_large};
-ghost use Rattle.suite_runs.specs.Runs.{ArePartsOf};
+ghost use Rattle.suite_runs.specs.Runs.{AreFilesOf};
 
 use crate::part::Part;
+use crate::solved_files::SolvedFiles;
 use crate::solver::{Solver, new_table};
 use bound_table::Bounds;
 use endgame_search::Solved;
@@ -56,16 +57,17 @@ fn solve_text<T: Bounds>(
     Ok(Part { rows, solved })
 }
 
-/// The parts of the files, solved on the calling thread, one file after the other, over one table
-/// of bounds. No file has more than `MOST_BYTES` bytes. The only error is out of memory.
+/// Solves the files on the calling thread, one after the other, over one table of bounds. There are
+/// at most `MOST_FILES` files, none of more than `MOST_BYTES` bytes. The only error is out of memory.
 pub(crate) fn solve_texts(
     alloc: Global,
     files: &[Vec<u8>],
     settings: &Settings,
     claims: Option<&Claims>,
-) -> Result<Vec<Part>, AllocError>
-    requires { first_large (texts_of files.now) ≡ None }
-    ensures { IfOk result (λ parts. ArePartsOf settings.now (texts_of files.now) parts.items) }
+) -> Result<SolvedFiles, AllocError>
+    requires few { length files.now ≤ most_files }
+    requires small { first_large (texts_of files.now) ≡ None }
+    ensures { IfOk result (AreFilesOf settings.now (texts_of files.now)) }
 {
     let table = new_table(alloc, settings)?;
     let solver = Solver::new(&table, claims);
@@ -73,5 +75,8 @@ pub(crate) fn solve_texts(
     for file in files {
         parts.push(solve_text(alloc, file, settings.criteria(), &solver)?)?;
     }
-    Ok(parts)
+    Ok(SolvedFiles {
+        scoring: settings.scoring(),
+        parts,
+    })
 }

@@ -1,11 +1,12 @@
 //! The threads of a run: a client for each file, and the workers.
 
-ghost use Rattle.std.specs.Prelude.{◌≡◌, ◌≤◌, length, map, None, [], vec_capacity};
+ghost use Rattle.std.specs.Prelude.{◌≡◌, ◌≤◌, length, None};
 ghost use Rattle.program_settings.specs.Limits.{most_bytes, most_files};
 ghost use Rattle.program_settings.specs.Settings.{criteria_of};
 ghost use Rattle.suite_runs.specs.Part.{GivesPart, GivesParts};
 ghost use Rattle.obf_text.specs.LineText.{texts_of};
 ghost use Rattle.program_settings.specs.InputFault.{first_large};
+ghost use Rattle.suite_runs.specs.Runs.{Answers, AreFilesOf};
 ghost use Rattle.suite_runs.specs.Threads.{started_view};
 
 use crate::client::client_part_by;
@@ -14,9 +15,10 @@ use crate::joined::{Joined, join_all};
 use crate::part::Part;
 use crate::run_fault::RunFault;
 use crate::shared::Shared;
+use crate::solved_files::SolvedFiles;
 use crate::started_client::{ClientThread, PartPromise, StartedClient};
 use bound_table::Bounds;
-use program_settings::Settings;
+use program_settings::{Settings, check_files};
 use solved_book::Claims;
 use std::alloc::Global;
 use std::sync::Wait;
@@ -77,29 +79,6 @@ fn start<'a, E, R: Threads + Wait + Sync, G: Gate>(
     StartedClient { promise, thread }
 }
 
-// Starts a client for each file, in the order of the files, and adds it to `clients`, which has
-// room for all.
-fn start_all<'a, E, R: Threads + Wait + Sync, G: Gate>(
-    scope: &Scope<'a, E>,
-    crew: &Crew<'a, R, G>,
-    files: &'a [Vec<u8>],
-    clients: &mut Vec<StartedClient<'a>>,
-)
-    requires few { length files.now ≤ most_files }
-    requires small { first_large (texts_of files.now) ≡ None }
-    requires none { clients.old.items ≡ [] }
-    requires room { length files.now ≤ vec_capacity clients.old }
-    ensures { clients.new.items ≡ map
-        (started_view crew.now.shared.now.table.scoring (criteria_of crew.now.shared.now.settings))
-        (texts_of files.now) }
-{
-    let mut sender: u32 = 0;
-    for file in files {
-        clients.push_reserved(start(scope, crew, sender, file));
-        sender += 1;
-    }
-}
-
 // Starts the workers of the settings. A worker whose thread can't be started is left out.
 fn start_workers<'a, E, R: Threads + Wait + Sync, G: Gate>(
     scope: &Scope<'a, E>,
@@ -118,8 +97,9 @@ fn start_workers<'a, E, R: Threads + Wait + Sync, G: Gate>(
     }
 }
 
-// Solves the positions of all files. All lists are made before the first thread is started, so that
-// nothing can fail between the starts and the joins.
+// Starts the workers and a client for each file, in the order of the files, and joins the clients. All
+// lists are made before the first thread is started, so that nothing can fail between the starts and
+// the joins.
 fn solve_in_scope<'a, E, R: Threads + Wait + Sync, G: Gate>(
     scope: &Scope<'a, E>,
     crew: &Crew<'a, R, G>,
@@ -134,32 +114,41 @@ fn solve_in_scope<'a, E, R: Threads + Wait + Sync, G: Gate>(
     let parts = Vec::with_capacity(crew.shared.alloc, files.len())?;
     let mut joined = Joined { parts, fault: None };
     start_workers(scope, crew);
-    start_all(scope, crew, files, &mut clients);
+    let mut sender: u32 = 0;
+    for file in files {
+        clients.push_reserved(start(scope, crew, sender, file));
+        sender += 1;
+    }
     join_all(crew.rt, clients, &mut joined);
     joined.into_parts()
 }
 
-/// The parts of the files, solved by a client for each file and by the workers of the settings, at
-/// one desk and over one table of bounds. There are at most `MOST_FILES` files, none of more
-/// than `MOST_BYTES` bytes.
-pub(crate) fn solve_texts_on_threads<R: Threads + Wait + Sync, G: Gate>(
+/// Solves the positions of files on threads: a client for each file and the workers of the
+/// settings, at one desk and over one table of bounds. A worker whose thread can't be started is
+/// left out. The calling thread does the part of a client whose thread can't be started. The gate
+/// is called once the jobs of a file are submitted, and before and after each job. The call returns
+/// when all threads have ended, and may wait for them.
+///
+/// Refused files are `TooManyFiles` or `FileTooLarge`, before a thread is started or the gate is
+/// called. If a part ran out of memory, the error is `Memory`; if none did, but the desk refused a
+/// step, it is `Mixed`.
+pub fn solve_files<R: Threads + Wait + Sync, G: Gate>(
     rt: &R,
     alloc: Global,
     files: &[Vec<u8>],
     settings: &Settings,
     claims: Option<&Claims>,
     gate: &G,
-) -> Result<Vec<Part>, RunFault>
-    requires few { length files.now ≤ most_files }
-    requires small { first_large (texts_of files.now) ≡ None }
-    ensures { GivesParts settings.now.scoring (criteria_of settings.now) (texts_of files.now) result }
+) -> Result<SolvedFiles, RunFault>
+    ensures { Answers (AreFilesOf settings.now (texts_of files.now)) (texts_of files.now) result }
 {
+    check_files(files)?;
     let shared = Shared::new(alloc, files, settings)?;
     // An empty list stands for None: `Crew` says why.
     let none = Claims::new(alloc, settings.scoring());
     let claims = claims.unwrap_or(&none);
     let shared = &shared;
-    thread::scope(
+    let parts = thread::scope(
         thread::scope_env(),
         rt,
         |scope| -> Result<Vec<Part>, RunFault>
@@ -175,5 +164,9 @@ pub(crate) fn solve_texts_on_threads<R: Threads + Wait + Sync, G: Gate>(
             };
             solve_in_scope(scope, &crew, files)
         },
-    )
+    )?;
+    Ok(SolvedFiles {
+        scoring: settings.scoring(),
+        parts,
+    })
 }

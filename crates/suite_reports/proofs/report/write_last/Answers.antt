@@ -1,7 +1,0 @@
-use Rattle.std.proofs.Common.{rules}
-use Rattle.suite_reports.specs.ReportText.{last_text}
-use Rattle.suite_reports.proofs.report.write_last.Goals as goal
-
-pub returns : goal.returns
-unfolding last_text
-returns g c = search rules
