@@ -23,7 +23,7 @@ use Rattle.obf_text.specs.declared.entries.ListedMove.TheVariants.{At, Pass, Ove
 use Rattle.move_scores.specs.Scores.{score_fields, scored}
 use Rattle.move_scores.proofs.EitherSide.{of_over, of_pass}
 use Rattle.move_scores.proofs.GreatestScores.{has_move, is_move_in}
-use Rattle.scored_lines.specs.Checks.{is_best, same_move, score_in}
+use Rattle.scored_lines.specs.Checks.{is_greatest, same_move, score_in}
 use Rattle.scored_lines.specs.Remarks.{IsLeftOut, left_out_remark, left_out_remarks, left_out_text}
 
 -- what `filter_map` gives comes from an item, and what an item gives is there
@@ -115,7 +115,7 @@ no_greater v w h =
     ]
 
 module _ (g : Scoring) (P : GridView) (can : can_move P ≡ true) where
-  best_is_greatest : (z : ℤ) → z ≡ value g P → is_best (score_fields g P) z ≡ true
+  best_is_greatest : (z : ℤ) → z ≡ value g P → is_greatest (score_fields g P) z ≡ true
   best_is_greatest z e =
       all_pass (λ f. not (int_lt z f.1)) (score_fields g P) (λ f h.
       let from = is_move_in g P can f h in
@@ -124,7 +124,7 @@ module _ (g : Scoring) (P : GridView) (can : can_move P ≡ true) where
       (subst (λ v. worth (value g) P from.0 ≤ℤ v) (sym e) (worth-le-value g P from.0 from.1))))
 
   greatest_is_best : (q : ℕ) → Contains (moves P) q
-      → is_best (score_fields g P) (worth (value g) P q) ≡ true → worth (value g) P q ≡ value g P
+      → is_greatest (score_fields g P) (worth (value g) P q) ≡ true → worth (value g) P q ≡ value g P
   greatest_is_best q m b =
       let top = value_reached g P can in
       let least : value g P ≤ℤ worth (value g) P q =
@@ -201,7 +201,7 @@ remarked_only g P (l ∷ listed) r h =
       | inl can ↦
           let at = is_move_in g P can from.0 from.1 in
           let told =
-          parts (is_best scores (worth (value g) P at.0))
+          parts (is_greatest scores (worth (value g) P at.0))
           (is_none (score_in (l ∷ listed) (At at.0))) (left_out_text (At at.0)) r
           (subst (λ f. left_out_remark scores (l ∷ listed) f ≡ Some r) (sym at.2) from.2) in (
             at.0,

@@ -74,7 +74,3 @@ remarks_both found (r ∷ rs) more =
     ∙ ap (λ t. gap_text found ++ t) (sym (append_assoc r (remarks_text true rs) (remarks_text true more)))
     ∙ sym (append_assoc (gap_text found) (r ++ remarks_text true rs) (remarks_text true more))
     ∙ ap (λ b. remarks_text found (r ∷ rs) ++ remarks_text b more) (sym (or_true found))
-
-pub has_both : (rs more : List (List ℕ)) → has_remarks (rs ++ more) ≡ (has_remarks rs || has_remarks more)
-has_both [] more = refl
-has_both (r ∷ rs) more = refl

@@ -30,13 +30,13 @@ abbrev pub wrong_in : List Field → Field → Option Wrong
 wrong_in scores f = wrong_if f (score_in scores f.0)
 
 -- no move has a greater score
-abbrev pub is_best : List Field → ℤ → Bool
-is_best scores score = list_all (λ f. not (int_lt score f.1)) scores
+abbrev pub is_greatest : List Field → ℤ → Bool
+is_greatest scores score = list_all (λ f. not (int_lt score f.1)) scores
 
 -- A best move that is not listed. A pass and the end of the game are not moves to choose from.
 abbrev pub is_left_out : List Field → List Field → Field → Bool
 is_left_out scores listed (At q, score) =
-    is_best scores score && is_none (score_in listed (At q))
+    is_greatest scores score && is_none (score_in listed (At q))
 is_left_out scores listed (_, score) = false
 
 -- every best move is asked for, and the line lists moves

@@ -3,7 +3,7 @@
 ghost use Rattle.std.specs.Prelude.{◌≡◌, option_map};
 ghost use Rattle.std.specs.List.{find};
 ghost use Rattle.obf_text.specs.declared.entries.ListedMove.TheVariants.{At};
-ghost use Rattle.scored_lines.specs.Checks.{asks_for_best, is_best, is_left_out, same_move};
+ghost use Rattle.scored_lines.specs.Checks.{asks_for_best, is_greatest, is_left_out, same_move};
 ghost use Rattle.scored_lines.specs.Checks.{score_in, wrong_in};
 
 use obf_text::ListedMove;
@@ -80,8 +80,8 @@ pub fn wrong_in(scores: &[(ListedMove, i8)], field: &(ListedMove, i8)) -> Option
 }
 
 // Whether no move has a greater score.
-fn is_best(scores: &[(ListedMove, i8)], score: i8) -> bool
-    ensures { result ≡ is_best scores.now score }
+fn is_greatest(scores: &[(ListedMove, i8)], score: i8) -> bool
+    ensures { result ≡ is_greatest scores.now score }
 {
     scores.iter().all(|field| field.1 <= score)
 }
@@ -96,7 +96,7 @@ pub(crate) fn is_left_out(
     ensures { result ≡ is_left_out scores.now listed.now field.now }
 {
     match field.0 {
-        ListedMove::At(_) => { is_best(scores, field.1) && score_in(listed, field.0).is_none() }
+        ListedMove::At(_) => { is_greatest(scores, field.1) && score_in(listed, field.0).is_none() }
         _ => false,
     }
 }
