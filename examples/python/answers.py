@@ -7,26 +7,19 @@ position to its end, always with the first best move.
 """
 import sys
 
-from ffosolve import Kind, LibraryNotFound, Position, Refused, Solver, square_names
-
-
-def text(answer):
-    best = {Kind.MOVES: ",".join(answer.squares), Kind.PASS: "PS", Kind.OVER: "--"}
-    return f"{answer.score:+03} {best[answer.kind]}"
+from ffosolve import LibraryNotFound, Position, Refused, Solver
 
 
 def play_on(solver, position):
-    """Plays on to the end, and prints each move with all the legal ones."""
-    while True:
-        answer = solver.solve(position)
-        if answer.kind == Kind.OVER:
-            return
-        if answer.kind == Kind.PASS:
+    """Plays to the end of the game, and prints each move with all the legal ones."""
+    while not position.is_over:
+        if position.must_pass:
             position = position.passed()
             print("PS")
             continue
-        print(answer.squares[0], "of", ",".join(square_names(solver.moves(position))))
-        position = solver.play(position, answer.squares[0])
+        best = solver.solve(position).squares[0]
+        print(best, "of", ",".join(position.legal_moves))
+        position = position.play(best)
 
 
 def main():
@@ -34,7 +27,7 @@ def main():
     masks = [[int(word, 16) for word in line.split()] for line in sys.stdin]
     positions = [Position(own, opp) for own, opp in masks]
     for position, answer in zip(positions, solver.solve_all(positions)):
-        print(text(answer))
+        print(answer)
         if solver.confirm(position, answer) != answer:
             sys.exit("not confirmed")
     play_on(solver, positions[0])

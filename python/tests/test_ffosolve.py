@@ -1,8 +1,9 @@
-"""Tests of the package; the library is found as a user's program finds it (FFOSOLVE_LIBRARY, or installed).
+"""Tests of the package. It finds the library as a user's program does: by FFOSOLVE_LIBRARY, or installed.
 
     python3 -m unittest discover python/tests
 """
 import copy
+import doctest
 import functools
 import gc
 import io
@@ -10,12 +11,13 @@ import os
 import pathlib
 import pickle
 import sys
+import tempfile
 import tracemalloc
 import unittest
 from unittest import mock
 
 import ffosolve
-from ffosolve import START, Answer, Kind, Position, Scoring, Solver
+from ffosolve import START, Answer, Kind, Position, Scoring, Solver, parse_lines, read_lines
 from ffosolve._library import places
 
 CORNERS = "-OXXXXX-XXXXXXXOXXXXXXXXXXXXXXXXXXXOXXXXXXXXXXXXXXXXXXXXXXXXXXXX X; H1:+62;"
@@ -25,7 +27,7 @@ SHARED, WIDE, AT_PASS = Position(3, 2), Position(1, 6), Position(0x7E, ~0x7F & 2
 
 
 class Library:
-    """In place of the library: each call gives a status, and its arguments are kept."""
+    """A stand-in for the library: each call returns a status, and its arguments are kept."""
 
     def __init__(self, status):
         self.status, self.asked = status, []
@@ -38,11 +40,11 @@ class Calls(unittest.TestCase):
     def setUp(self):
         self.solver = Solver()
 
-    def test_each_call(self):
-        told = [self.solver.solve(POSITION), self.solver.confirm(POSITION, ANSWER)]
-        told += self.solver.solve_all([POSITION, AT_PASS, Position(0xFFFFFFFF, 0xFFFF << 48)])
-        self.assertEqual(told, [ANSWER] * 3 + [Answer(-64, Kind.PASS, 0), Answer(32, Kind.OVER, 0)])
-        self.assertEqual(({type(answer.kind) for answer in told}, ANSWER.squares), ({Kind}, ["H1"]))
+    def test_each_call_returns_what_the_rules_say(self):
+        answers = [self.solver.solve(POSITION), self.solver.confirm(POSITION, ANSWER)]
+        answers += self.solver.solve_all([POSITION, AT_PASS, Position(0xFFFFFFFF, 0xFFFF << 48)])
+        self.assertEqual(answers, [ANSWER] * 3 + [Answer(-64, Kind.PASS, 0), Answer(32, Kind.OVER, 0)])
+        self.assertEqual(({type(answer.kind) for answer in answers}, ANSWER.squares), ({Kind}, ["H1"]))
         self.assertEqual(self.solver.confirm(POSITION, Answer(1000, 7, 3)), ANSWER)
         scores = [Solver(scoring=number, entries=64).solve(POSITION.passed()).score for number in range(3)]
         self.assertEqual(scores, [-40, -39, -1])
@@ -52,7 +54,11 @@ class Calls(unittest.TestCase):
         after = Position(0x0000001000000000, 0x0000000818080000)
         self.assertEqual([self.solver.play(START, square) for square in ("d3", 19)], [after] * 2)
 
-    def test_equals_have_one_hash_and_are_printed_as_they_are(self):
+    def test_the_help_is_right(self):
+        self.assertEqual(doctest.testmod(ffosolve).failed, 0)
+        self.assertGreater(doctest.testmod(ffosolve).attempted, 5)
+
+    def test_equal_positions_and_answers_have_one_hash(self):
         line, white, (own, opp) = Position.from_obf(CORNERS), Position(1, 2, "O"), POSITION
         equal = POSITION, Position(own, opp), line, Position(own, opp, "O")
         self.assertEqual(len({*equal, Position(own ^ 1, opp), Position(own, opp ^ 2)}), 3)
@@ -64,7 +70,7 @@ class Calls(unittest.TestCase):
         self.assertEqual(repr(POSITION.show()), str(POSITION))
 
     def test_a_position_keeps_its_colours(self):
-        """After f5 d6 c3, the colours by hand: Black has turned E5, White D5, and Black D4."""
+        """In f5 d6 c3 Black turns E5, White D5, and Black D4."""
         board, at = "-" * 18 + "X" + "-" * 8 + "XX" + "-" * 6 + "OXX" + "-" * 5 + "O" + "-" * 20, START
         for square, side in (("f5", "O"), ("d6", "X"), ("c3", "O")):
             at = self.solver.play(at, square)
@@ -82,32 +88,33 @@ class Calls(unittest.TestCase):
         with self.assertRaisesRegex(ValueError, "^the side to move is 'X' or 'O', not 'black'$"):
             Position(1, 2, "black")
 
-    def test_what_is_told(self):
-        """Scorings, numbers of empty squares, limits and versions."""
-        self.assertEqual([Solver(scoring=number).scoring for number in range(3)], list(Scoring))
+    def test_scorings_limits_and_versions_are_those_of_the_library(self):
+        for scoring in Scoring:
+            for name in (scoring, int(scoring), scoring.name, scoring.name.lower()):
+                self.assertIs(Solver(scoring=name).scoring, scoring)
         self.assertEqual((POSITION.empties, POSITION.passed().empties, START.empties), (2, 2, 60))
         limit = self.solver._library.ffosolve_limit
         self.assertEqual([limit(0), limit(1), limit(2)], [ffosolve.MOST_ENTRIES, ffosolve.MOST_EMPTIES, len(Scoring)])
         self.assertEqual(self.solver.library_version, ffosolve.__version__)
 
-    def test_what_the_library_is_asked(self):
-        """The scoring, a table for the most empty squares or of the size that is named, and a claim as it is."""
+    def test_the_library_gets_the_scoring_the_size_of_the_table_and_the_claim(self):
+        """Unless a size is given, the table is for the most empty squares of the list."""
         for settings, scoring, entries in (({}, 0, ffosolve.table_entries(52)), ({"scoring": 2, "entries": 7}, 2, 7)):
-            solver, library = Solver(**settings), Library(0)
+            solver, library = Solver(max_empties=60, **settings), Library(0)
             solver._library = library
             solver.solve_all([POSITION, Position(0xFFF, 0), POSITION])
             solver.confirm(Position(0xFF0, 0xF), Answer(-3, Kind.OVER, 4))
             (_, _, *of_all), (position, *of_one, claim, _) = library.asked
             self.assertEqual((of_all[:2], of_one), ([scoring, entries], [scoring, entries]))
-            told = position.own, position.opp, claim.score, claim.kind, claim.best
-            self.assertEqual(told, (0xFF0, 0xF, -3, Kind.OVER, 4))
+            given = position.own, position.opp, claim.score, claim.kind, claim.best
+            self.assertEqual(given, (0xFF0, 0xF, -3, Kind.OVER, 4))
 
-    def test_keeps_nothing(self):
+    def test_calls_keep_no_memory(self):
         solver, one, many = self.solver, (POSITION,), ([POSITION] * 9,)
         calls = [functools.partial(call, *it) for call, it in (
             (solver.solve, one), (solver.confirm, (POSITION, ANSWER)), (solver.solve_all, many), (solver.moves, one),
             (lambda *them: list(solver.solve_iter(*them)), many), (solver.move_scores, one), (solver.move_scores_all, many),
-            (solver.play, (START, "d3")), (lambda: list(ffosolve.read_lines([CORNERS] * 9)), ()),
+            (solver.play, (START, "d3")), (START.play_all, ("f5d6c3",)), (lambda: list(read_lines([CORNERS] * 9)), ()),
         )]
         for call in calls:
             call()
@@ -123,12 +130,12 @@ class Calls(unittest.TestCase):
 
 class Refusals(unittest.TestCase):
     def refused(self, error, call, *words, index=None):
-        with self.assertRaises(error) as told:
+        with self.assertRaises(error) as refused:
             call(*words)
-        self.assertIsInstance(told.exception, ffosolve.Refused)
-        self.assertEqual(told.exception.index, index)
+        self.assertIsInstance(refused.exception, ffosolve.Refused)
+        self.assertEqual(refused.exception.index, index)
 
-    def test_positions(self):
+    def test_positions_are_refused_by_each_call(self):
         solver = Solver()
         for call in (solver.solve, solver.move_scores, lambda position: solver.confirm(position, ANSWER)):
             self.refused(ffosolve.SharedSquare, call, SHARED)
@@ -137,25 +144,28 @@ class Refusals(unittest.TestCase):
         self.refused(ffosolve.SharedSquare, solver.play, SHARED, 0)
         self.refused(ffosolve.TooManyEmpties, solver.solve_all, [POSITION, WIDE, SHARED], index=1)
 
-    def test_settings(self):
-        self.refused(ffosolve.UnknownScoring, lambda: Solver(scoring=3))
+    def test_settings_are_refused_by_their_names(self):
+        for scoring in (3, -1, "loser", None, 0.5):
+            with self.assertRaisesRegex(ffosolve.UnknownScoring, "^a scoring is 'winner', 'discs' or 'sign', not "):
+                Solver(scoring=scoring)
         self.refused(ffosolve.TooManyEntries, lambda: Solver(entries=ffosolve.MOST_ENTRIES + 1))
         self.assertEqual(Solver(entries=ffosolve.MOST_ENTRIES).solve(POSITION), ANSWER)
-        with self.assertRaises(ValueError):
-            Solver(entries=-1)
+        for entries, error in ((-1, ValueError), ("7", TypeError), (7.0, TypeError)):
+            with self.assertRaisesRegex(error, "^entries is .*, not "):
+                Solver(entries=entries)
 
-    def test_of_a_list(self):
-        """The index of a position is told. All but want of memory are errors of values."""
+    def test_a_refusal_has_the_index_of_its_position_and_is_a_value_error(self):
+        """Except for NoMemory, which is a MemoryError."""
         for refusal in ffosolve.Refused.__subclasses__():
             if refusal not in (ffosolve.OtherRefusal, ffosolve.LineRefused):
                 self.assertEqual((str(refusal()), refusal().index), (refusal.reason, None))
                 self.assertTrue(issubclass(refusal, MemoryError if refusal is ffosolve.NoMemory else ValueError))
-                for told in (refusal(1), pickle.loads(pickle.dumps(refusal(1)))):
+                for it in (refusal(1), pickle.loads(pickle.dumps(refusal(1)))):
                     wanted = refusal, f"position at index 1: {refusal.reason}", 1
-                    self.assertEqual((type(told), str(told), told.index), wanted)
+                    self.assertEqual((type(it), str(it), it.index), wanted)
 
-    def test_lines(self):
-        """The numbers of ffosolve.h, and the texts of a report. A line is a text or bytes, with its end or without."""
+    def test_a_refused_line_has_the_status_of_the_header_and_the_text_of_a_report(self):
+        """Whether it is a text or bytes, with or without a line end."""
         for refusal, number, text, reason, at, column in (
             (ffosolve.NoPosition, 8, " % X", "no position: the line is blank or a comment", 0, None),
             (ffosolve.ShortBoard, 9, CORNERS[:63], "board has 63 of 64 squares", 63, None),
@@ -166,14 +176,13 @@ class Refusals(unittest.TestCase):
             for line in (text, text.encode("utf-8", "surrogatepass"), text + "\n", text + "\r\n"):
                 with self.assertRaises(refusal) as refused:
                     Position.from_obf(line)
-                for told in (refused.exception, pickle.loads(pickle.dumps(refused.exception))):
-                    self.assertEqual((told.status, str(told), told.reason, told.at), (number, reason, reason, at))
-                    self.assertEqual((told.column, told.line), (column, None))
-            for told in (refusal(at, 3), pickle.loads(pickle.dumps(refusal(at, 3)))):
-                self.assertEqual((str(told), told.at, told.line), (f"line 3: {reason}", at, 3))
+                for it in (refused.exception, pickle.loads(pickle.dumps(refused.exception))):
+                    self.assertEqual((it.status, str(it), it.reason, it.at), (number, reason, reason, at))
+                    self.assertEqual((it.column, it.line), (column, None))
+            for it in (refusal(at, 3), pickle.loads(pickle.dumps(refusal(at, 3)))):
+                self.assertEqual((str(it), it.at, it.line), (f"line 3: {reason}", at, 3))
 
-    def test_statuses_that_only_some_libraries_give(self):
-        """Want of memory, and what this package does not know. A solver hands on what each of its calls gives."""
+    def test_each_call_raises_out_of_memory_and_unknown_statuses(self):
         solver = Solver()
         for status, refusal, reason in (
             (7, ffosolve.NoMemory, "out of memory"), (99, ffosolve.OtherRefusal, "refused with status 99"),
@@ -181,18 +190,18 @@ class Refusals(unittest.TestCase):
             solver._library = Library(status)
             for call in (solver.solve, lambda it: solver.confirm(it, ANSWER), solver.move_scores, solver.moves,
                          lambda it: solver.play(it, 0), lambda it: solver.solve_all([it])):
-                with self.assertRaisesRegex(refusal, f"^{reason}$") as told:
+                with self.assertRaisesRegex(refusal, f"^{reason}$") as refused:
                     call(POSITION)
-                again = pickle.loads(pickle.dumps(told.exception))
+                again = pickle.loads(pickle.dumps(refused.exception))
                 self.assertEqual((type(again), again.status, str(again), again.index), (refusal, status, reason, None))
 
-    def test_no_memory_for_what_a_line_lists(self):
+    def test_a_line_whose_moves_do_not_fit_into_memory_raises_no_memory(self):
         with mock.patch("ffosolve._positions.LISTED") as listed:
             listed.findall.side_effect = MemoryError
-            for read in (Position.from_obf, lambda line: next(ffosolve.read_lines([line], refused=print))):
+            for read in (Position.from_obf, lambda line: next(read_lines([line], refused=print))):
                 self.refused(ffosolve.NoMemory, read, CORNERS)
 
-    def test_what_is_no_position(self):
+    def test_another_object_than_a_position_is_named(self):
         solver = Solver()
         one = (solver.solve, solver.move_scores, solver.moves, lambda it: solver.play(it, "d3"),
                lambda it: solver.confirm(it, ANSWER))
@@ -209,40 +218,38 @@ class Refusals(unittest.TestCase):
             with self.assertRaisesRegex(TypeError, "^a position is two masks, .* not [0-9.]+$"):
                 call(POSITION)
 
-    def test_what_is_no_claim_and_no_scores(self):
+    def test_another_object_than_a_claim_scores_or_a_line_is_named(self):
         line = Position.from_obf(CORNERS)
         for it in (line.listed, 62, None, (62, 0, 0x80)):
             with self.assertRaisesRegex(TypeError, r"^a claim is an Answer\(score, kind, best\), not "):
                 Solver().confirm(POSITION, it)
         for it in (62, [("H1", 62)], line.listed):
-            with self.assertRaisesRegex(TypeError, "^scores are an Answer, or by squares' names as move_scores gives them, not "):
+            with self.assertRaisesRegex(TypeError, "^scores are an Answer, or a mapping from squares' names .* not "):
                 POSITION.show(it)
         self.assertEqual(str(line.show(ANSWER)), str(line.show({"H1": 62})))
-        for it in (Answer(-64, Kind.PASS, 0), Answer(32, Kind.OVER, 0)):
-            self.assertEqual(str(line.show(it)), str(line))
+        for it, state in ((Answer(-64, Kind.PASS, 0), "has to pass: -64"), (Answer(32, Kind.OVER, 0), "scores +32: the game is over")):
+            self.assertEqual(str(line.show(it)), str(line).replace("is to move", state))
         for it in (5, None, ["a"]):
             with self.assertRaisesRegex(TypeError, "^a line of OBF text is of the type str or bytes, not "):
                 Position.from_obf(it)
 
-    def test_library(self):
-        """test_library of the repository has libraries that lack a call, or are of another version."""
+    def test_a_missing_library_is_named_by_its_path(self):
         for path in ("/nowhere/libffosolve.so", pathlib.Path("/nowhere/libffosolve.so"), __file__):
             with self.assertRaisesRegex(ffosolve.LibraryNotFound, f"^{path}: "):
                 Solver(path)
         with self.assertRaisesRegex(ffosolve.LibraryNotFound, f"^{os.getcwd()}/libc.so.6: "):
             Solver("libc.so.6")  # a file of this folder, and not the system's
 
-    def test_a_library_that_only_a_solver_names(self):
-        """README's order: the position is read, shown and written before."""
+    def test_positions_are_read_and_shown_before_a_solver_names_the_library(self):
         Solver()
         with open("/proc/self/maps") as maps:
             named = next(line.split(maxsplit=5)[5].strip() for line in maps if "/libffosolve.so" in line)
         with mock.patch.dict(os.environ, {"FFOSOLVE_LIBRARY": "/nowhere/libffosolve.so"}):
             self.assertRaises(ffosolve.LibraryNotFound, Solver)
-            line, = ffosolve.read_lines([Position.from_obf(CORNERS).to_obf()])
+            line, = read_lines([Position.from_obf(CORNERS).to_obf()])
             self.assertEqual((str(line.show()), Solver(named).solve(line)), (str(POSITION), ANSWER))
 
-    def test_places(self):
+    def test_places_are_searched_in_the_order_of_the_help(self):
         with mock.patch.dict(os.environ, {"FFOSOLVE_LIBRARY": "/of/mine.so"}):
             self.assertEqual(places(), ["/of/mine.so"])
         folder, name = os.path.dirname(ffosolve.__file__), "libffosolve.so.1"
@@ -254,7 +261,7 @@ class Refusals(unittest.TestCase):
 
 
 class Obf(unittest.TestCase):
-    def test_a_line(self):
+    def test_a_line_may_have_other_letters_blanks_and_pieces(self):
         text = "  " + CORNERS.translate(str.maketrans("XO-", "w*.")).replace(" w;", "\tW")
         text += " note; ps:-4; --:0 % A1:1;\r\n"
         listed = ("H1", 62), ("PS", -4), ("--", 0)
@@ -263,36 +270,51 @@ class Obf(unittest.TestCase):
         self.assertEqual(Position.from_obf(POSITION.passed().to_obf()), POSITION.passed())
         self.assertEqual((line.passed(), type(line.passed())), (POSITION.passed(), Position))
 
-    def test_many_lines(self):
+    def test_lines_are_numbered_skipped_and_refused(self):
         lines = ["", CORNERS, "% H1", CORNERS[:63], CORNERS[:64] + " O;", "?" + CORNERS]
         for end in ("\n", "\r\n"):
             text = end.join(lines) + end
-            for given in (text, text.encode(), lines, [line + end for line in lines], io.StringIO(text), io.BytesIO(text.encode())):
+            of_lines = lines, [line + end for line in lines], io.StringIO(text), io.BytesIO(text.encode())
+            for read, given in (*((parse_lines, it) for it in (text, text.encode())), *((read_lines, it) for it in of_lines)):
                 wrong = []
-                told = pickle.loads(pickle.dumps(list(ffosolve.read_lines(given, refused=wrong.append))))
-                self.assertEqual([(line, line.number, line.side, line.listed) for line in told],
+                found = pickle.loads(pickle.dumps(list(read(given, refused=wrong.append))))
+                self.assertEqual([(line, line.number, line.side, line.listed) for line in found],
                                  [(POSITION, 2, "X", (("H1", 62),)), (POSITION.passed(), 5, "O", ())])
                 self.assertEqual([(type(error), str(error), error.line) for error in wrong],
                                  [(ffosolve.ShortBoard, "line 4: board has 63 of 64 squares", 4),
                                   (ffosolve.BadSquare, "line 6: bad square at column 1", 6)])
-        read = ffosolve.read_lines(lines)
+        read = read_lines(lines)
         self.assertEqual(next(read), POSITION)
         self.assertRaises(ffosolve.ShortBoard, next, read)
-        for nothing in ("", b"", [], "\n", b"% X", "% \udcff"):
-            self.assertEqual(list(ffosolve.read_lines(nothing)), [])
+        for nothing in ("", b"", "\n", b"% X", "% \udcff"):
+            self.assertEqual(list(parse_lines(nothing)), [])
+        self.assertEqual(list(read_lines([])), [])
 
-    def test_squares(self):
+    def test_a_file_by_its_path(self):
+        with tempfile.TemporaryDirectory() as folder:
+            path = pathlib.Path(folder, "it.obf")
+            path.write_text(f"% X\n{CORNERS}\n")
+            for source in (path, str(path)):
+                self.assertEqual([(line, line.number) for line in read_lines(source)], [(POSITION, 2)])
+            with self.assertRaises(FileNotFoundError):
+                next(read_lines(pathlib.Path(folder, "none.obf")))
+        for text in (CORNERS + "\n", CORNERS.encode()):
+            with self.assertRaisesRegex(TypeError, "^lines are read from a path, .*; parse_lines reads a text$"):
+                next(read_lines(text))
+
+    def test_squares_have_names_and_numbers(self):
         names = [ffosolve.square_name(number) for number in range(64)]
         self.assertEqual((names[0], names[1], names[7], names[8], names[63]), ("A1", "B1", "H1", "A2", "H8"))
         self.assertEqual([ffosolve.square_number(name.lower()) for name in names], list(range(64)))
         for wrong in (-1, 64):
             self.assertRaises(ValueError, ffosolve.square_name, wrong)
+        self.assertRaises(TypeError, ffosolve.square_name, "A1")
         for name in ("", "I1", "A9", "A11"):
             self.assertRaises(ValueError, Solver().play, START, name)
         for square in ("A1", 0, 64, 255, 256, -1, 256 + 19):
             self.assertRaises(ffosolve.NoMove, Solver().play, START, square)
 
-    def test_table_entries(self):
+    def test_table_entries_are_those_of_the_header(self):
         sizes = [ffosolve.table_entries(empties) for empties in range(ffosolve.MOST_EMPTIES + 1)]
         self.assertEqual(sizes, sorted(sizes))
         self.assertLessEqual(max(sizes), ffosolve.MOST_ENTRIES)

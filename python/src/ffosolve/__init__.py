@@ -1,32 +1,51 @@
 """Exact answers for Othello endgames, by a solver whose answers are proved.
 
+A Position knows the rules. It does not change: each move returns another one.
+
     >>> from ffosolve import Position, Solver
-    >>> solver = Solver()
+    >>> Position.start().play("F5").legal_moves
+    ['F4', 'D6', 'F6']
     >>> position = Position.from_obf("-OXXXXX-XXXXXXXOXXXXXXXXXXXXXXXXXXXOXXXXXXXXXXXXXXXXXXXXXXXXXXXX X;")
-    >>> solver.solve(position).score
-    62
+
+A Solver solves one position, or many. Scores are for the side to move.
+
+    >>> solver = Solver()
+    >>> print(solver.solve(position))
+    +62 H1
     >>> solver.solve(position).squares
     ['H1']
     >>> solver.move_scores(position)
     {'A1': 52, 'H1': 62}
+    >>> [answer.score for answer in solver.solve_all([position, position.play("A1")], threads=2)]
+    [62, -52]
 
-A Solver calls the shared library libffosolve.so.1. The wheel of `make wheel` contains it. Otherwise install it, or give its
-path: `Solver("FOLDER/libffosolve.so")`. Reading and showing positions needs no library.
+`Solver(max_empties=24)` also solves positions with 21 to 24 empty squares. Two more take some 3 to 16 times as long.
 
-A call can't be stopped, not even by Ctrl-C, and two more empty squares take some 3 to 16 times as long. A program that has to
-be able to stop a call makes it in a process of its own (`multiprocessing`). Calls from several threads run at the same time.
+`read_lines("list.obf")` reads positions from a file of OBF lines, and `read_games("WTH_2001.wtb")` reads games; the positions
+of a game are `solver.positions(game)`. `compare_scores` says how far an evaluation's scores are from those of `ffoscores`.
+
+A notebook shows a position as a picture, also with scores: `position.show(solver.move_scores(position))`.
+
+Ctrl-C interrupts every call, and so does an exception of any signal handler, if the main thread made the call. The library
+can't stop: what it was solving goes on in the background until it is solved, or until the program ends. Any threads may
+call at the same time.
+
+The shared library libffosolve.so.1 is in the wheel of `make wheel`. Otherwise install it, or give its path:
+`Solver("FOLDER/libffosolve.so")`. Reading, writing and showing positions needs no library.
 """
 import os
 
 from . import _refusals
 from ._answers import Answer, Kind
 from ._boards import Board
-from ._games import START, Game, GameRefused
+from ._games import Game, GameRefused
 from ._library import MOST_EMPTIES, MOST_ENTRIES, LibraryNotFound
-from ._positions import Line, Position, read_lines
+from ._positions import START, Line, Position, parse_lines, read_lines
 from ._read_games import read_games
 from ._refusals import *
-from ._solvers import NO_SCORE, Scoring, Solver, table_entries
+from ._score_comparison import ScoreComparison, WrongScore, compare_scores
+from ._scoring import Scoring
+from ._solvers import NO_SCORE, Solver, table_entries
 from ._squares import square_name, square_number, square_names
 
 _FOLDER = os.path.dirname(os.path.abspath(__file__))
@@ -36,7 +55,7 @@ with open(next(filter(os.path.exists, _PLACES)), encoding="utf-8") as _file:
 
 __all__ = [
     "MOST_EMPTIES", "MOST_ENTRIES", "NO_SCORE", "START", "Answer", "Board", "Game", "GameRefused", "Kind",
-    "LibraryNotFound", "Line", "Position", "Scoring", "Solver", "read_games", "read_lines", "square_name",
-    "square_names", "square_number", "table_entries",
+    "LibraryNotFound", "Line", "Position", "ScoreComparison", "Scoring", "Solver", "WrongScore", "compare_scores",
+    "parse_lines", "read_games", "read_lines", "square_name", "square_names", "square_number", "table_entries",
 ]
 __all__ += _refusals.__all__

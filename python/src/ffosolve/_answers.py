@@ -13,9 +13,12 @@ class Kind(enum.IntEnum):
     OVER = 2  # neither side has a legal move
 
 
+ENDS = {Kind.PASS: "PS", Kind.OVER: "--"}
+
+
 class Answer(NamedTuple):
     """The score of a position for the side to move, -64 to 64; what attains it; and the mask of every move that does, 0
-    if `kind` is PASS or OVER."""
+    if `kind` is PASS or OVER. As text it is `+62 A1,H1`, `-04 PS` for a pass, or `+32 --` if the game is over."""
 
     score: int
     kind: Kind
@@ -25,3 +28,6 @@ class Answer(NamedTuple):
     def squares(self) -> List[str]:
         """The names of the best moves, in the order A1, B1, .. H8."""
         return square_names(self.best)
+
+    def __str__(self) -> str:
+        return f"{self.score:+03} {','.join(self.squares) or ENDS[self.kind]}"

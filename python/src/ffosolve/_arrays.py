@@ -1,13 +1,14 @@
-"""Many positions in arrays of NumPy. The package does not depend on it: this module is imported when it is called."""
+"""Many positions in arrays. Only this module needs NumPy; the calls with arrays import it."""
 import ctypes
 from collections import deque
 from typing import TYPE_CHECKING, Any, List, NamedTuple
 
 import numpy
 
-from ._bulk import LIGHTEST, MOST_WEIGHT, in_order
-from ._library import MOST_EMPTIES, CAnswer, CMoveScores, CPosition
-from ._solvers import accept
+from ._bulk import LIGHTEST, MOST_WEIGHT, in_order, interruptible, weight_of
+from ._library import CAnswer, CMoveScores, CPosition
+from ._masks import refusal_for
+from ._rules import accept
 
 if TYPE_CHECKING:
     from ._solvers import Solver
@@ -18,7 +19,7 @@ SIZES = numpy.array([bin(byte).count("1") for byte in range(256)], numpy.uint8)
 
 
 class Answers(NamedTuple):
-    """The members of many answers, each in an array: int32, int32 and uint64."""
+    """The members of many answers as arrays of int32, int32 and uint64."""
 
     score: Any
     kind: Any
@@ -26,15 +27,15 @@ class Answers(NamedTuple):
 
 
 class Run(NamedTuple):
-    """Positions that a call solves: from an index to before another, with their most empty squares."""
+    """The positions of one call of the library."""
 
-    start: int
-    end: int
-    empties: int
+    start: int  # the index of the first
+    end: int  # and the one after the last
+    empties: int  # the most empty squares of one of them
 
 
 def masks_of(own: Any, opp: Any) -> Any:
-    """The positions as the library reads them."""
+    """The positions as the library reads them. Raises TypeError and ValueError for other arrays."""
     own, opp = numpy.asarray(own), numpy.asarray(opp)
     if own.dtype != numpy.uint64 or opp.dtype != numpy.uint64:
         raise TypeError("the masks are arrays of uint64")
@@ -44,11 +45,11 @@ def masks_of(own: Any, opp: Any) -> Any:
 
 
 def runs_of(solver: "Solver", masks: Any, threads: int) -> List[Run]:
-    """The parts of positions for so many threads. Raises what the first position is refused for that is refused."""
+    """The parts of positions, for a number of threads. Raises the refusal of the first position that is refused."""
     own, opp = masks[:, 0], masks[:, 1]
     empties = 64 - SIZES[(own | opp).view(numpy.uint8)].reshape(-1, 8).sum(axis=1, dtype=numpy.int64)
-    for index in numpy.flatnonzero((own & opp != 0) | (empties > MOST_EMPTIES)).tolist():
-        solver._refuse(index, masks[index].tolist())
+    for index in numpy.flatnonzero((own & opp != 0) | (empties > solver.max_empties)).tolist():
+        raise refusal_for(masks[index].tolist(), solver.max_empties, index)
     weights = numpy.left_shift(1, numpy.clip(empties - LIGHTEST, 0, None)) * (threads > 1)
     ends = numpy.flatnonzero(numpy.diff(weights.cumsum() // MOST_WEIGHT)) + 1
     bounds = [0, *ends.tolist(), len(masks)]
@@ -56,14 +57,15 @@ def runs_of(solver: "Solver", masks: Any, threads: int) -> List[Run]:
 
 
 def found_by(solver: "Solver", call: Any, record: Any, kind: Any, masks: Any, threads: int) -> Any:
-    """What a call writes of positions: an array of a kind, whose elements are records for the library."""
+    """An array of what a call writes for each position: the elements are of `kind`, which is the library's `record`."""
     found: Any = numpy.empty(len(masks), kind)
 
     def call_for(run: Run) -> None:
         count, entries = run.end - run.start, solver._entries_for(run.empties)
         asked = (CPosition * count).from_buffer(masks, run.start * ctypes.sizeof(CPosition))
         to = (record * count).from_buffer(found, run.start * ctypes.sizeof(record))
-        accept(call(asked, count, int(solver.scoring), entries, to, count, ctypes.c_size_t()))
+        more = asked, count, int(solver.scoring), entries, to, count, ctypes.c_size_t()
+        accept(interruptible(call, weight_of(count, run.empties), *more))
 
     deque(in_order(call_for, runs_of(solver, masks, threads), threads), 0)
     return found

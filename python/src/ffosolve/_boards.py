@@ -1,4 +1,6 @@
 """Pictures of boards."""
+import numbers
+import reprlib
 from typing import Dict, Iterator, Mapping, Optional, Tuple
 
 from ._squares import NAMES, square_name, square_number
@@ -22,23 +24,32 @@ class Board:
 
     `own` and `opp` are the masks of the mover's discs and the other side's, and `side` is the mover's colour, "X" for
     Black or "O" for White. `scores` are written into their squares, by the squares' names; the greatest are marked.
-    Raises ValueError for another side, and for a score where no square is empty."""
+    `state` follows the side's name below the board. Raises ValueError for another side and for a score in a square that
+    is not empty, and TypeError for a score that is not a number."""
 
-    def __init__(self, own: int, opp: int, side: str, scores: Optional[Mapping[str, int]] = None) -> None:
+    def __init__(self, own: int, opp: int, side: str, scores: Optional[Mapping[str, float]] = None,
+                 state: str = "is to move") -> None:
+        self.state = state
         self.side, other = checked_side(side), OTHER[side]
         self.letters = [side if own >> at & 1 else other if opp >> at & 1 else "-" for at in range(64)]
-        self.scores: Dict[int, int] = {square_number(name): score for name, score in (scores or {}).items()}
-        self.best = max(self.scores.values(), default=None)
-        for at in self.scores:
+        self.scores: Dict[int, float] = {square_number(name): score for name, score in (scores or {}).items()}
+        for at, score in self.scores.items():
+            if not isinstance(score, numbers.Real):
+                raise TypeError(f"the score of {square_name(at)} is a number, not {reprlib.repr(score)}")
             if self.letters[at] != "-":
                 raise ValueError(f"{square_name(at)} has a score, but is not empty")
+        self.best = max(self.scores.values(), default=None)
+
+    def to_obf(self) -> str:
+        """The board as an OBF line: 64 squares, and ` X;` or ` O;`."""
+        return "".join(self.letters) + f" {self.side};"
 
     def __str__(self) -> str:
         width = 4 if self.scores else 1
         rows = ["  " + " ".join(f"{column:>{width}}" for column in "ABCDEFGH")]
         for row in range(8):
             rows.append(f"{row + 1} " + " ".join(f"{self._text(8 * row + column):>{width}}" for column in range(8)))
-        return "\n".join([*rows, f"{self.side} is to move"])
+        return "\n".join([*rows, f"{self.side} {self.state}"])
 
     __repr__ = __str__
 
@@ -50,17 +61,17 @@ class Board:
 
     def _repr_svg_(self) -> str:
         width, height = BOARD + 2 * MARGIN, BOARD + MARGIN + FOOT
-        told = f"{SIDES[self.side]} to move"
+        state = f"{SIDES[self.side]} {self.state}"
         return "\n".join([
             f'<svg xmlns="http://www.w3.org/2000/svg" width="{width}" height="{height}" viewBox="0 0 {width} {height}"'
             f' font-family="sans-serif" font-size="13" text-anchor="middle">',
-            f"<title>Othello board, {told}</title>",
+            f"<title>Othello board, {state}</title>",
             f'<rect width="{width}" height="{height}" fill="#ffffff"/>',
             f'<rect x="{MARGIN}" y="{MARGIN}" width="{BOARD}" height="{BOARD}" fill="{GREEN}"/>',
             *(part for at in range(64) for part in self._square(at)),
             *self._lines(),
             disc(self.side, MARGIN + 10, height - FOOT // 2, 9),
-            f'<text x="{MARGIN + 26}" y="{height - FOOT // 2 + 5}" text-anchor="start" fill="{INK}">{told}</text>',
+            f'<text x="{MARGIN + 26}" y="{height - FOOT // 2 + 5}" text-anchor="start" fill="{INK}">{state}</text>',
             "</svg>",
         ])
 

@@ -1,54 +1,44 @@
 """Many positions: they are cut into parts, which threads solve, and the results come in order."""
-import operator
-import reprlib
+import queue
+import threading
 import time
 from collections import deque
-from concurrent.futures import ThreadPoolExecutor
-from typing import Any, Callable, Deque, Iterable, Iterator, List, NamedTuple, Optional, Sequence, TypeVar
+from concurrent.futures import Future
+from typing import Any, Callable, Deque, Iterable, Iterator, List, NamedTuple, Optional, Sequence, Tuple, TypeVar
 
-from ._library import MOST_EMPTIES
+from ._masks import not_a_position, refusal_for, size_of
+from ._refusals import Refused, checked_number
 
 A = TypeVar("A")
 B = TypeVar("B")
 
-# A part of this weight is solved in some hundredths of a second. A position weighs 1 up to 8 empty squares, and with each
-# more of them twice as much, so that from 16 on it has a part of its own.
+# A part of this weight is solved in some hundredths of a second. A position weighs 1 up to 8 empty squares, and twice as
+# much with each further one, so from 16 on it has a part of its own.
 MOST_WEIGHT, LIGHTEST = 256, 8
 MOST_SECONDS = 0.01  # for which more positions are waited for before a part is solved
 AHEAD = 32  # parts for each thread, so that one that takes long holds up no other thread
+BRIEF = 16  # the weight of a call that is too short for Ctrl-C
 
 
 class Part(NamedTuple):
     start: int  # the index of its first position
     empties: int  # the most empty squares of a position
     positions: List[Sequence[int]]
+    refusal: Optional[Refused] = None  # of the position after them, with which the parts end
 
 
-# How many squares a mask has, as Python 3.10 and later count them, and as earlier ones can.
-size_of: Callable[[int], int]
-size_of = operator.methodcaller("bit_count") if hasattr(int, "bit_count") else lambda mask: bin(mask).count("1")
-
-
-def no_position(it: object) -> TypeError:
-    return TypeError("a position is two masks, as Position(own, opp) and Position.from_obf(line) give them, not "
-                     + reprlib.repr(it))
-
-
-def empties_of(position: Sequence[int]) -> int:
-    try:
-        own, opp = position
-        return 64 - size_of(own | opp)
-    except (TypeError, ValueError):
-        raise no_position(position) from None
+def weight_of(count: int, empties: int) -> int:
+    """The most that so many positions with at most so many empty squares weigh."""
+    return count << max(0, empties - LIGHTEST)
 
 
 def parts_of(
     positions: Iterable[Sequence[int]],
-    check: Optional[Callable[[int, Sequence[int]], None]] = None,
+    max_empties: int,
     most_weight: float = MOST_WEIGHT,
     most_seconds: float = MOST_SECONDS,
 ) -> Iterator[Part]:
-    """The parts of positions. What seems to be no position that is solved is handed to `check`, with its index."""
+    """The parts of positions, up to the first one that is refused."""
     clock = time.monotonic
     start, most, weight, part, end = 0, 0, 0, [], clock() + most_seconds  # type: ignore[var-annotated]
     for position in positions:
@@ -56,9 +46,10 @@ def parts_of(
             own, opp = position
             empties = 64 - size_of(own | opp)
         except (TypeError, ValueError):
-            raise no_position(position) from None
-        if check is not None and (own & opp or empties > MOST_EMPTIES):
-            check(start + len(part), position)
+            raise not_a_position(position) from None
+        if own & opp or empties > max_empties:
+            yield Part(start, most, part, refusal_for(position, max_empties, start + len(part)))
+            return
         if empties > most:
             most = empties
         weight += 1 if empties <= LIGHTEST else 1 << (empties - LIGHTEST)
@@ -71,20 +62,24 @@ def parts_of(
 
 
 def checked_threads(threads: int) -> int:
-    if operator.index(threads) < 1:
-        raise ValueError("there is at least one thread")
-    return threads
+    return checked_number("threads", threads, 1)
 
 
 def in_order(call: Callable[[A], B], parts: Iterable[A], threads: int) -> Iterator[B]:
-    """What a call gives of each part, in their order, as it comes."""
+    """What a call returns for each part, in their order, as it comes."""
     if threads == 1:
         yield from map(call, parts)
         return
-    pool, waiting = ThreadPoolExecutor(threads), deque()  # type: ThreadPoolExecutor, Deque[Any]
+    tasks: "queue.SimpleQueue[Any]" = queue.SimpleQueue()
+    waiting: Deque[Any] = deque()
+    started = 0
     try:
         for part in parts:
-            waiting.append(pool.submit(call, part))
+            if started < threads:
+                start_worker(iter(tasks.get, None), call)
+                started += 1
+            waiting.append(Future())
+            tasks.put((waiting[-1], part))
             while waiting and (waiting[0].done() or len(waiting) >= AHEAD * threads):
                 yield waiting.popleft().result()
         while waiting:
@@ -92,4 +87,32 @@ def in_order(call: Callable[[A], B], parts: Iterable[A], threads: int) -> Iterat
     finally:
         for future in waiting:
             future.cancel()
-        pool.shutdown(wait=False)  # a call can't be stopped: what runs yet ends by itself
+        for _ in range(started):
+            tasks.put(None)
+
+
+def interruptible(call: Callable[..., A], weight: int, *arguments: Any) -> A:
+    """What a call of the library returns. The main thread has another one make it, unless the call is brief: so a signal
+    handler can raise at once, such as that of Ctrl-C. The call itself then goes on until it or the process ends."""
+    if weight <= BRIEF or threading.current_thread() is not threading.main_thread():
+        return call(*arguments)
+    future: "Future[A]" = Future()
+    try:
+        start_worker([(future, arguments)], lambda them: call(*them))
+    except RuntimeError:  # the system has no thread left
+        return call(*arguments)
+    return future.result()
+
+
+def start_worker(tasks: Iterable[Tuple["Future[B]", A]], call: Callable[[A], B]) -> None:
+    """Starts a thread that makes the calls of tasks. A process doesn't wait for it when it ends."""
+
+    def work() -> None:
+        for future, part in tasks:
+            if future.set_running_or_notify_cancel():
+                try:
+                    future.set_result(call(part))
+                except BaseException as error:
+                    future.set_exception(error)
+
+    threading.Thread(target=work, name="ffosolve", daemon=True).start()

@@ -5,12 +5,11 @@ from typing import Any, BinaryIO, Iterator, List, NamedTuple, Optional, Sequence
 
 from ._boards import OTHER
 from ._library import CPosition
-from ._positions import Position
+from ._positions import START, Position
 from ._squares import NAMES, square_name
 from ._text import text_lines
 from ._transcripts import PASSES, words_of
 
-START = Position(0x0000000810000000, 0x0000001008000000)  # Black, on E4 and D5, is the mover
 PASS, NO_SQUARE = 64, 255  # in the place of a square's number
 WORDS = {**{name.lower(): number for number, name in enumerate(NAMES)}, **dict.fromkeys(PASSES, PASS)}
 HEADER = struct.Struct("<4x I H 2x B B B x")  # games, another number, size of the board, kind, empty squares
@@ -59,7 +58,7 @@ class Game(NamedTuple):
         """The game of a transcript: its squares, such as `f5d6c3` or `1. F5 2. D6`, with blanks, commas, hyphens or nothing
         between them, and with or without move numbers. A pass is left out, or written `pass`, `ps`, `pa` or `--`. A result
         at the end, such as `33-31`, is skipped, and so is everything from `%` on."""
-        words = words_of(text.partition("%")[0])
+        words = words_of(text)
         return cls(number, [WORDS.get(word, NO_SQUARE) for word in words], words)
 
     @property

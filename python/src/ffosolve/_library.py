@@ -9,6 +9,7 @@ NAME = "libffosolve.so.1"
 MAJOR = 1
 MOST_EMPTIES = 60
 MOST_ENTRIES = 4_194_304
+_loaded: List[ctypes.CDLL] = []
 
 
 class LibraryNotFound(OSError):
@@ -28,9 +29,9 @@ class CMoveScores(ctypes.Structure):
 
 
 def places() -> List[str]:
-    """Where the library is looked for, in this order, if no path is given: the path in the environment variable
-    FFOSOLVE_LIBRARY; in this package, if it was installed with the library, for the best level of processors that loads;
-    where the system's loader looks; in `lib` of this Python; in /usr/local/lib."""
+    """Where to look for the library, in this order, if no path is given: the path in the environment variable
+    FFOSOLVE_LIBRARY; this package, if it was installed with the library, for the best level of processors that loads;
+    the search path of the system's loader; `lib` of this Python; /usr/local/lib."""
     named = os.environ.get("FFOSOLVE_LIBRARY")
     if named:
         return [named]
@@ -40,15 +41,20 @@ def places() -> List[str]:
 
 
 def load(path: Union[str, "os.PathLike[str]", None] = None) -> ctypes.CDLL:
-    """The library of a path, or else the first that is found."""
-    told = []
+    """The library with a path, or else the first that is found. Raises LibraryNotFound."""
+    errors = []
     for place in [os.path.abspath(path)] if path is not None else places():
         try:
             return declared(place)
         except OSError as error:
-            told.append(str(error))
+            errors.append(str(error))
     hint = "install ffosolve, or name the library by its path or by FFOSOLVE_LIBRARY"
-    raise LibraryNotFound("; ".join([*dict.fromkeys(told), hint]))
+    raise LibraryNotFound("; ".join([*dict.fromkeys(errors), hint]))
+
+
+def loaded() -> ctypes.CDLL:
+    """A library that was loaded before, or else the first that is found. All of them play by the same rules."""
+    return _loaded[0] if _loaded else load()
 
 
 @functools.lru_cache(maxsize=None)
@@ -73,4 +79,5 @@ def declared(place: str) -> ctypes.CDLL:
         call.argtypes, call.restype = arguments, size if name == "limit" else ctypes.c_int32
     if library.ffosolve_version() // 10000 != MAJOR:
         raise LibraryNotFound(f"{place} has version {library.ffosolve_version()}, not {MAJOR}.x.y")
+    _loaded.append(library)
     return library

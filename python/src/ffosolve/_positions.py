@@ -1,17 +1,25 @@
 """Positions, and the lines of OBF text that hold them."""
+import os
 import re
 import reprlib
-from typing import Any, Callable, Iterable, Iterator, Mapping, NamedTuple, Optional, Tuple, Union
+from typing import Any, Callable, Iterable, Iterator, List, Mapping, NamedTuple, Optional, Tuple, Union
 
-from ._answers import Answer
+from ._answers import Answer, Kind
 from ._boards import OTHER, Board, checked_side
-from ._refusals import BadSide, BadSquare, LineRefused, NoMemory, NoPosition, ShortBoard
-from ._squares import NAMES
+from ._library import CAnswer, loaded
+from ._masks import c_position
+from ._refusals import BadSide, BadSquare, LineRefused, NoMemory, NoMove, NoPosition, ShortBoard
+from ._rules import accept, illegal_move, moves, play
+from ._scoring import Scoring, scoring_of
+from ._squares import NAMES, square_names
+from ._transcripts import PASSES, words_of
 
 LINE = re.compile(rb"([ \t]*)([Xx*BbOoWw.-]{0,64})([ \t]*)([Xx*BbOoWw]?)([^%]*)")
 MOVES = {name.encode(): name for name in (*NAMES, "PS", "--")}
 LISTED = re.compile(rb"(?:\A|;)[ \t]*([A-Ha-h][1-8]|[Pp][Ss]|--):([+-]?(?:[0-5]?[0-9]|6[0-4]))[ \t]*(?=;|\Z)")
+Source = Union[str, "os.PathLike[str]", Iterable[Union[str, bytes]]]
 BLACK, WHITE = (bytes.maketrans(b"Xx*BbOoWw-.", bits) for bits in (b"11111000000", b"00000111100"))
+STATES = {Kind.MOVES: "is to move", Kind.PASS: "has to pass: {:+}", Kind.OVER: "scores {:+}: the game is over"}
 
 
 class Masks(NamedTuple):
@@ -24,9 +32,13 @@ class Masks(NamedTuple):
 class Position(Masks):
     """The masks of the discs of the side to move (`own`) and of the other side (`opp`), and the colour of the side to move.
 
-    Square A1 is bit 0 of a mask and H8 bit 63. Any two numbers can be put in; a Solver refuses what is not a position.
-    `side` is "X" (black) or "O" (white). Positions are printed and shown in their colours, but no answer depends on them:
-    positions with equal masks are equal. Raises ValueError for another side.
+    Square A1 is bit 0 of a mask and H8 bit 63. Any two numbers can be put in; the rules and a Solver refuse what is not a
+    position. `side` is "X" (black) or "O" (white). Positions are printed and shown in their colours, but no answer depends
+    on them: positions with equal masks are equal. Raises ValueError for another side.
+
+    A position does not change: `play`, `play_all` and `passed` return another one. The shared library knows the rules, so
+    `legal_moves`, `must_pass`, `is_over`, `play`, `play_all` and `score` raise LibraryNotFound without it. They raise
+    SharedSquare if the masks share a square.
     """
 
     side: str = "X"
@@ -36,6 +48,11 @@ class Position(Masks):
         if side != "X":
             position.side = checked_side(side)
         return position
+
+    @classmethod
+    def start(cls) -> "Position":
+        """The position in which a game begins."""
+        return START
 
     @classmethod
     def from_obf(cls, text: Union[str, bytes]) -> "Line":
@@ -51,32 +68,81 @@ class Position(Masks):
     def to_obf(self, side: Optional[str] = None) -> str:
         """The position as an OBF line: 64 squares, and ` X;` or ` O;`. The side to move has its own colour, or the one
         that `side` names."""
-        board = self.show(side=side)
-        return "".join(board.letters) + f" {board.side};"
+        return self.show(side=side).to_obf()
 
     @property
     def empties(self) -> int:
         """How many squares are empty."""
         return 64 - bin(self.own | self.opp).count("1")
 
-    def show(self, scores: Union[Mapping[str, int], Answer, None] = None, side: Optional[str] = None) -> Board:
+    @property
+    def legal_moves(self) -> List[str]:
+        """The names of the squares that the side to move may play, in the order A1, B1, .. H8."""
+        return square_names(moves(loaded(), self))
+
+    @property
+    def must_pass(self) -> bool:
+        """Whether the side to move has no legal move, but the other side has one."""
+        return not self.legal_moves and bool(self.passed().legal_moves)
+
+    @property
+    def is_over(self) -> bool:
+        """Whether neither side has a legal move."""
+        return not self.legal_moves and not self.passed().legal_moves
+
+    def play(self, square: Union[int, str]) -> "Position":
+        """The position after a move to a square, which is a name such as "F5" or a number from 0 to 63. Then the other
+        side is to move. Raises NoMove, which is a ValueError."""
+        return Position(*play(loaded(), self, square), OTHER[self.side])
+
+    def play_all(self, squares: Union[str, Iterable[Union[int, str]]]) -> "Position":
+        """The position after the moves of a transcript such as "f5d6c3", in any form that `Game.of_text` reads, or of a
+        list of squares. A pass may be written or left out. Raises NoMove, which names the move's number."""
+        position = self
+        for square in words_of(squares) if isinstance(squares, str) else squares:
+            is_pass = isinstance(square, str) and square.lower() in PASSES
+            if not position.legal_moves and (is_pass or position.must_pass):
+                position = position.passed()
+                if is_pass:
+                    continue
+            try:
+                if is_pass:
+                    raise illegal_move(loaded(), position, "a pass")
+                position = position.play(square)
+            except ValueError as why:
+                raise NoMove(reason=f"move {self.empties - position.empties + 1}: {why}") from None
+        return position
+
+    def score(self, scoring: Union[Scoring, int, str] = Scoring.WINNER) -> int:
+        """The score of a finished game for the side to move. Raises ValueError if the game is not over, and
+        UnknownScoring."""
+        if not self.is_over:
+            raise ValueError(f"the game is not over, so only a Solver finds the score: {self.to_obf()}")
+        answer = CAnswer()
+        accept(loaded().ffosolve_solve(c_position(self), scoring_of(scoring), 0, answer))
+        return int(answer.score)
+
+    def show(self, scores: Union[Mapping[str, float], Answer, None] = None, side: Optional[str] = None) -> Board:
         """The board, which a notebook shows as a picture and print() as text. `scores` from `Solver.move_scores` are
-        written into their squares, and the best ones are marked. An Answer writes its score into each best move. The side
-        to move has its own colour, or the one that `side` names. Raises ValueError for another side and for a score in a
-        square that is not empty, and TypeError for other scores."""
+        written into their squares, and the best ones are marked. An Answer's score is written into each best move, or
+        below the board for a pass or a finished game. The side to move has its own colour, or the one that `side` names.
+        Raises ValueError for another side and for a score in a square that is not empty, and TypeError for other
+        scores."""
+        state = "is to move"
         if isinstance(scores, Answer):
+            state = STATES[scores.kind].format(scores.score)
             scores = dict.fromkeys(scores.squares, scores.score)
         elif scores is not None and not isinstance(scores, Mapping):
-            told = "scores are an Answer, or by squares' names as move_scores gives them"
-            raise TypeError(f"{told}, not {reprlib.repr(scores)}")
-        return Board(self.own, self.opp, self.side if side is None else side, scores)
+            wanted = "scores are an Answer, or a mapping from squares' names such as move_scores returns"
+            raise TypeError(f"{wanted}, not {reprlib.repr(scores)}")
+        return Board(self.own, self.opp, self.side if side is None else side, scores, state)
 
     def __str__(self) -> str:
         return str(self.show())
 
     def __repr__(self) -> str:
-        told = super().__repr__()
-        return told if self.side == "X" else f"{told[:-1]}, side={self.side!r})"
+        text = super().__repr__()
+        return text if self.side == "X" else f"{text[:-1]}, side={self.side!r})"
 
     def _replace(self, **masks: int) -> "Position":
         return Position(*super()._replace(**masks), self.side)
@@ -89,6 +155,9 @@ class Position(Masks):
     def passed(self) -> "Position":
         """The position after a pass, in which the other side is to move."""
         return Position(self.opp, self.own, OTHER[self.side])
+
+
+START = Position(0x0000000810000000, 0x0000001008000000)  # Black, on E4 and D5, is to move
 
 
 class Line(Position):
@@ -104,7 +173,7 @@ class Line(Position):
 
 
 def read_line(text: Union[str, bytes], number: Optional[int]) -> Line:
-    """The position of a line of a number, of which the refusals tell."""
+    """The position of a line. The line's number stands in its refusals."""
     try:
         found: Any = LINE.match(without_end(text))
         _, letters, _, side, rest = found.groups()
@@ -142,22 +211,18 @@ def without_end(text: Union[str, bytes]) -> bytes:
 
 
 def read_lines(
-    lines: Union[str, bytes, Iterable[Union[str, bytes]]],
-    refused: Optional[Callable[[LineRefused], object]] = None,
+    source: Source, refused: Optional[Callable[[LineRefused], object]] = None
 ) -> Iterator[Line]:
-    """The positions of many lines of OBF text, in their order. The lines come from an iterable, such as an open file, or
-    from one text. Blank lines and comments are skipped. A line that holds no position raises ShortBoard, BadSquare or
+    """The positions of many lines of OBF text, in their order. `source` is the path of a file, or an iterable of lines such
+    as an open file. Blank lines and comments are skipped. A line that holds no position raises ShortBoard, BadSquare or
     BadSide, whose `line` is its number. If `refused` is given, it is called with the error instead, and reading goes on:
 
         wrong = []
-        with open("a.obf", "rb") as text:
-            positions = list(read_lines(text, refused=wrong.append))
+        positions = list(read_lines("a.obf", refused=wrong.append))
+
+    Raises OSError for a file that can't be read, and TypeError for another source. `parse_lines` reads a text.
     """
-    if isinstance(lines, str):
-        lines = lines.encode("utf-8", "surrogatepass")
-    if isinstance(lines, (bytes, bytearray)):
-        lines = bytes(lines).split(b"\n")
-    for number, text in enumerate(lines, 1):
+    for number, text in enumerate(lines_of(source), 1):
         try:
             line = read_line(text, number)
         except NoPosition:
@@ -168,3 +233,21 @@ def read_lines(
             refused(error)
         else:
             yield line
+
+
+def parse_lines(
+    text: Union[str, bytes], refused: Optional[Callable[[LineRefused], object]] = None
+) -> Iterator[Line]:
+    """The positions of the lines of a text, as `read_lines` reads those of a file."""
+    content = text.encode("utf-8", "surrogatepass") if isinstance(text, str) else bytes(text)
+    return read_lines(content.split(b"\n"), refused)
+
+
+def lines_of(source: Source) -> Iterator[Union[str, bytes]]:
+    if isinstance(source, (bytes, bytearray)) or isinstance(source, str) and "\n" in source:
+        raise TypeError("lines are read from a path, an open file or an iterable of lines; parse_lines reads a text")
+    if isinstance(source, (str, os.PathLike)):
+        with open(source, "rb") as file:
+            yield from file
+    else:
+        yield from source

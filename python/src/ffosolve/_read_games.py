@@ -12,12 +12,13 @@ def read_games(
     refused: Optional[Callable[[GameRefused], object]] = None,
 ) -> Iterator[Game]:
     """The games of a file, in their order. `source` is its path, or the file itself, opened for bytes. It is a WTHOR file, or
-    a text with a game in each line, as `Game.of_text` reads it; lines without a move are skipped.
+    a text with a game in each line, in any form that `Game.of_text` reads; lines without a move are skipped.
 
     GameRefused is raised if a WTHOR file is cut off, or goes on after its last game. If `refused` is given, it is called
-    with the error instead. Illegal moves are refused by `Solver.positions`. Raises OSError, and ValueError for a file that
-    is neither. These games have wrong theoretical scores:
+    with the error instead. Illegal moves are refused by `Solver.positions`. Raises OSError, and ValueError for a file of
+    another kind. This prints the games with wrong theoretical scores:
 
+        solver = Solver(max_empties=24)
         for game in read_games("WTH_2001.wtb"):
             position = solver.positions(game)[60 - game.empties]
             score = solver.solve(position).score
@@ -25,8 +26,8 @@ def read_games(
                 print(game.number, game.score)
     """
     with opened(source) as file:
-        told = getattr(file, "name", None)
-        games, _ = games_in(file, told if isinstance(told, str) else "the file")
+        name = getattr(file, "name", None)
+        games, _ = games_in(file, name if isinstance(name, str) else "the file")
         for game in games:
             if game.fault is None:
                 yield game
@@ -39,7 +40,7 @@ def read_games(
 
 @contextlib.contextmanager
 def opened(source: Any) -> Iterator[Any]:
-    """A file that can be looked into ahead. One that is given stays open."""
+    """A file whose first bytes can be peeked at. A file of the caller stays open."""
     if isinstance(source, (str, os.PathLike)):
         with open(source, "rb") as file:
             yield file

@@ -1,6 +1,7 @@
 """Why a call is refused. Nothing is lost by a refusal: the arguments are as they were."""
 import copyreg
 import enum
+import reprlib
 from typing import Any, Dict, Optional, Tuple, Type
 
 from ._library import MOST_EMPTIES, MOST_ENTRIES
@@ -41,7 +42,9 @@ class Refused(Exception):
         if "status" in vars(cls):
             REFUSALS.setdefault(cls.status, cls)
 
-    def __init__(self, index: Optional[int] = None) -> None:
+    def __init__(self, index: Optional[int] = None, reason: Optional[str] = None) -> None:
+        if reason is not None:
+            self.reason = reason
         super().__init__(self.reason if index is None else f"position at index {index}: {self.reason}")
         self.index = index
 
@@ -73,7 +76,7 @@ class TooManyEmpties(Refused, ValueError):
 
 
 class NoMove(Refused, ValueError):
-    """The move is not legal."""
+    """The move is not legal. The text names the move, the side to move, and the board as an OBF line."""
 
     status, reason = Status.NO_MOVE, "no move"
 
@@ -130,6 +133,15 @@ class BadSide(LineRefused):
     status, reason = Status.BAD_SIDE, "bad side at column {}"
 
 
-def refusal_of(status: int, *told: Optional[int]) -> Refused:
+def refusal_of(status: int, *told: Any) -> Refused:
     """The refusal for a status, made with what is known of it."""
     return REFUSALS[status](*told) if status in REFUSALS else OtherRefusal(status)
+
+
+def checked_number(name: str, value: int, least: int) -> int:
+    """An argument that is a whole number and not less than `least`. Raises TypeError and ValueError, which name it."""
+    if not hasattr(value, "__index__"):
+        raise TypeError(f"{name} is a whole number, not {reprlib.repr(value)}")
+    if value < least:
+        raise ValueError(f"{name} is at least {least}, not {value}")
+    return value

@@ -1,12 +1,14 @@
 """Squares: A1 is number 0 and bit 0 of a mask, B1 is 1, H1 is 7, A2 is 8, H8 is 63."""
-from typing import List
+import operator
+import reprlib
+from typing import List, Union
 
 NAMES = [column + row for row in "12345678" for column in "ABCDEFGH"]
 
 
 def square_name(number: int) -> str:
     """The name of the square with a number from 0 to 63: "A1", "B1", .. "H8". Raises ValueError for any other number."""
-    if not 0 <= number < 64:
+    if not 0 <= operator.index(number) < 64:
         raise ValueError(f"no square has the number {number}")
     return NAMES[number]
 
@@ -15,8 +17,15 @@ def square_number(name: str) -> int:
     """The number, 0 to 63, of the square with a name, in either case. Raises ValueError if it is not a name."""
     try:
         return NAMES.index(name.upper())
-    except ValueError:
+    except (AttributeError, ValueError):
         raise ValueError(f"no square has the name {name!r}") from None
+
+
+def number_of(square: Union[int, str]) -> int:
+    """The number of a square that is given by its name or its number."""
+    if not isinstance(square, str) and not hasattr(square, "__index__"):
+        raise TypeError(f"a square is a name such as 'F5' or a number from 0 to 63, not {reprlib.repr(square)}")
+    return square_number(square) if isinstance(square, str) else operator.index(square)
 
 
 def square_names(mask: int) -> List[str]:

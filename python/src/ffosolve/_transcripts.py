@@ -1,10 +1,10 @@
-"""Transcripts: what a line of text has of a game's moves."""
+"""Transcripts: the moves of a game in a line of text."""
 import re
 from typing import List
 
 PASSES = ("--", "pass", "ps", "pa")
-# A run of hyphens is a pass, but one alone stands between moves. A number without a point is set off from a move before it,
-# and so is a result, which is the last of all.
+# A run of hyphens is a pass, but a single one stands between moves. A number without a point is set off from the move before
+# it. So is a result, which comes last.
 TOKEN = re.compile(
     r"""
     ( [a-h]\s*[1-8] | pass | --+ )
@@ -18,13 +18,13 @@ TOKEN = re.compile(
 
 
 def words_of(text: str) -> List[str]:
-    """The moves of a text, in small letters: squares, passes, and what is neither. Left out is what a transcript has beside
-    them: blanks, commas, a hyphen between moves, the moves' numbers, as `1.` and `12`, and a result at the end, as `33-31`
-    and `+2`."""
-    words = [move or other for move, other in TOKEN.findall(text.lower()) if move or other]
-    return [word if len(word) < 3 else meant(word) for word in words]
+    """The moves of a text, in small letters: squares, passes, and what is neither. Skips whatever else a transcript has:
+    blanks, commas, a hyphen between moves, move numbers such as `1.` and `12`, a result at the end such as `33-31` or
+    `+2`, and everything from `%` on."""
+    words = [move or other for move, other in TOKEN.findall(text.partition("%")[0].lower()) if move or other]
+    return [word if len(word) < 3 else plain(word) for word in words]
 
 
-def meant(word: str) -> str:
-    """A square without the blank in it, and a longer run of hyphens as the pass that it is."""
+def plain(word: str) -> str:
+    """A square without the blank inside it, or a run of hyphens as the two of a pass."""
     return "--" if word[0] == "-" else word if word in PASSES else word[0] + word[-1]

@@ -1,0 +1,97 @@
+"""An author's scores for moves, beside the exact ones that ffoscores prints."""
+import itertools
+import re
+from typing import Any, Iterator, List, NamedTuple, Tuple, Union
+
+from ._positions import LINE, MOVES, Line, Source, lines_of, read_line, without_end
+from ._refusals import LineRefused, NoPosition
+
+SCORE = re.compile(rb"([A-Ha-h][1-8]|[Pp][Ss]|--):([+-]?(?:\d+\.?\d*|\.\d+))")
+Number = Union[int, float]
+
+
+class WrongScore(NamedTuple):
+    """A listed score that is not the exact one. `line` is the number of its line, from 1."""
+
+    line: int
+    move: str
+    listed: Number
+    exact: int
+
+    @property
+    def error(self) -> Number:
+        return abs(self.listed - self.exact)
+
+
+class ScoreComparison(NamedTuple):
+    """How far the scores of a list are from the exact ones. An error is a number of discs, without sign."""
+
+    lines: int  # positions with exact scores
+    moves: int  # listed scores of legal moves
+    wrong: List[WrongScore]  # those that are not exact, in the list's order
+    mean_error: float  # over all `moves`; 0.0 without any
+    greatest_error: Number
+    refused: int  # lines
+    illegal: int  # listed moves
+    unread: int  # other pieces between semicolons
+
+    def __str__(self) -> str:
+        return (f"lines {self.lines} moves {self.moves} wrong {len(self.wrong)} mean error {self.mean_error:.2f} greatest "
+                f"{self.greatest_error:g} refused {self.refused} illegal {self.illegal} unread {self.unread}")
+
+
+def compare_scores(listed: Source, scored: Source) -> ScoreComparison:
+    """Compares the scores of a list with the exact ones in the output of `ffoscores` for it. Each is a path, an open file
+    or an iterable of lines. A listed score may be any decimal number, such as +61.5. Raises ValueError if a line of the
+    output is not for the same line of the list.
+
+        ffoscores list.obf >list.scores
+
+        print(compare_scores("list.obf", "list.scores"))
+    """
+    lines = moves = refused = illegal = unread = 0
+    wrong: List[WrongScore] = []
+    for number, text, answer in pairs_of(listed, scored):
+        if answer is None:
+            refused += 1
+            continue
+        lines, exact = lines + 1, dict(answer.listed)
+        for piece in filter(None, (it.strip(b" \t") for it in fields_of(text))):
+            match = SCORE.fullmatch(piece)
+            move = MOVES[match[1].upper()] if match else ""
+            unread, illegal = unread + (match is None), illegal + (match is not None and move not in exact)
+            if match is not None and move in exact:
+                moves += 1
+                it = WrongScore(number, move, float(match[2]) if b"." in match[2] else int(match[2]), exact[move])
+                wrong += [it] * (it.error != 0)
+    errors = [it.error for it in wrong]
+    mean = sum(errors) / moves if moves else 0.0
+    return ScoreComparison(lines, moves, wrong, mean, max(errors, default=0), refused, illegal, unread)
+
+
+def pairs_of(listed: Source, scored: Source) -> Iterator[Tuple[int, Any, Any]]:
+    """The lines of the list that hold a position or are refused: each with its number, and what the output has for it, which
+    is None if it is refused."""
+    both = itertools.zip_longest(lines_of(listed), lines_of(scored), fillvalue=b"")
+    for number, (text, answer) in enumerate(both, 1):
+        line, exact = found_in(text, number), found_in(answer, number)
+        if isinstance(line, NoPosition) and isinstance(exact, NoPosition):
+            continue
+        is_refused = isinstance(exact, NoPosition) and without_end(answer).startswith(b"% refused: ")
+        if not is_refused and (not isinstance(line, Line) or exact != line):
+            raise ValueError(f"line {number} of the scores is not what ffoscores prints for line {number} of the list")
+        yield number, text, None if is_refused else exact
+
+
+def found_in(text: Union[str, bytes], number: int) -> Union[Line, LineRefused]:
+    try:
+        return read_line(text, number)
+    except LineRefused as error:
+        return error
+
+
+def fields_of(text: Union[str, bytes]) -> List[bytes]:
+    """What stands between the semicolons of a line."""
+    found: Any = LINE.match(without_end(text))
+    pieces: List[bytes] = found[5].split(b";")
+    return pieces

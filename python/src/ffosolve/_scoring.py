@@ -1,0 +1,25 @@
+"""The scoring."""
+import enum
+from typing import Optional, Union
+
+from ._refusals import UnknownScoring
+
+
+class Scoring(enum.IntEnum):
+    """What a score counts when the game is over, for the side to move. A string finds it too: `Scoring("winner")`."""
+
+    WINNER = 0  # its discs minus the other side's; the winner gets the empty squares
+    DISCS = 1  # its discs minus the other side's
+    SIGN = 2  # 1, 0 or -1 for a win, a draw or a loss
+
+    @classmethod
+    def _missing_(cls, value: object) -> Optional["Scoring"]:
+        return cls.__members__.get(value.upper()) if isinstance(value, str) else None
+
+
+def scoring_of(value: Union[Scoring, int, str]) -> Scoring:
+    """The scoring with a name or a number. Raises UnknownScoring."""
+    try:
+        return Scoring(value)  # type: ignore[arg-type]
+    except ValueError:
+        raise UnknownScoring(reason=f"a scoring is 'winner', 'discs' or 'sign', not {value!r}") from None

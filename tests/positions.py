@@ -1,0 +1,31 @@
+"""What tests of the package for Python share: the library that it loads, random positions, and modules that it may use."""
+import os
+import random
+
+try:
+    import numpy
+    import PIL.Image
+except ImportError:
+    numpy = PIL = None
+
+from bench import player
+
+from .support import ROOT, lack
+from ffosolve import Position
+
+os.environ.setdefault("FFOSOLVE_LIBRARY", str(ROOT / "out/library/libffosolve.so"))
+
+
+def need_modules():
+    if numpy is None:
+        lack("numpy or PIL (Debian: python3-numpy, python3-pil)")
+
+
+def random_positions(count, empties, seed=1):
+    """Positions of random games, with these numbers of empty squares in turn."""
+    rng, found = random.Random(seed), []
+    while len(found) < count:
+        discs = 64 - empties[len(found) % len(empties)]
+        at = [(own, opp) for own, opp, *_ in player.random_game(rng) if player.count(own | opp) == discs]
+        found += [Position(*masks) for masks in at[:1]]
+    return found

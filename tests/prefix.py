@@ -1,0 +1,117 @@
+"""The library and its packages as users have them: an installed prefix, away from the checkout, and programs over it.
+
+TEST_PREFIX in the environment names the prefix; without it, `make install` makes one.
+"""
+import functools
+import os
+import re
+import shutil
+import sys
+from pathlib import Path
+
+from .support import ROOT, lack, module_folder, need, run, write
+
+TESTS = ROOT / "tests"
+STRICT = ["-Wall", "-Wextra", "-Wpedantic", "-Wshadow", "-Wconversion", "-Werror"]
+C = ["cc", "-std=c11", *STRICT, "-O1"]
+CXX = ["c++", "-std=c++11", *STRICT, "-O1", "-x", "c++"]
+PACKAGES = {"cc": "gcc", "c++": "g++", "clang++": "clang", "nm": "binutils", "readelf": "binutils"}
+PIP = [sys.executable, "-m", "pip", "--disable-pip-version-check", "install", "--quiet", "--no-index"]
+LONGEST = 300  # seconds of a command, since on a busy machine compilers and solvers take a while
+
+
+def installed_prefix():
+    """The prefix for the tests of a module; for setUpModule."""
+    work = module_folder()
+    folder = Path(os.environ.get("TEST_PREFIX", work / "a prefix")).resolve()
+    if "TEST_PREFIX" not in os.environ:
+        run("make", "--silent", "-C", ROOT, "install", f"PREFIX={folder}", "DESTDIR=", timeout=None, check=True)
+    return Prefix(folder, work)
+
+
+def need_tool(name):
+    need(name, PACKAGES.get(name, name))
+
+
+def need_module(name, package):
+    if run(sys.executable, "-c", f"import {name}").returncode != 0:
+        lack(f"{name} for {sys.executable} (Debian: {package})")
+
+
+class Prefix:
+    """An installed prefix, and the folder in which programs over it are built."""
+
+    def __init__(self, folder, work):
+        self.folder, self.work = folder, work
+        self.libraries, self.header = folder / "lib", folder / "include/ffosolve.h"
+        self.archive, self.shared = self.libraries / "libffosolve.a", self.libraries / "libffosolve.so"
+        self.shipped = folder / "share/doc/ffosolve"
+        self.text = self.header.read_text()
+        self.calls = set(re.findall(r"^\w+ (ffosolve_\w+)\(", self.text, re.MULTILINE))
+        self.environment = {
+            **{name: value for name, value in os.environ.items() if not name.startswith("FFOSOLVE_")},
+            "LD_LIBRARY_PATH": str(self.libraries),
+            "PKG_CONFIG_PATH": str(self.libraries / "pkgconfig"),
+            "CARGO_TARGET_DIR": str(work / "target"),
+            "CARGO_NET_OFFLINE": "true",
+            "PYTHONDONTWRITEBYTECODE": "1",
+            "PYTHONPATH": str(work / "site"),
+        }
+
+    def run(self, *words, text="", **how):
+        how = {"timeout": LONGEST, "cwd": self.work, "env": self.environment, **how}
+        return run(*words, input=text, text=True, **how)
+
+    def make(self, *words, **how):
+        """Runs a command that has to succeed, such as a compiler."""
+        ran = self.run(*words, **how)
+        if ran.returncode != 0:
+            raise AssertionError(f"{' '.join(map(str, words))}\n{ran.stdout}{ran.stderr}")
+        return ran
+
+    def compile(self, compiler, name, sources, *words):
+        """The path of a program in C or C++ that is linked with the archive."""
+        need_tool(compiler[0])
+        libraries = words or ("-I", self.header.parent, "-x", "none", self.archive)
+        self.make(*compiler, "-o", self.work / name, *sources, *libraries)
+        return self.work / name
+
+    def write(self, name, text):
+        """Writes a file in the folder of the programs, and returns its path."""
+        return write(self.work / name, text)
+
+    @functools.cached_property
+    def site(self):
+        """The folder into which pip installs the package for Python, without a network."""
+        need_module("pip", "python3-pip")
+        shutil.copytree(self.shipped / "python", self.work / "python", dirs_exist_ok=True)
+        for name in ("VERSION", "LICENSE"):
+            shutil.copy2(self.shipped / name, self.work)
+        self.make(*PIP, "--target", self.work / "site", self.work / "python")
+        return self.work / "site"
+
+    @functools.cached_property
+    def crate(self):
+        """The folder of the crate for Rust, with the examples beside it."""
+        shutil.copy2(self.shipped / "VERSION", self.work)
+        need_tool("cargo")
+        for name in ("rust", "examples"):
+            shutil.copytree(self.shipped / name, self.work / name, dirs_exist_ok=True)
+        return self.work / "rust"
+
+    def cargo(self, verb, manifest, *words, **how):
+        return self.make("cargo", verb, "--manifest-path", manifest / "Cargo.toml", *words, **how)
+
+    def rust_client(self, name, source, **places):
+        """The path of a program that depends on the crate, built with these environment variables."""
+        needs = f'[dependencies]\nffosolve = {{ path = "{self.crate}" }}\n'
+        manifest = f'[package]\nname = "{name}"\nversion = "1.0.0"\nedition = "2021"\n{needs}[workspace]\n'
+        self.write(f"{name}/src/main.rs", source)
+        manifest = self.write(f"{name}/Cargo.toml", manifest)
+        self.make("cargo", "build", "--quiet", "--manifest-path", manifest, env={**self.environment, **places})
+        return self.work / "target/debug" / name
+
+    def called(self, calls, **how):
+        """What tests/library_calls.c prints for each call."""
+        program = self.compile(C, "calls", [TESTS / "library_calls.c"])
+        return self.make(program, text="\n".join(calls), **how).stdout.splitlines()

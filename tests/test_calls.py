@@ -1,0 +1,133 @@
+"""Calls of the library from C and C++: their arguments, what they write, and their statuses in each language."""
+import re
+import subprocess
+import unittest
+from concurrent.futures import ThreadPoolExecutor
+
+from .checkouts import NUMBER, VERSION
+from .prefix import CXX, TESTS, C, installed_prefix
+from .support import limited
+from .positions import random_positions
+import ffosolve
+from ffosolve._refusals import refusal_of
+
+# What the names in tests/library_calls.txt stand for: positions with two empty squares, before a pass, at the end of a game,
+# and refused ones.
+NAMES = {
+    "CORNERS": "0xfffffff7ffff7f7c 0x0000000800008002", "PASSED": "0x0000000800008002 0xfffffff7ffff7f7c",
+    "PASS": "0x7e 0xffffffffffffff80", "OVER": "0xffffffff 0xffff000000000000", "EMPTY": "0 0xffffffffffffffff",
+    "SHARED": "3 2", "WIDE": "1 6", "START": "0x0000000810000000 0x0000001008000000",
+    "BOARD": "-OXXXXX-XXXXXXXOXXXXXXXXXXXXXXXXXXXOXXXXXXXXXXXXXXXXXXXXXXXXXXXX",
+    "READ": "fffffff7ffff7f7c 800008002", "AS_WHITE": "800008002 fffffff7ffff7f7c",
+    "VERSION": VERSION, "NUMBER": NUMBER, "ENTRIES": ffosolve.MOST_ENTRIES, "MORE": ffosolve.MOST_ENTRIES + 1,
+}
+# What tests/library_nulls.c must print.
+NULLS = "".join(f"{count} 2 65 {room}: {pointers} 7\n" * 3 for count, room, pointers in (
+    (0, 0, "other other other"), (1, 1, "given given given"), (0, 1, "other given given"), (1, 0, "given other given"),
+    (0, 0, "given given given")))
+STATUSES_IN_RUST = """
+fn main() {
+    let position = ffosolve::Position::new(1, 2).expect("masks apart");
+    for _ in 1..=99 {
+        let (solved, read) = (ffosolve::Solver::new().solve(position), ffosolve::Line::from_obf(""));
+        println!("{}; {}", solved.expect_err("a status"), read.expect_err("a status"));
+    }
+}
+"""
+
+
+def setUpModule():
+    global PREFIX
+    PREFIX = installed_prefix()
+
+
+def named(text):
+    """A text in which each name is replaced by what it stands for."""
+    return re.sub(r"@(\w+)@", lambda name: str(NAMES[name[1]]), text)
+
+
+class Calls(unittest.TestCase):
+    def setUp(self):
+        """Reads the rows of tests/library_calls.txt: each is a call and what the header says that it writes."""
+        rows = [row.rsplit(" = ", 1) for row in named((TESTS / "library_calls.txt").read_text()).splitlines()]
+        calls = [re.sub(r"(?<=^read_line . ).*", lambda text: text[0].encode().decode("unicode_escape").encode().hex(), call)
+                 for call, _ in rows]
+        self.calls, self.wanted = "\n".join(calls), "".join(f"{wanted}\n" for _, wanted in rows)
+
+    def printed(self, compiler, header, folder):
+        """What programs compiled with a header print of the inline forms and of the calls. They are built in a folder."""
+        words = ("-I", header.parent), ("-I", header.parent, "-x", "none", PREFIX.archive)
+        nulls, calls = (PREFIX.compile(compiler, folder / name, [TESTS / f"library_{name}.c"], *more)
+                        for name, more in zip(("nulls", "calls"), words))
+        return PREFIX.make(nulls).stdout, PREFIX.make(calls, text=self.calls).stdout
+
+    def test_c_and_cxx_get_what_the_header_says(self):
+        for compiler in (C, CXX):
+            with self.subTest(compiler=compiler[0]):
+                self.assertEqual(self.printed(compiler, PREFIX.header, PREFIX.work), (NULLS, self.wanted))
+
+    def test_each_wrong_header_is_noticed(self):
+        """A number that is one more, members or parameters exchanged, and a null pointer that is passed on."""
+        wrong = [
+            PREFIX.text[:found.start()] + (new(found) if callable(new) else found.expand(new)) + PREFIX.text[found.end():]
+            for pattern, new in (
+                (r"(?<=[A-Z] = )\d+|(?<=MOST_\w{7} )\d+|(?<=NO_SCORE )\d+", lambda found: str(int(found[0]) + 1)),
+                (r"(    \w+ \w+(?:\[64\])?;\n)(    \w+ \w+;\n)(?=.*\n?} ffosolve)", r"\2\1"),
+                (r"(size_t room),(\s+)(size_t \*at)\);", r"\3,\2\1);"),
+                (r"(\w+)(?: \|\| \w+)? \? \1 : (?:&\w+|\"\")", r"\1"),
+            )
+            for found in re.finditer(pattern, PREFIX.text)
+        ]
+        self.assertGreater(len(wrong), 40)
+
+        def is_noticed(number):
+            header = PREFIX.write(f"wrong-{number}/ffosolve.h", wrong[number])
+            try:
+                printed = self.printed([*C, "-Wno-unused-variable", "-Wno-unused-parameter"], header, header.parent)
+            except AssertionError:  # it can't be compiled
+                return True
+            return printed != (NULLS, self.wanted)
+
+        with ThreadPoolExecutor() as pool:
+            for number, noticed in enumerate(pool.map(is_noticed, range(len(wrong)))):
+                self.assertTrue(noticed, wrong[number])
+
+    def test_a_call_without_memory_returns_its_status(self):
+        calls = ("solve {} 0 {}", "confirm {} 0 {} 62 0 0x80", "move_scores {} 0 {}", "solve_all 0 {1} 1 {0}",
+                 "move_scores_all 0 {1} 1 {0}", "long_line", "solve {} 0 0")
+        calls = [call.format(NAMES["CORNERS"], ffosolve.MOST_ENTRIES) for call in calls]
+        printed = PREFIX.called(calls, preexec_fn=limited("RLIMIT_AS", 60_000_000))
+        self.assertEqual(printed, ["7"] * 6 + ["0 62/0/80"])
+
+    def test_the_stack_that_the_header_names_is_enough(self):
+        """Calls with 14 empty squares end on the smaller one, and a game's first position is searched on the larger one for
+        two seconds."""
+        self.assertTrue("32 KiB are enough for 14 empty squares and 128 KiB for 60" in re.sub(r"\s+", " ", PREFIX.text))
+        calls = [call.format(f"{own:#x} {opp:#x}") for own, opp in random_positions(20, [14])
+                 for call in ("solve {} 0 1024", "confirm {} 1 0 0 0 1", "move_scores {} 2 1024", "solve_all 0 1024 1 {}")]
+        printed = PREFIX.called(calls, env={}, preexec_fn=limited("RLIMIT_STACK", 32 << 10))
+        self.assertEqual([line[:2] for line in printed], ["0 "] * len(calls))
+        with self.assertRaises(subprocess.TimeoutExpired):
+            PREFIX.called([named("solve @START@ 0 1024")], env={}, preexec_fn=limited("RLIMIT_STACK", 128 << 10), timeout=2)
+
+
+class Statuses(unittest.TestCase):
+    def test_a_status_has_one_name_number_and_text_in_each_language(self):
+        """The program in Rust is linked with a library whose calls return 1, 2, 3 and so on."""
+        listed = re.findall(r"FFOSOLVE_(\w+) = (\d+)", PREFIX.text.split("enum ffosolve_status {")[1].split("}")[0])
+        self.assertEqual(listed, [(it.name, str(it.value)) for it in ffosolve.Status])
+        source = "".join(f"int {name}(void) {{ static int status; return ++status; }}\n" for name in PREFIX.calls)
+        folder = PREFIX.write("of-statuses/calls.c", source).parent
+        PREFIX.make("cc", "-c", "calls.c", cwd=folder)
+        PREFIX.make("ar", "rcs", "libffosolve.a", "calls.o", cwd=folder)
+        program = PREFIX.rust_client("statuses", STATUSES_IN_RUST, FFOSOLVE_LIB_DIR=str(folder))
+        _, *texts = PREFIX.called(["names"])[0].split(", ")
+        for number, in_rust in enumerate(PREFIX.make(program).stdout.splitlines(), 1):
+            refusal, other = refusal_of(number), f"refused with status {number}"
+            text, is_of_line = refusal.reason, isinstance(refusal, ffosolve.LineRefused)
+            if number < len(listed) and not is_of_line:
+                self.assertEqual(text, texts[number])
+            # The crate has no name for 3, gives the index with 5, and may run out of memory, 7, in both calls.
+            special = {3: (other, other), 5: (f"position at index 0: {text}", other), 7: (text, text)}
+            solved, read = special.get(number, (other, text) if is_of_line else (text, other))
+            self.assertEqual(in_rust, f"{solved}; {read}")

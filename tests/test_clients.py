@@ -1,0 +1,184 @@
+"""Programs over the library, as their authors build them, and the packages for Python and Rust."""
+import os
+import re
+import shlex
+import shutil
+import sys
+import unittest
+
+from .checkouts import VERSION
+from .prefix import CXX, PIP, C, installed_prefix, need_tool
+from .support import ROOT, built, run
+
+SMALL, LARGE = 9, 10  # positions of examples/masks.txt, without the one of 20 empty squares and with it
+CMAKE = """cmake_minimum_required(VERSION 3.16)
+project(clients C CXX)
+add_executable(program answers.c)
+{}add_executable(shared answers.c)
+add_executable(in_cxx answers.cpp)
+target_link_libraries(shared ffosolve::ffosolve)
+target_link_libraries(in_cxx ffosolve::ffosolve)
+"""
+
+
+def setUpModule():
+    global PREFIX
+    PREFIX = installed_prefix()
+
+
+def shown(language, *names):
+    """The only block in a language that documents show, and what it prints according to its comments."""
+    texts = "".join((ROOT / name).read_text() for name in names or ("README.md", "docs/library.md"))
+    (block,) = re.findall(rf"^```{language}\n(.*?)^```$", texts, re.MULTILINE | re.DOTALL)
+    return block, "".join(f"{line}\n" for line in re.findall(r"(?:  # |// )(.*)$", block, re.MULTILINE))
+
+
+class Examples(unittest.TestCase):
+    def answers(self, *command, count=LARGE):
+        """Checks an example with the first positions of examples/masks.txt, one with two best moves, and a refused one."""
+        masks, answers = ((ROOT / "examples" / name).read_text().splitlines(True) for name in ("masks.txt", "answers.txt"))
+        ran = PREFIX.run(*command, text="".join(masks[:count]))
+        self.assertEqual((ran.returncode, ran.stdout), (0, "".join(answers[:count] + answers[LARGE:])), ran.stderr)
+        ran = PREFIX.run(*command, text=masks[2] + "fffffff8 7fffffff00000007\n")
+        self.assertEqual(ran.stdout, answers[2] + "+08 H8\nA1 of A1,H1\nPS\nH1 of H1\n", ran.stderr)
+        ran = PREFIX.run(*command, text=masks[0] + "3 2\n")
+        self.assertEqual((ran.returncode, ran.stdout), (1, ""))
+        self.assertIn("position 2: the masks share a square", ran.stderr)
+
+    def test_in_c_and_cxx_by_pkg_config(self):
+        need_tool("pkg-config")
+        self.assertEqual(PREFIX.make("pkg-config", "--modversion", "ffosolve").stdout.strip(), VERSION)
+        flags = shlex.split(PREFIX.make("pkg-config", "--cflags", "--libs", "ffosolve").stdout)
+        source = PREFIX.shipped / "examples/c/answers.c"
+        for compiler, count, words in ((C, LARGE, ()), (C, SMALL, ("-static",)), (CXX, SMALL, ())):
+            with self.subTest(compiler=compiler[0], words=words):
+                program = PREFIX.compile(compiler, "by-pkg-config", [*words, source], "-x", "none", *flags)
+                self.answers(program, count=count)
+
+    def test_in_c_and_cxx_by_cmake(self):
+        """As docs/library.md shows it, with either library. A newer version is not found."""
+        need_tool("cmake")
+        (first, second, _), (block, _) = VERSION.split("."), shown("cmake")
+        for name in ("answers.c", "answers.cpp"):
+            PREFIX.write(f"cmake/{name}", (PREFIX.shipped / "examples/c/answers.c").read_text())
+        configure = ("cmake", "-S", "cmake", "-B", "cmake-built", f"-DCMAKE_PREFIX_PATH={PREFIX.folder}")
+        PREFIX.write("cmake/CMakeLists.txt", CMAKE.format(block))
+        PREFIX.make(*configure)
+        PREFIX.make("cmake", "--build", "cmake-built")
+        for name in ("program", "shared", "in_cxx"):
+            with self.subTest(name=name):
+                self.answers(PREFIX.work / "cmake-built" / name, count=SMALL)
+        PREFIX.write("cmake/CMakeLists.txt", CMAKE.format(block.replace(" 1.0 ", f" {first}.{int(second) + 1} ")))
+        ran = PREFIX.run(*configure)
+        self.assertNotEqual(ran.returncode, 0)
+        self.assertIn(VERSION, ran.stderr)
+
+    def test_in_python(self):
+        script = [PREFIX.site and sys.executable, PREFIX.shipped / "examples/python/answers.py"]
+        self.answers(*script)
+        self.answers(*script, PREFIX.shared, count=SMALL)
+
+    def test_in_rust(self):
+        self.assertTrue(PREFIX.crate)
+        PREFIX.cargo("build", PREFIX.work / "examples/rust", "--quiet")
+        self.answers(PREFIX.work / "target/debug/answers")
+
+
+class PythonPackage(unittest.TestCase):
+    def setUp(self):
+        self.site = PREFIX.site
+
+    def test_its_own_tests_pass(self):
+        self.assertTrue((self.site / "ffosolve/py.typed").exists())
+        ran = PREFIX.make(sys.executable, "-m", "unittest", "discover", "-s", PREFIX.work / "python/tests")
+        self.assertRegex(ran.stderr, r"Ran [1-9]\d* tests")
+
+    def test_pip_installs_its_program(self):
+        for words, wanted in ((["--version"], f"ffosolve-games {VERSION}\n"), (["--empties", "59"], r"\S{64} O; % standard input, game 1\n")):
+            self.assertRegex(PREFIX.make(self.site / "bin/ffosolve-games", *words, text="f5").stdout, rf"\A{wanted}\Z")
+
+    def test_a_library_of_another_version_or_without_a_call_is_refused(self):
+        need_tool("cc")
+        older, lacking = "has version 20000, not 1.x.y", "is not this package's library"
+        whole = len(PREFIX.calls)
+        for calls, number, why in ((whole, 10203, ""), (whole, 20000, older), (whole - 1, 10203, lacking)):
+            names = sorted(PREFIX.calls)[::-1][:calls]
+            source = PREFIX.write("other.c", "".join(f"int {name}(void) {{ return {number}; }}\n" for name in names))
+            other = PREFIX.work / f"other-{calls}-{number}.so"
+            PREFIX.make("cc", "-shared", "-fPIC", "-o", other, source)
+            env = {**PREFIX.environment, "FFOSOLVE_LIBRARY": str(other)}
+            ran = PREFIX.run(sys.executable, "-c", "import ffosolve; ffosolve.Solver()", env=env)
+            is_refused = why in ran.stderr and str(other) in ran.stderr
+            self.assertTrue(is_refused if why else ran.returncode == 0, ran)
+
+    def test_pip_installs_its_source_archive_and_an_editable_wheel(self):
+        hooks = "import sys; sys.path.insert(0, 'backend'); import ffosolve_wheel as made; "
+        hooks += f"print(made.build_sdist({str(PREFIX.work)!r}), made.build_editable({str(PREFIX.work)!r}))"
+        archive, wheel = PREFIX.make(sys.executable, "-c", hooks, cwd=PREFIX.work / "python").stdout.split()
+        for name, place in ((archive, "of-archive"), (wheel, "editable")):
+            PREFIX.make(*PIP, "--target", PREFIX.work / place, PREFIX.work / name)
+        files, wanted = (sorted(os.listdir(place / "ffosolve")) for place in (PREFIX.work / "of-archive", self.site))
+        self.assertEqual(files, wanted)
+        self.assertEqual((PREFIX.work / "editable/ffosolve.pth").read_text(), f"{PREFIX.work / 'python/src'}\n")
+
+
+class RustCrate(unittest.TestCase):
+    def setUp(self):
+        self.crate = PREFIX.crate
+
+    def test_declares_the_calls_of_the_header(self):
+        declared = re.findall(r"pub fn (ffosolve_\w+)", (ROOT / "rust/src/raw.rs").read_text())
+        self.assertEqual(sorted(declared), sorted(PREFIX.calls))
+
+    def test_its_own_tests_pass_with_either_library(self):
+        need_tool("readelf")
+        for features in ((), ("--features", "shared")):
+            with self.subTest(features=features):
+                ran = PREFIX.cargo("test", self.crate, "--no-run", *features)
+                self.assertNotIn("warning", ran.stderr)
+                program = re.search(r"Executable tests/calls.rs \((.*)\)", ran.stderr)[1]
+                needed = PREFIX.make("readelf", "-d", PREFIX.work / program).stdout
+                self.assertEqual("[libffosolve.so.1]" in needed, bool(features), needed)
+                ran = PREFIX.cargo("test", self.crate, *features)
+                passed = re.findall(r"^test result: ok. (\d+) passed", ran.stdout, re.MULTILINE)
+                self.assertGreater(len(passed), 2, ran.stdout)
+
+    def test_ffosolve_lib_dir_names_the_folder_of_the_library(self):
+        shutil.copytree(PREFIX.libraries, PREFIX.work / "libraries", symlinks=True)
+        places = {**PREFIX.environment, "PKG_CONFIG_PATH": "", "FFOSOLVE_LIB_DIR": str(PREFIX.work / "libraries")}
+        PREFIX.cargo("test", self.crate, "--quiet", "--test", "calls", env=places)
+        nowhere = {**PREFIX.environment, "FFOSOLVE_LIB_DIR": "/nowhere"}  # which goes before what pkg-config says
+        ran = PREFIX.run("cargo", "check", "--manifest-path", self.crate / "Cargo.toml", env=nowhere)
+        self.assertNotEqual(ran.returncode, 0)
+        why = "/nowhere/libffosolve.a is missing: install ffosolve, or set FFOSOLVE_LIB_DIR to the folder of it"
+        self.assertIn(why, ran.stderr)
+
+
+class Documents(unittest.TestCase):
+
+    def prints(self, wanted, *command):
+        self.assertNotEqual(wanted, "")
+        self.assertEqual(PREFIX.make(*command).stdout, wanted)
+
+    def test_programs_in_c_and_cxx_print_what_is_shown(self):
+        for language, compiler in (("c", C), ("cpp", CXX)):
+            with self.subTest(language=language):
+                block, wanted = shown(language)
+                self.prints(wanted, PREFIX.compile(compiler, "shown", [PREFIX.write(f"shown.{language}", block)]))
+
+    def test_the_program_in_python_prints_what_is_shown(self):
+        block, wanted = shown("python")
+        self.prints(wanted, PREFIX.site and sys.executable, "-c", block)
+
+    def test_the_program_over_a_list_of_scores_prints_what_is_shown(self):
+        page = "docs/check-evaluation.md"
+        listed = re.search(r"^> (\S{64} X; .*\n)", (ROOT / page).read_text(), re.MULTILINE)[1]
+        PREFIX.write("list.obf", listed)
+        PREFIX.write("list.scores", run(built("ffoscores"), input=listed.encode()).stdout)
+        block, wanted = shown("python", page)
+        self.prints(wanted, PREFIX.site and sys.executable, "-c", block)
+
+    def test_the_program_in_rust_prints_what_is_shown(self):
+        block, wanted = shown("rust")
+        program = "fn main() -> Result<(), Box<dyn std::error::Error>> {\n" + block + "Ok(())\n}\n"
+        self.prints(wanted, PREFIX.rust_client("readme", program))

@@ -1,0 +1,208 @@
+"""Many positions at once in Python: lists, iterators and arrays, on one thread and on several."""
+import itertools
+import sys
+import threading
+import time
+import types
+import unittest
+
+from .positions import need_modules, numpy, random_positions
+from .support import ROOT, SECONDS, run
+import ffosolve
+from ffosolve import Answer, Position, Solver
+
+SHARED, WIDE = Position(3, 2), Position(1, 6)
+
+
+class Meeting:
+    """A library whose calls wait until a number of them are at work at once. It keeps the scoring and the entries of each."""
+
+    def __init__(self, real, count):
+        self.real, self.at_once, self.asked = real, threading.Barrier(count), []
+
+    def __getattr__(self, name):
+        def call(*words):
+            self.at_once.wait(SECONDS)
+            self.asked.append((int(words[2]), words[3]))
+            return getattr(self.real, name)(*words)
+
+        return call
+
+
+class Lists(unittest.TestCase):
+    @classmethod
+    def setUpClass(cls):
+        cls.positions = random_positions(300, range(10))
+        cls.solver = Solver()
+        cls.answers = [cls.solver.solve(position) for position in cls.positions]
+        cls.scores = [cls.solver.move_scores(position) for position in cls.positions]
+
+    def test_all_calls_find_what_single_ones_find_in_order(self):
+        """The first position takes long and keeps its place. Some ten parts follow."""
+        long = random_positions(1, [13])
+        positions = long + 5 * self.positions
+        answers = [self.solver.solve(*long), *5 * self.answers]
+        scores = [self.solver.move_scores(*long), *5 * self.scores]
+        for threads, given in ((1, list), (2, iter), (4, tuple), (3, iter), (1, iter)):
+            for call, wanted in ((self.solver.solve_all, answers), (self.solver.solve_iter, answers),
+                                 (self.solver.move_scores_all, scores), (self.solver.move_scores_iter, scores)):
+                self.assertEqual(list(call(given(positions), threads=threads)), wanted)
+                self.assertEqual(list(call([], threads=threads)), [])
+
+    def test_results_come_before_an_endless_or_slow_iterable_ends(self):
+        def slow():
+            for position in self.positions[:50]:
+                time.sleep(0.02)
+                taken.append(position)
+                yield position
+
+        for threads in (1, 4):
+            counter, taken = itertools.count(), []
+            answers = self.solver.solve_iter((self.positions[number % 300] for number in counter), threads=threads)
+            self.assertIs(iter(answers), answers)
+            self.assertEqual(list(itertools.islice(answers, 400)), self.answers + self.answers[:100])
+            answers.close()
+            self.assertLess(next(counter), 100_000)
+            answers = self.solver.solve_iter(slow(), threads=threads)
+            self.assertEqual(next(answers), self.answers[0])
+            self.assertLess(len(taken), 50)
+            self.assertEqual(list(answers), self.answers[1:50])
+
+    def test_as_many_threads_as_asked_call_at_once(self):
+        """Each with the scoring of the solver, and its number of table entries."""
+        for threads in (3, 6):
+            solver, positions = Solver(scoring=2, entries=7), random_positions(threads, [16])  # each is a part of its own
+            answers, scores = solver.solve_all(positions), solver.move_scores_all(positions)
+            library = solver._library = Meeting(solver._library, threads)
+            for call, wanted in ((solver.solve_all, answers), (solver.solve_iter, answers),
+                                 (solver.move_scores_all, scores), (solver.move_scores_iter, scores)):
+                self.assertEqual(list(call(positions, threads=threads)), wanted)
+            self.assertEqual(library.asked, [(2, 7)] * 4 * threads)
+
+    def test_a_closed_iterator_waits_for_nothing_and_begins_nothing(self):
+        calls, ended, asked, closed = [], [], threading.Event(), threading.Event()
+
+        def solve_all(*words):
+            calls.append(words)
+            ended.append((closed if len(calls) > 1 else asked).wait(SECONDS))
+            return 0
+
+        def positions():
+            for number, position in enumerate(random_positions(20, [20])):
+                if number == 10:
+                    asked.set()
+                yield position
+
+        solver = Solver()
+        solver._library = types.SimpleNamespace(ffosolve_solve_all=solve_all)
+        answers = solver.solve_iter(positions(), threads=2)
+        next(answers)
+        answers.close()
+        closed.set()
+        for thread in threading.enumerate():
+            if thread.name == "ffosolve":
+                thread.join(SECONDS)
+        self.assertTrue(all(ended))
+        self.assertLessEqual(len(calls), 4)
+
+    def test_few_positions_are_read_ahead_of_one_that_takes_long(self):
+        """Another thread is free meanwhile, and solves those after it."""
+        begun, taken, solver = itertools.count(), itertools.count(), Solver()
+
+        def solve_all(*words):
+            if next(begun) == 0:
+                time.sleep(1)
+            return 0
+
+        solver._library = types.SimpleNamespace(ffosolve_solve_all=solve_all)
+        (long,) = random_positions(1, [20])  # each is a part of its own
+        answers = solver.solve_iter((long for _ in iter(lambda: next(taken), None)), threads=2)
+        next(answers)
+        answers.close()
+        self.assertLess(next(taken), 100)
+
+    def test_an_iterator_yields_the_answers_before_a_refusal(self):
+        for bad, error in ((SHARED, ffosolve.SharedSquare), (WIDE, ffosolve.TooManyEmpties)):
+            calls = ((self.solver.solve_iter, self.answers), (self.solver.move_scores_iter, self.scores))
+            for threads, place, (call, wanted) in itertools.product((1, 2), (0, 7, 299), calls):
+                answers, found = call([*self.positions[:place], bad, *self.positions[place:], SHARED], threads=threads), []
+                with self.assertRaises(error) as refused:
+                    found.extend(answer for answer in answers if found.append(answer))
+                self.assertEqual((found, refused.exception.index), (wanted[:place], place))
+
+    def test_a_list_is_refused_before_anything_is_solved(self):
+        """The first position would take hours. It is in the same part as the refused one, or in another."""
+        solver, hopeless = Solver(max_empties=34), random_positions(1, [34])
+        for (bad, error), threads, before, call in itertools.product(
+            ((SHARED, ffosolve.SharedSquare), (WIDE, ffosolve.TooManyEmpties)), (1, 2),
+            (hopeless, hopeless + self.positions), (solver.solve_all, solver.move_scores_all),
+        ):
+            with self.assertRaises(error) as refused:
+                call([*before, bad, SHARED], threads=threads)
+            self.assertEqual(refused.exception.index, len(before))
+
+    def test_a_number_of_threads_is_refused_by_its_name(self):
+        for name in ("solve_all", "solve_iter", "move_scores_all", "move_scores_iter"):
+            for threads, error in ((0, ValueError), (-1, ValueError), ("4", TypeError), (1.5, TypeError)):
+                with self.assertRaisesRegex(error, "^threads is .*, not "):
+                    getattr(self.solver, name)([], threads=threads)
+
+
+class Arrays(unittest.TestCase):
+    def setUp(self):
+        need_modules()
+        self.solver, self.positions = Solver(), random_positions(400, range(11))
+        self.own, self.opp = numpy.array(self.positions, numpy.uint64).T
+
+    def as_lists(self, solver, positions, threads):
+        """The answers and the scores of the calls for arrays, in the form of those for lists."""
+        own, opp = numpy.array(positions, numpy.uint64).reshape(-1, 2).T
+        answers, scores = (call(own, opp, threads=threads) for call in (solver.solve_arrays, solver.move_scores_arrays))
+        self.assertEqual([str(array.dtype) for array in (*answers, scores)], ["int32", "int32", "uint64", "int8"])
+        self.assertEqual(scores.shape, (len(positions), 64))
+        return [Answer(*its) for its in zip(*(array.tolist() for array in answers))], [
+            {ffosolve.square_name(at): score for at, score in enumerate(row) if score != ffosolve.NO_SCORE}
+            for row in scores.tolist()]
+
+    def test_arrays_hold_what_lists_hold(self):
+        """On one thread and on several, under each scoring, and for no position."""
+        for scoring, threads, count in (*((scoring, 1, 90) for scoring in ffosolve.Scoring), (0, 3, 400), (0, 2, 0)):
+            solver, positions = Solver(scoring=scoring), self.positions[:count]
+            wanted = solver.solve_all(positions), solver.move_scores_all(positions)
+            self.assertEqual(self.as_lists(solver, positions, threads), wanted)
+
+    def test_the_table_is_for_the_most_empty_squares_of_a_call(self):
+        asked, solver = [], Solver()
+        for call, name in ((solver.solve_arrays, "solve_all"), (solver.move_scores_arrays, "move_scores_all")):
+            solver._library = types.SimpleNamespace(**{f"ffosolve_{name}": lambda *words: asked.append(words[3]) or 0})
+            for empties in ((3, 16, 9), (16, 3), (3, 16)):
+                call(*numpy.array(random_positions(len(empties), empties), numpy.uint64).T)
+        self.assertEqual(asked, [ffosolve.table_entries(16)] * 6)
+
+    def test_threads_call_at_once(self):
+        for given, entries in ((7, 7), (None, ffosolve.table_entries(16))):
+            solver, positions = Solver(scoring=2, entries=given), random_positions(3, [16])
+            wanted = solver.solve_all(positions), solver.move_scores_all(positions)
+            library = solver._library = Meeting(solver._library, 3)
+            self.assertEqual(self.as_lists(solver, positions, threads=3), wanted)
+            self.assertEqual(library.asked, [(2, entries)] * 6)
+
+    def test_wrong_positions_and_arrays_are_refused(self):
+        for call in (self.solver.solve_arrays, self.solver.move_scores_arrays):
+            for bad, error in ((SHARED, ffosolve.SharedSquare), (WIDE, ffosolve.TooManyEmpties)):
+                own, opp = self.own.copy(), self.opp.copy()
+                (own[57], opp[57]), (own[300], opp[300]) = bad, SHARED
+                with self.assertRaises(error) as refused:
+                    call(own, opp, threads=2)
+                self.assertEqual(refused.exception.index, 57)
+            with self.assertRaises(TypeError):
+                call(self.own.astype(numpy.int64), self.opp)
+            for own in (self.own[:-1], self.own.reshape(20, 20)):
+                with self.assertRaises(ValueError):
+                    call(own, self.opp)
+            with self.assertRaisesRegex(ValueError, "^threads is at least 1, not 0$"):
+                call(self.own, self.opp, threads=0)
+
+    def test_no_program_needs_numpy(self):
+        words = "import sys, ffosolve; ffosolve.Solver().solve_all([], threads=2); sys.exit('numpy' in sys.modules)"
+        self.assertEqual(run(sys.executable, "-c", words, cwd=ROOT / "python/src").returncode, 0)

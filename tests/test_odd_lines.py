@@ -1,0 +1,99 @@
+"""Lines of OBF text, worked and odd ones, as Python, C and the program read them."""
+import collections
+import random
+import re
+import unittest
+
+from .prefix import TESTS, installed_prefix
+from .support import built, stored
+import ffosolve
+from ffosolve._refusals import refusal_of
+
+LINES = 10_000
+PIECES = b"| w|ps:-4;|--:0;|I1:+1|h8:64 ;|B2:+65;| |\t|%|;|:|?|-|X|O|b|\r|\0|\x80|\xff".split(b"|")
+RIGHT, WRONG, NONE = (stored("examples/kinds.report").split(b"\n")[row].split()[-1].decode() for row in (1, 2, 4))
+
+
+def setUpModule():
+    global PREFIX
+    PREFIX = installed_prefix()
+
+
+def odd_line(chance, lines):
+    """One of the lines, with up to three odd pieces among its squares or after them."""
+    line = chance.choice(lines)
+    for _ in range(chance.randrange(4)):
+        at = chance.choice((chance.randrange(64), chance.randrange(64, 80)))
+        line = line[:at] + chance.choice(PIECES) + line[at + chance.choice((0, 0, 1, 5, 99)):]
+    return line
+
+
+def row(line):
+    """What a line of OBF says: masks, side and listed moves."""
+    listed = "".join(f" {move}:{score}" for move, score in line.listed)
+    return f"{line.own:016x} {line.opp:016x} {line.side}{listed}"
+
+
+def read(text):
+    """A row for each line that is not skipped: its number, and what it says or why it is refused."""
+    refused, reader = [], ffosolve.parse_lines if isinstance(text, bytes) else ffosolve.read_lines
+    rows = {line.number: row(line) for line in reader(text, refused=refused.append)}
+    rows.update((error.line, "refused: " + str(error).split(": ", 1)[1]) for error in refused)
+    return [f"{number} {rows[number]}" for number in sorted(rows)]
+
+
+def read_in_c(text):
+    """The same rows, by ffosolve_read_line."""
+    cr = b"\r"
+    printed = PREFIX.called(f"read_line 8 {line.removesuffix(cr).hex()}" for line in text.split(b"\n"))
+    for number, (status, *words) in enumerate((line.split() for line in printed), 1):
+        if status == "0":
+            own, opp, side, _, *listed = words
+            listed = [tuple(map(int, it.split("/"))) for it in listed]
+            moves = "".join(f" {('PS', '--')[kind - 1] if kind else ffosolve.square_name(square)}:{it}" for kind, square, it in listed)
+            yield f"{number} {own:0>16} {opp:0>16} {'XO'[int(side)]}{moves}"
+        elif status != "8":
+            yield f"{number} refused: {refusal_of(int(status), int(words[1]))}"
+
+
+class OddLines(unittest.TestCase):
+    @classmethod
+    def setUpClass(cls):
+        chance, cls.worked = random.Random(5), stored("tests", "rows", "lines.obf")
+        cls.text = b"\n".join(odd_line(chance, cls.worked.split(b"\n")) for _ in range(LINES))
+        cls.rows = read(cls.text)
+
+    def test_python_and_c_read_worked_and_odd_lines_alike(self):
+        """What tests/rows/lines.read says of the worked lines follows from the grammar; no program printed it."""
+        worked = self.worked, (TESTS / "rows/lines.read").read_text().splitlines()
+        for text, wanted in (worked, (self.text, self.rows)):
+            self.assertEqual(read(text), wanted)
+            self.assertEqual(read(line + b"\n" for line in text.split(b"\n")), wanted)
+            self.assertEqual(list(read_in_c(text)), wanted)
+
+    def test_the_report_of_odd_lines_is_what_python_finds(self):
+        file = PREFIX.work / "odd.obf"
+        file.write_bytes(self.text)
+        report = PREFIX.make(built("ffosolve"), "--max-empties=20", file).stdout.splitlines()[1:-1]
+        solver = ffosolve.Solver(str(PREFIX.shared))
+        self.assertEqual(report, [self.reported(solver, row) for row in self.rows])
+        kinds = collections.Counter(re.sub(r"\d+", "N", row.split(" ", 1)[1]) if "refused" in row else row.split()[-1] for row in report)
+        refused = ("N empties, limit N", "board has N of N squares", "bad square at column N", "bad side at column N")
+        for kind in (RIGHT, WRONG, NONE, *(f"refused: {why}" for why in refused)):
+            self.assertGreater(kinds[kind], 0, kinds)
+
+    def reported(self, solver, row):
+        """The row of the report for a row of `read`."""
+        if "refused" in row:
+            return row
+        number, own, opp, _, *listed = row.split()
+        position = ffosolve.Position(int(own, 16), int(opp, 16))
+        if position.empties > 20:
+            return f"{number} refused: {position.empties} empties, limit 20"
+        score, kind, _ = answer = solver.solve(position)
+        best = answer.squares or ["PS" if kind == ffosolve.Kind.PASS else "--"]
+        claims = [(move, int(claim)) for move, claim in (word.split(":") for word in listed)]
+        most = max((claim for _, claim in claims), default=None)
+        is_right = most == score and all(move in best for move, claim in claims if claim == most)
+        check = NONE if not claims else RIGHT if is_right else WRONG
+        return f"{number} {score:+03d} {','.join(best)} {check}"

@@ -1,0 +1,166 @@
+"""Python's Position plays by the rules, beside the plain player of bench/player.py."""
+import itertools
+import os
+import random
+import re
+import sys
+import unittest
+
+from bench import player
+
+from .support import ROOT, built, run
+from .test_games import NAMES, can_move, passed, positions_of, random_game, squares_of
+from .positions import need_modules, numpy, random_positions
+import ffosolve
+from ffosolve import Position, Scoring, Solver
+
+# Black has no move in the first; in the second nobody has one, and 16 squares are empty.
+AT_PASS = "-OOOOOOXXXXXXXXXXXXXXXXXXXXXXXXXXXXXXXXXXXXXXXXXXXXXXXXXXXXXXXXX O;"
+FINISHED = "XXXXXXXXXXXXXXXXXXXXXXXXXXXXXXXX----------------OOOOOOOOOOOOOOOO X;"
+
+
+def position_of(own, opp, is_black):
+    return Position(own, opp, "X" if is_black else "O")
+
+
+class Rules(unittest.TestCase):
+    @classmethod
+    def setUpClass(cls):
+        rng = random.Random(77)
+        cls.games = [random_game(rng) for _ in range(100)]
+
+    def test_moves_passes_and_ends_are_those_of_the_plain_player(self):
+        ends = 0
+        for at in itertools.chain(*(player.random_game(random.Random(seed)) for seed in range(60))):
+            *plain, _ = at
+            position, own_moves = position_of(*plain), player.moves(*plain[:2])
+            names = [NAMES[square.bit_length() - 1] for square in player.squares_in(own_moves)]
+            other = can_move(passed(plain))
+            self.assertEqual((position.legal_moves, position.must_pass, position.is_over),
+                             (names, not names and other, not names and not other))
+            for square, name in zip(player.squares_in(own_moves), names):
+                after = position_of(*player.after(*plain[:2], square), not plain[2])
+                for move in (name, name.lower(), square.bit_length() - 1):
+                    self.assertEqual(position.play(move).to_obf(), after.to_obf())
+            if position.is_over:
+                ends += 1
+                scores = player.values(*plain[:2])
+                self.assertEqual([position.score(scoring) for scoring in Scoring], list(scores))
+                self.assertEqual([position.score(), position.score("discs")], [*scores[:2]])
+        self.assertEqual(ends, 60)
+
+    def test_a_transcript_plays_on_from_any_position(self):
+        for number, game in enumerate(self.games):
+            squares = squares_of(game)
+            cut, positions = number % len(squares), positions_of(squares)
+            texts = ["".join(NAMES[square] for square in part) for part in (squares[:cut], squares[cut:])]
+            middle = Position.start().play_all(texts[0])
+            end = position_of(*positions[min(positions)])
+            self.assertEqual(middle.to_obf(), position_of(*positions[60 - cut]).to_obf())
+            with_passes = [NAMES[move] if move is not None else "--" for move in game]
+            for found in (middle.play_all(texts[1]), middle.play_all(squares[cut:]), Position.start().play_all(with_passes),
+                          Position.start().play_all(" ".join(with_passes) + " pass pass 33-31 % f5")):
+                self.assertIn(end, (found, found.passed()))
+                self.assertTrue(found.is_over)
+
+    def test_an_illegal_move_is_named_with_its_board_and_side(self):
+        start, after, at_pass = Position.start(), Position.start().play("F5"), Position.from_obf(AT_PASS)
+        finished = Position.from_obf(FINISHED)
+        for call, why in (
+            (lambda: start.play("e3"), f"E3 is not a legal move for Black in {start.to_obf()}"),
+            (lambda: after.play(37), f"F5 is not a legal move for White in {after.to_obf()}"),
+            (lambda: Solver().play(after, "f5"), f"F5 is not a legal move for White in {after.to_obf()}"),
+            (lambda: start.play(64), f"square 64 is not a legal move for Black in {start.to_obf()}"),
+            (lambda: at_pass.play("A1"), f"A1 is not a legal move: White has to pass in {AT_PASS}"),
+            (lambda: finished.play("A5"), f"A5 is not a legal move: the game is over in {FINISHED}"),
+            (lambda: start.play_all("f5d6d6"), f"move 3: D6 is not a legal move for Black in {start.play_all('f5d6').to_obf()}"),
+            (lambda: start.play_all("f5 --"), f"move 2: a pass is not a legal move for White in {after.to_obf()}"),
+            (lambda: start.play_all("f5z9"), "move 2: no square has the name 'z9'"),
+        ):
+            with self.assertRaises(ffosolve.NoMove) as refused:
+                call()
+            self.assertEqual(str(refused.exception), why)
+            self.assertIsInstance(refused.exception, ValueError)
+        self.assertRaisesRegex(ValueError, "^no square has the name 'I9'$", start.play, "I9")
+        for square in (None, 1.5, ["F5"]):
+            self.assertRaisesRegex(TypeError, "^a square is a name such as 'F5' or a number from 0 to 63, not ", start.play, square)
+
+    def test_a_game_that_goes_on_has_no_score(self):
+        for position in (Position.start(), Position.from_obf(AT_PASS)):
+            self.assertRaisesRegex(ValueError, f"^the game is not over, .*: {position.to_obf()}$", position.score)
+        self.assertRaises(ffosolve.UnknownScoring, Position.from_obf(FINISHED).score, "loser")
+
+    def test_masks_that_share_a_square_have_no_moves(self):
+        shared = Position(3, 2)
+        for call in (lambda: shared.legal_moves, lambda: shared.must_pass, lambda: shared.is_over, shared.score,
+                     lambda: shared.play(9), lambda: shared.play_all("f5")):
+            self.assertRaises(ffosolve.SharedSquare, call)
+
+    def test_the_rules_take_the_library_that_a_solver_named(self):
+        code = """if True:
+            import sys, ffosolve
+            start = ffosolve.Position.start()
+            try:
+                print(start.show().to_obf() == start.to_obf(), start.legal_moves)
+            except ffosolve.LibraryNotFound as error:
+                print(type(error).__name__)
+            ffosolve.Solver(sys.argv[1])
+            print(start.legal_moves)
+        """
+        library = os.path.abspath(os.environ["FFOSOLVE_LIBRARY"])
+        ran = run(sys.executable, "-c", code, library, cwd=ROOT / "python/src", env={"FFOSOLVE_LIBRARY": "/nowhere/it.so"})
+        self.assertEqual(ran.stdout.decode(), "LibraryNotFound\n['D3', 'C4', 'F5', 'E6']\n", ran.stderr)
+
+
+class Answers(unittest.TestCase):
+    def test_an_answer_reads_as_its_row_of_a_report(self):
+        solver = Solver()
+        for line, text in ((AT_PASS, "-64 PS"), (FINISHED, "+32 --"), (AT_PASS.replace(" O", " X"), "+64 A1")):
+            self.assertEqual(str(solver.solve(Position.from_obf(line))), text)
+        two = ffosolve.Answer(0, ffosolve.Kind.MOVES, 0x81)
+        self.assertEqual((str(two), f"{two}", repr(two)), ("+00 A1,H1", "+00 A1,H1", "Answer(score=0, kind=<Kind.MOVES: 0>, best=129)"))
+
+    def test_a_board_shows_a_pass_and_a_finished_game(self):
+        solver = Solver()
+        for line, last, title in (
+            (AT_PASS, "O has to pass: -64", "White has to pass: -64"),
+            (FINISHED, "X scores +32: the game is over", "Black scores +32: the game is over"),
+            (AT_PASS.replace(" O", " X"), "X is to move", "Black is to move"),
+        ):
+            position = Position.from_obf(line)
+            board = position.show(solver.solve(position))
+            self.assertEqual(str(board).splitlines()[-1], last)
+            self.assertEqual(board._repr_svg_().count(f">{title}</text>"), 1)
+
+
+class MostEmpties(unittest.TestCase):
+    def test_the_default_is_that_of_the_programs(self):
+        told = run(built(), "--help", check=True).stdout.decode()
+        default = re.search(r"--max-empties.*?\[default: (\d+)\]", told, re.DOTALL)[1]
+        self.assertEqual(Solver().max_empties, int(default))
+
+    def test_more_are_refused_before_anything_is_solved(self):
+        """The first position would take hours, if it was solved."""
+        need_modules()
+        solver, hopeless = Solver(max_empties=33), random_positions(1, [33])
+        (wide,) = random_positions(1, [34])
+        own, opp = numpy.array([*hopeless, wide], numpy.uint64).T
+        why = "34 empty squares are more than max_empties=33 of the Solver"
+        for index, call in (
+            *((None, lambda call=call: call(wide)) for call in (solver.solve, solver.move_scores)),
+            (None, lambda: solver.confirm(wide, ffosolve.Answer(0, ffosolve.Kind.OVER, 0))),
+            *((1, lambda call=call, threads=threads: call([*hopeless, wide], threads=threads))
+              for call in (solver.solve_all, solver.move_scores_all) for threads in (1, 2)),
+            *((1, lambda call=call: call(own, opp)) for call in (solver.solve_arrays, solver.move_scores_arrays)),
+            *((0, lambda call=call: next(call([wide]))) for call in (solver.solve_iter, solver.move_scores_iter)),
+        ):
+            with self.assertRaises(ffosolve.TooManyEmpties) as refused:
+                call()
+            told = why if index is None else f"position at index {index}: {why}"
+            self.assertEqual((str(refused.exception), refused.exception.index), (told, index))
+
+    def test_a_limit_is_a_number_up_to_sixty(self):
+        self.assertEqual([Solver(max_empties=most).max_empties for most in (0, 60)], [0, 60])
+        for most, error in ((61, ValueError), (-1, ValueError), ("20", TypeError), (20.0, TypeError)):
+            with self.assertRaisesRegex(error, "^max_empties is "):
+                Solver(max_empties=most)
