@@ -128,8 +128,11 @@ absolute = case "$(PREFIX)" in /*) ;; *) echo "PREFIX is $(PREFIX), but has to b
 install: $(programs:%=out/$(CPU)/%) $(foreach level,$(levels),out/$(level)/libffosolve.a out/$(level)/libffosolve.so) ## installs programs, library, manual pages, completions and documents under PREFIX (/usr/local), in DESTDIR
 	$(absolute)
 	install -D -t "$(DESTDIR)$(BINDIR)" $(programs:%=out/$(CPU)/%)
-	place=$$(realpath -ms --relative-to='$(BINDIR)/..' '$(PREFIX)/share/ffosolve')
-	for name in $(scripts); do sed "s|share/ffosolve|$$place|" bin/$$name | install -m 755 /dev/stdin "$(DESTDIR)$(BINDIR)/$$name"; done
+	package=$$(realpath -ms --relative-to='$(BINDIR)/..' '$(PREFIX)/share/ffosolve')
+	library=$$(realpath -ms --relative-to='$(BINDIR)/..' '$(LIBDIR)/libffosolve.so')
+	for name in $(scripts); do
+	    sed "s|share/ffosolve|$$package|; s|lib/libffosolve.so|$$library|" bin/$$name | install -m 755 /dev/stdin "$(DESTDIR)$(BINDIR)/$$name"
+	done
 	for program in $(programs:%=out/$(CPU)/%) $(scripts:%=bin/%); do
 	    name=$${program##*/}
 	    said=$$(COLUMNS=80 "$$program" --help) || echo "$$name: its manual page has no options, since --help can't be run" >&2

@@ -9,7 +9,7 @@ import unittest
 from bench import player
 
 from .support import ROOT, built, run
-from .test_games import NAMES, can_move, passed, positions_of, random_game, squares_of
+from .games import NAMES, can_move, passed, positions_of, random_game, squares_of
 from .positions import need_modules, numpy, random_positions
 import ffosolve
 from ffosolve import Position, Scoring, Solver

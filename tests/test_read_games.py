@@ -11,7 +11,7 @@ from bench import player
 
 from . import positions  # noqa: F401, which names the library
 from .support import InFolder
-from .test_games import discs_of_black, positions_of, random_game, record, squares_of, transcript, wthor
+from .games import discs_of_black, positions_of, random_game, record, squares_of, transcript, wthor
 import ffosolve
 from ffosolve import Solver
 

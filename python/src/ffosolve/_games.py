@@ -13,6 +13,7 @@ from ._transcripts import PASSES, words_of
 PASS, NO_SQUARE = 64, 255  # in the place of a square's number
 WORDS = {**{name.lower(): number for number, name in enumerate(NAMES)}, **dict.fromkeys(PASSES, PASS)}
 HEADER = struct.Struct("<4x I H 2x B B B x")  # games, another number, size of the board, kind, empty squares
+EMPTIES_BYTE = 14  # of the header: the empty squares
 RECORD, REAL, SCORE, FIRST_MOVE = 68, 6, 7, 8  # bytes of a game, and places in it
 MOST_DISCS = 64
 SQUARES = bytearray([NO_SQUARE] * 256)  # of each byte of a WTHOR file's moves: ten times the row, and the column

@@ -1,9 +1,10 @@
-"""Published scores: the list of ffosolve-games is joined with the report of its solved positions."""
+"""Published scores: a list of ffosolve-games is compared with the report of its solved positions."""
 import os
 import re
 from typing import Any, Callable, Dict, Iterable, List, NamedTuple, Optional, Tuple
 
 from ._games import discs_of_black, final_score
+from ._list_digest import ListDigest, is_digest
 from ._positions import Line, Position
 from ._refusals import LineRefused, NoPosition
 from ._squares import square_names
@@ -14,15 +15,18 @@ EMPTIES = re.compile("([0-9]{1,2}) empties, limit [0-9]{1,2}")
 LAST = re.compile("solved ([0-9]{1,18}) refused ([0-9]{1,18})")
 
 
+class BadList(Exception):
+    """A list can't be compared."""
+
+
 class Unfit(Exception):
-    """Why a list and a report, or the WTHOR file of the list, can't be joined."""
+    """A list does not belong to a report or to a WTHOR file."""
 
 
 class Listed(NamedTuple):
-    """A line of a list: its position, or why it is refused, and what the comment says."""
+    """A line of a list: its position and what the comment says, which is nothing for a line of the digest."""
 
-    position: Optional[Line]
-    refusal: str = ""
+    position: Line
     file: str = ""
     game: int = 0
     score: Optional[int] = None  # the theoretical one: Black's discs, with the empty squares to the winner
@@ -48,8 +52,10 @@ class Compared(NamedTuple):
 
 
 class Comparison:
-    """What a list's theoretical scores are by a report of it. `moves` gives the mask of a position's moves. Raises
-    Unfit."""
+    """The theoretical scores of a list beside the exact ones of its report.
+
+    `moves` returns the mask of a position's legal moves. Raises BadList and Unfit.
+    """
 
     def __init__(self, listed: Iterable[bytes], report: Iterable[bytes], moves: Callable[[Position], int]) -> None:
         lines, rows = read_list(listed), read_report(report)
@@ -61,48 +67,70 @@ class Comparison:
                 raise Unfit(f"line {number} of the list {why}")
             line, row = lines[number], rows[number]
             if line.score is None:
-                self.unscored += 1
-            elif row.score is None or line.position is None:
+                self.unscored += line.file != ""
+            elif row.score is None:
                 self.refused += 1
             else:
                 exact = discs_of_black(row.score, line.position.side)
                 self.compared.append(Compared(line.position, line.file, line.game, line.score, exact))
-        if not self.compared and not self.refused:
-            raise Unfit("no line of the list has a theoretical score")
         self.differences = [it for it in self.compared if it.published != it.exact]
 
 
 def read_list(lines: Iterable[bytes]) -> Dict[int, Listed]:
-    """The lines of a list that are no comment and not blank, by their numbers."""
+    """The positions of a list by the numbers of their lines.
+
+    Each line is followed by a digest of all lines since the previous digest, so lists may be joined. Raises BadList.
+    """
     found: Dict[int, Listed] = {}
+    digest, awaited, uncovered = ListDigest(), [], 0
     for number, text in enumerate(lines, 1):
+        text = text.rstrip(b"\r\n")
         try:
-            position = Position.from_obf(text)
+            found[number] = read_listed(text)
         except NoPosition:
             continue
         except LineRefused as why:
-            found[number] = Listed(None, str(why))
+            raise BadList(f"its line {number} is refused: {why}") from None
+        if not awaited and not is_digest(text):
+            digest.add(text)
+            uncovered = number
             continue
-        match = COMMENT.fullmatch(os.fsdecode(text.rstrip(b"\r\n")))
-        told: Tuple[Any, ...] = match.groups() if match else ("", 0, None)
-        found[number] = Listed(position, "", told[0], int(told[1]), int(told[2]) if told[2] else None)
+        awaited = awaited or digest.lines()
+        if text != awaited.pop(0):
+            raise BadList(f"its line {number} is not the digest of the lines before it, so they were changed")
+        if not awaited:
+            digest, uncovered = ListDigest(), 0
+    if all(it.score is None for it in found.values()):
+        raise BadList("it has no theoretical score")
+    if uncovered:
+        raise BadList(f"it has no digest after line {uncovered}; print it again")
     return found
 
 
+def read_listed(text: bytes) -> Listed:
+    """The position and the comment of a line, without its end."""
+    position = Position.from_obf(text)
+    match = COMMENT.fullmatch(os.fsdecode(text))
+    if match is None:
+        return Listed(position)
+    file, game, score = match.groups()
+    return Listed(position, file, int(game), int(score) if score else None)
+
+
 def read_report(lines: Iterable[bytes]) -> Dict[int, Row]:
-    """The rows of a report of one list, by the numbers of the list's lines."""
+    """The rows of a report of one list by the numbers of the list's lines."""
     texts = [os.fsdecode(line.rstrip(b"\r\n")) for line in lines]
     if not texts or texts[0] != "[1]":
         raise Unfit("the report does not begin with the line `[1]`" if texts else "the report is empty")
     last = LAST.fullmatch(texts[-1])
     if last is None:
-        raise Unfit("the report does not end with the line `solved N refused N`, so it is not whole")
+        raise Unfit("the report does not end with the line `solved N refused N`, so it is incomplete")
     found: Dict[int, Row] = {}
     for place, text in enumerate(texts[1:-1], 2):
         match = ROW.fullmatch(text)
         if match is None:
-            told = "the report is of several lists" if LAST.fullmatch(text) else f"line {place} of the report is not a row"
-            raise Unfit(told)
+            is_last = LAST.fullmatch(text) is not None
+            raise Unfit("the report is of several lists" if is_last else f"line {place} of the report is not a row")
         number, score, best, word, refusal = match.groups("")
         if int(number) in found:
             raise Unfit(f"line {place} of the report is a second row of line {number} of the list")
@@ -114,16 +142,14 @@ def read_report(lines: Iterable[bytes]) -> Dict[int, Row]:
 
 
 def misfit(line: Optional[Listed], row: Optional[Row], moves: Callable[[Position], int]) -> str:
-    """What shows that a line of a list and a row of a report do not belong together; nothing where they may."""
+    """Why a line of a list and a row of a report do not belong together, or "" if they may."""
     if line is None or row is None:
         return "has no row in the report" if row is None else "is not a position, but the report has a row for it"
     position, said = line.position, row.refusal or f"{row.score:+03} {','.join(row.best)}"
-    if position is None:
-        return "" if row.refusal == line.refusal else f"is refused ({line.refusal}), but the report says: {said}"
     if row.score is None:
         match = EMPTIES.fullmatch(said)
-        is_told = match is not None and int(match[1]) == position.empties
-        return "" if is_told else f"has {position.empties} empty squares, but the report says: {said}"
+        fits = match is not None and int(match[1]) == position.empties
+        return "" if fits else f"has {position.empties} empty squares, but the report says: {said}"
     legal = square_names(moves(position)) or (["PS"] if moves(position.passed()) else ["--"])
     for name in row.best:
         if name not in legal:
@@ -132,6 +158,8 @@ def misfit(line: Optional[Listed], row: Optional[Row], moves: Callable[[Position
         return f"lists {'a move' if position.listed else 'no move'}, but the report says {row.word}"
     if row.score % 2 or abs(row.score) > 64:
         return f"has the score {row.score:+03} in the report, which is of another scoring than winner"
-    if row.best == ["--"] and row.score != final_score(position.own, position.opp):
-        return f"is the end of a game with the score {final_score(position.own, position.opp):+03}, and not {row.score:+03}"
+    exact = final_score(position.own, position.opp)
+    if row.best == ["--"] and row.score != exact:
+        what = "the end of a game" if line.file else "part of its digest,"
+        return f"is {what} with the score {exact:+03}, and not {row.score:+03}"
     return ""

@@ -1,0 +1,137 @@
+"""Games for tests: positions by the plain player, transcripts, records of WTHOR files, and lists with their reports."""
+import functools
+import hashlib
+import struct
+import sys
+
+from bench import player
+
+from .support import ROOT, InFolder, run
+
+PROGRAM = ROOT / "bin/ffosolve-games"
+UNREADABLE = "ffosolve-games: {}: {}\n"
+NAMES = [column + row for row in "12345678" for column in "ABCDEFGH"]
+SQUARE_BYTES = [10 * row + column for row in range(1, 9) for column in range(1, 9)]  # A1, B1, .. H8 in a WTHOR file
+
+
+# Positions of the plain player: the discs of the mover and of the other side, and whether Black moves.
+
+
+def passed(position):
+    own, opp, is_black = position
+    return opp, own, not is_black
+
+
+def can_move(position):
+    return player.moves(*position[:2]) != 0
+
+
+def random_game(rng):
+    """Returns a complete game: its squares, and None for each pass."""
+    return [move.bit_length() - 1 if move else None for *_, move in player.random_game(rng)][1:]
+
+
+def positions_of(squares):
+    """Returns the first position at each number of empty squares, up to the first illegal move."""
+    at = (*player.START, True)
+    found = {60: at}
+    for square in squares:
+        own, opp, is_black = at if can_move(at) else passed(at)
+        if not player.moves(own, opp) >> square & 1:
+            break
+        at = (*player.after(own, opp, 1 << square), not is_black)
+        found[64 - player.count(at[0] | at[1])] = at
+    return found
+
+
+def score(position):
+    """Returns the mover's exact score, with the empty squares to the winner."""
+    return player.values(*position[:2])[0]
+
+
+def discs_of_black(position):
+    return 32 + (score(position) if position[2] else -score(position)) // 2
+
+
+@functools.cache
+def real_score(squares):
+    """Returns Black's discs at the end of a game, or 40 if the game is not over."""
+    positions = positions_of(squares)
+    last = positions[min(positions)]
+    return 40 if can_move(last) or can_move(passed(last)) else discs_of_black(last)
+
+
+def best_moves(position):
+    own, opp, _ = position
+    scores = {NAMES[square.bit_length() - 1]: -player.values(*player.after(own, opp, square))[0]
+              for square in player.squares_in(player.moves(own, opp))}
+    return [name for name in scores if scores[name] == score(position)] or ["PS" if can_move(passed(position)) else "--"]
+
+
+# Games as they stand in files.
+
+
+def squares_of(game):
+    return [square for square in game if square is not None]
+
+
+def transcript(game):
+    return "".join(NAMES[square].lower() for square in game if square is not None)
+
+
+def record(game, theoretical=33, real=None):
+    """Returns a game of a WTHOR file. By default its real score is that of its moves."""
+    squares = squares_of(game)
+    real = real_score(tuple(squares)) if real is None else real
+    return struct.pack("<HHHBB", 7, 300, 301, real, theoretical) + bytes(map(SQUARE_BYTES.__getitem__, squares)).ljust(60, b"\0")
+
+
+def wthor(records, empties=22, count=None, board=8, kind=0, another=0):
+    count = len(records) if count is None else count
+    return struct.pack("<4BIHHBBBB", 20, 1, 12, 31, count, another, 2001, board, kind, empties, 0) + b"".join(records)
+
+
+# Lists and reports.
+
+
+def line_of(position, comment):
+    return f"{player.line(*position)} % {comment}\n"
+
+
+def with_digest(lines):
+    """Returns lines of a list and, if one has a theoretical score, their digest: 24 bits of SHA-256, six in each line."""
+    if ", theoretical score " not in lines:
+        return lines
+    games = [line for line in lines.splitlines(True) if line.strip() and not line.startswith("%")]
+    number = int(hashlib.sha256("".join(games).encode()).hexdigest()[:6], 16)
+    for at in range(4):
+        black = number // 64 ** (3 - at) % 64
+        lines += "X" * black + "-" + "O" * (63 - black) + f" X; % digest, line {at + 1} of 4\n"
+    return lines
+
+
+def report_of(listed, refused=None):
+    """Returns the report of a list, by the plain player. `refused` has reasons by the numbers of lines."""
+    rows, refused = [], refused or {}
+    for number, line in enumerate(listed.splitlines(), 1):
+        if line and line[0] != "%":
+            black, white = (sum(1 << square for square in range(64) if line[square] == letter) for letter in "XO")
+            at = (black, white, True) if line[65] == "X" else (white, black, False)
+            row = f"refused: {refused[number]}" if number in refused else f"{score(at):+03} {','.join(best_moves(at))} unlisted"
+            rows.append(f"{number} {row}\n")
+    return f"[1]\n{''.join(rows)}solved {len(rows) - len(refused)} refused {len(refused)}\n"
+
+
+class Case(InFolder):
+    maxDiff = 2000
+
+    def games(self, *words, status=0, out=None, err=None, **how):
+        """Runs ffosolve-games and returns its output and messages. `out` is compared after `with_digest`."""
+        ran = run(sys.executable, PROGRAM, *words, **how)
+        self.assertNotIn(b"Traceback", ran.stderr)
+        if err is not None:
+            self.assertEqual(ran.stderr.decode(), err)
+        if out is not None:
+            self.assertEqual(ran.stdout.decode(), with_digest(out))
+        self.assertEqual(ran.returncode, status, ran.stderr)
+        return ran.stdout.decode(), ran.stderr.decode()
