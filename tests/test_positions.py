@@ -84,6 +84,7 @@ class Rules(unittest.TestCase):
         self.assertRaisesRegex(ValueError, "^no square has the name 'I9'$", start.play, "I9")
         for square in (None, 1.5, ["F5"]):
             self.assertRaisesRegex(TypeError, "^a square is a name such as 'F5' or a number from 0 to 63, not ", start.play, square)
+        self.assertRaisesRegex(TypeError, "^moves are a transcript or a list of squares, not 5$", start.play_all, 5)
 
     def test_a_game_that_goes_on_has_no_score(self):
         for position in (Position.start(), Position.from_obf(AT_PASS)):

@@ -230,8 +230,9 @@ class Refusals(unittest.TestCase):
         for it, state in ((Answer(-64, Kind.PASS, 0), "has to pass: -64"), (Answer(32, Kind.OVER, 0), "scores +32: the game is over")):
             self.assertEqual(str(line.show(it)), str(line).replace("is to move", state))
         for it in (5, None, ["a"]):
-            with self.assertRaisesRegex(TypeError, "^a line of OBF text is of the type str or bytes, not "):
-                Position.from_obf(it)
+            for read in (Position.from_obf, lambda it: list(parse_lines(it))):
+                with self.assertRaisesRegex(TypeError, "^OBF text is of the type str or bytes, not "):
+                    read(it)
 
     def test_a_missing_library_is_named_by_its_path(self):
         for path in ("/nowhere/libffosolve.so", pathlib.Path("/nowhere/libffosolve.so"), __file__):
@@ -298,9 +299,9 @@ class Obf(unittest.TestCase):
                 self.assertEqual([(line, line.number) for line in read_lines(source)], [(POSITION, 2)])
             with self.assertRaises(FileNotFoundError):
                 next(read_lines(pathlib.Path(folder, "none.obf")))
-        for text in (CORNERS + "\n", CORNERS.encode()):
-            with self.assertRaisesRegex(TypeError, "^lines are read from a path, .*; parse_lines reads a text$"):
-                next(read_lines(text))
+        for it, what in ((CORNERS + "\n", "a text, which parse_lines reads"), (b"", "a text, .*"), (5, "5"), (None, "None")):
+            with self.assertRaisesRegex(TypeError, f"^lines are read from a path or .*, not from {what}$"):
+                next(read_lines(it))
 
     def test_squares_have_names_and_numbers(self):
         names = [ffosolve.square_name(number) for number in range(64)]

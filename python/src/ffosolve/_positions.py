@@ -98,6 +98,8 @@ class Position(Masks):
     def play_all(self, squares: Union[str, Iterable[Union[int, str]]]) -> "Position":
         """The position after the moves of a transcript such as "f5d6c3", in any form that `Game.of_text` reads, or of a
         list of squares. A pass may be written or left out. Raises NoMove, which names the move's number."""
+        if not hasattr(squares, "__iter__"):
+            raise TypeError(f"moves are a transcript or a list of squares, not {reprlib.repr(squares)}")
         position = self
         for square in words_of(squares) if isinstance(squares, str) else squares:
             is_pass = isinstance(square, str) and square.lower() in PASSES
@@ -200,11 +202,15 @@ def fault_of(found: "re.Match[bytes]", number: Optional[int]) -> LineRefused:
     return ShortBoard(squares, number) if squares == len(content) else BadSquare(found.end(2) + 1, number)
 
 
+def bytes_of(text: Union[str, bytes]) -> bytes:
+    if not isinstance(text, (str, bytes, bytearray)):
+        raise TypeError(f"OBF text is of the type str or bytes, not {type(text).__name__}")
+    return text.encode("utf-8", "surrogatepass") if isinstance(text, str) else text
+
+
 def without_end(text: Union[str, bytes]) -> bytes:
     """The bytes of a line without its end: an LF, and a CR before it."""
-    if not isinstance(text, (str, bytes, bytearray)):
-        raise TypeError(f"a line of OBF text is of the type str or bytes, not {type(text).__name__}")
-    line = text.encode("utf-8", "surrogatepass") if isinstance(text, str) else text
+    line = bytes_of(text)
     if line[-1:] == b"\n":
         line = line[:-1]
     return line[:-1] if line[-1:] == b"\r" else line
@@ -239,13 +245,14 @@ def parse_lines(
     text: Union[str, bytes], refused: Optional[Callable[[LineRefused], object]] = None
 ) -> Iterator[Line]:
     """The positions of the lines of a text, as `read_lines` reads those of a file."""
-    content = text.encode("utf-8", "surrogatepass") if isinstance(text, str) else bytes(text)
-    return read_lines(content.split(b"\n"), refused)
+    return read_lines(bytes_of(text).split(b"\n"), refused)
 
 
 def lines_of(source: Source) -> Iterator[Union[str, bytes]]:
-    if isinstance(source, (bytes, bytearray)) or isinstance(source, str) and "\n" in source:
-        raise TypeError("lines are read from a path, an open file or an iterable of lines; parse_lines reads a text")
+    is_text = isinstance(source, (bytes, bytearray)) or isinstance(source, str) and "\n" in source
+    if is_text or not isinstance(source, (str, os.PathLike)) and not hasattr(source, "__iter__"):
+        what = "a text, which parse_lines reads" if is_text else reprlib.repr(source)
+        raise TypeError(f"lines are read from a path or an iterable of lines such as an open file, not from {what}")
     if isinstance(source, (str, os.PathLike)):
         with open(source, "rb") as file:
             yield from file

@@ -11,7 +11,7 @@ from ._boards import OTHER
 from ._bulk import MOST_SECONDS, MOST_WEIGHT, Part, checked_threads, in_order, interruptible, parts_of, weight_of
 from ._games import Game, Player
 from ._library import MOST_EMPTIES, MOST_ENTRIES, CAnswer, CMoveScores, load
-from ._masks import c_position, c_positions, empties_of, refusal_for
+from ._masks import c_positions, empties_of, refusal_for
 from ._positions import Position
 from ._refusals import Refused, TooManyEntries, checked_number
 from ._rules import accept, moves, play
@@ -166,7 +166,7 @@ class Solver:
 
     def _answer(self, call: Any, position: Position, *claim: CAnswer) -> Answer:
         empties, answer = self._checked_empties(position), CAnswer()
-        asked = c_position(position), self._scoring, self._entries_for(empties), *claim, answer
+        asked = c_positions([position])[0], self._scoring, self._entries_for(empties), *claim, answer
         accept(interruptible(call, weight_of(1, empties), *asked))
         return Answer(answer.score, KINDS[answer.kind], answer.best)
 

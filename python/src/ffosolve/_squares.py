@@ -30,4 +30,5 @@ def number_of(square: Union[int, str]) -> int:
 
 def square_names(mask: int) -> List[str]:
     """The names of the squares of a mask, in the order of their numbers."""
+    mask = operator.index(mask)
     return [NAMES[number] for number in range(64) if mask >> number & 1]
