@@ -1,4 +1,4 @@
-"""Games: how transcripts and WTHOR files are read, and how a game is played by the library's rules."""
+"""Games: reads transcripts and WTHOR files, and plays games by the library's rules."""
 import ctypes
 import struct
 from typing import Any, BinaryIO, Iterator, List, NamedTuple, Optional, Sequence, Tuple, Type
@@ -10,20 +10,20 @@ from ._squares import NAMES, square_name
 from ._text import text_lines
 from ._transcripts import PASSES, words_of
 
-PASS, NO_SQUARE = 64, 255  # in the place of a square's number
+PASS, NO_SQUARE = 64, 255  # instead of a square's number
 WORDS = {**{name.lower(): number for number, name in enumerate(NAMES)}, **dict.fromkeys(PASSES, PASS)}
 HEADER = struct.Struct("<4x I H 2x B B B x")  # games, another number, size of the board, kind, empty squares
 EMPTIES_BYTE = 14  # of the header: the empty squares
 RECORD, REAL, SCORE, FIRST_MOVE = 68, 6, 7, 8  # bytes of a game, and places in it
 MOST_DISCS = 64
-SQUARES = bytearray([NO_SQUARE] * 256)  # of each byte of a WTHOR file's moves: ten times the row, and the column
+SQUARES = bytearray([NO_SQUARE] * 256)  # by the byte of a move in a WTHOR file: ten times the row, plus the column
 for square in range(64):
     SQUARES[10 * (square // 8 + 1) + square % 8 + 1] = square
-TEXT = bytes([*b"\t\n\v\f\r", *range(32, 256)])  # what a text begins with, and the century of a WTHOR file is not
+TEXT = bytes([*b"\t\n\v\f\r", *range(32, 256)])  # first bytes of a text; that of a WTHOR file, the century, is another
 
 
 class NotGames(ValueError):
-    """Why a file is not a WTHOR file of games."""
+    """A file is not a WTHOR file of games, for this reason."""
 
 
 class GameRefused(ValueError):
@@ -41,9 +41,9 @@ class Game(NamedTuple):
     """A game as it is in a file, right or wrong.
 
     `number` counts from 1: it is the game's line in a text, or its place in a WTHOR file. The scores of a WTHOR file are
-    Black's discs, 0 to 64; the winner gets the empty squares. `score` is the theoretical score, under perfect play from
-    the position with so many `empties` on (None where the file does not say that), and `real` that of the moves that were
-    played.
+    Black's discs, 0 to 64; the winner gets the empty squares. `score` is the theoretical score: perfect play from the
+    position with `empties` empty squares on. That is None if the file does not say it. `real` is the score of the game as
+    it was played.
     """
 
     number: int
@@ -64,22 +64,22 @@ class Game(NamedTuple):
 
     @property
     def squares(self) -> List[str]:
-        """The names of the squares that were moved to, "F5", "D6", .., without passes. If something else is in the place
-        of a square, it is there as it is written."""
+        """The names of the squares that were moved to, "F5", "D6", .., without passes. A word that is not a square stays
+        as it is written."""
         names = zip(self.moves, self.words)
         return [str(word) if move == NO_SQUARE else square_name(move) for move, word in names if move != PASS]
 
 
 class Played(NamedTuple):
-    """What playing a game to its end shows."""
+    """A game that was played to its end."""
 
-    position: Position  # the first one with the empty squares that are asked for
-    discs: Optional[int]  # Black's at the end, with the empty squares to the winner; None where the moves stop before
+    position: Position  # the first one with the wanted number of empty squares
+    discs: Optional[int]  # Black's at the end, with the empty squares to the winner; None if the moves stop before
 
 
 def games_in(file: Any, name: str) -> Tuple[Iterator[Game], Optional[int]]:
-    """The games of a file, and how many squares are empty at its theoretical scores: 0 where a WTHOR file does not say that,
-    None of a text. Raises NotGames, and NotText when the games are read."""
+    """The games of a file, and how many squares are empty at its theoretical scores: 0 if a WTHOR file does not say it, None
+    for a text. Raises NotGames, and NotText while the games are read."""
     if not name.lower().endswith(".wtb") and file.peek(1)[:1].strip(TEXT) == b"":
         return transcripts(file, name), None
     try:
@@ -90,7 +90,7 @@ def games_in(file: Any, name: str) -> Tuple[Iterator[Game], Optional[int]]:
 
 
 def transcripts(file: BinaryIO, name: str) -> Iterator[Game]:
-    """The games of a text, one a line; lines without a move, and all from `%` on, are skipped. Raises NotText."""
+    """The games of a text, one for each line with a move. Raises NotText."""
     for number, line in enumerate(text_lines(file, name), 1):
         game = Game.of_text(line.decode("utf-8", "replace"), number)
         if game.moves:
@@ -98,7 +98,8 @@ def transcripts(file: BinaryIO, name: str) -> Iterator[Game]:
 
 
 def read_header(file: BinaryIO) -> Tuple[int, int]:
-    """How many games the header of a WTHOR file counts, and the empty squares of their theoretical scores. Raises NotGames."""
+    """The number of games in the header of a WTHOR file, and that of empty squares at their theoretical scores. Raises
+    NotGames."""
     head = file.read(HEADER.size)
     if len(head) < HEADER.size:
         raise NotGames(f"it ends within its header of {HEADER.size} bytes" if head else "it is empty")
@@ -116,7 +117,7 @@ def read_header(file: BinaryIO) -> Tuple[int, int]:
 
 
 def records(file: BinaryIO, count: int, empties: int) -> Iterator[Game]:
-    """The games of a WTHOR file behind its header, 68 bytes each."""
+    """The games of a WTHOR file, after its header."""
     counts = f"its header counts {count} game{'s' * (count != 1)}"
     for number in range(1, count + 1):
         record = file.read(RECORD)
@@ -130,7 +131,7 @@ def records(file: BinaryIO, count: int, empties: int) -> Iterator[Game]:
 
 
 def game_of(number: int, record: bytes) -> Game:
-    """The game of a number in a WTHOR file, by its bytes."""
+    """The game with a number in a WTHOR file, from its bytes."""
     written = record[FIRST_MOVE:].rstrip(b"\0")
     return Game(number, written.translate(SQUARES), written, record[SCORE], record[REAL])
 
@@ -153,24 +154,24 @@ class Player:
         self._play, self._moves = library.ffosolve_play, library.ffosolve_moves
 
     def play(self, game: Game, empties: int) -> Played:
-        """What a game's first position with so many empty squares is, and how the game ends. It is played to its end,
-        since an illegal move shows that an earlier one may be wrong. Raises GameRefused."""
+        """A game's first position with a number of empty squares, and how the game ends. It is played to its end, since an
+        illegal move shows that an earlier one may be wrong. Raises GameRefused."""
         found, last = self._played(game, range(empties, empties + 1))
         if not found and not game.moves:
             raise GameRefused("it has no moves", game.number)
         if not found:
-            told = f"it ends here, with {last.empties} empty square{'s' * (last.empties > 1)}; {empties} are asked for"
-            raise GameRefused(told, game.number, START.empties - last.empties)
+            why = f"it ends here, with {last.empties} empty square{'s' * (last.empties > 1)}; {empties} are asked for"
+            raise GameRefused(why, game.number, START.empties - last.empties)
         is_over = not any(self._has_move(CPosition(*it)) for it in (last, last.passed()))
         discs = discs_of_black(final_score(*last), last.side) if is_over else None
         return Played(found[0], discs)
 
     def positions(self, game: Game) -> List[Position]:
-        """The positions of a game: its start, and that after each move. Raises GameRefused."""
+        """The positions of a game: the start, and the one after each move. Raises GameRefused."""
         return self._played(game, range(START.empties + 1))[0]
 
     def _played(self, game: Game, wanted: range) -> Tuple[List[Position], Position]:
-        """The positions of a game with the wanted numbers of empty squares, each the first one, and its last one."""
+        """The first position of a game with each wanted number of empty squares, and its last position."""
         if game.fault is not None:
             raise GameRefused(game.fault, game.number)
         play, at, after, side, left = self._play, CPosition(*START), CPosition(), START.side, START.empties
@@ -195,7 +196,7 @@ class Player:
         return moves.value != 0
 
     def _refusal(self, at: CPosition, game: Game, index: int) -> GameRefused:
-        """Why a move of a game is none."""
+        """Why a move of a game is illegal."""
         square = game.moves[index]
         number = sum(it != PASS for it in game.moves[:index]) + 1
         if square == NO_SQUARE:

@@ -1,4 +1,4 @@
-"""Texts: how their lines are read, and what is refused."""
+"""Reads the lines of texts."""
 from typing import BinaryIO, Iterator
 
 MOST_BYTES = 1_048_576  # of a line with its end, as of a whole list of ffosolve
@@ -6,11 +6,11 @@ MARKS = (b"\xef\xbb\xbf", b"\xff\xfe", b"\xfe\xff")  # of UTF-8 and UTF-16
 
 
 class NotText(ValueError):
-    """Why a text is refused, with its name."""
+    """A text is refused. The message names it."""
 
 
 def text_lines(file: BinaryIO, name: str) -> Iterator[bytes]:
-    """The lines of a text, each with its end. No more than MOST_BYTES are read of one, but for a byte. Raises NotText."""
+    """The lines of a text, each with its end. Raises NotText; reads at most one byte more than MOST_BYTES of a line."""
     number, line = 1, file.readline(MOST_BYTES + 1)
     if line.startswith(MARKS):
         raise NotText(f"cannot read {name}: it begins with a byte-order mark")
