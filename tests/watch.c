@@ -8,26 +8,23 @@
 #include <string.h>
 #include <unistd.h>
 
+#define NEXT(call) ((__typeof__(&call))dlsym(RTLD_NEXT, #call))
+
 static void record(const char *call) {
     int file = open(getenv("WATCHED"), O_CREAT | O_WRONLY | O_APPEND, 0600);
     if (write(file, call, strlen(call)) < 0) abort();
     close(file);
 }
 
-static int sync_by(const char *call, int file) {
-    int (*next)(int) = dlsym(RTLD_NEXT, call);
+static int sync_fails(void) {
     record("sync ");
-    if (!getenv("NO_SYNC")) return next(file);
     errno = EIO;
-    return -1;
+    return getenv("NO_SYNC") != NULL;
 }
 
-int fsync(int file) { return sync_by("fsync", file); }
-
-int fdatasync(int file) { return sync_by("fdatasync", file); }
-
+int fsync(int file) { return sync_fails() ? -1 : NEXT(fsync)(file); }
+int fdatasync(int file) { return sync_fails() ? -1 : NEXT(fdatasync)(file); }
 int rename(const char *from, const char *to) {
-    int (*next)(const char *, const char *) = dlsym(RTLD_NEXT, "rename");
     record("rename ");
-    return next(from, to);
+    return NEXT(rename)(from, to);
 }
