@@ -12,8 +12,8 @@ use Rattle.list_printer.specs.Output.{AppendsFront, Output, PrintsPart, both, ch
 use Rattle.list_printer.specs.Output.{lines_output, lists_output, queue_output}
 use Rattle.scored_lines.proofs.LineSteps.{and_assoc, and_true, lines_both, lines_none}
 use Rattle.scored_lines.proofs.LineSteps.{right_both, right_none}
-use Rattle.list_printer.proofs.Prints.{front_both, front_part, prints_both, prints_end}
-use Rattle.list_printer.proofs.Prints.{prints_part, prints_start}
+use Rattle.list_printer.proofs.WrittenParts.{front_both, front_part, prints_both, prints_end}
+use Rattle.list_printer.proofs.WrittenParts.{prints_part, prints_start}
 
 abbrev nothing : Output
 nothing = record { text = []; right = true }

@@ -3,17 +3,17 @@ use Rattle.std.proofs.Common.{ℕ, List, [], ◌++◌, Option, refl, sym, ap, �
 use Rattle.std.proofs.lemmas.List.{append_assoc, append-nil}
 use Rattle.std.specs.Io.KnownBytes.{Appends}
 use Rattle.obf_text.proofs.WriterLemmas.{appends_both, appends_none}
-use Rattle.list_printer.specs.Output.{AppendsFront, Prints}
+use Rattle.list_printer.specs.Output.{AppendsFront, WritesBefore}
 
-pub prints_start : (old : Option (List ℕ)) (all : List ℕ) → Prints old old all all
+pub prints_start : (old : Option (List ℕ)) (all : List ℕ) → WritesBefore old old all all
 prints_start old all = record { done = []; whole = refl; written = appends_none old }
 
-pub prints_end : (old now : Option (List ℕ)) (all : List ℕ) → Prints old now [] all
+pub prints_end : (old now : Option (List ℕ)) (all : List ℕ) → WritesBefore old now [] all
     → Appends old now all
 prints_end old now all h = subst (Appends old now) (sym (h.whole ∙ append-nil h.done)) h.written
 
 pub prints_both : (old now next : Option (List ℕ)) (rest left all : List ℕ)
-    → Prints old now rest all → Prints now next left rest → Prints old next left all
+    → WritesBefore old now rest all → WritesBefore now next left rest → WritesBefore old next left all
 prints_both old now next rest left all h k = record {
   done = h.done ++ k.done;
   whole = h.whole ∙ ap (λ t. h.done ++ t) k.whole ∙ sym (append_assoc h.done k.done left);
@@ -22,27 +22,27 @@ prints_both old now next rest left all h k = record {
 
 -- more follows what is written
 pub prints_part : (old now : Option (List ℕ)) (before after more : List ℕ)
-    → Prints old now after before → Prints old now (after ++ more) (before ++ more)
+    → WritesBefore old now after before → WritesBefore old now (after ++ more) (before ++ more)
 prints_part old now before after more h = record {
   done = h.done;
   whole = ap (λ t. t ++ more) h.whole ∙ append_assoc h.done after more;
   written = h.written;
 }
 
-to_front : (old now : Option (List ℕ)) (rest all : List ℕ) → Prints old now rest all
+to_front : (old now : Option (List ℕ)) (rest all : List ℕ) → WritesBefore old now rest all
     → AppendsFront old now all
 to_front old now rest all h =
     record { front = h.done; rest = rest; whole = h.whole; written = h.written }
 
 of_front : (old now : Option (List ℕ)) (all : List ℕ) (k : AppendsFront old now all)
-    → Prints old now k.rest all
+    → WritesBefore old now k.rest all
 of_front old now all k = record { done = k.front; whole = k.whole; written = k.written }
 
 pub front_none : (old : Option (List ℕ)) (all : List ℕ) → AppendsFront old old all
 front_none old all = to_front old old all all (prints_start old all)
 
 -- of what was left, a front is written
-pub front_both : (old now next : Option (List ℕ)) (rest all : List ℕ) → Prints old now rest all
+pub front_both : (old now next : Option (List ℕ)) (rest all : List ℕ) → WritesBefore old now rest all
     → AppendsFront now next rest → AppendsFront old next all
 front_both old now next rest all h k =
     to_front old next k.rest all

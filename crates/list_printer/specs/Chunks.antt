@@ -19,10 +19,10 @@ abbrev pub left_lines : Lists → List (List ℕ)
 left_lines lists = lines_of lists.rest.now ++ all_lines (texts_of lists.texts.now)
 
 -- the number of bytes of texts
-abbrev pub size_of : List (List ℕ) → ℕ
-size_of [] = 0
-size_of (text ∷ texts) = length text + size_of texts
+abbrev pub byte_count : List (List ℕ) → ℕ
+byte_count [] = 0
+byte_count (text ∷ texts) = length text + byte_count texts
 
 -- the number of bytes that are left
 abbrev pub left_size : Lists → ℕ
-left_size lists = length lists.rest.now + size_of (texts_of lists.texts.now)
+left_size lists = length lists.rest.now + byte_count (texts_of lists.texts.now)

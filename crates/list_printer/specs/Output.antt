@@ -42,8 +42,8 @@ abbrev pub lists_output : Scoring → Criteria → List (List ℕ) → Output
 lists_output g by texts = record { text = lists_text g by texts; right = lists_right g by texts }
 
 -- the result is this output; or memory was refused
-abbrev pub Gives : Output → Result LinesText AllocError → Type 0
-Gives output r = IfOk r (λ found. (found.bytes.items ≡ output.text) × (found.right ≡ output.right))
+abbrev pub HasOutput : Output → Result LinesText AllocError → Type 0
+HasOutput output r = IfOk r (λ found. (found.bytes.items ≡ output.text) × (found.right ≡ output.right))
 
 -- the output that a chunk's thread promises
 abbrev pub promised_output : ChunkPromise → Output
@@ -52,10 +52,10 @@ promised_output promise = text_output promise.scoring promise.criteria promise.t
 -- the chunk's thread promises this output, or the calling thread made it
 abbrev pub IsOutputOf : Output → ChunkOutput → Type 0
 IsOutputOf output (Pending handle work) = promised_output handle.promise ≡ output
-IsOutputOf output (Ready text) = Gives output text
+IsOutputOf output (Ready text) = HasOutput output text
 
 -- a writer's known bytes grow by a front of `all`, of which `rest` is left
-pub record Prints (old now : Option (List ℕ)) (rest all : List ℕ) : Type 0 where
+pub record WritesBefore (old now : Option (List ℕ)) (rest all : List ℕ) : Type 0 where
   pub done : List ℕ
   pub whole : all ≡ done ++ rest
   pub written : Appends old now done
@@ -69,5 +69,5 @@ pub record AppendsFront (old new : Option (List ℕ)) (bytes : List ℕ) : Type 
 
 -- Of the output `before`, a front is printed, and `after` is left to print.
 pub record PrintsPart (old new : Option (List ℕ)) (before after : Output) : Type 0 where
-  pub written : Prints old new after.text before.text
+  pub written : WritesBefore old new after.text before.text
   pub told : after.right ≡ before.right

@@ -3,7 +3,7 @@
 ghost use Rattle.std.specs.Prelude.{◌≡◌, ◌≤◌, IfOk};
 ghost use Rattle.std.specs.Arc.{arc_value};
 ghost use Rattle.endgame_search.specs.Limits.{most_empties};
-ghost use Rattle.list_printer.specs.Output.{Gives, IsOutputOf, promised_output, text_output};
+ghost use Rattle.list_printer.specs.Output.{HasOutput, IsOutputOf, promised_output, text_output};
 
 use crate::chunks::Chunk;
 use bound_table::{BoundTable, Bounds};
@@ -37,7 +37,7 @@ pub struct ChunkPromise<'a> {
 }
 
 impl<'a> Promise<Result<LinesText, AllocError>> for ChunkPromise<'a> {
-    ghost kept_by = { λ promise result. Gives (promised_output promise) result };
+    ghost kept_by = { λ promise result. HasOutput (promised_output promise) result };
 }
 
 /// What the thread of a chunk works with.
@@ -55,7 +55,7 @@ impl ChunkWork {
     // Scores the chunk, and marks it as scored.
     fn run(&self) -> Result<LinesText, AllocError>
         requires { (arc_value self.now.scorer).criteria.limit ≤ most_empties }
-        ensures { Gives (text_output (arc_value self.now.scorer).table.scoring
+        ensures { HasOutput (text_output (arc_value self.now.scorer).table.scoring
             (arc_value self.now.scorer).criteria self.now.text.items) result }
     {
         let scorer = &*self.scorer;
@@ -104,7 +104,7 @@ impl<'a> StartedChunk<'a> {
 
     // Waits for the chunk's thread, if it has one, and gives what is printed.
     pub(crate) fn join<R: Threads>(self, rt: &R) -> Result<LinesText, AllocError>
-        ensures { Gives self.entry result }
+        ensures { HasOutput self.entry result }
     {
         let StartedChunk { promise: _, output } = self;
         match output {
@@ -148,7 +148,7 @@ fn spawn_chunk<'a, R: Threads>(
         promise,
         move || -> Result<LinesText, AllocError>
             requires { (arc_value (arc_value own).scorer).criteria.limit ≤ most_empties }
-            ensures { Gives (text_output (arc_value (arc_value own).scorer).table.scoring
+            ensures { HasOutput (text_output (arc_value (arc_value own).scorer).table.scoring
                 (arc_value (arc_value own).scorer).criteria (arc_value own).text.items) result }
         { own.run() },
     );

@@ -6,7 +6,7 @@ ghost use Rattle.std.specs.Io.KnownBytes.{Appends};
 ghost use Rattle.endgame_search.specs.Limits.{most_empties};
 ghost use Rattle.obf_text.specs.LineText.{texts_of};
 ghost use Rattle.scored_lines.specs.Lines.{lists_right, lists_text};
-ghost use Rattle.list_printer.specs.Output.{AppendsFront, Prints, PrintsPart, chunks_output};
+ghost use Rattle.list_printer.specs.Output.{AppendsFront, PrintsPart, WritesBefore, chunks_output};
 ghost use Rattle.list_printer.specs.Output.{lists_output, queue_output};
 ghost use Rattle.list_printer.specs.declared.lists.ListFault.TheVariants.{CannotWrite, Memory};
 
@@ -61,7 +61,7 @@ impl From<io::Error> for ListFault {
 // Writes bytes by one call of the writer. Returns the bytes that the writer did not take: all of
 // them if it was interrupted.
 fn send_some<'a, W: Write>(writer: &mut W, bytes: &'a [u8]) -> io::Result<&'a [u8]>
-    ensures taken { IfOk result (λ rest. Prints (W.contents writer.old) (W.contents writer.new)
+    ensures taken { IfOk result (λ rest. WritesBefore (W.contents writer.old) (W.contents writer.new)
         rest.now bytes.now) }
     ensures front { OnErr result
         (AppendsFront (W.contents writer.old) (W.contents writer.new) bytes.now) }

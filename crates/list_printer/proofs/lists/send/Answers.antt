@@ -1,5 +1,5 @@
 use Rattle.scored_lines.proofs.Results.{on_err}
-use Rattle.list_printer.proofs.Prints.{front_both, prints_both}
+use Rattle.list_printer.proofs.WrittenParts.{front_both, prints_both}
 use Rattle.list_printer.proofs.lists.send.Goals as goal
 
 pub returns-in_err-rest-clause-front : goal.returns-in_err-rest-clause-front
