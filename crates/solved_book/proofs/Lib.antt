@@ -2,7 +2,7 @@
 -- Begin with KeptEntries and ClaimSteps; docs/architecture.md has the argument.
 pub mod MaskSteps
 pub mod KeptEntries
-pub mod Answers
+pub mod CanonicalAnswers
 pub mod ClaimSteps
 pub mod ListedAnswers
 pub mod RoundTrip

@@ -25,7 +25,7 @@ use Rattle.obf_text.specs.Fields.{Field, greatest_listed}
 use Rattle.obf_text.specs.Written.{best_fields}
 use Rattle.obf_text.specs.declared.entries.ListedMove.TheVariants.{At, Pass, Over}
 use Rattle.endgame_search.specs.declared.solved.Claim.{Claim}
-use Rattle.solved_book.specs.Listing.{best_by, listed_best, claim_of, lists_pass, lists_square, listed_squares}
+use Rattle.solved_book.specs.Listing.{best_by, listed_best, claim_of, field_lists_pass, field_lists_square, listed_squares}
 
 abbrev pub at : ℤ → ℕ → Field
 at score q = (At q, score)
@@ -54,7 +54,7 @@ square_in m q h =
     ∙ ap (λ b. in_mask m q && b) (any_contained (λ s. s == q) squares q (Contains-squares q h) (eq-eqb q q refl))
     ∙ and-true (in_mask m q)
 
-lists_same : (score : ℤ) (q : ℕ) (qs : List ℕ) → list_any (lists_square score q) (map (at score) qs) ≡ list_any (λ s. s == q) qs
+lists_same : (score : ℤ) (q : ℕ) (qs : List ℕ) → list_any (field_lists_square score q) (map (at score) qs) ≡ list_any (λ s. s == q) qs
 lists_same score q [] = refl
 lists_same score q (s ∷ qs) =
     ap₂ (λ a b. a || b) (ap (λ b. (s == q) && b) (same_score score) ∙ and-true (s == q)) (lists_same score q qs)
@@ -62,7 +62,7 @@ lists_same score q (s ∷ qs) =
 squares_back : (score : ℤ) (m : ℕ) → m < 2 ^ 64 → listed_squares score (map (at score) (squares_of m)) ≡ m
 unfolding listed_squares
 squares_back score m h =
-    sym (is_where m (λ q. list_any (lists_square score q) (map (at score) (squares_of m))) h (λ q l. sym (lists_same score q (squares_of m) ∙ square_in m q l)))
+    sym (is_where m (λ q. list_any (field_lists_square score q) (map (at score) (squares_of m))) h (λ q l. sym (lists_same score q (squares_of m) ∙ square_in m q l)))
 
 -- ---- the score
 
@@ -96,8 +96,8 @@ claim_from score b fields s e =
 
 moves_by : (score : ℤ) (m : ℕ) → 0 < m → m < 2 ^ 64 → listed_best score (map (at score) (squares_of m)) ≡ best.Moves m
 moves_by score m some h =
-    ap (λ squares. best_by squares (list_any (lists_pass score) (map (at score) (squares_of m)))) (squares_back score m h)
-    ∙ ap (λ b. cond b (cond (list_any (lists_pass score) (map (at score) (squares_of m))) best.Pass best.Over) (best.Moves m)) (ne_eqb m 0 (λ e. absurd (omega arith)))
+    ap (λ squares. best_by squares (list_any (field_lists_pass score) (map (at score) (squares_of m)))) (squares_back score m h)
+    ∙ ap (λ b. cond b (cond (list_any (field_lists_pass score) (map (at score) (squares_of m))) best.Pass best.Over) (best.Moves m)) (ne_eqb m 0 (λ e. absurd (omega arith)))
 
 moves_back : (score : ℤ) (m : ℕ) (qs : List ℕ) → squares_of m ≡ qs → 0 < m → m < 2 ^ 64 → IsListed score (best.Moves m) (map (at score) (squares_of m))
 unfolding greatest
@@ -109,9 +109,9 @@ moves_back score m (q ∷ qs) e some h = record {
   claim = claim_from score (best.Moves m) (map (at score) (squares_of m)) (ap (λ t. greatest_listed (map (at score) t)) e ∙ scores_back score qs) (moves_by score m some h);
 }
 
-no_squares : (score : ℤ) (fields : List Field) → ((q : ℕ) → list_any (lists_square score q) fields ≡ false) → listed_squares score fields ≡ 0
+no_squares : (score : ℤ) (fields : List Field) → ((q : ℕ) → list_any (field_lists_square score q) fields ≡ false) → listed_squares score fields ≡ 0
 unfolding listed_squares
-no_squares score fields none = sym (is_where 0 (λ q. list_any (lists_square score q) fields) (omega arith) (λ q l. in_mask-zero q ∙ sym (none q)))
+no_squares score fields none = sym (is_where 0 (λ q. list_any (field_lists_square score q) fields) (omega arith) (λ q l. in_mask-zero q ∙ sym (none q)))
 
 pub listed_back : (score : ℤ) (b : Best) → IsBest b → IsNarrow b → IsListed score b (best_fields score b)
 unfolding greatest

@@ -35,7 +35,7 @@ use Rattle.endgame_search.specs.declared.solved.Claim.{Claim}
 use Rattle.solved_book.specs.Claims.{ClaimsView, advice, advice_under, answer_claim, claim_or_fault, claim_at, claim_by, claims_from, claims_of, claim_for, image_claim, is_canonical_entry, claim_in_line, claims_after, same_discs, scoring_in, scoring_of_lines}
 use Rattle.solved_book.specs.Order.{is_behind, position_at, IsCanonical, AreBookPositions, by_masks}
 use Rattle.solved_book.specs.Books.{book_text, book_line, header}
-use Rattle.solved_book.proofs.Answers.{answer_best, answer_score, canonical_apart}
+use Rattle.solved_book.proofs.CanonicalAnswers.{answer_best, answer_score, canonical_apart}
 use Rattle.solved_book.proofs.ClaimSteps.{from_end, from_none, from_some}
 use Rattle.solved_book.proofs.KeptEntries.{masks_at, masks_cmp, masks_exact, masks_total}
 use Rattle.solved_book.proofs.ListedAnswers.{IsNarrow, listed_back}

@@ -10,19 +10,19 @@ use Rattle.obf_text.specs.declared.entries.ListedMove.TheVariants.{At, Pass, Ove
 use Rattle.endgame_search.specs.declared.solved.Claim.{Claim}
 
 -- whether a field lists a square, or a pass, with this score
-abbrev pub lists_square : ℤ → ℕ → Field → Bool
-lists_square score q (At square, listed) = (square == q) && int_eq listed score
-lists_square score q (Pass, listed) = false
-lists_square score q (Over, listed) = false
+abbrev pub field_lists_square : ℤ → ℕ → Field → Bool
+field_lists_square score q (At square, listed) = (square == q) && int_eq listed score
+field_lists_square score q (Pass, listed) = false
+field_lists_square score q (Over, listed) = false
 
-abbrev pub lists_pass : ℤ → Field → Bool
-lists_pass score (At square, listed) = false
-lists_pass score (Pass, listed) = int_eq listed score
-lists_pass score (Over, listed) = false
+abbrev pub field_lists_pass : ℤ → Field → Bool
+field_lists_pass score (At square, listed) = false
+field_lists_pass score (Pass, listed) = int_eq listed score
+field_lists_pass score (Over, listed) = false
 
 -- the squares that are listed with this score
 unfoldable pub listed_squares : ℤ → List Field → ℕ
-listed_squares score fields = mask_where (λ q. list_any (lists_square score q) fields)
+listed_squares score fields = mask_where (λ q. list_any (field_lists_square score q) fields)
 
 -- the squares that are listed with this score; if there is none, a pass if one is listed with
 -- this score, otherwise the end of the game
@@ -32,7 +32,7 @@ best_by squares pass =
 
 abbrev pub listed_best : ℤ → List Field → Best
 listed_best score fields =
-    best_by (listed_squares score fields) (list_any (lists_pass score) fields)
+    best_by (listed_squares score fields) (list_any (field_lists_pass score) fields)
 
 -- the greatest listed score, and the best moves that are listed with it
 abbrev pub claim_of : List Field → Claim

@@ -3,8 +3,8 @@
 ghost use Rattle.std.specs.Prelude.{◌≡◌, ◌↔◌, ◌||◌, ◌<◌, ℕ, [], IsNone, IfSome};
 ghost use Rattle.std.specs.List.{list_any};
 ghost use Rattle.othello_rules.specs.Masks.{in_mask};
-ghost use Rattle.solved_book.specs.Listing.{best_by, listed_best, claim_of, lists_pass};
-ghost use Rattle.solved_book.specs.Listing.{lists_square, listed_squares};
+ghost use Rattle.solved_book.specs.Listing.{best_by, listed_best, claim_of, field_lists_pass};
+ghost use Rattle.solved_book.specs.Listing.{field_lists_square, listed_squares};
 
 use endgame_search::Claim;
 use obf_text::{ListedMove, greatest_score};
@@ -14,7 +14,7 @@ use othello_rules::Best;
 // The mask `squares`, with the bit of the field's square if the field lists one with `score`.
 fn with_listed(squares: u64, field: &(ListedMove, i8), score: i8) -> u64
     ensures { (q : ℕ) → q < 64
-        → in_mask result q ≡ (lists_square score q field.now || in_mask squares q) }
+        → in_mask result q ≡ (field_lists_square score q field.now || in_mask squares q) }
 {
     let (listed_move, listed_score) = *field;
     match listed_move {
@@ -40,8 +40,8 @@ fn listed_squares(listed: &[(ListedMove, i8)], score: i8) -> u64
     squares
 }
 
-fn lists_pass(listed_move: ListedMove, listed_score: i8, score: i8) -> bool
-    ensures { result ≡ lists_pass score (listed_move, listed_score) }
+fn field_lists_pass(listed_move: ListedMove, listed_score: i8, score: i8) -> bool
+    ensures { result ≡ field_lists_pass score (listed_move, listed_score) }
 {
     match listed_move {
         ListedMove::Pass => listed_score == score,
@@ -51,9 +51,9 @@ fn lists_pass(listed_move: ListedMove, listed_score: i8, score: i8) -> bool
 
 // Whether a pass is listed with a score.
 fn is_pass_listed(listed: &[(ListedMove, i8)], score: i8) -> bool
-    ensures { result ≡ list_any (lists_pass score) listed.now }
+    ensures { result ≡ list_any (field_lists_pass score) listed.now }
 {
-    listed.iter().any(|(listed_move, listed_score)| lists_pass(*listed_move, *listed_score, score))
+    listed.iter().any(|(listed_move, listed_score)| field_lists_pass(*listed_move, *listed_score, score))
 }
 
 // The squares that are listed with a score; if there is none, a pass if one is listed with it,

@@ -4,7 +4,7 @@ use Rattle.std.proofs.lemmas.Bool.{false≢true}
 use Rattle.othello_rules.specs.declared.discs.Side.TheVariants.{Black}
 use Rattle.othello_bits.specs.Pos.{position_of}
 use Rattle.obf_text.specs.Written.{line_with_end}
-use Rattle.solved_book.proofs.Answers.{canonical_apart}
+use Rattle.solved_book.proofs.CanonicalAnswers.{canonical_apart}
 use Rattle.solved_book.specs.Books.{book_line}
 use Rattle.solved_book.specs.Order.{position_at}
 use Rattle.solved_book.proofs.book.write_book_line.Goals as goal

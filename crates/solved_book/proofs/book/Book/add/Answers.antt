@@ -5,7 +5,7 @@ use Rattle.othello_bits.specs.Pos.{PosView, answer_of}
 use Rattle.othello_bits.specs.Symmetries.{canonical_of}
 use Rattle.solved_book.specs.Books.{BookView}
 use Rattle.solved_book.specs.Order.{position_at, positions_in, IsCanonical}
-use Rattle.solved_book.proofs.Answers.{canonical_again}
+use Rattle.solved_book.proofs.CanonicalAnswers.{canonical_again}
 use Rattle.solved_book.proofs.KeptEntries.{held_then, new_when, none_held, book_insert}
 use Rattle.solved_book.proofs.book.Book.add.Goals as goal
 
