@@ -30,4 +30,4 @@ class Answer(NamedTuple):
         return square_names(self.best)
 
     def __str__(self) -> str:
-        return f"{self.score:+03} {','.join(self.squares) or ENDS[self.kind]}"
+        return f"{self.score:+03} {','.join(self.squares) or ENDS.get(self.kind, '')}"

@@ -19,7 +19,7 @@ MOVES = {name.encode(): name for name in (*NAMES, "PS", "--")}
 LISTED = re.compile(rb"(?:\A|;)[ \t]*([A-Ha-h][1-8]|[Pp][Ss]|--):([+-]?(?:[0-5]?[0-9]|6[0-4]))[ \t]*(?=;|\Z)")
 Source = Union[str, "os.PathLike[str]", Iterable[Union[str, bytes]]]
 BLACK, WHITE = (bytes.maketrans(b"Xx*BbOoWw-.", bits) for bits in (b"11111000000", b"00000111100"))
-STATES = {Kind.MOVES: "is to move", Kind.PASS: "has to pass: {:+}", Kind.OVER: "scores {:+}: the game is over"}
+STATES = {Kind.PASS: "has to pass: {:+}", Kind.OVER: "scores {:+}: the game is over"}
 
 
 class Masks(NamedTuple):
@@ -132,7 +132,7 @@ class Position(Masks):
         scores."""
         state = "is to move"
         if isinstance(scores, Answer):
-            state = STATES[scores.kind].format(scores.score)
+            state = STATES.get(scores.kind, state).format(scores.score)
             scores = dict.fromkeys(scores.squares, scores.score)
         elif scores is not None and not isinstance(scores, Mapping):
             wanted = "scores are an Answer, or a mapping from squares' names such as move_scores returns"
