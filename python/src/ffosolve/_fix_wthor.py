@@ -3,7 +3,8 @@ import contextlib
 import os
 from typing import BinaryIO, Dict, Iterable, Iterator, List, Mapping, Optional
 
-from ._games import EMPTIES_BYTE, HEADER, REAL, RECORD, SCORE, START, Game, GameRefused, NotGames, Player, game_of, read_header
+from ._games import EMPTIES_BYTE, HEADER, REAL, RECORD, SCORE, Game, GameRefused, NotGames, Player, game_of, read_header
+from ._positions import START
 from ._published import Compared, Unfit
 
 

@@ -180,8 +180,8 @@ def fix(place: str, compared: Sequence[Compared], player: Player, with_real: boo
             raise Stop(str(why)) from None
         except OSError as error:
             raise unwritable(shown(error.filename), error) from None
-    for path, it in fixed.items():
-        report(f"{shown(path)}: {it.summary()}", DONE)
+    for path, copy in fixed.items():
+        report(f"{shown(path)}: {copy.summary()}", DONE)
 
 
 def places_of(place: str, names: Sequence[str]) -> Dict[str, str]:

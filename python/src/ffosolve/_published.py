@@ -82,7 +82,8 @@ def read_list(lines: Iterable[bytes]) -> Dict[int, Listed]:
     Each line is followed by a digest of all lines since the previous digest, so lists may be joined. Raises BadList.
     """
     found: Dict[int, Listed] = {}
-    digest, awaited, uncovered = ListDigest(), [], 0
+    awaited: List[bytes] = []
+    digest, uncovered = ListDigest(), 0
     for number, text in enumerate(lines, 1):
         text = text.rstrip(b"\r\n")
         try:
