@@ -1,7 +1,10 @@
 # Packages of what is committed, with programs and libraries for both levels of processors. They are put together in a temporary
 # folder, since rt refuses links in a checkout.
 
-archive = ffosolve-$(version)-linux-x86-64
+# The version of a package: VERSION and, after the commit that set it, the number of later commits and the last one.
+later = $(shell git rev-list --count "$$(git log -1 --format=%H -- VERSION)..HEAD" 2>/dev/null)
+package = $(version)$(patsubst %,+%.g$(shell git rev-parse HEAD | cut -c 1-7),$(filter-out 0,$(later)))
+archive = ffosolve-$(package)-linux-x86-64
 clean = change=$$(git status --porcelain | head -n 1) || exit; [ -z "$$change" ] || { echo "not committed:$$change" >&2; exit 1; }
 room = room=$$(mktemp -d); trap 'rm -rf "$$room"' EXIT; umask 022
 seconds = $$(git log -1 --format=%ct)
@@ -14,9 +17,9 @@ lay = $(MAKE) -s install CPU=x86-64-v2 DESTDIR="$$room" PREFIX=$2 $1 >/dev/null;
     done
 
 # Writes README.md and PROVED into a folder: $(call texts,KIND,OTHER KIND,BIN,DOC,FOLDER).
-texts = sed -e '/^$2|/d; s/^$1|//; s|@BIN@|$3|g; s|@DOC@|$4|g' packaging/README.md | $(call fill,/dev/stdin,"$5/README.md"); \
+texts = sed -e '/^$2|/d; s/^$1|//; s|@BIN@|$3|g; s|@DOC@|$4|g; s/@PACKAGE@/$(package)/' packaging/README.md | $(call fill,/dev/stdin,"$5/README.md"); \
     { \
-        echo "ffosolve $(version), commit $$(git rev-parse HEAD), $$(rt version)"; \
+        echo "ffosolve $(package), commit $$(git rev-parse HEAD), $$(rt version)"; \
         echo; \
         echo 'Each function of these crates was proved against its contract. Nothing else is built into:'; \
         for program in $(programs); do echo "bin/$$program:" $$(scripts/below $$program); done; \
@@ -45,29 +48,29 @@ deb: levels ## makes out/ffosolve_VERSION_amd64.deb, a package for Debian
 	usr="$$room/usr" doc="$$room/usr/share/doc/ffosolve" python="$$room/usr/lib/python3/dist-packages"
 	$(call lay,LIBDIR=/usr/lib/x86_64-linux-gnu,/usr)
 	$(call texts,deb,archive,,/usr/share/doc/ffosolve,$$doc)
-	wheel=$$(cd python/backend && python3 -Bc 'import sys, ffosolve_wheel; print(ffosolve_wheel.build_wheel(sys.argv[1]))' "$$room")
+	wheel=$$(cd python/backend && FFOSOLVE_WHEEL_VERSION='$(package)' python3 -Bc 'import sys, ffosolve_wheel; print(ffosolve_wheel.build_wheel(sys.argv[1]))' "$$room")
 	python3 -m zipfile -e "$$room/$$wheel" "$$python"
 	rm -r "$$room/$$wheel" "$$python"/*.dist-info/RECORD "$$doc/python"
-	echo debian >"$$python/ffosolve-$(version).dist-info/INSTALLER"
+	echo debian >"$$python/ffosolve-$(package).dist-info/INSTALLER"
 	mv "$$doc/LICENSE" "$$doc/copyright"
-	printf '%s\n' 'ffosolve ($(version)) unstable; urgency=medium' '' '  * CHANGELOG.md, next to this file, says what is new.' '' \
+	printf '%s\n' 'ffosolve ($(package)) unstable; urgency=medium' '' '  * CHANGELOG.md, next to this file, says what is new.' '' \
 	    " -- Gimzolens <ffosolve@gimzolens.invalid>  $$(date -Rud "@$(seconds)")" >"$$doc/changelog"
 	gzip -9n "$$doc/changelog" "$$usr"/share/man/man1/*
 	strip --strip-unneeded -R .comment "$$usr"/libexec/ffosolve/*/* $$(find "$$usr/lib" -name 'libffosolve.so.$(version)')
 	install -D -m 644 packaging/lintian-overrides "$$usr/share/lintian/overrides/ffosolve"
-	$(call fill,packaging/control.in,"$$room/DEBIAN/control")
+	sed 's/@PACKAGE@/$(package)/g' packaging/control.in | $(call fill,/dev/stdin,"$$room/DEBIAN/control")
 	install packaging/postinst packaging/prerm "$$room/DEBIAN"
 	echo 'activate-noawait ldconfig' >"$$room/DEBIAN/triggers"
-	echo 'libffosolve $(major) libffosolve$(major) (>= $(version))' >"$$room/DEBIAN/shlibs"
+	echo 'libffosolve $(major) libffosolve$(major) (>= $(package))' >"$$room/DEBIAN/shlibs"
 	(cd "$$room" && find usr -type f | LC_ALL=C sort | xargs -d '\n' md5sum >DEBIAN/md5sums)
 	chmod -R u=rwX,go=rX "$$room"
-	SOURCE_DATE_EPOCH="$(seconds)" dpkg-deb --root-owner-group -Zxz --build "$$room" out/ffosolve_$(version)_amd64.deb >/dev/null
-	echo "made: $$PWD/out/ffosolve_$(version)_amd64.deb"
+	SOURCE_DATE_EPOCH="$(seconds)" dpkg-deb --root-owner-group -Zxz --build "$$room" out/ffosolve_$(package)_amd64.deb >/dev/null
+	echo "made: $$PWD/out/ffosolve_$(package)_amd64.deb"
 
 wheel: levels ## makes out/ffosolve-VERSION-py3-none-manylinux_2_34_x86_64.whl, the package for Python with the library
 	$(clean)
 	cd python/backend
-	name=$$(FFOSOLVE_WHEEL_LIBRARIES=../../out python3 -Bc 'import ffosolve_wheel; print(ffosolve_wheel.build_wheel("../../out"))')
+	name=$$(FFOSOLVE_WHEEL_VERSION='$(package)' FFOSOLVE_WHEEL_LIBRARIES=../../out python3 -Bc 'import ffosolve_wheel; print(ffosolve_wheel.build_wheel("../../out"))')
 	echo "made: $${PWD%/python/backend}/out/$$name"
 
 .PHONY: dist deb wheel

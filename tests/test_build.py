@@ -1,4 +1,4 @@
-"""What `bin/ffosolve` and make build, when, and what they tell of it: over a small checkout with a stand-in for the kit."""
+"""What `bin/ffosolve` and make build and when, and what they report, in a small checkout with a fake kit."""
 import os
 import re
 import shutil
@@ -11,8 +11,7 @@ from tests.checkouts import path_without
 from tests.support import (NOBODY, ROOT, SECONDS, InFolder, as_at_a_login, is_v3, lack, need, processes_with, run,
                            wait_until, write)
 
-# It tells each start, what it is handed and what it reads in files, and waits, fails or changes a source where the environment
-# says so.
+# Writes its starts, its descriptors and its standard input to files, and waits, fails or changes a source if the environment says so.
 RT = r"""#!/bin/sh
 ls -l /proc/$$/fd >>"$STARTS.rt"
 case $1 in
@@ -50,7 +49,7 @@ def setUpModule():
 
 
 class Case(InFolder):
-    """A test with a small checkout, whose name has a blank, in its folder."""
+    """A test with a small checkout in its folder, whose name has a blank."""
 
     def setUp(self):
         super().setUp()
@@ -76,36 +75,36 @@ class Case(InFolder):
         return {"env": {**places, **environment}, "text": True, "preexec_fn": as_at_a_login, "cwd": "/"}
 
     def use(self, *words, path=None, who={}, **environment):
-        """A run of the program, to its end."""
+        """Runs the program to its end."""
         return run(self.script, *(words or ("w",)), input="read\n", **self.how(path, **environment), **who)
 
     def begin(self, **environment):
-        """A run that goes on meanwhile; with WAITS, the stand-in waits until it is let go."""
+        """Starts the program. With WAITS, rt waits for the file STARTS.go."""
         return self.start(self.script, "w", **self.how(**environment))
 
     def builds(self):
         return self.starts.read_text().count("start") if self.starts.exists() else 0
 
     def ran(self, ran, text, words="<w>", builds=None):
-        """Compares what a run printed: what the program was made of, its words, its folder, what it read."""
+        """Asserts that the program ran: it printed what it was made of, its words, its folder and its input."""
         self.assertEqual((ran.returncode, ran.stdout), (3, f"made of {text}\n{words}/\nread\n"), ran.stderr)
         self.assertEqual(self.builds(), builds or self.builds())
 
     def refused(self, ran, words, lines=None):
-        """Compares a run that ends with status 4 and one line, behind those that tell of a build."""
+        """Asserts that a run ended with status 4 and one line, after those about the build."""
         last = ran.stderr.splitlines()[-1]
         self.assertEqual((ran.returncode, ran.stdout), (4, ""), ran)
         self.assertTrue(last.startswith("ffosolve: not built: ") and words in last, ran.stderr)
         self.assertEqual(ran.stderr.count("\n"), lines or ran.stderr.count("\n"), ran.stderr)
 
     def nothing_is_left(self):
-        """No process stays in the checkout, where the stand-in would wait for 45 seconds."""
+        """Waits until no process is in the checkout, where rt would wait for 45 seconds."""
         wait_until(lambda: not processes_with("cwd", self.root), 30)
 
 
 class Builds(Case):
-    def test_first_use(self):
-        """It builds, tells how far it is and runs; then it runs alone. So by a link, and the other program by its name."""
+    def test_the_first_use_of_each_program_builds_it_and_later_ones_only_run_it(self):
+        """The same through a symlink."""
         ran = self.use("one", "a b")
         self.ran(ran, 1, "<one><a b>", builds=1)
         self.assertTrue(all(line.startswith("ffosolve: ") for line in ran.stderr.splitlines()), ran.stderr)
@@ -123,9 +122,7 @@ class Builds(Case):
         ran = run("sh", "ffosolve", "w", **{**self.how(), "cwd": self.root / "bin"})
         self.assertEqual(ran.stdout, f"made of 1\n<w>{self.root}/bin\n", ran)
 
-    def test_what_is_handed_over(self):
-        """rt gets nothing to read, and neither it nor what tells how far it is gets the lock; the program gets the caller's three
-        streams alone, and his process."""
+    def test_rt_gets_no_input_and_no_lock_and_the_program_replaces_the_caller(self):
         below = self.root / "scripts/below"
         write(below, below.read_text().replace("\n", '\nls -l /proc/$$/fd >>"$STARTS.rt"\n', 1))
         ran = self.begin()
@@ -139,9 +136,9 @@ class Builds(Case):
         run("make", "-C", self.root, f"out/{LEVEL}/ffosolve.o", input="read\n", **self.how())
         self.assertEqual((self.builds(), Path(f"{self.starts}.read").read_text()), (2, ""))
 
-    def test_what_is_built_again(self):
-        """A change, an older text under its old time, a new file, another name, a file that went and a crate below; no other
-        time, and no file that is no source. Where nothing changed, no source is read."""
+    def test_each_change_of_a_source_builds_again_and_a_new_time_does_not(self):
+        """Changes are new text, an older text with its old time, a new, renamed or removed file, and a lower crate. If nothing
+        changed, no source is read."""
         for name in ("out/kept.rt", "must-fail/one.rt"):
             write(self.root / "crates/ffosolve" / name, "")
         self.use()
@@ -149,7 +146,7 @@ class Builds(Case):
         old = os.stat(self.source)
         write(self.source, "2\n")
         self.ran(self.use(), 2, builds=2)
-        self.assertIn("made of 1", (self.folder / "old").read_text())  # as one that runs meanwhile keeps its own
+        self.assertIn("made of 1", (self.folder / "old").read_text())  # a program that is running keeps its file
         write(self.source, "1\n")
         os.utime(self.source, ns=(old.st_atime_ns, old.st_mtime_ns))
         self.ran(self.use(), 1, builds=3)
@@ -175,25 +172,23 @@ class Builds(Case):
         write(self.root / "crates.txt", (self.root / "crates.txt").read_text() + "\n")
         self.ran(self.use(), 1, builds=9)
 
-    def test_a_disk_whose_clock_is_behind(self):
-        """By less than a second, as the times of files are."""
+    def test_a_change_within_the_same_second_builds_again(self):
+        """The times of files can be less than a second late."""
         write(self.tools / "date", '#!/bin/sh\necho $(($(/usr/bin/date "$@") + 1))\n')
         self.use()
         write(self.source, "2\n")
         self.ran(self.use(), 2, builds=2)
 
-    def test_a_change_during_a_build(self):
+    def test_a_change_during_a_build_builds_again(self):
         self.ran(self.use(CHANGE=str(self.source)), 2, builds=2)
 
-    def test_what_is_lost(self):
-        """What rt kept alone is not missed; the program, or all that was built, is made again."""
+    def test_a_program_that_was_removed_is_built_again_and_kept_proofs_are_not(self):
         self.use()
         for builds, lost in enumerate(("crates/ffosolve/out", "out/ffosolve", "out")):
             run("rm", "-r", self.root / lost, check=True)
             self.ran(self.use(), 1, builds=max(builds, 1))
 
-    def test_two_at_once(self):
-        """The second tells that it waits, builds where the first fails, and runs what the first built."""
+    def test_a_second_run_says_that_it_waits_and_builds_if_the_first_fails(self):
         go = Path(f"{self.starts}.go")
         for number, fails, wanted in ((1, {"FAILS": "yes"}, (4, "")), (2, {}, (3, "made of 2\n<w>/\n"))):
             write(self.source, f"{number}\n")
@@ -204,12 +199,12 @@ class Builds(Case):
             self.assertIn(f"waiting for another build; its log is in {self.root}/out\n", second.stderr.readline())
             go.touch()
             self.assertEqual((first.communicate(timeout=SECONDS)[0], first.returncode), wanted[::-1])
-            told = second.communicate(timeout=SECONDS)
-            self.assertEqual((second.returncode, told[0]), (3, f"made of {number}\n<w>/\n"), told)
+            output = second.communicate(timeout=SECONDS)
+            self.assertEqual((second.returncode, output[0]), (3, f"made of {number}\n<w>/\n"), output)
             self.assertEqual(self.builds(), number + 1)
             go.unlink()
 
-    def test_many_at_once(self):
+    def test_eight_runs_at_once_build_once(self):
         for ran in [self.begin() for _ in range(8)]:
             self.assertEqual(ran.communicate(timeout=SECONDS)[0], "made of 1\n<w>/\n")
         self.assertEqual(self.builds(), 1)
@@ -217,8 +212,7 @@ class Builds(Case):
 
 
 class Failures(Case):
-    def test_tools(self):
-        """One that is missing is told; another kit, too, and it is tried."""
+    def test_a_missing_tool_is_reported_and_so_is_another_kit_which_is_tried(self):
         self.refused(self.use(path="/usr/bin:/bin"), "rt (rattle-kit-13b or rattle-kit-13f) is not on the path", lines=1)
         ran = self.use(path=f"{self.tools}:{path_without('make', self.folder)}")
         self.assertEqual((ran.returncode, ran.stdout, ran.stderr.count("\n")), (4, "", 1), ran)
@@ -227,11 +221,10 @@ class Failures(Case):
             write(self.source, f"{builds}\n")
             ran = self.use(KIT=kit)
             self.ran(ran, builds, builds=builds)
-            told = f"ffosolve: rt is {kit} logic 0123; this checkout was proved with rattle-kit-13b and 13f; trying anyway\n"
-            self.assertEqual(told in ran.stderr, builds > 2, ran.stderr)
+            warning = f"ffosolve: rt is {kit} logic 0123; this checkout was proved with rattle-kit-13b and 13f; trying anyway\n"
+            self.assertEqual(warning in ran.stderr, builds > 2, ran.stderr)
 
-    def test_a_build_that_fails(self):
-        """The first error is told; a program that was built before counts for its own sources alone."""
+    def test_a_failed_build_reports_its_first_error_and_runs_no_older_program(self):
         self.use()
         write(self.source, "2\n")
         for _ in range(2):
@@ -241,8 +234,7 @@ class Failures(Case):
         write(self.source, "2\n")
         self.ran(self.use(), 2, builds=4)
 
-    def test_a_link_that_fails(self):
-        """Its first line is told; what a link tells where it succeeds is not."""
+    def test_a_failed_link_reports_its_first_line_and_one_that_succeeds_is_silent(self):
         write(self.link, "#!/bin/sh\necho 'ld.lld: error: no room' >&2\nexit 1\n")
         ran = self.use()
         self.assertEqual((ran.returncode, ran.stdout, ran.stderr.splitlines()[-1]), (4, "", "ld.lld: error: no room"), ran)
@@ -251,7 +243,7 @@ class Failures(Case):
         self.ran(ran, 1, builds=1)
         self.assertEqual(ran.stderr, "")
 
-    def test_kept_work_that_cannot_be_used(self):
+    def test_kept_work_that_cannot_be_used_is_dropped_and_built_again(self):
         for name in ("othello_rules/out/kept", "ffosolve/out/spoiled"):
             write(self.root / "crates" / name, "")
         ran = self.use()
@@ -262,22 +254,21 @@ class Failures(Case):
         self.refused(self.use(SPOILS="yes"), "cannot be used")
         self.assertLess(self.builds(), 15)
 
-    def test_a_program_that_cannot_be_kept(self):
-        """Nothing is left beside it, and an old one is not taken for it."""
+    def test_a_program_that_cannot_be_written_leaves_nothing_and_runs_no_older_one(self):
         self.use()
         write(self.source, "2\n")
         write(self.tools / "mv", "#!/bin/sh\nexit 1\n")
         kept = self.root / "out" / LEVEL / "ffosolve.o"
         self.refused(self.use(), f"{kept} can't be written")
         self.assertEqual([name for name in os.listdir(kept.parent) if ".new" in name], [])
-        write(self.tools / "mv", '#!/bin/sh\n/usr/bin/mv "$@"\nexit 1\n')  # as where it is ended behind that
+        write(self.tools / "mv", '#!/bin/sh\n/usr/bin/mv "$@"\nexit 1\n')  # as if it were ended after that
         self.refused(self.use(), f"{kept} can't be written")
         (self.tools / "mv").unlink()
         write(self.source, "1\n")
         self.ran(self.use(), 1, builds=4)
 
-    def test_a_full_disk(self):
-        """A small disk for out/, which is full at once, and is full when the program comes."""
+    def test_a_full_disk_is_reported_and_the_next_run_builds(self):
+        """The disk of out/ is full from the start, or gets full by the program."""
         small = 'mount -t tmpfs -o size=40k none out && head -c "$1" /dev/zero >out/filled; shift; exec "$@"'
         (self.root / "out").mkdir()
         space = ["unshare", "-m"] if os.getuid() == 0 else ["unshare", "-r", "-m"]
@@ -289,8 +280,8 @@ class Failures(Case):
             self.refused(run(*words, **{**self.how(), "cwd": self.root}), "written")
         self.ran(self.use(), 1)
 
-    def test_a_checkout_of_another_user(self):
-        """It runs where it is built, though a source is touched or closed; else it is refused by one line."""
+    def test_in_a_checkout_of_another_user_a_built_program_runs_and_no_other_is_built(self):
+        """A touched source, or one that can't be read, does not matter."""
         def closed(out=0o555, **how):
             paths = [self.root, *self.root.rglob("*")]
             modes = [path.stat().st_mode for path in paths]
@@ -316,7 +307,7 @@ class Failures(Case):
 
 
 class Signals(Case):
-    def test_nothing_is_left(self):
+    def test_a_signal_ends_the_build_and_the_run_that_waits(self):
         for count, number in enumerate((signal.SIGTERM, signal.SIGHUP, signal.SIGINT, signal.SIGKILL), 1):
             ran = self.begin(WAITS="yes")
             wait_until(lambda: self.builds() >= count)
@@ -329,37 +320,35 @@ class Signals(Case):
         self.ran(self.use(), 1, builds=5)
 
     def on_a_terminal(self, keys, shown, go=False, columns=80):
-        """What it prints on a terminal, and its status. Once it has shown how far it is, the keys are typed."""
+        """Returns the output on a terminal, and the status. The keys are typed after this text was shown."""
         words = ["script", "-qec", f"stty cols {columns}; exec '{self.script}' w", "/dev/null"]
         ran = self.start(*words, stdin=subprocess.PIPE, **{**self.how(WAITS="yes"), "text": False})
-        told, end = b"", time.monotonic() + SECONDS
-        while shown not in told and time.monotonic() < end:
-            told += os.read(ran.stdout.fileno(), 4096)
+        output, end = b"", time.monotonic() + SECONDS
+        while shown not in output and time.monotonic() < end:
+            output += os.read(ran.stdout.fileno(), 4096)
         go and Path(f"{self.starts}.go").touch()
-        return (told + ran.communicate(keys, timeout=SECONDS)[0]).decode(), ran.returncode
+        return (output + ran.communicate(keys, timeout=SECONDS)[0]).decode(), ran.returncode
 
-    def test_on_a_terminal(self):
-        """One line is written over, and fits where the terminal is narrow; an interrupt ends all."""
-        told, status = self.on_a_terminal(b"\x03", b" functions")
-        self.assertEqual(status, 128 + signal.SIGINT, told)
+    def test_on_a_terminal_one_line_that_fits_shows_the_progress_and_ctrl_c_ends_all(self):
+        output, status = self.on_a_terminal(b"\x03", b" functions")
+        self.assertEqual(status, 128 + signal.SIGINT, output)
         self.nothing_is_left()
-        told, status = self.on_a_terminal(b"\x04", b" functions", go=True)
-        self.assertIn("\r\x1b[Kffosolve: 0 min, crate 1 of 2, othello_rules: 34 of 83 functions\r\x1b[K", told)
-        self.assertEqual(("made of 1" in told, status), (True, 3), told)
+        output, status = self.on_a_terminal(b"\x04", b" functions", go=True)
+        self.assertIn("\r\x1b[Kffosolve: 0 min, crate 1 of 2, othello_rules: 34 of 83 functions\r\x1b[K", output)
+        self.assertEqual(("made of 1" in output, status), (True, 3), output)
         write(self.source, "2\n")
         Path(f"{self.starts}.go").unlink()
-        told, _ = self.on_a_terminal(b"\x04", b"crate 1", go=True, columns=30)
-        shown = [line for line in re.split(r"\r\n?|\x1b\[K", told) if "crate 1" in line]
-        self.assertTrue(shown and all(len(line) < 30 for line in shown), told)
+        output, _ = self.on_a_terminal(b"\x04", b"crate 1", go=True, columns=30)
+        shown = [line for line in re.split(r"\r\n?|\x1b\[K", output) if "crate 1" in line]
+        self.assertTrue(shown and all(len(line) < 30 for line in shown), output)
 
 
 class Targets(Case):
     def make(self, *words):
         return run("make", "-s", "-C", self.root, *words, **self.how())
 
-    def test_levels_and_version(self):
-        """Each level is proved once; where the version is another, the library is linked again. One that can't be linked, since
-        a tool fails or a call is nowhere, is told."""
+    def test_each_level_is_proved_once_and_a_new_version_only_links_the_library_again(self):
+        """A link that fails is reported: a tool fails, or a call is undefined."""
         for tool, package in (("cc", "gcc"), ("ar", "binutils"), ("objcopy", "binutils"), ("readelf", "binutils")):
             need(tool, package)
         (self.kit / "c").mkdir()
@@ -388,21 +377,19 @@ class Targets(Case):
         self.assertIn("heap_call", self.make("library").stderr)
         self.assertFalse((self.root / "out" / LEVEL / "libffosolve.so").exists())
 
-    def test_help(self):
-        """Of targets in either file."""
-        told = self.make("help").stdout
+    def test_help_lists_the_targets_of_both_makefiles(self):
+        listed = self.make("help").stdout
         for target in ("all", "look", "install", "dist"):
-            self.assertRegex(told, rf"(?m)^make {target} +\w")
+            self.assertRegex(listed, rf"(?m)^make {target} +\w")
 
-    def test_look(self):
-        """Prints what `rt try` does of the report, and what is not proved; else why there is none."""
+    def test_look_prints_the_report_and_that_nothing_is_proved_or_why_there_is_no_report(self):
         write(self.root / "crates/ffosolve/stdin", "")
         write(self.rt, '#!/bin/sh\nshift\necho "$@" >"$STARTS"\necho report\necho "checked: ended status=3" >&2\necho "run=ended status=3" >&2\nexit 3\n')
         write(self.folder / "a list", "")
-        for words, told in (((), "\n"), ((f"LIST={self.folder}/a list",), f"--data list.obf={self.folder}/a list -- list.obf\n")):
+        for words, start in (((), "\n"), ((f"LIST={self.folder}/a list",), f"--data list.obf={self.folder}/a list -- list.obf\n")):
             ran = self.make("look", *words)
             self.assertEqual(ran.stdout, "report\nnothing is proved yet: bin/ffosolve proves the program, and then runs it\n", ran)
-            self.assertEqual(self.starts.read_text(), told)
+            self.assertEqual(self.starts.read_text(), start)
         self.assertIn("no such list", self.make("look", "LIST=no such list").stderr)
         write(self.rt, "#!/bin/sh\necho 'rt: no answer' >&2\nexit 6\n")
         ran = self.make("look")

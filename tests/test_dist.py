@@ -1,4 +1,4 @@
-"""make dist: two checkouts give the same bytes, and what is unpacked does all that its README shows, with no rt on the path."""
+"""make dist and make deb: the packages are reproducible, complete, and work without rt as their READMEs show."""
 import hashlib
 import os
 import re
@@ -10,16 +10,19 @@ from pathlib import Path
 from tests.checkouts import FIRST, LEVELS, VERSION, WITHOUT_GIT, copied_checkout, make_all, path_without
 from tests.support import ROOT, InFolder, is_v3, lack, module_folder, need, run, write
 
-NAME = f"ffosolve-{VERSION}-linux-x86-64"
 WHO = {f"GIT_{who}_{what}": text for who in ("AUTHOR", "COMMITTER")
        for what, text in (("NAME", "a"), ("EMAIL", "a@b"), ("DATE", "1700000000 +0000"))}
 
 
+def git(folder, *words):
+    return run("git", "-C", folder, *words, env={**WITHOUT_GIT, **WHO}, check=True, text=True).stdout.strip()
+
+
 def git_checkout(folder):
-    """What git knows of this checkout, in one commit, and what is built."""
+    """Returns a built copy of this checkout, with one commit that sets the version, and another with the rest."""
     copied_checkout(folder)
-    for words in (["init", "-q"], ["add", "-A"], ["commit", "-q", "-m", "all"]):
-        run("git", "-C", folder, *words, env={**WITHOUT_GIT, **WHO}, check=True)
+    for words in (["init", "-q"], ["add", "VERSION"], ["commit", "-q", "-m", "one"], ["add", "-A"], ["commit", "-q", "-m", "all"]):
+        git(folder, *words)
     return Path(folder)
 
 
@@ -28,14 +31,14 @@ def make(target, folder, *before, **places):
 
 
 def made(target, file, *where, **places):
-    """Makes a file, and nothing else is told."""
+    """Makes a target, which prints nothing but the name of this file."""
     ran = make(target, *where, **places)
     if (ran.returncode, ran.stdout, ran.stderr) != (0, f"made: {file}\n", ""):
         raise AssertionError(ran)
 
 
 def needs_libc_alone(test, path):
-    """A program or a library needs the C library of version 2.34, or an older one, and no other library."""
+    """Asserts that a program or a library needs no other library than the C library, of version 2.34 or older."""
     need("readelf", "binutils")
     versions = re.findall(r"GLIBC_([\d.]+)", run("readelf", "-V", path, text=True).stdout)
     test.assertLessEqual(max(tuple(map(int, version.split("."))) for version in versions), (2, 34), path)
@@ -44,13 +47,15 @@ def needs_libc_alone(test, path):
 
 
 def setUpModule():
-    """Two checkouts, at places of other lengths, that make the archive at other times, by another umask and locale."""
-    global FIRST_ONE, SECOND_ONE, UNPACKED, WITHOUT_RT
+    """Makes the archive in two checkouts, which differ in path, times, umask, locale and time zone."""
+    global FIRST_ONE, SECOND_ONE, PACKAGE, NAME, UNPACKED, WITHOUT_RT
     for tool in ("make", "git", "rt"):
         need(tool, tool)
     make_all("levels")
     work = module_folder()
     FIRST_ONE, SECOND_ONE = git_checkout(work / "a"), git_checkout(work / "another place")
+    PACKAGE = f"{VERSION}+1.g{git(FIRST_ONE, 'rev-parse', 'HEAD')[:7]}"
+    NAME = f"ffosolve-{PACKAGE}-linux-x86-64"
     os.utime(SECOND_ONE / "README.md", (0, 0))
     for checkout, before, places in ((FIRST_ONE, (), {}),
                                      (SECOND_ONE, ("sh", "-c", 'umask 077; exec "$@"', "sh"), {"LC_ALL": "C", "TZ": "UTC+9"})):
@@ -66,24 +71,22 @@ def archive(checkout):
 
 
 class Archive(unittest.TestCase):
-    def test_same_bytes(self):
+    def test_two_checkouts_make_the_same_bytes(self):
         first, second = archive(FIRST_ONE).read_bytes(), archive(SECOND_ONE).read_bytes()
         self.assertEqual(hashlib.sha256(first).hexdigest(), hashlib.sha256(second).hexdigest())
-        told = Path(f"{archive(FIRST_ONE)}.sha256").read_text()
-        self.assertEqual(told, f"{hashlib.sha256(first).hexdigest()}  {NAME}.tar.gz\n")
+        checksum = Path(f"{archive(FIRST_ONE)}.sha256").read_text()
+        self.assertEqual(checksum, f"{hashlib.sha256(first).hexdigest()}  {NAME}.tar.gz\n")
 
-    def test_entries(self):
-        """Sorted, all of the commit's time, owned by nobody, all below one folder; the checkout stays as git found it."""
+    def test_entries_are_sorted_in_one_folder_with_the_time_of_the_commit_and_owner_0(self):
         with tarfile.open(archive(FIRST_ONE)) as entries:
             entries = entries.getmembers()
         names = [entry.name for entry in entries]
         self.assertEqual((names, {name.split("/")[0] for name in names}), (sorted(names, key=lambda name: name.split("/")), {NAME}))
         self.assertEqual({(entry.uid, entry.gid, entry.uname, entry.gname, entry.mtime) for entry in entries}, {(0, 0, "", "", 1700000000)})
         self.assertLessEqual({oct(entry.mode) for entry in entries}, {"0o644", "0o755", "0o777"})
-        self.assertEqual(run("git", "-C", FIRST_ONE, "status", "--porcelain", env=WITHOUT_GIT).stdout, b"")
+        self.assertEqual(git(FIRST_ONE, "status", "--porcelain"), "")
 
-    def test_has_what_install_lays(self):
-        """But README, which speaks of the checkout; and there, as that has them, is what README and the guide show."""
+    def test_archive_has_what_make_install_installs_except_readme(self):
         stage = UNPACKED.parent / "stage"
         run("make", "-s", "-C", FIRST_ONE, "install", "PREFIX=/p", f"DESTDIR={stage}", env=WITHOUT_GIT, check=True)
         missing = {path.relative_to(stage / "p") for path in (stage / "p").rglob("*")} - {path.relative_to(UNPACKED) for path in UNPACKED.rglob("*")}
@@ -92,18 +95,17 @@ class Archive(unittest.TestCase):
             self.assertEqual((UNPACKED / "share/doc/ffosolve" / name).read_bytes(), (ROOT / name).read_bytes())
         self.assertEqual((UNPACKED / "examples/first.obf").read_bytes(), (ROOT / "examples/first.obf").read_bytes())
 
-    def test_sums(self):
-        told = (UNPACKED / "SHA256SUMS").read_text()
+    def test_checksums_are_of_all_files(self):
+        sums = (UNPACKED / "SHA256SUMS").read_text()
         files = {f"./{path.relative_to(UNPACKED)}" for path in UNPACKED.rglob("*") if path.is_file() and not path.is_symlink()}
-        self.assertEqual(set(re.findall(r"^[0-9a-f]{64}  (.*)$", told, re.M)), files - {"./SHA256SUMS"})
+        self.assertEqual(set(re.findall(r"^[0-9a-f]{64}  (.*)$", sums, re.M)), files - {"./SHA256SUMS"})
 
-    def test_proved(self):
-        """Each crate that a program stands on, below those that use it."""
-        told = (UNPACKED / "PROVED").read_text()
-        commit = run("git", "-C", FIRST_ONE, "rev-parse", "HEAD", text=True, env=WITHOUT_GIT).stdout.strip()
-        self.assertIn(f"ffosolve {VERSION}, commit {commit}, {run('rt', 'version', text=True).stdout.strip()}\n", told)
+    def test_proved_names_commit_kit_and_the_crates_of_each_program_lowest_first(self):
+        text = (UNPACKED / "PROVED").read_text()
+        kit = run("rt", "version", text=True).stdout.strip()
+        self.assertIn(f"ffosolve {PACKAGE}, commit {git(FIRST_ONE, 'rev-parse', 'HEAD')}, {kit}\n", text)
         uses = dict(re.findall(r"^(\w+)[^:#\n]*:(.*)$", (ROOT / "crates.txt").read_text(), re.M))
-        lines = dict(re.findall(r"^(?:bin|lib)/(\S+): (.*)$", told, re.M))
+        lines = dict(re.findall(r"^(?:bin|lib)/(\S+): (.*)$", text, re.M))
         self.assertEqual(set(lines), {"ffosolve", "ffoscores", "libffosolve.*"})
         for program, line in lines.items():
             names = line.split()
@@ -111,24 +113,31 @@ class Archive(unittest.TestCase):
             for at, name in enumerate(names):
                 self.assertLessEqual({it for it in uses[name].split() if it in uses}, set(names[:at]))
 
-    def test_names_no_place(self):
-        """What was built does not name where; and each file that a text of the archive names is in it, but for tests, benchmarks and
-        proofs of which a document tells."""
+    def test_no_program_has_a_path_of_the_build(self):
         for path in [path for below in ("bin", "lib", "libexec") for path in (UNPACKED / below).rglob("*") if path.is_file()]:
             for place in (ROOT, FIRST_ONE, UNPACKED, os.sep + "tmp."):
                 self.assertNotIn(os.fsencode(place), path.read_bytes())
+
+    def test_files_that_texts_name_are_there(self):
+        """Documents may also name tests, benchmarks and proofs of the checkout, but no command that they show uses one."""
         files = [path for path in UNPACKED.rglob("*") if path.is_file()]
         for path in files:
             if path.suffix not in (".md", ".py", ".c", ".rs", ".h", ".toml", ".pc") and path.parent.name != "man1":
                 continue
-            for name in re.findall(r"(?<![\w/<}.-])((?:[\w-]+[\w.-]*/)+[\w-]+\.(?:md|py|rs|c|h|toml|txt|obf|antt|a|so))\b", path.read_text()):
-                is_told = path.parent.name == "docs" and name.startswith(("tests/", "bench/", "proofs/"))
-                is_there = name.startswith("FOLDER/") or is_told or any(str(file).endswith(f"/{name.lstrip('./')}") for file in files)
+            text = path.read_text()
+            for name in re.findall(r"(?<![\w/<}.-])((?:[\w-]+[\w.-]*/)+[\w-]+\.(?:md|py|rs|c|h|toml|txt|obf|antt|a|so))\b", text):
+                is_of_checkout = path.parent.name == "docs" and name.startswith(("tests/", "bench/", "proofs/"))
+                is_there = name.startswith("FOLDER/") or is_of_checkout or any(str(file).endswith(f"/{name.lstrip('./')}") for file in files)
                 self.assertTrue(is_there, (path, name))
+            if path.suffix == ".md":
+                commands = re.findall(r"^\$ (.*)$|^(bin/.*)$", text, re.M)
+                words = {word for command in commands for word in re.findall(r"[\w./-]+", "".join(command))}
+                missing = {word for word in words if (ROOT / word).is_file() and not (UNPACKED / word).is_file()}
+                self.assertEqual(missing, set(), path)
 
 
 def shows(test, readme, count, start):
-    """Runs each command of a README of a package: it prints what stands there."""
+    """Runs each command of a package's README and compares its output with what the README shows."""
     for tool, package in (("cc", "gcc"), ("pkg-config", "pkg-config"), ("man", "man-db")):
         need(tool, package)
     text = readme.read_text()
@@ -148,35 +157,32 @@ def shows(test, readme, count, start):
 
 
 class Unpacked(InFolder):
-    def test_readme(self):
+    def test_the_commands_of_readme_print_what_it_shows(self):
         shows(self, UNPACKED / "README.md", 7, lambda *words: run(*words, cwd=UNPACKED, env=WITHOUT_RT, text=True, timeout=300))
 
-    def test_many(self):
-        """Its parts are solved by a program that runs on every machine."""
+    def test_ffosolve_many_solves_with_the_program_that_runs_on_every_machine(self):
         need("parallel", "parallel")
         words = (UNPACKED / "bin/ffosolve-many", "--quiet", "work", ROOT / "examples/first.obf")
         self.ends((0, FIRST, ""), *words, env=WITHOUT_RT, text=True)
         program, = Path("work").glob("run-*/program")
         self.assertEqual(program.read_bytes(), (UNPACKED / "libexec/ffosolve/x86-64-v2/ffosolve").read_bytes())
 
-    def test_the_best_level_is_started(self):
-        """By what the loader tells; here a stand-in for it."""
+    def test_the_program_for_the_level_that_the_loader_reports_is_started(self):
         top = self.folder / "top"
         shutil.copytree(UNPACKED / "bin", top / "bin")
         start = top / "bin/ffosolve"
         start.write_text(start.read_text().replace("/lib64/ld-linux-x86-64.so.2", str(self.folder / "loader")))
         for level in LEVELS:
             write(top / "libexec/ffosolve" / level / "ffosolve", f'#!/bin/sh\necho {level} "$#" "$@"\nexit 3\n')
-        for told, level in (("  x86-64-v3 (supported, searched)", LEVELS[1]), ("  x86-64-v3", LEVELS[0])):
-            write("loader", f"#!/bin/sh\necho '{told}'\n")
+        for line, level in (("  x86-64-v3 (supported, searched)", LEVELS[1]), ("  x86-64-v3", LEVELS[0])):
+            write("loader", f"#!/bin/sh\necho '{line}'\n")
             (self.folder / "linked").unlink(missing_ok=True)
             (self.folder / "linked").symlink_to(start)
             for words in (start, "./linked"):
                 ran = run(words, "a b", text=True)
                 self.assertEqual((ran.returncode, ran.stdout), (3, f"{level} 1 a b\n"), ran)
 
-    def test_in_an_empty_root(self):
-        """The programs need the C library and nothing else."""
+    def test_the_programs_need_only_the_c_library(self):
         for program in (UNPACKED / "libexec/ffosolve").glob("*/*"):
             needs_libc_alone(self, program)
         empty = self.folder / "empty"
@@ -193,7 +199,7 @@ class Unpacked(InFolder):
 
 
 class Refused(unittest.TestCase):
-    def test_what_is_not_committed(self):
+    def test_a_change_that_is_not_committed_is_refused(self):
         archive(SECOND_ONE).unlink()
         with open(SECOND_ONE / "README.md", "a") as readme:
             readme.write("\n")
@@ -203,7 +209,7 @@ class Refused(unittest.TestCase):
         self.assertFalse(archive(SECOND_ONE).exists())
 
 
-# Lays a layer over each folder that a package is installed into, and runs a command there; where this ends, so do they.
+# Mounts a layer over each folder that a package is installed into, and runs a command. The mounts end with it.
 APART = """
 room=$1; shift
 for folder in usr etc var; do
@@ -215,23 +221,26 @@ exec "$@"
 
 
 class Debian(InFolder):
-    """make deb."""
-
     @classmethod
     def setUpClass(cls):
         need("dpkg-deb", "dpkg")
-        cls.package = FIRST_ONE / "out" / f"ffosolve_{VERSION}_amd64.deb"
+        cls.package = FIRST_ONE / "out" / f"ffosolve_{PACKAGE}_amd64.deb"
         made("deb", cls.package, FIRST_ONE)
 
-    def test_what_lintian_finds(self):
-        """No error, no warning, and no override of what it does not find."""
+    def test_lintian_finds_no_error_no_warning_and_no_unused_override(self):
         need("lintian", "lintian")
         ran = run("lintian", "--display-info", "--tag-display-limit", "0", "--allow-root", self.package, text=True, timeout=300)
         self.assertEqual((ran.returncode, re.findall("^(?:[EW]|.*override).*", ran.stdout, re.M)), (0, []), ran)
         self.assertIn("no-symbols-control-file", ran.stdout)
 
-    def test_what_it_has(self):
-        """All that the archive has of programs, library and texts; and it runs where it is unpacked."""
+    def test_its_version_is_later_than_the_release(self):
+        fields = run("dpkg-deb", "-f", self.package, "Version", "Provides", text=True).stdout
+        self.assertEqual(fields, f"Version: {PACKAGE}\nProvides: libffosolve1 (= {PACKAGE}), libffosolve-dev (= {PACKAGE}), "
+                                 f"python3-ffosolve (= {PACKAGE})\n")
+        for less, greater in ((VERSION, PACKAGE), (f"{VERSION}+9.gfffffff", f"{VERSION}+10.g0000000")):
+            self.assertEqual(run("dpkg", "--compare-versions", less, "lt", greater).returncode, 0)
+
+    def test_it_has_what_the_archive_has_and_runs_when_unpacked(self):
         run("dpkg-deb", "-x", self.package, "root", check=True)
         files = {str(path.relative_to("root/usr")) for path in Path("root/usr").rglob("*") if not path.is_dir()}
         wanted = {str(path.relative_to(UNPACKED)) for path in UNPACKED.rglob("*") if not path.is_dir()}
@@ -243,14 +252,13 @@ class Debian(InFolder):
         self.assertEqual((ran.returncode, ran.stdout, ran.stderr), (0, FIRST, ""))
 
     def apart(self, *words, check=True):
-        """Runs a command on a system of its own, which keeps what is written: this one, with layers over its folders."""
+        """Runs a command on this system with layers over its folders, which keep what is written for the next command."""
         ran = run("unshare", "--mount", "sh", "-euc", APART, "sh", self.folder / "layers", *words, text=True, timeout=None,
                   env={"PATH": "/usr/sbin:/usr/bin:/sbin:/bin", "DEBIAN_FRONTEND": "noninteractive"})
         self.assertFalse(check and ran.returncode, ran)
         return ran
 
-    def test_installed_and_removed(self):
-        """By apt-get, with its commands, pages and libraries where a system looks for them; nothing is left behind."""
+    def test_apt_installs_it_and_removes_all_of_it(self):
         need("dpkg-shlibdeps", "dpkg-dev")
         if os.getuid() != 0:
             self.skipTest("layers over the system's folders are for root")
@@ -263,8 +271,8 @@ class Debian(InFolder):
         shows(self, self.folder / "root/usr/share/doc/ffosolve/README.md", 6, lambda *words: self.apart(*words, check=False))
         say = ("import ffosolve, importlib.metadata; print(ffosolve.Solver().library_version, importlib.metadata.version('ffosolve'), "
                "ffosolve.__file__)")
-        told = self.apart("/usr/bin/python3", "-c", say).stdout.split()
-        self.assertEqual(told, [VERSION, VERSION, "/usr/lib/python3/dist-packages/ffosolve/__init__.py"])
+        said = self.apart("/usr/bin/python3", "-c", say).stdout.split()
+        self.assertEqual(said, [VERSION, PACKAGE, "/usr/lib/python3/dist-packages/ffosolve/__init__.py"])
         self.needed_by_another_package()
         self.apart(*apt, "purge", "ffosolve")
         left = "find /usr /etc /var/lib/dpkg/info -iname '*ffosolve*' | grep -v '^/usr/share/doc/ffosolve$' || :"
@@ -272,8 +280,8 @@ class Debian(InFolder):
         self.assertFalse(Path("/usr/bin/ffosolve").exists())
 
     def needed_by_another_package(self):
-        """A package over the library, as Debian's tools make it of the program that README has built."""
-        needs = f"libffosolve1 (>= {VERSION})"
+        """Installs a package that needs the library, with the dependency that Debian's tools find for a program."""
+        needs = f"libffosolve1 (>= {PACKAGE})"
         for name, text in (("debian/control", "Source: one\n\nPackage: one\nArchitecture: any\n"),
                            ("one/DEBIAN/control", f"Package: one\nVersion: 1\nArchitecture: all\nMaintainer: A <a@b>\nDescription: a\n"
                                                   f"Depends: {needs}, libffosolve-dev, python3-ffosolve\n")):
@@ -285,10 +293,8 @@ class Debian(InFolder):
 
 
 class Wheel(InFolder):
-    """make wheel: in an empty environment of Python it is all that is needed, with no network."""
-
-    def test_installed(self):
-        wheel = FIRST_ONE / "out" / f"ffosolve-{VERSION}-py3-none-manylinux_2_34_x86_64.whl"
+    def test_an_empty_environment_needs_only_the_wheel(self):
+        wheel = FIRST_ONE / "out" / f"ffosolve-{PACKAGE}-py3-none-manylinux_2_34_x86_64.whl"
         made("wheel", wheel, FIRST_ONE)
         if run("/usr/bin/python3", "-m", "venv", "empty", timeout=300).returncode:
             lack("venv for /usr/bin/python3 (Debian: python3-venv)")
@@ -296,11 +302,22 @@ class Wheel(InFolder):
         package, = Path("empty").glob("lib/*/site-packages/ffosolve")
         for level in LEVELS:
             needs_libc_alone(self, package / level / "libffosolve.so.1")
-        say = ("from ffosolve import Position, Solver, __version__; solver = Solver(); print(__version__, solver.library_version, "
+        say = ("import importlib.metadata; from ffosolve import Position, Solver, __version__; solver = Solver(); "
+               "print(importlib.metadata.version('ffosolve'), __version__, solver.library_version, "
                "solver.solve(Position.from_obf('-OXXXXX-XXXXXXXO' + 19 * 'X' + 'O' + 28 * 'X' + ' X;')).squares); "
                "import re; print(re.findall('ffosolve/(.*)/libffosolve', open('/proc/self/maps').read())[0])")
         best = LEVELS[is_v3()]
         ran = run("empty/bin/python", "-c", say, env={}, text=True)
-        self.assertEqual((ran.returncode, ran.stdout), (0, f"{VERSION} {VERSION} ['H1']\n{best}\n"), ran)
-        (package / LEVELS[1] / "libffosolve.so.1").unlink()  # as where the processor is of less
+        self.assertEqual((ran.returncode, ran.stdout), (0, f"{PACKAGE} {VERSION} {VERSION} ['H1']\n{best}\n"), ran)
+        (package / LEVELS[1] / "libffosolve.so.1").unlink()  # as if the processor were of the lower level
         self.assertTrue(run("empty/bin/python", "-c", say, env={}, text=True).stdout.endswith(f"\n{LEVELS[0]}\n"))
+
+    def test_without_git_and_at_the_release_the_version_is_plain(self):
+        checkout = copied_checkout(self.folder / "plain")
+        name = f"out/ffosolve-{VERSION}-py3-none-manylinux_2_34_x86_64.whl"
+        for words in ((), (["init", "-q"], ["add", "-A"], ["commit", "-q", "-m", "all"])):
+            for each in words:
+                git(checkout, *each)
+            ran = make("wheel", checkout)
+            self.assertEqual((ran.returncode, ran.stdout), (0, f"made: {checkout / name}\n"), ran)
+            (checkout / name).unlink()

@@ -1,4 +1,4 @@
-"""make install and make uninstall, from a copy of the checkout and of what it has built, and the texts that they lay."""
+"""make install and make uninstall, from a built copy of the checkout, and the texts that they install."""
 import ctypes
 import os
 import re
@@ -41,7 +41,7 @@ class Case(InFolder):
         return {str(path.relative_to(self.root)) for path in self.root.rglob("*") if path.is_symlink() or not path.is_dir()}
 
     def refused(self, ran, words):
-        """Compares a target that fails with one line, behind which make has its own."""
+        """Asserts that a target failed with one line, after which make has its own."""
         self.assertEqual((ran.returncode, ran.stdout), (2, ""), ran)
         self.assertIn(words, ran.stderr.splitlines()[0])
         self.assertLessEqual(ran.stderr.count("\n"), 2, ran.stderr)
@@ -54,7 +54,7 @@ class Case(InFolder):
 
 
 class Install(Case):
-    def test_all_is_laid(self):
+    def test_everything_is_installed(self):
         self.assertEqual(self.install().stdout, f"installed under {self.root}\n")
         libraries = [f"{at}/{name}" for at in ("lib", "lib/glibc-hwcaps/x86-64-v3")
                      for name in ("libffosolve.so", "libffosolve.so.1", f"libffosolve.so.{VERSION}")]
@@ -72,8 +72,8 @@ class Install(Case):
         for name in ("include/ffosolve.h", "lib/pkgconfig/ffosolve.pc", "lib/cmake/ffosolve/ffosolve-config.cmake"):
             self.assertEqual(re.findall("@[A-Z]+@", (self.root / name).read_text()), [])
 
-    def test_places_by_their_names(self):
-        """As a distribution has them; what pkg-config and CMake read leads there, and scripts find the package for Python."""
+    def test_in_other_folders_everything_is_found(self):
+        """The scripts find their package, and pkg-config and CMake header and library."""
         need("pkg-config", "pkg-config")
         self.install("BINDIR=/b", "LIBDIR=/usr/lib/x86_64-linux-gnu", "INCLUDEDIR=/usr/include", "MANDIR=/m", prefix="/usr")
         for name in ("b/ffosolve", "usr/lib/x86_64-linux-gnu/libffosolve.a", "usr/include/ffosolve.h", "m/man1/ffosolve.1"):
@@ -81,19 +81,25 @@ class Install(Case):
         for name in ("ffosolve-many", "ffosolve-games"):
             self.assertEqual(run(self.stage / "b" / name, "--help").returncode, 0, name)
         libraries = self.stage / "usr/lib/x86_64-linux-gnu"
-        told = run("pkg-config", "--cflags", "ffosolve", text=True, env={**self.places, "PKG_CONFIG_PATH": str(libraries / "pkgconfig")})
-        self.assertTrue(os.path.samefile(told.stdout.strip()[2:], self.stage / "usr/include"), told)
+        ran = run("pkg-config", "--cflags", "ffosolve", text=True, env={**self.places, "PKG_CONFIG_PATH": str(libraries / "pkgconfig")})
+        self.assertTrue(os.path.samefile(ran.stdout.strip()[2:], self.stage / "usr/include"), ran)
         self.assertIn('_libraries}/../../include"', (libraries / "cmake/ffosolve/ffosolve-config.cmake").read_text())
 
-    def test_modes(self):
+    def test_ffosolve_games_finds_the_library_in_each_folder(self):
+        for place, *words in (("bin",), ("bin", f"LIBDIR={PREFIX}/lib64"), ("b/b", f"BINDIR={PREFIX}/b/b", f"LIBDIR={PREFIX}/lib/here")):
+            self.install(*words)
+            ran = run(self.root / place / "ffosolve-games", "--empties=59", input=b"f5", env=self.places)
+            self.assertEqual((ran.returncode, ran.stdout[64:]), (0, b" O; % -, game 1\n"), ran)
+            self.make("uninstall", *words)
+
+    def test_files_may_be_read_by_everybody(self):
         self.install(umask=0o077)
         for path in self.root.rglob("*"):
             mode, name = stat.S_IMODE(path.lstat().st_mode), str(path.relative_to(self.root))
             wanted = 0o777 if path.is_symlink() else 0o755 if path.is_dir() or name.startswith("bin/") else 0o644
             self.assertEqual(oct(mode), oct(wanted), name)
 
-    def test_again_and_away(self):
-        """A second install takes away what the new version does not have; uninstall leaves what is another's."""
+    def test_a_second_install_removes_old_files_and_uninstall_leaves_those_of_others(self):
         self.install()
         files = self.files()
         others = {"bin/another", "share/man/man1/another.1"}
@@ -109,8 +115,7 @@ class Install(Case):
         self.make("uninstall")
         self.assertEqual(os.listdir(self.stage / "opt"), [])
 
-    def test_default_is_usr_local(self):
-        """Whose folders stay."""
+    def test_the_default_is_usr_local_whose_folders_stay(self):
         words = ["make", "-s", "-C", CHECKOUT, f"DESTDIR={self.stage}"]
         ran = run(*words, "install", text=True, env=self.places)
         self.assertEqual((ran.stdout, ran.stderr), (f"installed under {self.stage}/usr/local\n", ""))
@@ -131,8 +136,7 @@ class Install(Case):
         self.assertEqual(os.listdir(self.folder), ["stage"])
         self.assertEqual(times(), before)
 
-    def test_library_that_is_the_same_stays(self):
-        """What `make library` lays, since a program may load it meanwhile."""
+    def test_make_library_replaces_no_file_that_is_the_same(self):
         def times():
             self.assertEqual(self.make("library").stderr, "")
             return {path.name: path.stat().st_mtime_ns for path in Path(CHECKOUT, "out/library").glob("libffosolve.*")}
@@ -140,15 +144,14 @@ class Install(Case):
         before = times()
         self.assertEqual((len(before), times()), (3, before))
 
-    def test_library_of_either_level_is_made_anew(self):
+    def test_a_missing_library_of_either_level_is_linked_again(self):
         for level, other in (LEVELS, LEVELS[::-1]):
             for kind in ("so", "a"):
                 (CHECKOUT / f"out/{level}/libffosolve.{kind}").unlink()
                 self.install(f"CPU={other}")
             self.assertTrue((self.root / "lib/libffosolve-x86-64-v3.a").is_file())
 
-    def test_by_another_user(self):
-        """Who has no rt, and may not write the checkout."""
+    def test_a_user_without_rt_who_may_not_write_the_checkout_can_install(self):
         folders = [CHECKOUT, *(path for path in CHECKOUT.rglob("*") if path.is_dir())]
         self.folder.chmod(0o777)
         try:
@@ -160,17 +163,16 @@ class Install(Case):
                 path.chmod(0o755)
         self.assertEqual(run(self.root / "bin/ffosolve", ROOT / "examples/first.obf", text=True).stdout, FIRST)
 
-    def test_without_python(self):
-        """All is laid; which page then tells less is said."""
+    def test_without_python_two_manual_pages_have_no_options_and_that_is_reported(self):
         ran = self.make("install", env={**self.places, "PATH": path_without("python3", self.folder)})
         self.assertEqual((ran.returncode, ran.stdout), (0, f"installed under {self.root}\n"))
-        told = re.findall("^(.*): its manual page has no options, since --help can't be run$", ran.stderr, re.M)
-        self.assertEqual(told, ["ffosolve-many", "ffosolve-games"])
-        for name, has_options in (("ffosolve", True), *((name, False) for name in told)):
+        names = re.findall("^(.*): its manual page has no options, since --help can't be run$", ran.stderr, re.M)
+        self.assertEqual(names, ["ffosolve-many", "ffosolve-games"])
+        for name, has_options in (("ffosolve", True), *((name, False) for name in names)):
             page = (self.root / f"share/man/man1/{name}.1").read_text()
             self.assertEqual((".SH SEE ALSO" in page, "OPTIONS" in page), (True, has_options))
 
-    def test_what_is_refused(self):
+    def test_a_relative_prefix_a_wrong_target_and_a_file_for_a_folder_are_refused(self):
         for prefix in ("relative", "", "~/a"):
             for target in ("install", "uninstall"):
                 self.refused(self.make(target, prefix=prefix), f"PREFIX is {prefix}, but has to begin with a slash")
@@ -180,7 +182,7 @@ class Install(Case):
         self.refused(self.make("install"), f"{self.root}/bin")
         self.assertEqual(self.files(), {"bin"})
 
-    def test_not_built_and_no_rt(self):
+    def test_without_programs_and_rt_nothing_is_installed(self):
         checkout = self.folder / "checkout"
         shutil.copytree(CHECKOUT, checkout, ignore=shutil.ignore_patterns("out"))
         ran = run("make", "-s", "-C", checkout, "install", f"DESTDIR={self.stage}", text=True,
@@ -190,8 +192,7 @@ class Install(Case):
 
 
 class Installed(Case):
-    def test_each_level_runs(self):
-        """And says of which level the program is; of less, the loader ends it with one line."""
+    def test_programs_run_on_their_level_and_the_loader_reports_a_lower_one(self):
         need("qemu-x86_64", "qemu-user")
         need("readelf", "binutils")
         for level, lesser in zip(LEVELS, ("core2duo", "Nehalem")):
@@ -208,8 +209,7 @@ class Installed(Case):
         ran = run("qemu-x86_64", "-cpu", "Nehalem", CHECKOUT / "out/x86-64-v2/ffosolve", ROOT / "examples/first.obf", text=True)
         self.assertEqual((ran.returncode, ran.stdout), (0, FIRST), ran)
 
-    def test_static_library(self):
-        """Whatever the level of the programs, that without a level's name is for x86-64-v2."""
+    def test_libffosolve_a_is_for_the_lower_level(self):
         need("qemu-x86_64", "qemu-user")
         need("cc", "gcc")
         masks, wanted = ((ROOT / f"examples/{name}.txt").read_text().splitlines()[:4] for name in ("masks", "answers"))
@@ -221,7 +221,7 @@ class Installed(Case):
                 ran = run("qemu-x86_64", "-cpu", "Nehalem", "./answers", input="\n".join(masks), text=True)
                 self.assertEqual((ran.returncode == 0, ran.stdout.splitlines()[:4] == wanted), (is_for, is_for), ran)
 
-    def test_the_loader_picks_the_library(self):
+    def test_the_loader_picks_the_library_of_the_best_level(self):
         need("qemu-x86_64", "qemu-user")
         need("readelf", "binutils")
         self.install()
@@ -231,12 +231,11 @@ class Installed(Case):
         places = {**self.places, "LD_LIBRARY_PATH": str(self.root / "lib")}
         best = "glibc-hwcaps/x86-64-v3/" if is_v3() else ""
         self.assertEqual(run("/usr/bin/python3", "-c", say, env=places, text=True).stdout, f"{best}\n")
-        told = run("qemu-x86_64", "-cpu", "Nehalem", "/lib64/ld-linux-x86-64.so.2", "--preload", "libffosolve.so.1", "--list",
-                   "/usr/bin/true", env=places, text=True)
-        self.assertIn(f"libffosolve.so.1 => {self.root}/lib/libffosolve.so.1 ", told.stdout, told)
+        ran = run("qemu-x86_64", "-cpu", "Nehalem", "/lib64/ld-linux-x86-64.so.2", "--preload", "libffosolve.so.1", "--list",
+                  "/usr/bin/true", env=places, text=True)
+        self.assertIn(f"libffosolve.so.1 => {self.root}/lib/libffosolve.so.1 ", ran.stdout, ran)
 
-    def test_many_runs(self):
-        """Also where a system has left the documents out."""
+    def test_ffosolve_many_runs_without_the_documents(self):
         need("parallel", "parallel")
         self.install()
         shutil.rmtree(self.root / "share/doc")
@@ -244,8 +243,7 @@ class Installed(Case):
         ran = run("ffosolve-many", self.folder / "work", "first.obf", cwd=ROOT / "examples", env=places, text=True)
         self.assertEqual((ran.returncode, ran.stdout), (0, FIRST), ran)
 
-    def test_version(self):
-        """That of the file VERSION, in the programs, their pages, the library and all that names it."""
+    def test_programs_pages_library_and_texts_have_the_version_of_the_file_version(self):
         self.install()
         self.assertRegex(VERSION, r"\A\d+\.\d+\.\d+\Z")
         self.assertEqual(ctypes.CDLL(self.root / "lib/libffosolve.so").ffosolve_version(), NUMBER)
@@ -262,8 +260,7 @@ class Installed(Case):
         ):
             self.assertIn(text, place.read_text(), place)
 
-    def test_greatest_table_of_the_packages(self):
-        """`make constants` takes it from the crates."""
+    def test_make_constants_writes_the_greatest_table_of_the_crates_into_packages_and_guide(self):
         source, *others = ("crates/bound_table/src/bound_table.rt", "python/src/ffosolve/_library.py", "rust/src/solvers.rs",
                            "docs/user-guide.md")
         for name in ("Makefile", "VERSION", "packaging/packages.mk", source, *others):
@@ -283,7 +280,7 @@ zle-line-init() {
     for line in ${(f)"$(<asked)"}; do
         BUFFER=$line CURSOR=$#line
         zle expand-or-complete
-        print -r -- $BUFFER >>told
+        print -r -- $BUFFER >>completed
     done
     exit
 }
@@ -296,8 +293,7 @@ def plain(text):
 
 
 class Texts(Case):
-    """What is made of the --help of each program, and what stands in share/. Behind the bin/ffosolve of a checkout that is not
-    built, nothing is started for it."""
+    """Manual pages and completions. A TAB after the bin/ffosolve of a checkout that is not built starts nothing."""
 
     def setUp(self):
         super().setUp()
@@ -309,8 +305,7 @@ class Texts(Case):
     def tearDown(self):
         self.assertFalse(Path("examples/begun").exists())
 
-    def test_manual_pages(self):
-        """Each shows without a warning, and has each option and its text."""
+    def test_manual_pages_show_each_option_without_a_warning(self):
         need("man", "man-db")
         for name in COMMANDS:
             page = self.root / f"share/man/man1/{name}.1"
@@ -320,12 +315,17 @@ class Texts(Case):
             whole_lines = re.sub(r"\n {5,}(?=[^\s-])", " ", self.help_of(name))
             entries = re.findall(r"^ {2,6}(-\S.*?|\d|PS)(?: {2,}(\S.*))?$", whole_lines, re.M)
             self.assertGreater(len(entries), 5)
-            for names, told in entries:
+            for names, what in entries:
                 self.assertIn(plain(names), text)
-                self.assertIn(plain(told), text)
+                self.assertIn(plain(what), text)
 
-    def told(self, shell, script, name, *words):
-        """The first words of the lines that a shell offers."""
+    def test_the_manual_page_of_ffosolve_games_has_compare_and_its_statuses(self):
+        page = (self.root / "share/man/man1/ffosolve-games.1").read_text()
+        self.assertRegex(page.split(".SH DESCRIPTION")[0], r"(?m)^ffosolve\\-games compare .*LIST REPORT$")
+        self.assertRegex(page.split('.SH "STATUS"')[1], r"with compare: a(.|\n)*REPORT does not belong to it")
+
+    def offered(self, shell, script, name, *words):
+        """Returns the first words of the lines that a shell offers."""
         need(shell, shell)
         ran = run(shell, *script, name, *words, cwd="examples", text=True, env={**self.places, "SHARE": str(self.root / "share")})
         self.assertEqual((ran.returncode, ran.stderr), (0, ""))
@@ -334,30 +334,30 @@ class Texts(Case):
     def completes(self, *shell):
         files = sorted(path.name for path in Path("examples").glob("fi*"))
         for name in (*COMMANDS, "bin/ffosolve"):
-            self.assertEqual(set(self.told(*shell, name, "--")), set(self.options_of(Path(name).name)))
-            self.assertEqual(self.told(*shell, name, "fi"), files)
-        self.assertEqual(self.told(*shell, "ffosolve", "--sco"), ["--scoring"])
-        self.assertEqual(self.told(*shell, "ffosolve", "--book-in", "fi"), files)
+            self.assertEqual(set(self.offered(*shell, name, "--")), set(self.options_of(Path(name).name)))
+            self.assertEqual(self.offered(*shell, name, "fi"), files)
+        self.assertEqual(self.offered(*shell, "ffosolve", "--sco"), ["--scoring"])
+        self.assertEqual(self.offered(*shell, "ffosolve", "--book-in", "fi"), files)
         for name in ("ffosolve", "ffoscores", "ffosolve-many"):
-            self.assertEqual(self.told(*shell, name, "--scoring", ""), ["discs", "sign", "winner"])
-            self.assertEqual(self.told(*shell, name, "--scoring", "d"), ["discs"])
+            self.assertEqual(self.offered(*shell, name, "--scoring", ""), ["discs", "sign", "winner"])
+            self.assertEqual(self.offered(*shell, name, "--scoring", "d"), ["discs"])
 
-    def test_bash(self):
+    def test_bash_completes_options_values_and_files(self):
         if not Path("/usr/share/bash-completion/bash_completion").exists():
             lack("bash_completion (Debian: bash-completion)")
         script = ('. /usr/share/bash-completion/bash_completion; . "$SHARE/bash-completion/completions/${0##*/}"; COMP_WORDS=("$0" "$@"); '
                   'COMP_CWORD=$#; COMP_LINE="$0 $*"; COMP_LINE=${COMP_LINE// = /=}; COMP_POINT=${#COMP_LINE}; compopt() { :; }; '
                   '$(complete -p "${0##*/}" | cut -d " " -f 3) "$0" "${!#}" "${COMP_WORDS[COMP_CWORD-1]}"; printf "%s\\n" "${COMPREPLY[@]}"')
         self.completes("bash", ("-c", script))
-        self.assertEqual(self.told("bash", ("-c", script), "ffosolve", "--scoring", "=", "d"), ["discs"])
+        self.assertEqual(self.offered("bash", ("-c", script), "ffosolve", "--scoring", "=", "d"), ["discs"])
 
-    def test_fish(self):
+    def test_fish_completes_options_values_and_files(self):
         script = ("--no-config", "-c", "source $SHARE/fish/vendor_completions.d/(basename $argv[1]).fish; complete -C \"$argv\"")
         self.completes("fish", script)
-        self.assertEqual(self.told("fish", script, "ffosolve", "--scoring=d"), ["--scoring=discs"])
+        self.assertEqual(self.offered("fish", script, "ffosolve", "--scoring=d"), ["--scoring=discs"])
 
-    def test_zsh(self):
-        """On a terminal, by its own line editor, which completes each line that is asked and tells what it is then."""
+    def test_zsh_completes_options_values_and_files(self):
+        """Its own line editor completes each line on a terminal."""
         need("zsh", "zsh")
         lines = {"ffosolve --sco": "ffosolve --scoring", "ffosolve --scoring=d": "ffosolve --scoring=discs",
                  "ffoscores --scoring w": "ffoscores --scoring winner", "bin/ffosolve --sco": "bin/ffosolve --scoring",
@@ -367,4 +367,4 @@ class Texts(Case):
         Path(".zshrc").write_text(ZSHRC)
         run("script", "-qec", "zsh -i", "/dev/null", cwd="examples", check=True,
             env={"PATH": "/usr/bin:/bin", "ZDOTDIR": str(self.folder), "TERM": "dumb", "SHARE": str(self.root / "share")})
-        self.assertEqual([line.strip() for line in Path("examples/told").read_text().splitlines()], list(lines.values()))
+        self.assertEqual([line.strip() for line in Path("examples/completed").read_text().splitlines()], list(lines.values()))

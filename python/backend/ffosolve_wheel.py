@@ -14,6 +14,7 @@ import zipfile
 FOLDER = os.path.dirname(os.path.dirname(os.path.abspath(__file__)))
 SOURCES = os.path.join(FOLDER, "src", "ffosolve")
 LIBRARIES = os.environ.get("FFOSOLVE_WHEEL_LIBRARIES")
+PACKAGE_VERSION = os.environ.get("FFOSOLVE_WHEEL_VERSION")  # with the commit, if it is later than the release
 
 
 def settings(name):
@@ -40,15 +41,19 @@ def licences(name):
         yield name, text.encode()
 
 
+def package_version():
+    return PACKAGE_VERSION or version()
+
+
 def head():
-    return f"ffosolve-{version()}"
+    return f"ffosolve-{package_version()}"
 
 
 def metadata():
     (summary,), (python,), (terms,) = map(settings, ("description", "requires-python", "license"))
     (author, address), (home,) = settings("authors"), settings("urls")
     fields = [
-        ("Metadata-Version", "2.1"), ("Name", "ffosolve"), ("Version", version()), ("Summary", summary),
+        ("Metadata-Version", "2.1"), ("Name", "ffosolve"), ("Version", package_version()), ("Summary", summary),
         ("Home-page", home), ("Author", author), ("Author-email", f"{author} <{address}>"), ("License", terms),
         ("Project-URL", f"Homepage, {home}"), *(("Classifier", it) for it in settings("classifiers")),
         ("Requires-Python", python), ("Description-Content-Type", "text/markdown"),

@@ -1,0 +1,66 @@
+"""Out of memory in the crates: run n of a test refuses its nth request for memory, until none is refused.
+
+Each run has to pass or to report out of memory. Another error, a crash, a run without an end or a wrong answer fails.
+"""
+import re
+import shutil
+from pathlib import Path
+
+from tests.support import ROOT, InFolder, Refusals, lack, run
+
+NAMED = ("AllocError", "AllocFailed { .. }", "Kind(OutOfMemory)", "Memory")
+CRATE = ROOT / "crates/crate_tests"
+PROGRAM = CRATE / "out/crate_tests_tests"
+# The tests that a refused request ends or does not change. The others handle it themselves, or need two threads at work.
+TESTS = (
+    "written_lines::", "fault_texts::", "tables::", "searches::", "books::find::", "boards::limits::", "boards::memory::",
+    "boards::steps::", "prints_a_front", "a_full_writer", "a_desk_on_one_thread", "a_clients_memory", "gives_a_book",
+    "clients_alone", "clients_are_refused", "gates_are_told", "a_refused_finish", "a_refused_submit",
+)
+# Tests that each refused request ends, and the number of their requests, or None for any number: out of memory comes before all
+# other faults, and nothing is requested after the last step that can report it.
+ENDED = {
+    "tests::boards::desks::a_clients_memory_comes_first": 3,
+    "tests::boards::memory::no_step_after_the_last_submit_takes_memory": None,
+}
+
+
+def setUpModule():
+    """Builds the tests' program, which takes minutes, unless it is newer than the sources."""
+    sources = [path.stat().st_mtime for path in ROOT.glob("crates/*/src/**/*.rt")]
+    if PROGRAM.exists() and PROGRAM.stat().st_mtime >= max(sources):
+        return
+    if shutil.which("rt") is None:
+        lack("rt (of a Rattle kit)")
+    ran = run("rt", "test", cwd=CRATE, text=True, timeout=2700)
+    if ran.returncode != 0:
+        raise AssertionError(f"rt test ended with status {ran.returncode}: {ran.stdout[-2000:]}{ran.stderr[-2000:]}")
+
+
+class OutOfMemoryInCrates(InFolder):
+    def test_each_refused_request_ends_a_test_or_changes_nothing(self):
+        refusals = Refusals(self.folder)
+        listed = run(PROGRAM, "--list", check=True, text=True).stdout
+        names = re.findall(r"^tests::(\S+): test$", listed, re.M)
+        self.assertEqual([part for part in TESTS if not any(part in name for name in names)], [])
+        tests = [f"tests::{name}" for name in names if any(part in name for part in TESTS)]
+        requests = 0
+        for test in tests:
+            with self.subTest(test=test):
+                requests += self.requests_of(test, refusals)
+        self.assertGreater(requests, 0)
+
+    def requests_of(self, test, refusals):
+        """Refuses each request of a test in turn, and returns their number."""
+        ended, room = 0, Path("room")
+        room.mkdir(exist_ok=True)
+        for number, ran, met in refusals.runs(PROGRAM, test, text=True, cwd=room):
+            errors = re.findall(r"^\w+: (.*)$", ran.stderr, re.M)
+            is_named = len(errors) == 1 and errors[0] in NAMED
+            self.assertTrue(ran.returncode == 0 or is_named and met, f"with request {number} refused: {ran}")
+            ended += ran.returncode != 0
+            for path in room.iterdir():
+                path.unlink()
+        if test in ENDED:
+            self.assertEqual((number - 1, ended), (ENDED[test] or number - 1,) * 2)
+        return number - 1
