@@ -1,4 +1,4 @@
-"""Ctrl-C stops a Python program while the library solves, and so does a handler of any other signal."""
+"""Ctrl-C interrupts a Python program while the library solves, and so does a handler of any other signal."""
 import signal
 import sys
 import unittest
@@ -6,7 +6,7 @@ import unittest
 from .support import ROOT, as_at_a_login, run
 from .positions import need_modules
 
-# Each call would take years. The signal comes while it runs, and the program goes on beside what is left of the calls before.
+# Each call would take years. A signal comes while it runs; then the next call runs beside those that were left.
 PROGRAM = """if True:
     import os, signal, sys, threading, numpy
     from ffosolve import Answer, Kind, Position, Solver
@@ -18,8 +18,8 @@ PROGRAM = """if True:
         raise TimeoutError
 
     def is_stopped(name, number, error, *arguments, **threads):
-        threading.Timer(0.2, os.kill, (os.getpid(), number)).start()
         try:
+            threading.Timer(0.1, os.kill, (os.getpid(), number)).start()
             found = getattr(solver, name)(*arguments, **threads)
             print(name, "returned", *found)
         except error:
@@ -42,7 +42,7 @@ BOARD = "-OXXXXX-XXXXXXXOXXXXXXXXXXXXXXXXXXXOXXXXXXXXXXXXXXXXXXXXXXXXXXXX X;"
 
 
 class Interrupted(unittest.TestCase):
-    def test_each_call_is_stopped_and_the_program_ends_at_once(self):
+    def test_each_call_is_interrupted_and_the_program_ends_beside_those_that_were_left(self):
         need_modules()
         calls = ["solve"] * 2 + ["confirm", "move_scores"]
         calls += [f"{name}_{how}" for name in ("solve", "move_scores") for _ in range(2) for how in ("all", "iter", "arrays")]
@@ -50,7 +50,7 @@ class Interrupted(unittest.TestCase):
         wanted = "".join(f"{name} stopped\n" for name in calls) + "+62 H1\n"
         self.assertEqual((ran.returncode, ran.stdout.decode(), ran.stderr), (0, wanted, b""))
 
-    def test_a_program_that_does_not_catch_it_ends(self):
+    def test_a_program_that_does_not_catch_the_interrupt_ends(self):
         code = "import os, threading, signal, sys; from ffosolve import Position, Solver\n"
         code += "threading.Timer(0.2, os.kill, (os.getpid(), signal.SIGINT)).start()\n"
         code += "Solver(max_empties=60).solve(Position.start())"
