@@ -1,6 +1,6 @@
 -- What a call of the reader returns is what the line says.
 use Rattle.std.proofs.Common.{◌≡◌, ℕ, Err, inl, inr, refl, sym, ap}
-use Rattle.obf_text.specs.Obf.{Entry, Faulty, Gives, Holds, Meaning, Skipped, place_of}
+use Rattle.obf_text.specs.Obf.{Entry, Faulty, IsResultFor, Holds, Meaning, Skipped, place_of}
 use Rattle.obf_text.specs.declared.line_fault.LineFault.{LineFault}
 use Rattle.obf_text.specs.declared.line_fault.LineFault.TheVariants.{Short, BadCell, BadSide, Memory}
 use Rattle.ffosolve_c.specs.Lines.{fault_status, IsOfLine}
@@ -19,13 +19,13 @@ place_in (Faulty fault) = place_of fault
 pub same_entry : (told entry : Entry) → Holds entry ≡ Holds told → told ≡ entry
 same_entry told entry same = let e : entry ≡ told = ap (entry_or told) same in sym e
 
-pub same_place : (told fault : LineFault) → Gives (Err told) (Faulty fault) → place_of told ≡ place_of fault
+pub same_place : (told fault : LineFault) → IsResultFor (Err told) (Faulty fault) → place_of told ≡ place_of fault
 same_place (Short n) fault same = sym (ap place_in same)
 same_place (BadCell n) fault same = sym (ap place_in same)
 same_place (BadSide n) fault same = sym (ap place_in same)
 same_place Memory fault none = absurd none
 
-pub told_of_line : (told fault : LineFault) → Gives (Err told) (Faulty fault) → IsOfLine (fault_status told)
+pub told_of_line : (told fault : LineFault) → IsResultFor (Err told) (Faulty fault) → IsOfLine (fault_status told)
 told_of_line (Short n) fault same = inl refl
 told_of_line (BadCell n) fault same = inr (inl refl)
 told_of_line (BadSide n) fault same = inr (inr refl)

@@ -2,11 +2,11 @@
 use Rattle.std.proofs.Common.{ℕ, List, [], ◌++◌, Option, refl, sym, ap, ◌∙◌, subst}
 use Rattle.std.proofs.lemmas.List.{append_assoc, append-nil}
 use Rattle.std.specs.Io.KnownBytes.{Appends}
-use Rattle.obf_text.proofs.WriterLemmas.{appends_both, appends_none}
+use Rattle.std.proofs.KnownBytes.{Appends-nil, Appends-trans}
 use Rattle.list_printer.specs.Output.{AppendsFront, WritesBefore}
 
 pub prints_start : (old : Option (List ℕ)) (all : List ℕ) → WritesBefore old old all all
-prints_start old all = record { done = []; whole = refl; written = appends_none old }
+prints_start old all = record { done = []; whole = refl; written = Appends-nil old }
 
 pub prints_end : (old now : Option (List ℕ)) (all : List ℕ) → WritesBefore old now [] all
     → Appends old now all
@@ -17,7 +17,7 @@ pub prints_both : (old now next : Option (List ℕ)) (rest left all : List ℕ)
 prints_both old now next rest left all h k = record {
   done = h.done ++ k.done;
   whole = h.whole ∙ ap (λ t. h.done ++ t) k.whole ∙ sym (append_assoc h.done k.done left);
-  written = appends_both old now next h.done k.done h.written k.written;
+  written = Appends-trans old now next h.done k.done h.written k.written;
 }
 
 -- more follows what is written

@@ -1,5 +1,5 @@
 -- A list as a front that fails a test, and a rest that is empty or begins with an element that passes.
-use Rattle.std.proofs.Common.{◌≡◌, ℕ, zero, suc, ◌+◌, ◌<◌, Bool, true, false, not, List, [], ◌∷◌, ◌++◌, length, refl, ap, arith, get_or}
+use Rattle.std.proofs.Common.{◌≡◌, ℕ, zero, suc, ◌+◌, ◌<◌, Bool, true, false, List, [], ◌∷◌, ◌++◌, length, refl, ap, arith, get_or}
 use Rattle.std.specs.List.{All, AllPass, position_or_len}
 use Rattle.std.proofs.lemmas.Grind.{common_steps}
 use Rattle.std.proofs.lemmas.List.Sums.{position_or_len_is}
@@ -49,11 +49,3 @@ blanks_len blanks rest h s = run_len is_content blanks rest (λ k lt. rw (h k 0 
 
 pub cells_len : (cells rest : List ℕ) → AllPass is_cell cells → Stops is_no_cell rest → position_or_len is_no_cell (cells ++ rest) ≡ length cells
 cells_len cells rest h s = run_len is_no_cell cells rest (λ k lt. rw (h k 0 lt) refl) s
-
-pub not_false : (b : Bool) → not b ≡ false → b ≡ true
-not_false true e = refl
-not_false false e = cc
-
-pub not_true : (b : Bool) → not b ≡ true → b ≡ false
-not_true true e = cc
-not_true false e = refl

@@ -17,6 +17,6 @@ pub mod WriterLemmas
 pub mod WriteSteps
 pub mod WrittenBytes
 pub mod WrittenFields
-pub mod WrittenLines
 pub mod Reread
+pub mod WrittenLines
 pub mod PieceLemmas

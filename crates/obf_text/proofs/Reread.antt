@@ -40,7 +40,7 @@ same_length : (cells : List Cell) → length (map cell_byte cells) ≡ length ce
 same_length [] = refl
 same_length (c ∷ cells) = ap suc (same_length cells)
 
--- fields and a blank behind them, cut at semicolons
+-- fields and a blank after them, cut at semicolons
 blank_back : (fields : List Field) → AreWritable fields → Lists (slice_split (λ b. b == 59) (fields_text fields ++ 32 ∷ [])) fields
 blank_back [] h = rw fields_none (none_from (32 ∷ []) refl, tt)
 blank_back (f ∷ fields) h =
@@ -106,11 +106,11 @@ pub commented_item : (P : GridView) (fields : List Field) (more : List ℕ) → 
 commented_item P fields more all h =
     sym (says_only (entry_text P fields ++ 32 ∷ 37 ∷ more) (Holds (record { position = P; listed = fields })) (commented_says P fields more all h))
 
-bare_parts : (P : GridView) (fields : List Field) → entry_text P fields ≡ map cell_byte P.cells ++ (32 ∷ side_byte P.mover ∷ 59 ∷ fields_text fields)
+pub bare_parts : (P : GridView) (fields : List Field) → entry_text P fields ≡ map cell_byte P.cells ++ (32 ∷ side_byte P.mover ∷ 59 ∷ fields_text fields)
 unfolding entry_text board_text
 bare_parts P fields = append_assoc (map cell_byte P.cells) (32 ∷ side_byte P.mover ∷ 59 ∷ []) (fields_text fields)
 
-bare_says : (P : GridView) (fields : List Field) → length P.cells ≡ 64 → AreWritable fields → Says (entry_text P fields) (Holds (record { position = P; listed = fields }))
+pub bare_says : (P : GridView) (fields : List Field) → length P.cells ≡ 64 → AreWritable fields → Says (entry_text P fields) (Holds (record { position = P; listed = fields }))
 bare_says P fields all h = record {
   blanks = [];
   cells = map cell_byte P.cells;

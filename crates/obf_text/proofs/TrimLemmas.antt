@@ -2,6 +2,7 @@
 use Rattle.std.proofs.Common.{◌≡◌, ℕ, ◌+◌, ◌-◌, ◌<◌, ◌≤◌, true, false, List, ◌++◌, length, take, drop, sym, ◌∙◌, ap, arith, get_or}
 use Rattle.std.specs.Prelude.{reverse}
 use Rattle.std.specs.List.{AllPass, position_or_len, suffix_len}
+use Rattle.std.proofs.lemmas.Bool.{not-false}
 use Rattle.std.proofs.lemmas.Grind.{common_steps}
 use Rattle.std.proofs.lemmas.List.{get_or-drop, get_or-reverse, get_or-take, take-append-drop}
 use Rattle.std.proofs.lemmas.List.Sums.{fails_before_first, prefix_len_passes, prefix_len-le-length, suffix_len-le-length, suffix_len_is}
@@ -9,7 +10,7 @@ use Rattle.std.proofs.Math.ListN.{get_or-append}
 use Rattle.std.proofs.Math.Seq.{drop-append_seam, take-append_seam}
 use Rattle.obf_text.specs.Bytes.{is_blank, is_content}
 use Rattle.obf_text.specs.Fields.{without_blanks, without_first_blanks, without_last_blanks}
-use Rattle.obf_text.proofs.Fronts.{Stops, blanks_len, not_false}
+use Rattle.obf_text.proofs.Fronts.{Stops, blanks_len}
 
 -- blanks round a text whose ends are no blanks
 pub trimmed_is : (before text after : List ℕ) → AllPass is_blank before → AllPass is_blank after → Stops is_content (text ++ after) → 0 < length text
@@ -32,7 +33,7 @@ front_blank piece k d lt =
     let within : n ≤ length piece = prefix_len-le-length _ piece in
     let long : length (take n piece) ≡ n = grind (arith, common_steps) in
     let at : get_or (take n piece) k d ≡ get_or piece k d = get_or-take n piece k d (omega arith) in
-    rw at (not_false _ (fails_before_first is_content piece k d (omega arith)))
+    rw at (not-false _ (fails_before_first is_content piece k d (omega arith)))
 
 -- the bytes that are dropped at the end are blanks
 end_blank : (piece : List ℕ) → AllPass is_blank (drop (length piece - suffix_len is_blank piece) piece)

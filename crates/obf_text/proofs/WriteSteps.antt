@@ -10,7 +10,7 @@ use Rattle.othello_rules.specs.declared.answer.Best.TheVariants.{Moves}
 use Rattle.othello_rules.specs.Masks.{squares_of}
 use Rattle.obf_text.specs.declared.entries.ListedMove.TheVariants.{At}
 use Rattle.obf_text.specs.Fields.{Field}
-use Rattle.obf_text.specs.Written.{answer_text, cell_byte, field_text, fields_text}
+use Rattle.obf_text.specs.Written.{best_fields_text, cell_byte, field_text, fields_text}
 use Rattle.obf_text.proofs.WriterLemmas.{Completes, completes_end, completes_more, completes_start}
 
 -- one more cell
@@ -26,8 +26,8 @@ cells_more bytes cells n byte c b l front at is =
 unfoldable pub squares_text : ℤ → List ℕ → List ℕ
 squares_text score squares = fields_text (map (λ square. (At square, score)) squares)
 
-squares_all : (score : ℤ) (mask : ℕ) → squares_text score (squares_of mask) ≡ answer_text score (Moves mask)
-unfolding squares_text answer_text
+squares_all : (score : ℤ) (mask : ℕ) → squares_text score (squares_of mask) ≡ best_fields_text score (Moves mask)
+unfolding squares_text best_fields_text
 squares_all score mask = refl
 
 squares_cons : (score : ℤ) (q : ℕ) (qs : List ℕ) → squares_text score (q ∷ qs) ≡ field_text (At q, score) ++ squares_text score qs
@@ -48,8 +48,8 @@ unfolding squares_text fields_text
 squares_none score = refl
 
 pub squares_start : (old : Option (List ℕ)) (score : ℤ) (mask : ℕ) (qs : List ℕ) → qs ≡ squares_of mask
-    → Completes old old (squares_text score qs) (answer_text score (Moves mask))
-squares_start old score mask qs e = rw (e, squares_all score mask) (completes_start old (answer_text score (Moves mask)))
+    → Completes old old (squares_text score qs) (best_fields_text score (Moves mask))
+squares_start old score mask qs e = rw (e, squares_all score mask) (completes_start old (best_fields_text score (Moves mask)))
 
 pub squares_end : (old now : Option (List ℕ)) (score : ℤ) (qs : List ℕ) (n : ℕ) (all : List ℕ) → length qs ≤ n
     → Completes old now (squares_text score (drop n qs)) all → Appends old now all

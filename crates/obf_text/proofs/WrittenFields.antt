@@ -1,7 +1,8 @@
 -- The fields that are written are read back.
-use Rattle.std.proofs.Common.{◌≡◌, ℕ, ℤ, pos, negsuc, ◌+◌, ◌/◌, ◌%◌, ◌<◌, ◌≤◌, ◌==◌, zero, suc, Bool, true, false, List, [], ◌∷◌, ◌++◌, cond, length, map, take, refl, sym, inl, inr, ◌∙◌, ap, subst, arith}
+use Rattle.std.proofs.Common.{◌≡◌, ℕ, ℤ, pos, negsuc, ◌+◌, ◌/◌, ◌%◌, ◌<◌, ◌≤◌, ◌==◌, zero, suc, Bool, true, false, List, [], ◌∷◌, ◌++◌, cond, length, map, refl, sym, inl, inr, ◌∙◌, ap, subst, arith}
 use Rattle.std.specs.Prelude.{nat_abs, neg_ℤ, ◌⊎◌}
 use Rattle.std.specs.List.{All, AllPass, before_first, filter, position_or_len, range_with_len, slice_split}
+use Rattle.std.proofs.Math.Seq.{take-length}
 use Rattle.std.proofs.lemmas.Int.{ints}
 use Rattle.std.proofs.lemmas.List.{append-nil, append_assoc}
 use Rattle.std.proofs.lemmas.List.Sums.{position_or_len_is}
@@ -134,15 +135,11 @@ fields_lack c (f ∷ fields) h (inl e) =
 fields_lack c (f ∷ fields) h (inr e) =
     rw (fields_cons f fields) (piece_onto c f (59 ∷ fields_text fields) h.0 (inr (inl e)) (lacks_cons c 59 (fields_text fields) (rw e (omega arith)) (fields_lack c fields h.1 (inr e))))
 
-take_whole : (xs : List ℕ) → take (length xs) xs ≡ xs
-take_whole [] = refl
-take_whole (x ∷ xs) = ap (λ t. x ∷ t) (take_whole xs)
-
 whole_before : (xs : List ℕ) → All (λ b. (b == 37) ≡ false) xs → before_first (λ b. b == 37) xs ≡ xs
 whole_before xs h =
     let n : position_or_len (λ b. b == 37) xs ≡ length xs =
     position_or_len_is (λ b. b == 37) xs (length xs) 0 (omega arith) (λ k lt. h k 0 lt) (λ lt. absurd (omega arith)) in
-    rw n (take_whole xs)
+    rw n (take-length xs)
 
 -- the pieces behind the side
 pub all_back : (fields : List Field) → AreWritable fields → Lists (pieces_of (59 ∷ fields_text fields)) fields

@@ -1,6 +1,6 @@
 -- A line that is written is read back, even among others.
-use Rattle.std.proofs.Common.{◌≡◌, ℕ, ◌-◌, ◌==◌, zero, suc, true, List, [], ◌∷◌, ◌++◌, length, map, refl, sym, inl, ◌∙◌, ap, ap₂, arith, get_or, Some}
-use Rattle.std.specs.List.{AllPass, slice_split}
+use Rattle.std.proofs.Common.{◌≡◌, ℕ, ◌-◌, ◌==◌, List, [], ◌∷◌, ◌++◌, length, map, refl, sym, inl, ◌∙◌, ap, arith, get_or}
+use Rattle.std.specs.List.{slice_split}
 use Rattle.std.specs.Str.Lines.{strip_carriage_return}
 use Rattle.std.proofs.lemmas.Grind.{common_steps}
 use Rattle.std.proofs.lemmas.List.{append_assoc}
@@ -11,57 +11,24 @@ use Rattle.othello_rules.specs.declared.discs.Side.{Side}
 use Rattle.othello_rules.specs.declared.discs.Side.TheVariants as side
 use Rattle.othello_rules.specs.Rules.{GridView}
 use Rattle.othello_rules.specs.Answer.{IsScore, AnswerView}
-use Rattle.obf_text.specs.Bytes.{is_cell, cell_of, side_of}
 use Rattle.obf_text.specs.Fields.{Field}
-use Rattle.obf_text.specs.Written.{answer_text, board_text, cell_byte, fields_text, line_text, answer_fields, side_byte, line_with_end}
+use Rattle.obf_text.specs.Written.{best_fields_text, entry_text, cell_byte, fields_text, line_text, answer_fields, side_byte, line_with_end}
 use Rattle.obf_text.specs.LineText.{lines_of, without_empty_last}
 use Rattle.obf_text.specs.Obf.{Holds, Says}
 use Rattle.obf_text.proofs.LineLemmas.{has_first_part, keeps_first}
+use Rattle.obf_text.proofs.Reread.{bare_parts, bare_says}
 use Rattle.obf_text.proofs.WrittenBytes.{Lacks, lacks_cons}
-use Rattle.obf_text.proofs.WrittenFields.{all_back, best_writable, fields_cons, fields_lack, fields_none, gap_is_blank, none_blank, piece_text, score_size}
+use Rattle.obf_text.proofs.WrittenFields.{best_writable, fields_cons, fields_lack, fields_none, piece_text, score_size}
 
-cell_back : (c : Cell) → (is_cell (cell_byte c) ≡ true) × (cell_of (cell_byte c) ≡ c)
-cell_back cell.Empty = (refl, refl)
-cell_back cell.Black = (refl, refl)
-cell_back cell.White = (refl, refl)
-
-side_back : (s : Side) → side_of (side_byte s) ≡ Some s
-side_back side.Black = refl
-side_back side.White = refl
-
-board_back : (cells : List Cell) → cells ≡ map cell_of (map cell_byte cells)
-board_back [] = refl
-board_back (c ∷ cells) = ap₂ (λ x xs. x ∷ xs) (sym (cell_back c).1) (board_back cells)
-
-board_cells : (cells : List Cell) → AllPass is_cell (map cell_byte cells)
-board_cells [] k d lt = absurd (omega arith)
-board_cells (c ∷ cells) zero d lt = (cell_back c).0
-board_cells (c ∷ cells) (suc k) d lt = board_cells cells k d (omega arith)
-
-same_length : (cells : List Cell) → length (map cell_byte cells) ≡ length cells
-same_length [] = refl
-same_length (c ∷ cells) = ap suc (same_length cells)
+same_line : (P : GridView) (A : AnswerView) → line_text P A ≡ entry_text P (answer_fields A)
+unfolding line_text best_fields_text entry_text
+same_line P A = refl
 
 line_parts : (P : GridView) (A : AnswerView) → line_text P A ≡ map cell_byte P.cells ++ (32 ∷ side_byte P.mover ∷ 59 ∷ fields_text (answer_fields A))
-unfolding line_text board_text answer_text
-line_parts P A = append_assoc (map cell_byte P.cells) (32 ∷ side_byte P.mover ∷ 59 ∷ []) (fields_text (answer_fields A))
+line_parts P A = same_line P A ∙ bare_parts P (answer_fields A)
 
 pub written_says : (P : GridView) (A : AnswerView) → length P.cells ≡ 64 → IsScore A.score → Says (line_text P A) (Holds (record { position = P; listed = answer_fields A }))
-written_says P A all h = record {
-  blanks = [];
-  cells = map cell_byte P.cells;
-  gap = 32 ∷ [];
-  byte = side_byte P.mover;
-  rest = 59 ∷ fields_text (answer_fields A);
-  whole = line_parts P A;
-  blank = none_blank;
-  spelled = board_cells P.cells;
-  all = same_length P.cells ∙ all;
-  gap_blank = gap_is_blank;
-  board = board_back P.cells;
-  mover = side_back P.mover;
-  fields = all_back (answer_fields A) (best_writable A.score A.best (score_size A.score h));
-}
+written_says P A all h = rw (same_line P A) (bare_says P (answer_fields A) all (best_writable A.score A.best (score_size A.score h)))
 
 cells_onto : (cells : List Cell) (tail : List ℕ) → Lacks 10 tail → Lacks 10 (map cell_byte cells ++ tail)
 cells_onto [] tail rest = rest

@@ -136,23 +136,23 @@ abbrev pub at_most_64 : ℕ → Option ℕ
 at_most_64 n = if nat_le n 64 then Some n else None
 
 -- the number of two digits, if it is at most 64
-abbrev pub two_digit_size : Option ℕ → Option ℕ → Option ℕ
-two_digit_size (Some tens) (Some ones) = at_most_64 (10 * tens + ones)
-two_digit_size _ _ = None
+abbrev pub two_digit_magnitude : Option ℕ → Option ℕ → Option ℕ
+two_digit_magnitude (Some tens) (Some ones) = at_most_64 (10 * tens + ones)
+two_digit_magnitude _ _ = None
 
 -- the number of one or two bytes, if they are digits and it is at most 64
-abbrev pub size_of : List ℕ → Option ℕ
-size_of (a ∷ []) = digit_of a
-size_of (a ∷ b ∷ []) = two_digit_size (digit_of a) (digit_of b)
-size_of _ = None
+abbrev pub magnitude_of : List ℕ → Option ℕ
+magnitude_of (a ∷ []) = digit_of a
+magnitude_of (a ∷ b ∷ []) = two_digit_magnitude (digit_of a) (digit_of b)
+magnitude_of _ = None
 
 -- the score of a text, if it is one: `+`, `-` or no sign, and a size
 abbrev pub score_of_text : List ℕ → Option ℤ
 score_of_text [] = None
 score_of_text (sign ∷ digits) =
-    if sign == 43 then option_map pos (size_of digits)
-    else (if sign == 45 then option_map (λ n. neg_ℤ (pos n)) (size_of digits)
-    else option_map pos (size_of (sign ∷ digits)))
+    if sign == 43 then option_map pos (magnitude_of digits)
+    else (if sign == 45 then option_map (λ n. neg_ℤ (pos n)) (magnitude_of digits)
+    else option_map pos (magnitude_of (sign ∷ digits)))
 
 -- the field of a move and a score, if both are there
 abbrev pub field_by : Option ListedMove → Option ℤ → Option Field

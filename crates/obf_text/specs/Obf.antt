@@ -159,11 +159,11 @@ HasListed (Holds entry) = 0 < length entry.listed
 HasListed _ = ⊥
 
 -- the result says this meaning; it is `Memory` only if fields are listed
-abbrev pub Gives : Result Item LineFault → Meaning → Type 0
-Gives (Ok item.Skip) meaning = meaning ≡ Skipped
-Gives (Ok (item.Entry line)) meaning = meaning ≡ Holds (entry_of line)
-Gives (Err Memory) meaning = HasListed meaning
-Gives (Err fault) meaning = meaning ≡ Faulty fault
+abbrev pub IsResultFor : Result Item LineFault → Meaning → Type 0
+IsResultFor (Ok item.Skip) meaning = meaning ≡ Skipped
+IsResultFor (Ok (item.Entry line)) meaning = meaning ≡ Holds (entry_of line)
+IsResultFor (Err Memory) meaning = HasListed meaning
+IsResultFor (Err fault) meaning = meaning ≡ Faulty fault
 
 -- the number in a fault: a number of squares, or a column
 abbrev pub place_of : LineFault → ℕ

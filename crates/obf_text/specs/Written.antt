@@ -71,12 +71,12 @@ abbrev pub answer_fields : AnswerView → List Field
 answer_fields A = best_fields A.score A.best
 
 -- the text of the fields of a score and what attains it
-unfoldable pub answer_text : ℤ → Best → List ℕ
-answer_text score best = fields_text (best_fields score best)
+unfoldable pub best_fields_text : ℤ → Best → List ℕ
+best_fields_text score best = fields_text (best_fields score best)
 
 -- the line of a position with its answer, without its LF
 unfoldable pub line_text : GridView → AnswerView → List ℕ
-line_text P A = board_text P ++ answer_text A.score A.best
+line_text P A = board_text P ++ best_fields_text A.score A.best
 
 -- the line and its LF
 abbrev pub line_with_end : GridView → AnswerView → List ℕ

@@ -2,7 +2,7 @@
 
 ghost use Rattle.std.specs.Prelude.{◌≡◌, ◌<◌, ◌≤◌, IfOk, OnErr, IfSome, length};
 ghost use Rattle.obf_text.specs.Fields.{column_of_letter, digit_of, field_of, field_of_text};
-ghost use Rattle.obf_text.specs.Fields.{fields_of, move_of, row_of_digit, score_of_text, size_of};
+ghost use Rattle.obf_text.specs.Fields.{fields_of, move_of, row_of_digit, score_of_text, magnitude_of};
 ghost use Rattle.obf_text.specs.Fields.{without_blanks, without_first_blanks, without_last_blanks};
 ghost use Rattle.obf_text.specs.Fields.{square_in};
 
@@ -47,8 +47,8 @@ fn move_of(first: u8, second: u8) -> Option<ListedMove>
 }
 
 // The number of one or two digits. None for any other text, and for a number above 64.
-fn size_of(digits: &[u8]) -> Option<u8>
-    ensures value { result ≡ size_of digits.now }
+fn magnitude_of(digits: &[u8]) -> Option<u8>
+    ensures value { result ≡ magnitude_of digits.now }
     ensures small { IfSome result (λ n. n ≤ 64) }
 {
     match digits {
@@ -73,15 +73,15 @@ fn score_of_text(text: &[u8]) -> Option<i8>
 {
     match text {
         [b'+', digits @ ..] => {
-            let size = size_of(digits)?;
+            let size = magnitude_of(digits)?;
             Some(size as i8)
         }
         [b'-', digits @ ..] => {
-            let size = size_of(digits)?;
+            let size = magnitude_of(digits)?;
             Some(-(size as i8))
         }
         digits => {
-            let size = size_of(digits)?;
+            let size = magnitude_of(digits)?;
             Some(size as i8)
         }
     }

@@ -3,7 +3,7 @@
 ghost use Rattle.std.specs.Prelude.{◌≡◌, ◌+◌, ◌<◌, ◌≤◌, ◌^◌, IfErr, length, map};
 ghost use Rattle.std.specs.List.{position_or_len};
 ghost use Rattle.obf_text.specs.Bytes.{cell_of, is_no_cell};
-ghost use Rattle.obf_text.specs.Obf.{Gives, Meaning, Says, board_item, gap_item, item_of, place_of};
+ghost use Rattle.obf_text.specs.Obf.{IsResultFor, Meaning, Says, board_item, gap_item, item_of, place_of};
 
 use crate::bytes::{blank_count, cell_count, cell_of, side_of};
 use crate::entries::{Item, Line};
@@ -28,7 +28,7 @@ fn board_of(bytes: &[u8]) -> [Cell; 64]
 // `place` bytes of the line.
 fn read_side(alloc: Global, place: usize, cells: [Cell; 64], rest: &[u8]) -> Result<Item, LineFault>
     requires { place + length rest.now < 2 ^ 63 }
-    ensures { Gives result (gap_item place cells rest.now) }
+    ensures { IsResultFor result (gap_item place cells rest.now) }
 {
     let gap = blank_count(rest);
     let column = place + gap + 1;
@@ -49,7 +49,7 @@ fn read_side(alloc: Global, place: usize, cells: [Cell; 64], rest: &[u8]) -> Res
 // after `start` blanks.
 fn read_board(alloc: Global, start: usize, rest: &[u8]) -> Result<Item, LineFault>
     requires { start + length rest.now < 2 ^ 63 }
-    ensures { Gives result (board_item start (position_or_len is_no_cell rest.now) rest.now) }
+    ensures { IsResultFor result (board_item start (position_or_len is_no_cell rest.now) rest.now) }
 {
     let count = cell_count(rest);
     if count < 64 {
@@ -75,8 +75,8 @@ fn read_board(alloc: Global, start: usize, rest: &[u8]) -> Result<Item, LineFaul
 /// memory was refused. Memory is taken only for listed moves.
 pub fn read_line(alloc: Global, line: &[u8]) -> Result<Item, LineFault>
     // The result is what the line says by the grammar.
-    ensures says { (meaning : Meaning) → Says line.now meaning → Gives result meaning }
-    ensures exact { Gives result (item_of line.now) }
+    ensures says { (meaning : Meaning) → Says line.now meaning → IsResultFor result meaning }
+    ensures exact { IsResultFor result (item_of line.now) }
     // The number in a fault is at most the length of the line, and 1 more if the line ends
     // before its side.
     ensures place { IfErr result (λ fault. place_of fault ≤ length line.now + 1) }

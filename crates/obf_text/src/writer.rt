@@ -3,7 +3,7 @@
 ghost use Rattle.std.specs.Prelude.{◌≡◌, ◌<◌, nat_abs, length, map, All, OnOk};
 ghost use Rattle.std.specs.Io.KnownBytes.{Appends};
 ghost use Rattle.othello_rules.specs.declared.answer.Best.TheVariants.{Moves};
-ghost use Rattle.obf_text.specs.Written.{answer_text, board_text, cell_byte, field_text};
+ghost use Rattle.obf_text.specs.Written.{best_fields_text, board_text, cell_byte, field_text};
 ghost use Rattle.obf_text.specs.Written.{move_text, score_part, score_text, side_byte};
 ghost use Rattle.obf_text.specs.Written.{entry_text, fields_text, line_with_end};
 
@@ -109,7 +109,7 @@ fn write_moves<W: Write>(writer: &mut W, score: i8, mask: u64) -> io::Result<()>
     requires { nat_abs score < 100 }
     ensures { OnOk result
         (Appends (W.contents writer.old) (W.contents writer.new)
-        (answer_text score (Moves mask))) }
+        (best_fields_text score (Moves mask))) }
 {
     for square in squares_in(mask).iter() {
         write_field(writer, ListedMove::At(*square), score)?;
@@ -118,11 +118,11 @@ fn write_moves<W: Write>(writer: &mut W, score: i8, mask: u64) -> io::Result<()>
 }
 
 // Writes a field with the score for each best move, or one for the pass or the end of the game.
-#[tactic(auto, unfolding(crate::specs::Written::answer_text, crate::specs::Written::fields_text))]
+#[tactic(auto, unfolding(crate::specs::Written::best_fields_text, crate::specs::Written::fields_text))]
 fn write_best<W: Write>(writer: &mut W, score: i8, best: Best) -> io::Result<()>
     requires { nat_abs score < 100 }
     ensures { OnOk result
-        (Appends (W.contents writer.old) (W.contents writer.new) (answer_text score best)) }
+        (Appends (W.contents writer.old) (W.contents writer.new) (best_fields_text score best)) }
 {
     match best {
         Best::Moves(mask) => write_moves(writer, score, mask),

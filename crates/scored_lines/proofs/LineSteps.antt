@@ -5,7 +5,7 @@ use Rattle.std.specs.Prelude.{Ok, Err, ◌≢◌}
 use Rattle.std.specs.Io.KnownBytes.{Appends}
 use Rattle.std.proofs.lemmas.List.{append_assoc}
 use Rattle.othello_rules.specs.declared.scoring.Scoring.{Scoring}
-use Rattle.obf_text.specs.Obf.{Faulty, Gives, Meaning, Skipped, item_of}
+use Rattle.obf_text.specs.Obf.{Faulty, IsResultFor, Meaning, Skipped, item_of}
 use Rattle.obf_text.specs.declared.entries.Item.{Item}
 use Rattle.obf_text.specs.declared.entries.Item.TheVariants as item
 use Rattle.obf_text.specs.declared.line_fault.LineFault.{LineFault}
@@ -118,10 +118,10 @@ unfolding is_right
 right_fault g by line m f e = rw e refl
 
 -- the result of reading a line against the line's meaning
-pub said_skip : (i : Item) (m : Meaning) → i ≡ item.Skip → Gives (Ok i) m → m ≡ Skipped
-said_skip i m e h = subst (λ j. Gives (Ok j) m) e h
+pub said_skip : (i : Item) (m : Meaning) → i ≡ item.Skip → IsResultFor (Ok i) m → m ≡ Skipped
+said_skip i m e h = subst (λ j. IsResultFor (Ok j) m) e h
 
-pub said_fault : (f : LineFault) (m : Meaning) → f ≢ Memory → Gives (Err f) m → m ≡ Faulty f
+pub said_fault : (f : LineFault) (m : Meaning) → f ≢ Memory → IsResultFor (Err f) m → m ≡ Faulty f
 said_fault (Short n) m h k = k
 said_fault (BadCell n) m h k = k
 said_fault (BadSide n) m h k = k

@@ -1,6 +1,6 @@
 use Rattle.std.proofs.Common.{◌++◌}
 use Rattle.std.specs.Prelude.{codes}
-use Rattle.obf_text.proofs.WriterLemmas.{appends_both}
+use Rattle.std.proofs.KnownBytes.{Appends-trans}
 use Rattle.obf_text.specs.Faults.{line_fault_text}
 use Rattle.scored_lines.specs.Lines.{quoted_text, refused_text}
 use Rattle.scored_lines.proofs.Results.{on_ok}
@@ -10,8 +10,8 @@ pub returns : goal.returns
 unfolding refused_text
 returns g c =
     on_ok c.write_quoted.result _ _
-    (λ ok w. appends_both _ _ _ (codes "% refused: ")
+    (λ ok w. Appends-trans _ _ _ (codes "% refused: ")
     ((line_fault_text c.args.fault) ++ quoted_text c.args.line.now) c.in_ok-write_all.ensures.bytes
-    (appends_both _ _ _ (line_fault_text c.args.fault) (quoted_text c.args.line.now)
+    (Appends-trans _ _ _ (line_fault_text c.args.fault) (quoted_text c.args.line.now)
     c.in_ok-write_fault.ensures w))
     c.write_quoted.ensures

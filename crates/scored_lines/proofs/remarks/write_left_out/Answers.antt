@@ -1,7 +1,7 @@
 use Rattle.std.proofs.Common.{◌++◌, subst}
 use Rattle.std.specs.Io.KnownBytes.{Appends}
 use Rattle.std.specs.Prelude.{codes}
-use Rattle.obf_text.proofs.WriterLemmas.{appends_both}
+use Rattle.std.proofs.KnownBytes.{Appends-trans}
 use Rattle.obf_text.specs.Written.{move_text}
 use Rattle.scored_lines.specs.Remarks.{left_out_text}
 use Rattle.scored_lines.proofs.Results.{on_ok}
@@ -12,8 +12,8 @@ unfolding left_out_text
 returns g c =
     let move = move_text c.args.listed in
     on_ok c.write_all-3.result _ _
-    (λ ok w. appends_both _ _ _ (codes "best move ") (move ++ codes " is not listed")
+    (λ ok w. Appends-trans _ _ _ (codes "best move ") (move ++ codes " is not listed")
     c.in_ok-write_all.ensures.bytes
-    (appends_both _ _ _ move (codes " is not listed")
+    (Appends-trans _ _ _ move (codes " is not listed")
     (subst (Appends _ _) c.move_bytes.ensures c.in_ok-write_all-2.ensures.bytes) w))
     c.write_all-3.ensures.bytes

@@ -1,6 +1,6 @@
 use Rattle.std.proofs.Common.{◌++◌, ap, sym, ◌∙◌, subst, false}
 use Rattle.std.specs.Io.KnownBytes.{Appends}
-use Rattle.obf_text.proofs.WriterLemmas.{appends_both}
+use Rattle.std.proofs.KnownBytes.{Appends-trans}
 use Rattle.obf_text.specs.Pieces.{line_pieces}
 use Rattle.scored_lines.specs.Remarks.{left_out_remarks, remarks, remarks_text}
 use Rattle.scored_lines.proofs.RemarkSteps.{remarks_both}
@@ -18,6 +18,6 @@ returns-clause-written g c =
     (λ ok w. subst (Appends old new)
     (ap (λ b. remarks_text false first ++ remarks_text b more) c.in_ok-found.ensures.found
     ∙ sym (remarks_both false first more))
-    (appends_both old _ new (remarks_text false first) (remarks_text c.in_ok-found.found more)
+    (Appends-trans old _ new (remarks_text false first) (remarks_text c.in_ok-found.found more)
     c.in_ok-found.ensures.written w))
     c.write_left_out_remarks.ensures.written

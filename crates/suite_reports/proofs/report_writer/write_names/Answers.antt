@@ -3,11 +3,12 @@ use Rattle.std.specs.List.{flat_map}
 use Rattle.othello_rules.specs.Board.{name_of}
 use Rattle.suite_reports.specs.ReportText.{comma_name}
 use Rattle.suite_reports.proofs.NameLemmas.{names_first, names_none}
-use Rattle.obf_text.proofs.WriterLemmas.{appends_none, completes_more, completes_start}
+use Rattle.std.proofs.KnownBytes.{Appends-nil}
+use Rattle.obf_text.proofs.WriterLemmas.{completes_more, completes_start}
 use Rattle.suite_reports.proofs.report_writer.write_names.Goals as goal
 
 pub returns-in_default : goal.returns-in_default
-returns-in_default g c = rw (names_none c.args.squares.now c.in_default.len_below) (appends_none _)
+returns-in_default g c = rw (names_none c.args.squares.now c.in_default.len_below) (Appends-nil _)
 
 pub loop-square-init : goal.loop-square-init
 loop-square-init g c =

@@ -1,10 +1,10 @@
 use Rattle.std.proofs.Common.{◌≡◌, ℕ, ◌+◌, ◌*◌, ◌<◌, ◌≤◌, ◌∙◌, List, [], ◌∷◌, length, get_or, refl, sym, arith, Some}
 use Rattle.std.proofs.lemmas.Bool.{le-leb}
-use Rattle.obf_text.specs.Fields.{digit_of, size_of}
-use Rattle.obf_text.proofs.fields.size_of.Goals as goal
+use Rattle.obf_text.specs.Fields.{digit_of, magnitude_of}
+use Rattle.obf_text.proofs.fields.magnitude_of.Goals as goal
 
 two_digits : (digits : List ℕ) (x y tens ones : ℕ) → 2 ≤ length digits → length digits < 3 → digit_of (get_or digits 0 x) ≡ Some tens
-    → digit_of (get_or digits 1 y) ≡ Some ones → 10 * tens + ones ≤ 64 → Some (10 * tens + ones) ≡ size_of digits
+    → digit_of (get_or digits 1 y) ≡ Some ones → 10 * tens + ones ≤ 64 → Some (10 * tens + ones) ≡ magnitude_of digits
 two_digits [] x y tens ones l h t o le = absurd (omega arith)
 two_digits (a ∷ []) x y tens ones l h t o le = absurd (omega arith)
 two_digits (a ∷ b ∷ []) x y tens ones l h t o le = rw (t, o, le-leb _ _ le) refl
