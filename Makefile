@@ -77,7 +77,8 @@ $(programs:%=out/%): out/%: out/$(CPU)/% always
 
 # Writes a text with the version, the greatest table and places in it: $(call fill,FILE,TO).
 number = $(shell echo $(version) | awk -F . '{ print 10000 * $$1 + 100 * $$2 + $$3 }')
-entries = $(shell awk -F '[ ;]+' '/const MOST_ENTRIES/ { print $$(NF - 1) }' crates/bound_table/src/bound_table.rt)
+constant = $(shell awk -F '[ ;]+' '/const $1:/ { print $$(NF - 1) }' $2)
+entries = $(call constant,MOST_ENTRIES,crates/bound_table/src/bound_table.rt)
 fill = sed -e 's/@VERSION@/$(version)/g; s/@NUMBER@/$(number)/g; s/@MAJOR@/$(major)/g; s/@ENTRIES@/$(subst _,,$(entries))/g' \
     -e "s|@BINDIR@|$(BINDIR)|g; s|@INCLUDE@|$$(realpath -ms --relative-to='$(LIBDIR)' '$(INCLUDEDIR)')|g" $1 | install -D -m 644 /dev/stdin $2
 
@@ -91,9 +92,16 @@ library: out/$(CPU)/libffosolve.a out/$(CPU)/libffosolve.so ## builds libffosolv
 levels: $(programs:%=out/%) library $(objects:.o=) $(foreach level,$(levels),out/$(level)/libffosolve.so out/$(level)/libffosolve.a)
 
 comma = ,
-constants: ## writes the greatest number of table entries into the packages for Python and Rust, and into the user guide
-	sed -i -E 's/(MOST_ENTRIES(: usize)? = )[0-9_]+/\1$(entries)/' python/src/ffosolve/_library.py rust/src/solvers.rs
+settings = crates/program_settings/src/*.rt
+constants: empties = $(call constant,DEFAULT_EMPTIES,$(settings))
+constants: ## writes the version, the greatest table and the default of --max-empties where they are repeated
+	sed -i -E 's/^(pub const VERSION: &str = ").*"/\1$(version)"/; s/^(pub const VERSION_NUMBER: .* = ).*;/\1$(shell echo $(number) | sed 's/...$$/_&/');/' $(settings)
+	sed -i -E 's/^(pub const DEFAULT_EMPTIES_TEXT: &str = ").*"/\1$(empties)"/' $(settings)
+	sed -i -E 's/^(version = ").*"/\1$(version)"/' rust/Cargo.toml
+	sed -i -E 's/(MOST_ENTRIES(: usize)? = )[0-9_]+/\1$(entries)/; s/(max_empties: int = )[0-9]+/\1$(empties)/' \
+	    python/src/ffosolve/_library.py python/src/ffosolve/_solvers.py rust/src/solvers.rs
 	sed -i -E 's/(has at most )[0-9,]+( entries)/\1$(subst _,$(comma),$(entries))\2/' docs/user-guide.md
+	sed -i -E 's/^(\| `--max-empties N` .* )[0-9]+ \|$$/\1$(empties) |/' README.md
 
 look: export list = $(LIST)
 look: ## solves three positions in about a minute, with nothing proved; LIST=FILE solves a small list of yours

@@ -260,18 +260,27 @@ class Installed(Case):
         ):
             self.assertIn(text, place.read_text(), place)
 
-    def test_make_constants_writes_the_greatest_table_of_the_crates_into_packages_and_guide(self):
-        source, *others = ("crates/bound_table/src/bound_table.rt", "python/src/ffosolve/_library.py", "rust/src/solvers.rs",
-                           "docs/user-guide.md")
-        for name in ("Makefile", "VERSION", "packaging/packages.mk", source, *others):
-            write(name, stored(name))
-        old = re.search(r"const MOST_ENTRIES: usize = (\w+)", Path(source).read_text())[1]
-        for entries in (old, "1_234_567"):
-            write(source, stored(source).decode().replace(old, entries))
+    def test_make_constants_writes_what_files_repeat(self):
+        table, settings = "crates/bound_table/src/bound_table.rt", "crates/program_settings/src/limits.rt"
+        cargo, readme, guide = "rust/Cargo.toml", "README.md", "docs/user-guide.md"
+        rust, *python = "rust/src/solvers.rs", "python/src/ffosolve/_library.py", "python/src/ffosolve/_solvers.py"
+        entries = re.search(r"MOST_ENTRIES: usize = (\w+)", stored(table).decode())[1]
+        empties = re.search(r"DEFAULT_EMPTIES: u8 = (\d+)", stored(settings).decode())[1]
+        for source, old, new, *repeated in (
+            ("VERSION", VERSION, "1.12.3", (f"{NUMBER:_}", "11_203")),
+            (table, entries, "1_234_567", (entries.replace("_", ","), "1,234,567")),
+            (settings, f"u8 = {empties}", "u8 = 7", (f'"{empties}"', '"7"'), (f"0 to 60 | {empties} |", "0 to 60 | 7 |"),
+             (f"max_empties: int = {empties}", "max_empties: int = 7")),
+        ):
+            for name in ("Makefile", "packaging/packages.mk", "VERSION", table, settings, cargo, readme, guide, rust, *python):
+                write(name, stored(name))
+            write(source, stored(source).decode().replace(old, new))
             self.assertEqual(run("make", "-s", "constants").returncode, 0)
-            for name in others:
-                wanted = stored(name).decode().replace(old, entries).replace(old.replace("_", ","), entries.replace("_", ","))
-                self.assertEqual(Path(name).read_text(), wanted)
+            for name in (settings, cargo, readme, guide, rust, *python):
+                wanted = stored(name).decode()
+                for pair in ((old, new), *repeated):
+                    wanted = wanted.replace(*pair)
+                self.assertEqual(Path(name).read_text(), wanted, name)
 
 
 ZSHRC = """

@@ -44,7 +44,7 @@ impl fmt::Display for Error {
             Error::TooManyEmpties { index } => {
                 write!(f, "position at index {index}: more than {MOST_EMPTIES} empty squares")
             }
-            Error::NoMove => f.write_str("no move"),
+            Error::NoMove => f.write_str("illegal move"),
             Error::NoMemory => f.write_str("out of memory"),
             Error::Other { status } => write!(f, "refused with status {status}"),
         }

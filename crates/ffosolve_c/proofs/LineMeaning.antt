@@ -3,7 +3,8 @@ use Rattle.std.proofs.Common.{◌≡◌, ℕ, Err, inl, inr, refl, sym, ap}
 use Rattle.obf_text.specs.Obf.{Entry, Faulty, IsResultFor, Holds, Meaning, Skipped, place_of}
 use Rattle.obf_text.specs.declared.line_fault.LineFault.{LineFault}
 use Rattle.obf_text.specs.declared.line_fault.LineFault.TheVariants.{Short, BadCell, BadSide, Memory}
-use Rattle.ffosolve_c.specs.Lines.{fault_status, IsOfLine}
+use Rattle.ffosolve_c.specs.Lines.{IsOfLine}
+use Rattle.ffosolve_c.specs.Refusals.{call_status, fault_refusal}
 
 -- the entry of a meaning, and another where it has none
 abbrev entry_or : Entry → Meaning → Entry
@@ -25,7 +26,7 @@ same_place (BadCell n) fault same = sym (ap place_in same)
 same_place (BadSide n) fault same = sym (ap place_in same)
 same_place Memory fault none = absurd none
 
-pub told_of_line : (told fault : LineFault) → IsResultFor (Err told) (Faulty fault) → IsOfLine (fault_status told)
+pub told_of_line : (told fault : LineFault) → IsResultFor (Err told) (Faulty fault) → IsOfLine (call_status (fault_refusal told))
 told_of_line (Short n) fault same = inl refl
 told_of_line (BadCell n) fault same = inr (inl refl)
 told_of_line (BadSide n) fault same = inr (inr refl)

@@ -7,13 +7,11 @@ use Rattle.obf_text.specs.Fields.{Field}
 use Rattle.obf_text.specs.Obf.{Entry, Meaning, Skipped, Holds, Faulty}
 use Rattle.obf_text.specs.declared.entries.ListedMove.{ListedMove}
 use Rattle.obf_text.specs.declared.entries.ListedMove.TheVariants as listed
-use Rattle.obf_text.specs.declared.line_fault.LineFault.{LineFault}
-use Rattle.obf_text.specs.declared.line_fault.LineFault.TheVariants as fault
 use Rattle.ffosolve_c.specs.declared.line.FfosolveLine.{FfosolveLine}
 use Rattle.ffosolve_c.specs.declared.listed.FfosolveListed.{FfosolveListed}
-use Rattle.ffosolve_c.specs.declared.call_refusal.CallRefusal.TheVariants.{NoMemory}
+use Rattle.ffosolve_c.specs.declared.call_refusal.CallRefusal.TheVariants as refusal
 use Rattle.ffosolve_c.specs.Answers.{c_position}
-use Rattle.ffosolve_c.specs.Refusals.{status_of}
+use Rattle.ffosolve_c.specs.Refusals.{call_status, fault_refusal}
 
 -- the side to move: 0 black, 1 white
 abbrev pub side_number : Side → ℤ
@@ -48,21 +46,15 @@ c_line entry = record {
 abbrev pub written_over : List FfosolveListed → List FfosolveListed → List FfosolveListed
 written_over places values = take (length places) values ++ drop (length values) places
 
--- the status of a fault
-abbrev pub fault_status : LineFault → ℤ
-fault_status (fault.Short found) = pos 9
-fault_status (fault.BadCell column) = pos 10
-fault_status (fault.BadSide column) = pos 11
-fault_status fault.Memory = status_of NoMemory
-
--- the status of a line by what it says: 0 a position, 8 nothing, or that of its fault; a line that
--- lists moves may have that of `NoMemory`
+-- the status of a line by what it says: 0 a position, or that of its refusal; a line that lists
+-- moves may have that of `NoMemory`
 abbrev pub IsLineStatus : Meaning → ℤ → Type 0
-IsLineStatus Skipped status = status ≡ pos 8
+IsLineStatus Skipped status = status ≡ call_status refusal.Skipped
 IsLineStatus (Holds entry) status =
-    (status ≡ pos 0) ⊎ ((status ≡ status_of NoMemory) × (0 < length entry.listed))
-IsLineStatus (Faulty fault) status = status ≡ fault_status fault
+    (status ≡ pos 0) ⊎ ((status ≡ call_status refusal.NoMemory) × (0 < length entry.listed))
+IsLineStatus (Faulty fault) status = status ≡ call_status (fault_refusal fault)
 
 -- the status is that of a fault that has a place
 abbrev pub IsOfLine : ℤ → Type 0
-IsOfLine status = (status ≡ pos 9) ⊎ ((status ≡ pos 10) ⊎ (status ≡ pos 11))
+IsOfLine status = (status ≡ call_status refusal.ShortBoard)
+    ⊎ ((status ≡ call_status refusal.BadSquare) ⊎ (status ≡ call_status refusal.BadSide))

@@ -9,16 +9,30 @@ use Rattle.ffosolve_c.specs.declared.call_refusal.CallRefusal.{CallRefusal}
 use Rattle.ffosolve_c.specs.declared.call_refusal.CallRefusal.TheVariants.{UnknownScoring, TooManyEntries}
 use Rattle.ffosolve_c.specs.declared.call_refusal.CallRefusal.TheVariants.{UnequalLengths, SharedSquare}
 use Rattle.ffosolve_c.specs.declared.call_refusal.CallRefusal.TheVariants.{TooManyEmpties, NoMove, NoMemory}
+use Rattle.ffosolve_c.specs.declared.call_refusal.CallRefusal.TheVariants.{Skipped, ShortBoard, BadSquare, BadSide}
+use Rattle.obf_text.specs.declared.line_fault.LineFault.{LineFault}
+use Rattle.obf_text.specs.declared.line_fault.LineFault.TheVariants as fault
 use Rattle.ffosolve_c.specs.Answers.{discs_at, numbered_scoring}
 
-abbrev pub status_of : CallRefusal → ℤ
-status_of UnknownScoring = pos 1
-status_of TooManyEntries = pos 2
-status_of UnequalLengths = pos 3
-status_of SharedSquare = pos 4
-status_of TooManyEmpties = pos 5
-status_of NoMove = pos 6
-status_of NoMemory = pos 7
+abbrev pub call_status : CallRefusal → ℤ
+call_status UnknownScoring = pos 1
+call_status TooManyEntries = pos 2
+call_status UnequalLengths = pos 3
+call_status SharedSquare = pos 4
+call_status TooManyEmpties = pos 5
+call_status NoMove = pos 6
+call_status NoMemory = pos 7
+call_status Skipped = pos 8
+call_status ShortBoard = pos 9
+call_status BadSquare = pos 10
+call_status BadSide = pos 11
+
+-- why a line with a fault is refused
+abbrev pub fault_refusal : LineFault → CallRefusal
+fault_refusal (fault.Short found) = ShortBoard
+fault_refusal (fault.BadCell column) = BadSquare
+fault_refusal (fault.BadSide column) = BadSide
+fault_refusal fault.Memory = NoMemory
 
 -- the first of two refusals, if there is one
 abbrev pub first_of : Option CallRefusal → Option CallRefusal → Option CallRefusal
@@ -44,8 +58,8 @@ abbrev pub AreSolvable : List FfosolvePosition → Type 0
 AreSolvable ps = All (λ p. position_refusal p ≡ None) ps
 
 -- why a request for one answer is refused
-abbrev pub refusal_of : ℕ → ℕ → FfosolvePosition → Option CallRefusal
-refusal_of scoring entries p = first_of (table_refusal scoring entries) (position_refusal p)
+abbrev pub request_refusal : ℕ → ℕ → FfosolvePosition → Option CallRefusal
+request_refusal scoring entries p = first_of (table_refusal scoring entries) (position_refusal p)
 
 -- why a list of m positions and room for n answers don't fit
 abbrev pub lengths_refusal : ℕ → ℕ → Option CallRefusal
@@ -60,8 +74,8 @@ first_refusal ps =
     option_and_then (λ i. option_and_then position_refusal (slice_get ps i)) (first_refused ps)
 
 -- why a request for the answers of a list is refused, where there is room for `room` answers
-abbrev pub refusal_of_all : ℕ → ℕ → List FfosolvePosition → ℕ → Option CallRefusal
-refusal_of_all scoring entries ps room =
+abbrev pub list_refusal : ℕ → ℕ → List FfosolvePosition → ℕ → Option CallRefusal
+list_refusal scoring entries ps room =
     first_of (table_refusal scoring entries)
     (first_of (lengths_refusal (length ps) room) (first_refusal ps))
 
@@ -71,9 +85,9 @@ IsRefusal (Some refusal) told = told ≡ refusal
 IsRefusal None told = told ≡ NoMemory
 
 abbrev pub IsStatus : Option CallRefusal → ℤ → Type 0
-IsStatus (Some refusal) status = status ≡ status_of refusal
-IsStatus None status = (status ≡ pos 0) ⊎ (status ≡ status_of NoMemory)
+IsStatus (Some refusal) status = status ≡ call_status refusal
+IsStatus None status = (status ≡ pos 0) ⊎ (status ≡ call_status NoMemory)
 
 -- the status is that of a position that is refused
 abbrev pub IsOfPosition : ℤ → Type 0
-IsOfPosition status = (status ≡ status_of SharedSquare) ⊎ (status ≡ status_of TooManyEmpties)
+IsOfPosition status = (status ≡ call_status SharedSquare) ⊎ (status ≡ call_status TooManyEmpties)

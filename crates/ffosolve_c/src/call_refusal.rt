@@ -1,10 +1,12 @@
-//! Why requests are refused.
+//! Why a call writes nothing, with the statuses of `ffosolve.h`.
 
 ghost use Rattle.std.specs.Prelude.{◌≡◌, ◌≢◌, pos};
-ghost use Rattle.ffosolve_c.specs.Refusals.{status_of};
+ghost use Rattle.ffosolve_c.specs.Refusals.{call_status, fault_refusal};
 
-/// Why a request is refused. A request is tested for the refusals in this order, and the first that
-/// fits is returned.
+use obf_text::LineFault;
+
+/// Why a call writes nothing but `at`. A call tests its arguments in this order, and the first
+/// refusal that fits is returned.
 #[derive(Clone, Copy)]
 pub enum CallRefusal {
     /// No scoring has the number.
@@ -19,14 +21,22 @@ pub enum CallRefusal {
     TooManyEmpties,
     /// The mover can't move to the square, or the square's number is above 63.
     NoMove,
-    /// Memory for the table was refused.
+    /// Memory was refused, for the table or for the moves that a line lists.
     NoMemory,
+    /// The line is blank or a comment.
+    Skipped,
+    /// The line ends before its 64th square.
+    ShortBoard,
+    /// A byte in the place of a square is not one.
+    BadSquare,
+    /// The side to move is missing.
+    BadSide,
 }
 
 impl CallRefusal {
-    /// The status that C reads, from 1 to 7.
+    /// The status that C reads, from 1 to 11.
     pub fn status(self) -> i32
-        ensures number { result ≡ status_of self }
+        ensures number { result ≡ call_status self }
         ensures not_done { result ≢ pos 0 }
     {
         match self {
@@ -37,6 +47,22 @@ impl CallRefusal {
             CallRefusal::TooManyEmpties => 5,
             CallRefusal::NoMove => 6,
             CallRefusal::NoMemory => 7,
+            CallRefusal::Skipped => 8,
+            CallRefusal::ShortBoard => 9,
+            CallRefusal::BadSquare => 10,
+            CallRefusal::BadSide => 11,
+        }
+    }
+
+    /// Why a line with this fault is refused.
+    pub fn of_fault(fault: LineFault) -> CallRefusal
+        ensures { result ≡ fault_refusal fault }
+    {
+        match fault {
+            LineFault::Short(_) => CallRefusal::ShortBoard,
+            LineFault::BadCell(_) => CallRefusal::BadSquare,
+            LineFault::BadSide(_) => CallRefusal::BadSide,
+            LineFault::Memory => CallRefusal::NoMemory,
         }
     }
 }

@@ -9,12 +9,12 @@ ghost use Rattle.ffosolve_c.specs.Answers.{c_position, discs_at};
 ghost use Rattle.ffosolve_c.specs.Answers.{AreAnswers, AreScores, AreScoresOfAll, IsAnswer};
 ghost use Rattle.ffosolve_c.specs.Limits.{limit_of};
 ghost use Rattle.ffosolve_c.specs.Lines.{c_line, c_listed, written_over, IsLineStatus, IsOfLine};
-ghost use Rattle.ffosolve_c.specs.Refusals.{first_refused, refusal_of, refusal_of_all, status_of};
+ghost use Rattle.ffosolve_c.specs.Refusals.{first_refused, request_refusal, list_refusal, call_status};
 ghost use Rattle.ffosolve_c.specs.Refusals.{IsOfPosition, IsStatus};
 
 use crate::answer::{FfosolveAnswer, possible_claim};
-use crate::line::{FfosolveLine, c_line};
-use crate::line_status::{SKIPPED, fault_status, place_or};
+use crate::call_refusal::CallRefusal;
+use crate::line::{FfosolveLine, c_line, place_or};
 use crate::listed::{FfosolveListed, fill_listed};
 use crate::many_positions::{answer_all, score_each};
 use crate::one_position::answer_one;
@@ -39,8 +39,8 @@ pub extern "C" fn ffosolve_solve(
     entries: usize,
     answer: &mut FfosolveAnswer,
 ) -> i32
-    ensures status { IsStatus (refusal_of scoring entries position) result }
-    ensures without_memory { entries ≡ 0 → result ≢ status_of refusal.NoMemory }
+    ensures status { IsStatus (request_refusal scoring entries position) result }
+    ensures without_memory { entries ≡ 0 → result ≢ call_status refusal.NoMemory }
     ensures answer { result ≡ pos 0 → IsAnswer scoring position answer.new }
     ensures unchanged { result ≢ pos 0 → answer.new ≡ answer.old }
 {
@@ -65,8 +65,8 @@ pub extern "C" fn ffosolve_confirm(
     claim: FfosolveAnswer,
     answer: &mut FfosolveAnswer,
 ) -> i32
-    ensures status { IsStatus (refusal_of scoring entries position) result }
-    ensures without_memory { entries ≡ 0 → result ≢ status_of refusal.NoMemory }
+    ensures status { IsStatus (request_refusal scoring entries position) result }
+    ensures without_memory { entries ≡ 0 → result ≢ call_status refusal.NoMemory }
     ensures answer { result ≡ pos 0 → IsAnswer scoring position answer.new }
     ensures unchanged { result ≢ pos 0 → answer.new ≡ answer.old }
 {
@@ -95,8 +95,8 @@ pub extern "C" fn ffosolve_solve_all(
     at: &mut usize,
 ) -> i32
     ensures status { IsStatus
-        (refusal_of_all scoring entries positions.now (length answers.old)) result }
-    ensures without_memory { entries ≡ 0 → result ≢ status_of refusal.NoMemory }
+        (list_refusal scoring entries positions.now (length answers.old)) result }
+    ensures without_memory { entries ≡ 0 → result ≢ call_status refusal.NoMemory }
     ensures answers { result ≡ pos 0 → AreAnswers scoring positions.now answers.new }
     ensures unchanged { result ≢ pos 0 → answers.new ≡ answers.old }
     ensures refused { IsOfPosition result → first_refused positions.now ≡ Some at.new }
@@ -123,8 +123,8 @@ pub extern "C" fn ffosolve_move_scores(
     scores: &mut [i8; 64],
     moves: &mut u64,
 ) -> i32
-    ensures status { IsStatus (refusal_of scoring entries position) result }
-    ensures without_memory { entries ≡ 0 → result ≢ status_of refusal.NoMemory }
+    ensures status { IsStatus (request_refusal scoring entries position) result }
+    ensures without_memory { entries ≡ 0 → result ≢ call_status refusal.NoMemory }
     ensures scores { result ≡ pos 0 → AreScores scoring position scores.new }
     ensures moves { result ≡ pos 0 → moves.new ≡ moves_of (discs_at position) }
     ensures unchanged { result ≢ pos 0 → scores.new ≡ scores.old }
@@ -152,8 +152,8 @@ pub extern "C" fn ffosolve_move_scores_all(
     at: &mut usize,
 ) -> i32
     ensures status { IsStatus
-        (refusal_of_all scoring entries positions.now (length found.old)) result }
-    ensures without_memory { entries ≡ 0 → result ≢ status_of refusal.NoMemory }
+        (list_refusal scoring entries positions.now (length found.old)) result }
+    ensures without_memory { entries ≡ 0 → result ≢ call_status refusal.NoMemory }
     ensures scores { result ≡ pos 0 → AreScoresOfAll scoring positions.now found.new }
     ensures unchanged { result ≢ pos 0 → found.new ≡ found.old }
     ensures refused { IsOfPosition result → first_refused positions.now ≡ Some at.new }
@@ -170,7 +170,7 @@ pub extern "C" fn ffosolve_move_scores_all(
 #[unsafe(no_mangle)]
 pub extern "C" fn ffosolve_moves(position: FfosolvePosition, moves: &mut u64) -> i32
     ensures done { (result ≡ pos 0) ↔ (bit_and position.own position.opp ≡ 0) }
-    ensures shared { result ≢ pos 0 → result ≡ status_of refusal.SharedSquare }
+    ensures shared { result ≢ pos 0 → result ≡ call_status refusal.SharedSquare }
     ensures moves { result ≡ pos 0 → moves.new ≡ moves_of (discs_at position) }
     ensures unchanged { result ≢ pos 0 → moves.new ≡ moves.old }
 {
@@ -192,12 +192,12 @@ pub extern "C" fn ffosolve_play(
     square: u8,
     after: &mut FfosolvePosition,
 ) -> i32
-    ensures shared { (result ≡ status_of refusal.SharedSquare)
+    ensures shared { (result ≡ call_status refusal.SharedSquare)
         ↔ (bit_and position.own position.opp ≢ 0) }
     ensures legal { result ≡ pos 0 → IsMove (discs_at position) square }
-    ensures no_move { result ≡ status_of refusal.NoMove → IsMove (discs_at position) square → ⊥ }
-    ensures others { result ≢ pos 0 → result ≢ status_of refusal.SharedSquare
-        → result ≡ status_of refusal.NoMove }
+    ensures no_move { result ≡ call_status refusal.NoMove → IsMove (discs_at position) square → ⊥ }
+    ensures others { result ≢ pos 0 → result ≢ call_status refusal.SharedSquare
+        → result ≡ call_status refusal.NoMove }
     ensures after { result ≡ pos 0 → after.new ≡ c_position (play_of (discs_at position) square) }
     ensures unchanged { result ≢ pos 0 → after.new ≡ after.old }
 {
@@ -236,7 +236,7 @@ pub extern "C" fn ffosolve_read_line(
     ensures at_unchanged { (IsOfLine result → ⊥) → at.new ≡ at.old }
 {
     match read_line(alloc, text) {
-        Ok(Item::Skip) => SKIPPED,
+        Ok(Item::Skip) => CallRefusal::Skipped.status(),
         Ok(Item::Entry(entry)) => {
             *line = c_line(&entry);
             fill_listed(&entry.listed, listed);
@@ -244,7 +244,7 @@ pub extern "C" fn ffosolve_read_line(
         }
         Err(fault) => {
             *at = place_or(fault, *at);
-            fault_status(fault)
+            CallRefusal::of_fault(fault).status()
         }
     }
 }

@@ -15,7 +15,6 @@ mod answer;
 mod call_refusal;
 mod calls;
 mod line;
-mod line_status;
 mod listed;
 mod many_positions;
 mod one_position;

@@ -1,11 +1,12 @@
 //! A line of OBF text as C reads it.
 
 ghost use Rattle.std.specs.Prelude.{◌≡◌};
-ghost use Rattle.obf_text.specs.Obf.{entry_of};
-ghost use Rattle.ffosolve_c.specs.Lines.{c_line, side_number};
+ghost use Rattle.obf_text.specs.Obf.{entry_of, place_of};
+ghost use Rattle.ffosolve_c.specs.Lines.{c_line, side_number, IsOfLine};
+ghost use Rattle.ffosolve_c.specs.Refusals.{call_status, fault_refusal};
 
 use crate::position::FfosolvePosition;
-use obf_text::Line;
+use obf_text::{Line, LineFault};
 use othello_bits::Pos;
 use othello_rules::Side;
 
@@ -41,5 +42,17 @@ pub fn c_line(line: &Line) -> FfosolveLine
         },
         listed: line.listed.len(),
         side: side_number(line.grid.side()),
+    }
+}
+
+/// The number in a fault: how many squares the line has, or a column from 1. Out of memory has
+/// none: it is `otherwise` then.
+pub fn place_or(fault: LineFault, otherwise: usize) -> usize
+    ensures place { IsOfLine (call_status (fault_refusal fault)) → result ≡ place_of fault }
+    ensures none { (IsOfLine (call_status (fault_refusal fault)) → ⊥) → result ≡ otherwise }
+{
+    match fault {
+        LineFault::Short(place) | LineFault::BadCell(place) | LineFault::BadSide(place) => place,
+        LineFault::Memory => otherwise,
     }
 }

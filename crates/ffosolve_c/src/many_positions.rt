@@ -7,7 +7,7 @@ ghost use Rattle.ffosolve_c.specs.declared.call_refusal.CallRefusal.TheVariants 
 ghost use Rattle.ffosolve_c.specs.Answers.{answer_at, numbered_scoring, scores_at};
 ghost use Rattle.ffosolve_c.specs.Answers.{AreAnswers, AreScoresOfAll};
 ghost use Rattle.ffosolve_c.specs.Refusals.{first_refusal, first_refused, position_refusal};
-ghost use Rattle.ffosolve_c.specs.Refusals.{refusal_of_all, status_of};
+ghost use Rattle.ffosolve_c.specs.Refusals.{list_refusal, call_status};
 ghost use Rattle.ffosolve_c.specs.Refusals.{AreSolvable, IsOfPosition, IsRefusal};
 
 use crate::answer::{FfosolveAnswer, c_answer};
@@ -26,7 +26,7 @@ fn first_refused(positions: &[FfosolvePosition]) -> Option<(usize, CallRefusal)>
     ensures none { IsNone result → first_refusal positions.now ≡ None }
     ensures at { IfSome result (λ first. first_refused positions.now ≡ Some first.0) }
     ensures refused { IfSome result (λ first. first_refusal positions.now ≡ Some first.1) }
-    ensures kinds { IfSome result (λ first. IsOfPosition (status_of first.1)) }
+    ensures kinds { IfSome result (λ first. IsOfPosition (call_status first.1)) }
 {
     for i in 0..positions.len() {
         if let Err(refusal) = task_of(positions[i], Scoring::Winner) {
@@ -83,13 +83,13 @@ fn accepted_scoring(
     ensures few { IfOk result (λ g. entries ≤ most_entries) }
     ensures lengths { IfOk result (λ g. length positions.now ≡ room) }
     ensures solvable { IfOk result (λ g. AreSolvable positions.now) }
-    ensures good { IfOk result (λ g. refusal_of_all scoring entries positions.now room ≡ None) }
+    ensures good { IfOk result (λ g. list_refusal scoring entries positions.now room ≡ None) }
     ensures refused { IfErr result
-        (λ r. refusal_of_all scoring entries positions.now room ≡ Some r) }
+        (λ r. list_refusal scoring entries positions.now room ≡ Some r) }
     ensures not_memory { IfErr result (λ r. r ≢ refusal.NoMemory) }
     ensures at { IfErr result (λ r.
-        IsOfPosition (status_of r) → first_refused positions.now ≡ Some at.new) }
-    ensures at_unchanged { IfErr result (λ r. (IsOfPosition (status_of r) → ⊥) → at.new ≡ at.old) }
+        IsOfPosition (call_status r) → first_refused positions.now ≡ Some at.new) }
+    ensures at_unchanged { IfErr result (λ r. (IsOfPosition (call_status r) → ⊥) → at.new ≡ at.old) }
     ensures at_kept { OnOk result (at.new ≡ at.old) }
 {
     let scoring = table_scoring(scoring, entries)?;
@@ -115,15 +115,15 @@ pub fn answer_all(
     at: &mut usize,
 ) -> Result<(), CallRefusal>
     ensures good { OnOk result
-        (refusal_of_all scoring entries positions.now (length answers.old) ≡ None) }
+        (list_refusal scoring entries positions.now (length answers.old) ≡ None) }
     ensures answers { OnOk result (AreAnswers scoring positions.now answers.new) }
     ensures refused { IfErr result
-        (IsRefusal (refusal_of_all scoring entries positions.now (length answers.old))) }
+        (IsRefusal (list_refusal scoring entries positions.now (length answers.old))) }
     ensures without_memory { entries ≡ 0 → IfErr result (λ r. r ≢ refusal.NoMemory) }
     ensures unchanged { OnErr result (answers.new ≡ answers.old) }
     ensures at { IfErr result (λ r.
-        IsOfPosition (status_of r) → first_refused positions.now ≡ Some at.new) }
-    ensures at_unchanged { IfErr result (λ r. (IsOfPosition (status_of r) → ⊥) → at.new ≡ at.old) }
+        IsOfPosition (call_status r) → first_refused positions.now ≡ Some at.new) }
+    ensures at_unchanged { IfErr result (λ r. (IsOfPosition (call_status r) → ⊥) → at.new ≡ at.old) }
     ensures at_kept { OnOk result (at.new ≡ at.old) }
 {
     let scoring = accepted_scoring(positions, scoring, entries, answers.len(), at)?;
@@ -143,15 +143,15 @@ pub fn score_each(
     at: &mut usize,
 ) -> Result<(), CallRefusal>
     ensures good { OnOk result
-        (refusal_of_all scoring entries positions.now (length found.old) ≡ None) }
+        (list_refusal scoring entries positions.now (length found.old) ≡ None) }
     ensures scores { OnOk result (AreScoresOfAll scoring positions.now found.new) }
     ensures refused { IfErr result
-        (IsRefusal (refusal_of_all scoring entries positions.now (length found.old))) }
+        (IsRefusal (list_refusal scoring entries positions.now (length found.old))) }
     ensures without_memory { entries ≡ 0 → IfErr result (λ r. r ≢ refusal.NoMemory) }
     ensures unchanged { OnErr result (found.new ≡ found.old) }
     ensures at { IfErr result (λ r.
-        IsOfPosition (status_of r) → first_refused positions.now ≡ Some at.new) }
-    ensures at_unchanged { IfErr result (λ r. (IsOfPosition (status_of r) → ⊥) → at.new ≡ at.old) }
+        IsOfPosition (call_status r) → first_refused positions.now ≡ Some at.new) }
+    ensures at_unchanged { IfErr result (λ r. (IsOfPosition (call_status r) → ⊥) → at.new ≡ at.old) }
     ensures at_kept { OnOk result (at.new ≡ at.old) }
 {
     let scoring = accepted_scoring(positions, scoring, entries, found.len(), at)?;

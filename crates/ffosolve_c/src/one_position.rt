@@ -4,7 +4,7 @@ ghost use Rattle.std.specs.Prelude.{◌≡◌, ◌≢◌, None, IfOk, IfErr};
 ghost use Rattle.othello_bits.specs.Pos.{answer_of};
 ghost use Rattle.ffosolve_c.specs.declared.call_refusal.CallRefusal.TheVariants as refusal;
 ghost use Rattle.ffosolve_c.specs.Answers.{IsAnswer};
-ghost use Rattle.ffosolve_c.specs.Refusals.{refusal_of, IsRefusal};
+ghost use Rattle.ffosolve_c.specs.Refusals.{request_refusal, IsRefusal};
 
 use crate::answer::{FfosolveAnswer, c_answer};
 use crate::call_refusal::CallRefusal;
@@ -36,9 +36,9 @@ pub fn answer_one(
     entries: usize,
     claim: Option<Claim>,
 ) -> Result<FfosolveAnswer, CallRefusal>
-    ensures good { IfOk result (λ answer. refusal_of scoring entries position ≡ None) }
+    ensures good { IfOk result (λ answer. request_refusal scoring entries position ≡ None) }
     ensures answer { IfOk result (IsAnswer scoring position) }
-    ensures refused { IfErr result (IsRefusal (refusal_of scoring entries position)) }
+    ensures refused { IfErr result (IsRefusal (request_refusal scoring entries position)) }
     ensures without_memory { entries ≡ 0 → IfErr result (λ r. r ≢ refusal.NoMemory) }
 {
     let scoring = table_scoring(scoring, entries)?;

@@ -4,7 +4,7 @@ ghost use Rattle.std.specs.Prelude.{◌≡◌, ◌≢◌, ◌↔◌, bit_and, So
 ghost use Rattle.othello_bits.specs.Pos.{play_of, IsMove};
 ghost use Rattle.ffosolve_c.specs.declared.call_refusal.CallRefusal.TheVariants as refusal;
 ghost use Rattle.ffosolve_c.specs.Answers.{c_position, discs_at};
-ghost use Rattle.ffosolve_c.specs.Refusals.{position_refusal, status_of, IsOfPosition};
+ghost use Rattle.ffosolve_c.specs.Refusals.{position_refusal, call_status, IsOfPosition};
 
 use crate::call_refusal::CallRefusal;
 use endgame_search::Task;
@@ -41,7 +41,7 @@ pub fn task_of(position: FfosolvePosition, scoring: Scoring) -> Result<Task, Cal
     ensures task { IfOk result (λ task.
         task ≡ record { position = discs_at position; scoring = scoring }) }
     ensures refused { IfErr result (λ r. position_refusal position ≡ Some r) }
-    ensures kinds { IfErr result (λ r. IsOfPosition (status_of r)) }
+    ensures kinds { IfErr result (λ r. IsOfPosition (call_status r)) }
     ensures not_memory { IfErr result (λ r. r ≢ refusal.NoMemory) }
 {
     let position = position_of(position)?;

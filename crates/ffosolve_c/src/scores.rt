@@ -5,7 +5,7 @@ ghost use Rattle.othello_rules.specs.Board.{squares};
 ghost use Rattle.othello_bits.specs.Pos.{moves_of};
 ghost use Rattle.ffosolve_c.specs.declared.call_refusal.CallRefusal.TheVariants as refusal;
 ghost use Rattle.ffosolve_c.specs.Answers.{discs_at, score_at, scores_at, AreScores};
-ghost use Rattle.ffosolve_c.specs.Refusals.{position_refusal, refusal_of, IsRefusal};
+ghost use Rattle.ffosolve_c.specs.Refusals.{position_refusal, request_refusal, IsRefusal};
 
 use crate::call_refusal::CallRefusal;
 use crate::position::{FfosolvePosition, task_of};
@@ -76,10 +76,10 @@ pub fn score_all(
     entries: usize,
     scores: &mut [i8; 64],
 ) -> Result<u64, CallRefusal>
-    ensures good { IfOk result (λ moves. refusal_of scoring entries position ≡ None) }
+    ensures good { IfOk result (λ moves. request_refusal scoring entries position ≡ None) }
     ensures moves { IfOk result (λ moves. moves ≡ moves_of (discs_at position)) }
     ensures scores { IfOk result (λ moves. AreScores scoring position scores.new) }
-    ensures refused { IfErr result (IsRefusal (refusal_of scoring entries position)) }
+    ensures refused { IfErr result (IsRefusal (request_refusal scoring entries position)) }
     ensures without_memory { entries ≡ 0 → IfErr result (λ r. r ≢ refusal.NoMemory) }
     ensures unchanged { OnErr result (scores.new ≡ scores.old) }
 {

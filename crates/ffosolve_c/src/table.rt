@@ -4,7 +4,7 @@ ghost use Rattle.std.specs.Prelude.{◌≡◌, ◌≢◌, ◌≤◌, Some, None,
 ghost use Rattle.bound_table.specs.Limits.{most_entries};
 ghost use Rattle.ffosolve_c.specs.declared.call_refusal.CallRefusal.TheVariants as refusal;
 ghost use Rattle.ffosolve_c.specs.Answers.{numbered_scoring};
-ghost use Rattle.ffosolve_c.specs.Refusals.{status_of, table_refusal, IsOfPosition};
+ghost use Rattle.ffosolve_c.specs.Refusals.{call_status, table_refusal, IsOfPosition};
 
 use crate::call_refusal::CallRefusal;
 use bound_table::{BoundTable, Bounds};
@@ -26,7 +26,7 @@ pub fn table_scoring(number: u32, entries: usize) -> Result<Scoring, CallRefusal
     ensures few { IfOk result (λ g. entries ≤ most_entries) }
     ensures scoring { IfOk result (λ g. numbered_scoring number ≡ Some g) }
     ensures refused { IfErr result (λ r. table_refusal number entries ≡ Some r) }
-    ensures kinds { IfErr result (λ r. IsOfPosition (status_of r) → ⊥) }
+    ensures kinds { IfErr result (λ r. IsOfPosition (call_status r) → ⊥) }
     ensures not_memory { IfErr result (λ r. r ≢ refusal.NoMemory) }
 {
     let Some(scoring) = numbered_scoring(number) else {

@@ -78,7 +78,7 @@ class TooManyEmpties(Refused, ValueError):
 class NoMove(Refused, ValueError):
     """The move is not legal. The text names the move, the side to move, and the board as an OBF line."""
 
-    status, reason = Status.NO_MOVE, "no move"
+    status, reason = Status.NO_MOVE, "illegal move"
 
 
 class NoMemory(Refused, MemoryError):
