@@ -1,4 +1,4 @@
-"""What the built programs answer to a command line: help, version, and why it is refused, before anything is read."""
+"""What the programs print for --help, --version and command lines that they refuse, before they read anything."""
 import os
 import subprocess
 
@@ -7,26 +7,30 @@ from ffosolve import MOST_ENTRIES
 
 LARGE = MOST_ENTRIES + 1
 PROGRAMS = ("ffosolve", "ffoscores")
-USAGE = "\n\nUsage: {name} [OPTIONS] [FILES]..."
 NAMES = "\n  [possible values: winner, discs, sign]"
-# Words, and why both programs refuse them, in the words of the crate clap.
+
+
+def usage(option="[OPTIONS]"):
+    return f"\n\nUsage: {{name}} {option}{' ' * bool(option)}[FILES]..."
+
+
+def unknown(word, option="[OPTIONS]"):
+    return f"unexpected argument '{word}' found\n\n  tip: to pass '{word}' as a value, use '-- {word}'" + usage(option)
+
+
+# Command lines, and the errors of the crate clap.
 REFUSED = [
-    ("--best", "unexpected argument '--best' found\n\n  tip: to pass '--best' as a value, use '-- --best'" + USAGE),
-    ("-x", "unexpected argument '-x' found\n\n  tip: to pass '-x' as a value, use '-- -x'" + USAGE),
-    ("-xh", "unexpected argument '-x' found\n\n  tip: to pass '-x' as a value, use '-- -x'" + USAGE),
-    ("--TABLE", "unexpected argument '--TABLE' found\n\n  tip: to pass '--TABLE' as a value, use '-- --TABLE'" + USAGE),
-    ("--tabel", "unexpected argument '--tabel' found\n\n  tip: a similar argument exists: '--table'\n\n"
-                "Usage: {name} --table <N> [FILES]..."),
-    ("--max", "unexpected argument '--max' found\n\n  tip: a similar argument exists: '--max-empties'\n\n"
-              "Usage: {name} --max-empties <N> [FILES]..."),
-    ("--helpp", "unexpected argument '--helpp' found\n\n  tip: a similar argument exists: '--help'\n\n"
-                "Usage: {name} --help [FILES]..."),
-    ("a --best", "unexpected argument '--best' found\n\n  tip: to pass '--best' as a value, use '-- --best'\n\n"
-                 "Usage: {name} [FILES]..."),
-    ("--table x --best", "unexpected argument '--best' found\n\n  tip: to pass '--best' as a value, use '-- --best'\n\n"
-                         "Usage: {name} --table <N> [FILES]..."),
-    ("--help=3", "unexpected value '3' for '--help' found; no more were expected\n\nUsage: {name} --help [FILES]..."),
-    ("--version=1", "unexpected value '1' for '--version' found; no more were expected\n\nUsage: {name} --version [FILES]..."),
+    ("--best", unknown("--best")),
+    ("-x", unknown("-x")),
+    ("-xh", unknown("-x")),
+    ("--TABLE", unknown("--TABLE")),
+    ("--tabel", "unexpected argument '--tabel' found\n\n  tip: a similar argument exists: '--table'" + usage("--table <N>")),
+    ("--max", "unexpected argument '--max' found\n\n  tip: a similar argument exists: '--max-empties'" + usage("--max-empties <N>")),
+    ("--helpp", "unexpected argument '--helpp' found\n\n  tip: a similar argument exists: '--help'" + usage("--help")),
+    ("a --best", unknown("--best", "")),
+    ("--table x --best", unknown("--best", "--table <N>")),
+    ("--help=3", "unexpected value '3' for '--help' found; no more were expected" + usage("--help")),
+    ("--version=1", "unexpected value '1' for '--version' found; no more were expected" + usage("--version")),
     ("--table", "a value is required for '--table <N>' but none was supplied"),
     ("--table -- 5", "a value is required for '--table <N>' but none was supplied"),
     ("--max-empties", "a value is required for '--max-empties <N>' but none was supplied"),
@@ -41,48 +45,41 @@ REFUSED = [
     (f"--table {LARGE}", f"invalid value '{LARGE}' for '--table <N>': {LARGE} is not in 0..={MOST_ENTRIES}"),
     ("--max-empties=61", "invalid value '61' for '--max-empties <N>': 61 is not in 0..=60"),
     ("--workers 65", "invalid value '65' for '--workers <N>': 65 is not in 0..=64"),
-    ("--table 5 --table 6", "the argument '--table <N>' cannot be used multiple times" + USAGE),
-    ("--complete=1", "unexpected value '1' for '--complete' found; no more were expected\n\n"
-                     "Usage: {name} --complete [FILES]..."),
-    ("--complete --complete", "the argument '--complete' cannot be used multiple times" + USAGE),
-    ("--scoring discs --scoring best", "the argument '--scoring <NAME>' cannot be used multiple times" + USAGE),
+    ("--table 5 --table 6", "the argument '--table <N>' cannot be used multiple times" + usage()),
+    ("--complete=1", "unexpected value '1' for '--complete' found; no more were expected" + usage("--complete")),
+    ("--complete --complete", "the argument '--complete' cannot be used multiple times" + usage()),
+    ("--scoring discs --scoring best", "the argument '--scoring <NAME>' cannot be used multiple times" + usage()),
 ]
-REFUSED_BY_SOLVER = [
-    ("--book-in", "a value is required for '--book-in <FILE>' but none was supplied"),
-    ("--book-out --help", "a value is required for '--book-out <FILE>' but none was supplied"),
-    ("--progress=1", "unexpected value '1' for '--progress' found; no more were expected\n\n"
-                     "Usage: {name} --progress [FILES]..."),
-]
-REFUSED_BY_SCORES = [
-    (f"{word} 2", f"unexpected argument '{word}' found\n\n  tip: to pass '{word}' as a value, use '-- {word}'" + USAGE)
-    for word in ("--book-in", "--book-out", "--progress")
-]
+REFUSED_BY_ONE = {
+    "ffosolve": [("--book-in", "a value is required for '--book-in <FILE>' but none was supplied"),
+                 ("--book-out --help", "a value is required for '--book-out <FILE>' but none was supplied"),
+                 ("--progress=1", "unexpected value '1' for '--progress' found; no more were expected" + usage("--progress"))],
+    "ffoscores": [(f"{word} 2", unknown(word)) for word in ("--book-in", "--book-out", "--progress")],
+}
 
 
 class CommandLines(InFolder):
-    """Standard input is a pipe to which nobody writes, so that a program which reads it does not end."""
-
     def setUp(self):
         super().setUp()
-        self.pipe, writer = os.pipe()
+        self.pipe, writer = os.pipe()  # that stays empty: a program that read it would wait
         self.addCleanup(os.close, self.pipe)
         self.addCleanup(os.close, writer)
 
     def ends(self, wanted, name, *words):
         super().ends(wanted, built(name), *words, stdin=self.pipe)
 
-    def test_refused_words(self):
-        for name, own in (("ffosolve", REFUSED_BY_SOLVER), ("ffoscores", REFUSED_BY_SCORES)):
-            for line, why in REFUSED + own:
+    def test_a_wrong_command_line_is_refused_with_the_reason(self):
+        for name in PROGRAMS:
+            for line, why in REFUSED + REFUSED_BY_ONE[name]:
                 with self.subTest(name=name, line=line):
-                    told = f"error: {why.format(name=name)}\n\nFor more information, try '--help'.\n"
-                    self.ends((2, b"", told.encode()), name, *line.split())
+                    error = f"error: {why.format(name=name)}\n\nFor more information, try '--help'.\n"
+                    self.ends((2, b"", error.encode()), name, *line.split())
 
-    def test_word_that_is_no_text(self):
+    def test_a_word_that_is_not_utf_8_is_refused(self):
         for name in PROGRAMS:
             self.ends((2, b"", f"{name}: cannot read the command line\n".encode()), name, b"\xff.obf")
 
-    def test_help(self):
+    def test_help_is_printed_whatever_follows(self):
         for name in PROGRAMS:
             text = run(built(name), "--help").stdout
             self.assertIn(f"\n\nUsage: {name} [OPTIONS] [FILES]...\n".encode(), text)
@@ -90,14 +87,13 @@ class CommandLines(InFolder):
                 with self.subTest(name=name, line=line):
                     self.ends((0, text, b""), name, *line.split())
 
-    def test_version(self):
+    def test_version_is_that_of_the_file_version(self):
         for name in PROGRAMS:
             for line in ("--version", "-V", "-Vx", "--table 5 --version"):
                 with self.subTest(name=name, line=line):
                     self.ends((0, name.encode() + b" " + stored("VERSION"), b""), name, *line.split())
 
-    def test_output_that_is_full_or_closed(self):
-        """Of what is told of a program, and of a report, even of nothing."""
+    def test_a_full_or_closed_output_is_reported_even_for_an_empty_report(self):
         for name, words in (("ffosolve", "--help --version /dev/null"), ("ffoscores", f"--help --version {ROOT}/examples/kinds.obf")):
             for word in words.split():
                 for target, prepare in (("/dev/full", None), ("/dev/null", lambda: os.close(1))):
@@ -106,7 +102,7 @@ class CommandLines(InFolder):
                         ran = run(built(name), word, **how)
                         self.assertEqual((ran.returncode, ran.stderr), (3, f"{name}: cannot write standard output\n".encode()))
 
-    def test_words_behind_two_dashes_are_files(self):
+    def test_words_after_two_dashes_are_files(self):
         for name in PROGRAMS:
             for word in ("--best", "-x", "--help"):
                 self.ends((3, b"", f"{name}: cannot read {word}\n".encode()), name, "--", word)

@@ -1,8 +1,7 @@
-"""Worked rows, and the streams of a run.
+"""Worked rows, books that are read or refused, and streams that end or fail.
 
-Beside each list NAME.obf of tests/rows stands what the programs print of it: NAME.SCORING.report by ffosolve,
-NAME.SCORING.complete with --complete, NAME.SCORING.scores by ffoscores, and NAME.SCORING.remarks with --complete. It follows
-from the rules, and was printed by no program.
+For a list NAME.obf, tests/rows has NAME.SCORING.report of ffosolve, NAME.SCORING.complete with --complete,
+NAME.SCORING.scores of ffoscores, and NAME.SCORING.remarks with --complete: worked out from the rules, not printed.
 """
 import os
 import subprocess
@@ -17,7 +16,7 @@ NOTHING = b"[1]\nsolved 0 refused 0\n"
 HEADER = b"% ffobook 2 winner\n"
 SEVEN = b"X" * 56
 LEFT, LAST, EQUAL = SEVEN + b"XOOOOO-- X; G8:+64;\n", SEVEN + b"XOOOOOO- X; H8:+64;\n", SEVEN + b"-OOXXOO- X; A8:+64; H8:+64;\n"
-# Texts that are read as books, and what is told of them, or nothing.
+# Texts of books, and the errors about them, if any.
 BOOKS = (
     *((text, "") for text in (
         b"", HEADER, b"% ffobook 2 discs\r\n", b"% ffobook 2 sign", b" % ffobook 2 sign", b"% ffobook", b"%ffobook 2 sign",
@@ -32,8 +31,8 @@ BOOKS = (
     (SEVEN + b"XOOOOO-- O; G8:+64;\n", "book line 1: not canonical"),
     (SEVEN + b"XOOOOO-- X;\n?", "book line 1: no moves"),
     (b"\n% x\n" + SEVEN + b"XOOOOO-- X; G9:+64;", "book line 3: no moves"),
-    # The front of a book.
-    *((LEFT[:size], f"book line 1: {told}") for size, told in (
+    # Beginnings of a book.
+    *((LEFT[:size], f"book line 1: {error}") for size, error in (
         (1, "board has 1 of 64 squares"), (63, "board has 63 of 64 squares"), (64, "bad side at column 65"),
         (65, "bad side at column 66"), *((size, "no moves") for size in range(66, 73)))),
     *((LEFT[:size], "") for size in range(73, 77)),
@@ -43,7 +42,7 @@ BOOKS = (
 
 
 class Rows(InFolder):
-    def test_rows(self):
+    def test_programs_print_the_worked_rows(self):
         for name, kind, status, words in (("ffosolve", "report", 0, ()), ("ffosolve", "complete", 0, ("--complete",)),
                                           ("ffoscores", "scores", 1, ()), ("ffoscores", "remarks", 1, ("--complete",))):
             paths = sorted(ROWS.glob(f"*.{kind}"))
@@ -54,46 +53,42 @@ class Rows(InFolder):
                     wanted = (status, path.read_bytes(), b"")
                     self.ends(wanted, built(name), *words, "--max-empties", "20", "--scoring", scoring, ROWS / f"{rows}.obf")
 
-    def reads(self, text, told):
-        """A text is read as a book, or refused."""
+    def reads(self, text, error):
+        """Asserts that a text is read as a book, or refused with an error."""
         Path("it.book").write_bytes(text)
-        wanted = (3, b"", f"ffosolve: {told}\n".encode()) if told else (0, NOTHING, b"")
+        wanted = (3, b"", f"ffosolve: {error}\n".encode()) if error else (0, NOTHING, b"")
         with self.subTest(text=text[-100:]):
             self.ends(wanted, built(), "--book-in", "it.book")
 
-    def test_books(self):
-        for text, told in BOOKS:
-            self.reads(text, told)
+    def test_a_book_is_read_or_its_first_fault_is_reported(self):
+        for text, error in BOOKS:
+            self.reads(text, error)
 
-    def test_books_of_two_reads(self):
-        """The first 65,536 bytes of a book may end in any place of a line: what is told is what the whole line says."""
-        for line, told in ((LEFT, ""), (LEFT[:63], "board has 63 of 64 squares"), (LEFT[:64], "bad side at column 65"),
+    def test_a_line_across_the_first_65536_bytes_is_judged_as_a_whole(self):
+        for line, error in ((LEFT, ""), (LEFT[:63], "board has 63 of 64 squares"), (LEFT[:64], "bad side at column 65"),
                            (LEFT[:66] + b"\n", "no moves"), (LEFT[:66] + b"; G8:+6x", "no moves"), (b"%" + LEFT, "")):
             for size in range(1, len(line) + 1):
-                self.reads(b"%" * (65_536 - size - 1) + b"\n" + line, told and f"book line 2: {told}")
+                self.reads(b"%" * (65_536 - size - 1) + b"\n" + line, error and f"book line 2: {error}")
 
-    def test_books_without_end(self):
-        """A terminal is refused by its name, and a pipe by the fault of its first bytes."""
+    def test_a_terminal_and_the_first_fault_of_an_endless_pipe_are_refused(self):
         for number in os.openpty():
             self.addCleanup(os.close, number)
         name = os.ttyname(number)
         self.ends((3, b"", f"ffosolve: cannot read {name}\n".encode()), built(), "--book-in", name, timeout=20)
-        for lines, told in (("yes ?", "1: bad square at column 1"), ("yes ? | tr -d '\\n'", "1: bad square at column 1"),
+        for lines, error in (("yes ?", "1: bad square at column 1"), ("yes ? | tr -d '\\n'", "1: bad square at column 1"),
                             ("(echo '% ffobook 3 winner'; yes %)", "1: unknown header"),
                             (f"(echo; yes '{'X' * 64}')", "2: bad side at column 65")):
             with self.subTest(lines=lines):
                 words = f"{lines} 2>/dev/null | (ulimit -v 1000000; exec '{built()}' --book-in /dev/stdin)"
-                self.ends((3, b"", f"ffosolve: book line {told}\n".encode()), "sh", "-c", words, timeout=20)
+                self.ends((3, b"", f"ffosolve: book line {error}\n".encode()), "sh", "-c", words, timeout=20)
 
-    def test_what_is_printed_is_read_again(self):
-        """As it is, but for a CR at the end of a line, with nothing more to remark."""
+    def test_ffoscores_prints_its_own_output_unchanged_and_without_remarks(self):
         for path in ROWS.glob("*.scores"):
             printed = path.read_bytes().replace(b"\r\n", b"\n")
             ran = run(built("ffoscores"), input=printed)
             self.assertEqual((ran.returncode, ran.stdout), (0, printed))
 
-    def test_limits(self):
-        """The greatest file is read, the most files are, and no more."""
+    def test_the_largest_file_and_64_files_are_read_but_not_65(self):
         Path("list.obf").write_bytes(b" " * MOST_BYTES)
         Path("empty.obf").write_bytes(b"")
         many = b"".join(b"[%d]\nsolved 0 refused 0\n" % (number + 1) for number in range(64))
@@ -108,8 +103,7 @@ class Rows(InFolder):
 
 
 class Streams(InFolder):
-    def test_output_that_fails_in_the_middle(self):
-        """A front is printed, the fault is told, and no book is written."""
+    def test_an_output_that_fails_in_the_middle_is_reported_and_no_book_is_written(self):
         for name, words in (("ffosolve", ["--book-out", "it.book"]), ("ffoscores", []), ("ffosolve", ["--help"])):
             with self.subTest(name=name, words=words):
                 whole = run(built(name), *words, input=LIST).stdout
@@ -118,21 +112,19 @@ class Streams(InFolder):
                     with open("out", "wb") as out:
                         how = {"stdout": out, "stderr": subprocess.PIPE, "capture_output": False}
                         ran = run(built(name), *words, input=LIST, preexec_fn=lambda: shorter_than(size), **how)
-                    told = f"{name}: cannot write standard output\n".encode()
-                    self.assertEqual((ran.returncode, ran.stderr), (3, told), size)
+                    error = f"{name}: cannot write standard output\n".encode()
+                    self.assertEqual((ran.returncode, ran.stderr), (3, error), size)
                     self.assertEqual(Path("out").read_bytes(), whole[:size])
                     self.assertFalse(Path("it.book").exists())
 
-    def test_errors_that_fail(self):
-        """They change no status."""
+    def test_a_full_standard_error_changes_no_status(self):
         for name, status in zip(PROGRAMS, (1, 3)):
             with open("/dev/full", "wb") as full:
                 how = {"stdout": subprocess.PIPE, "stderr": full, "capture_output": False}
                 ran = run(built(name), input=b" " * (MOST_BYTES + 1), **how)
             self.assertEqual((ran.returncode, ran.stdout), (status, b""))
 
-    def test_endless_input_is_read_no_further_than_it_may_be(self):
-        """By its name, in little memory, and as standard input."""
+    def test_too_large_a_file_is_read_only_up_to_the_limit(self):
         with open("large.obf", "wb") as large:
             large.truncate(256 << 20)
         for name, status in zip(PROGRAMS, (1, 3)):

@@ -1,4 +1,4 @@
-"""What the options that change no report do to a run: they are seen by its memory and its time."""
+"""Options that change no report: the memory and the time that a run takes with them."""
 import resource
 
 from tests.support import InFolder, built, limited, run, stored
@@ -6,44 +6,42 @@ from ffosolve import MOST_ENTRIES
 
 KINDS = stored("examples", "kinds.obf")
 HARD = b"-XXXXX----XOOX--XXXXOOOO-OXOOOO-OOXOOX--OOX-OOOOOXXXXXX-X----XXX O\n"  # 17 empty squares
-ADVISED = b"-XOOOO-X-XOOOOX--OOXOOXX-OOXXOXO-OXOXXO-OOOXOOX-OOXOOO--OX--O--- X\n"  # a right book saves two thirds of its time
-LIMIT = 64 << 20  # bytes of memory: enough for the usual table, and too few for the greatest one
-WANTING = {"ffosolve": (1, b"", b"ffosolve: out of memory\n"), "ffoscores": (3, b"", b"ffoscores: out of memory\n")}
+ADVISED = b"-XOOOO-X-XOOOOX--OOXOOXX-OOXXOXO-OXOXXO-OOOXOOX-OOXOOO--OX--O--- X\n"  # with a right book it takes a third of the time
+LIMIT = 64 << 20  # bytes of memory: enough for the default table, not for the greatest
+OUT_OF_MEMORY = {"ffosolve": (1, b"", b"ffosolve: out of memory\n"), "ffoscores": (3, b"", b"ffoscores: out of memory\n")}
 
 
 def spent():
-    """The seconds of processors of all runs so far."""
+    """Returns the processor seconds of all runs so far."""
     return sum(resource.getrusage(resource.RUSAGE_CHILDREN)[:2])
 
 
 class Runs(InFolder):
     def seconds(self, name, *words, text):
-        """The seconds of processors of a run, the least of three."""
+        """Returns the processor seconds of a run, the least of three."""
         at = [spent()]
         for _ in range(3):
             run(built(name), *words, input=text, check=True)
             at.append(spent())
         return min(end - begun for begun, end in zip(at, at[1:]))
 
-    def test_greatest_table_takes_its_memory(self):
-        for name, wanting in WANTING.items():
+    def test_the_greatest_table_takes_more_memory(self):
+        for name, refused in OUT_OF_MEMORY.items():
             with self.subTest(name=name):
                 words, little = (built(name), "--workers", "0"), limited("RLIMIT_AS", LIMIT)
                 usual = run(*words, input=KINDS)
                 self.ends((usual.returncode, usual.stdout, b""), *words, input=KINDS, preexec_fn=little)
-                self.ends(wanting, *words, "--table", MOST_ENTRIES, input=KINDS, preexec_fn=little)
+                self.ends(refused, *words, "--table", MOST_ENTRIES, input=KINDS, preexec_fn=little)
 
-    def test_table_saves_time(self):
-        """That of positions that come again, on whichever thread: of sixteen lines four threads solve at most eight."""
-        for name in WANTING:
+    def test_the_table_saves_time_for_positions_that_come_again_on_any_thread(self):
+        for name in OUT_OF_MEMORY:
             for workers in ("0", "3"):
                 with self.subTest(name=name, workers=workers):
                     words = ("--workers", workers, "--table")
                     without, usual = (self.seconds(name, *words, table, text=(HARD + ADVISED) * 8) for table in ("0", "65536"))
                     self.assertGreater(without, 1.5 * usual)
 
-    def test_right_book_saves_time(self):
-        """On whichever thread, and where a run tells how far it is. Without a table each line of a position takes its time."""
+    def test_a_right_book_saves_time_with_workers_and_with_progress(self):
         run(built(), "--book-out", "right.book", input=ADVISED, check=True)
         for words, lines in (("--workers 0", 1), ("--workers 0 --progress", 1), ("--workers 8 --table 0", 8)):
             with self.subTest(words=words):

@@ -1,5 +1,4 @@
-"""ffoscores on threads: the same bytes whatever the workers, each line as soon as it and those before are scored, and a
-run that ends early leaves nothing."""
+"""ffoscores on threads: it prints the same with any number of workers, each line as soon as possible, and ends cleanly."""
 import os
 import random
 import signal
@@ -12,7 +11,7 @@ from tests.support import (ROOT, SECONDS, InFolder, as_at_a_login, built, limite
 from tests.test_threads import threads_of
 
 WORKERS = ("0", "1", "3", "64")
-OFTEN = 500  # one in fifteen runs hung where a thread was not woken
+OFTEN = 500  # runs: when a thread was not woken, one in fifteen hung
 SHORT = b"-OXXXXX-XXXXXXXOXXXXXXXXXXXXXXXXXXXOXXXXXXXXXXXXXXXXXXXXXXXXXXXX X;\n"
 SHORT_SCORED = SHORT[:-1] + b" H1:+62; A1:+52;\n"
 HOURS = b"-" * 27 + b"OX------XO" + b"-" * 27 + b" X;\n"
@@ -24,7 +23,7 @@ def positions(*words):
 
 class SameBytes(InFolder):
     def same(self, lists, seeds=(None,), words=()):
-        """With each number of workers a run prints the same bytes with the same status."""
+        """Asserts that runs with each number of workers print the same and have the same status."""
         names = []
         for number, text in enumerate(lists):
             names.append(f"{number}.obf")
@@ -37,18 +36,15 @@ class SameBytes(InFolder):
                 found = run(built("ffoscores"), "--workers", workers, *words, *names)
                 self.assertEqual((found.returncode, found.stdout, found.stderr), (wanted.returncode, wanted.stdout, b""))
 
-    def test_many_files(self):
-        """Files that end in the middle of a line, blank and empty ones, and one that is a single deep position."""
+    def test_odd_and_deep_files_are_scored_the_same_on_threads(self):
         deep, short = positions(24, 10, 13), positions(300, 1, 8)
         kinds = stored("examples", "kinds.obf")
         self.same([b"".join(deep)[:-1], b"", b"\n", kinds, deep[0], b"".join(short), kinds[:-1], b"".join(deep[9:])])
 
-    def test_more_lines_than_wait(self):
-        """One position that takes long, and behind it more lines than wait to be printed."""
+    def test_lines_that_wait_for_a_hard_position_are_printed_in_order(self):
         self.same([positions(1, 16, 16)[0] + SHORT * 9000 + b"".join(positions(8, 10, 12))])
 
-    def test_where_no_thread_can_be_started(self):
-        """Nor where memory for a thread ends in the middle of a run."""
+    def test_the_output_is_the_same_if_threads_or_their_memory_run_out(self):
         Path("list.obf").write_bytes(b"".join(positions(40, 7, 13)))
         wanted = run(built("ffoscores"), "--workers", "0", "list.obf")
         for workers in WORKERS:
@@ -57,14 +53,13 @@ class SameBytes(InFolder):
                     found = run(built("ffoscores"), "--workers", workers, "list.obf", preexec_fn=prepare)
                     self.assertEqual((found.returncode, found.stdout, found.stderr), (0, wanted.stdout, b""))
 
-    def test_short_lists_often(self):
-        """Each run ends: no thread waits to be woken."""
+    def test_each_of_many_short_runs_ends(self):
         kinds = ROOT / "examples/kinds.obf"
         for number in range(OFTEN):
             found = run(built("ffoscores"), "--workers", "3", kinds)
             self.assertEqual((found.returncode, found.stdout), (1, stored("examples", "kinds.scores")), f"run {number}")
 
-    def test_shuffled_mix(self):
+    def test_shuffled_lines_are_scored_the_same_on_threads(self):
         lines = positions(40, 1, 9) + positions(24, 10, 11) + positions(6, 12, 13)
         lines += [b"\n", b"% no position\n", b"XX\n", HOURS] * 3
         for seed in range(25):
@@ -78,7 +73,7 @@ class Streams(InFolder):
         Path("list.obf").write_bytes(text)
         return self.start(built("ffoscores"), "--max-empties", "60", *words, "list.obf", preexec_fn=as_at_a_login)
 
-    def test_a_line_as_soon_as_those_before_are_scored(self):
+    def test_a_line_is_printed_as_soon_as_it_and_those_before_are_scored(self):
         for workers in WORKERS:
             with self.subTest(workers=workers):
                 deep = positions(12, 8, 12)
@@ -88,9 +83,7 @@ class Streams(InFolder):
                 program.send_signal(signal.SIGINT)
                 self.assertEqual((program.stdout.read(), program.wait(SECONDS)), (b"", -signal.SIGINT))
 
-    def test_lines_at_once(self):
-        """As many as there are workers, and one more, of more that take hours, also once those before are scored; with 0
-        workers the program has one thread."""
+    def test_n_workers_score_n_plus_one_lines_at_once_and_0_workers_start_no_thread(self):
         deep = positions(24, 10, 13)
         for workers in WORKERS:
             with self.subTest(workers=workers):
@@ -98,23 +91,21 @@ class Streams(InFolder):
                 program = self.begin(b"".join(deep) + HOURS * 70, "--workers", workers)
                 self.assertEqual([program.stdout.readline()[:66] for _ in deep], [line[:66] for line in deep])
                 wait_until(lambda: threads_of(program) >= threads)
-                time.sleep(1)  # more would start by then
+                time.sleep(1)  # time for one too many to start
                 self.assertEqual(threads_of(program), threads)
                 program.kill()
 
-    def test_a_reader_that_leaves(self):
-        """As `| head -1`: the program ends, though its threads are at positions that take hours."""
+    def test_a_reader_that_leaves_ends_the_program_within_positions_that_take_hours(self):
         text = SHORT + b"".join(positions(100, 14, 15)) + HOURS * 9
         for workers in WORKERS[1:]:
             with self.subTest(workers=workers):
                 program = self.begin(text, "--workers", workers)
                 self.assertEqual(program.stdout.readline(), SHORT_SCORED)
                 program.stdout.close()
-                told = program.stderr.read()
-                self.assertEqual((program.wait(SECONDS), told), (3, b"ffoscores: cannot write standard output\n"))
+                error = program.stderr.read()
+                self.assertEqual((program.wait(SECONDS), error), (3, b"ffoscores: cannot write standard output\n"))
 
-    def test_an_interrupted_terminal(self):
-        """A signal to all that a shell has started, in the middle of positions that take hours, leaves no process."""
+    def test_an_interrupt_from_the_terminal_leaves_no_process(self):
         shell = f"{ROOT}/bin/ffoscores --max-empties 60 --workers 3 list.obf | cat"
         Path("list.obf").write_bytes(SHORT + HOURS * 9)
         begun = self.start("sh", "-c", shell, start_new_session=True, preexec_fn=as_at_a_login)

@@ -1,4 +1,4 @@
-"""The built program ffoscores as its users run it: the whole of examples/kinds.obf is examples/kinds.scores, to the byte."""
+"""ffoscores: what it prints for lines of every kind, its options, and files and streams that fail."""
 import os
 import re
 from pathlib import Path
@@ -10,9 +10,9 @@ KINDS, SCORES = stored("examples", "kinds.obf"), stored("examples", "kinds.score
 TWO = KINDS.split(b"\n")[1] + b"\n"  # a position of two empty squares, with both moves listed right
 SOLVED = SCORES.split(b"\n")[1] + b"\n"
 BOARD = TWO[:66]
-RIGHT = stored("examples", "first.report").split()[4]  # the word of a line whose scores are right
+RIGHT = stored("examples", "first.report").split()[4]  # the verdict on a line whose scores are right
 LARGE = MOST_BYTES + 1
-LONGEST = 5 * SECONDS  # of a position of twenty empty squares, beside other work
+LONGEST = 5 * SECONDS  # for a position with 20 empty squares on a busy machine
 
 
 class Scores(InFolder):
@@ -21,9 +21,7 @@ class Scores(InFolder):
 
 
 class Lines(Scores):
-    """What is printed of each line."""
-
-    def test_to_the_byte(self):
+    def test_a_file_and_standard_input_give_the_stored_scores(self):
         Path("kinds.obf").write_bytes(KINDS)
         self.ends((1, SCORES, b""), "kinds.obf")
         self.ends((1, SCORES, b""), "./kinds.obf", "--table=65536", "--scoring", "winner")
@@ -31,8 +29,7 @@ class Lines(Scores):
         self.ends((1, SCORES * 2, b""), "--", "kinds.obf", "kinds.obf", input=b"X")
         self.ends((1, SCORES, b""), "/dev/stdin", input=KINDS)
 
-    def test_line_by_line(self):
-        """Each line gives one, whatever it is, with LF behind it. With --complete it may remark a best move that is not listed."""
+    def test_each_line_gives_one_line_that_ends_with_lf(self):
         rows = [stored("tests", "rows", f"unlisted.{name}") for name in ("obf", "winner.scores", "winner.remarks")]
         for words, lines, scores in (((), KINDS, SCORES), ((), *rows[:2]), (("--complete",), *rows[::2])):
             for line, printed in zip(lines.splitlines(keepends=True), scores.splitlines(keepends=True), strict=True):
@@ -46,12 +43,12 @@ class Lines(Scores):
         for words in ("--workers 0", "--workers=3", "--table 0"):
             self.ends((1, rows[2] + SCORES + rows[2], b""), "--complete", *words.split(), "rows.obf", "kinds.obf", "rows.obf")
 
-    def test_its_own_output(self):
+    def test_its_own_output_is_unchanged_and_right_for_ffosolve(self):
         self.ends((0, SCORES, b""), input=SCORES)
         ran = run(built(), input=SCORES, check=True)
         self.assertEqual([row.split()[-1] for row in ran.stdout.splitlines()[1:-1]], [RIGHT] * 8)
 
-    def test_hostile_texts(self):
+    def test_odd_texts_are_printed_again(self):
         whole = LARGE // len(TWO)
         for status, printed, text in (
             (0, b"", b""),
@@ -65,7 +62,7 @@ class Lines(Scores):
             with self.subTest(text=text[:80]):
                 self.ends((status, printed, b""), input=text)
 
-    def test_options(self):
+    def test_options_set_the_limit_the_table_and_the_scoring(self):
         over, scored = (text.split(b"\n")[6] for text in (KINDS, SCORES))
         for words, status, printed, text in (
             ("--max-empties 1", 1, b"% refused: 2 empties, limit 1: " + TWO, TWO),
@@ -79,8 +76,7 @@ class Lines(Scores):
             with self.subTest(words=words):
                 self.ends((status, printed, b""), *words.split(), input=text)
 
-    def test_position_of_twenty(self):
-        """Position 40 of the FFO test: the published move and score, and no other move is as good."""
+    def test_position_40_of_the_ffo_test_has_the_published_best_move_alone(self):
         line = next(line for line in stored("examples", "ffo-40-51.obf").splitlines() if b"% 40" in line)
         ran = run(built("ffoscores"), input=line, timeout=LONGEST)
         scores = [int(score) for _, score in re.findall(rb" ([A-H][1-8]):([+-]\d\d);", ran.stdout)]
@@ -91,10 +87,7 @@ class Lines(Scores):
 
 
 class Streams(Scores):
-    """Files and streams that fail, and ends in the middle."""
-
-    def test_files_that_cannot_be_read(self):
-        """Nothing is printed before all files are read, and none is measured or counted before."""
+    def test_all_files_are_read_then_measured_and_counted_before_anything_is_printed(self):
         Path("two.obf").write_bytes(TWO)
         Path("large.obf").write_bytes(b" " * LARGE)
         for words, why in (
@@ -113,14 +106,13 @@ class Streams(Scores):
         self.addCleanup(os.close, folder)
         self.ends((3, b"", b"ffoscores: cannot read standard input\n"), stdin=folder)
 
-    def test_want_of_memory(self):
-        """Each request for memory is refused in turn: it is told, and what was printed before is a front of the whole. A run
-        goes on without the few requests that it can do without, and prints the whole."""
-        told = 0
+    def test_each_refused_request_for_memory_is_reported_or_not_needed(self):
+        """A run that reports it has printed the beginning of the output, any other all; nine of ten report it."""
+        reported = 0
         for number, ran, met in Refusals(".").runs(built("ffoscores"), "--table", "100", input=KINDS):
             found = ran.returncode, ran.stderr
-            is_told = met and found == (3, b"ffoscores: out of memory\n") and SCORES.startswith(ran.stdout)
-            self.assertTrue(is_told or found == (1, b"") and ran.stdout == SCORES, f"request {number} is refused: {ran}")
-            told += is_told
+            is_reported = met and found == (3, b"ffoscores: out of memory\n") and SCORES.startswith(ran.stdout)
+            self.assertTrue(is_reported or found == (1, b"") and ran.stdout == SCORES, f"request {number} is refused: {ran}")
+            reported += is_reported
         self.assertGreater(number, 1)
-        self.assertGreater(10 * told, 9 * (number - 1), f"{number - 1} requests refused, and {told} told")
+        self.assertGreater(10 * reported, 9 * (number - 1), f"{number - 1} requests refused, and {reported} reported")
