@@ -1,4 +1,4 @@
-//! Writers that fail, and when lines are sent on.
+//! Writers that fail, and which lines are written at once.
 
 use bound_table::BoundTable;
 use list_printer::{ListFault, write_lists};
@@ -125,5 +125,39 @@ impl Write for FullWriter {
 fn tells_a_full_writer(rt: HostRuntime) -> Result<(), Fail> {
     let ended = print_text(&rt, rt.alloc(), &mut FullWriter, b"%\n")?;
     assert!(rt; ended == Err(ListFault::CannotWrite));
+    Ok(())
+}
+
+// A writer that notes the most lines that it is given at once.
+#[derive(Drop)]
+struct LineCounter {
+    most_lines: usize,
+}
+
+impl Write for LineCounter {
+    fn write(&mut self, buf: &[u8]) -> io::Result<usize> {
+        let lines = buf.iter().filter(|byte| **byte == b'\n').count();
+        self.most_lines = self.most_lines.max(lines);
+        Ok(buf.len())
+    }
+
+    fn flush(&mut self) -> io::Result<()> {
+        Ok(())
+    }
+}
+
+// A finished game with eight empty squares, for which a thread is started.
+const EIGHT_EMPTY: &[u8] = b"--------XXXXXXXXXXXXXXXXXXXXXXXXXXXXXXXXXXXXXXXXXXXXXXXXXXXXXXXX X\n";
+
+// The lines that a thread scores are written at once, so there are threads enough for all processors.
+#[test]
+fn a_thread_scores_at_most_eight_lines(rt: HostRuntime) -> Result<(), Fail> {
+    let mut text = Vec::new(rt.alloc());
+    for _ in 0..90 {
+        text.extend_from_slice(EIGHT_EMPTY)?;
+    }
+    let mut counter = LineCounter { most_lines: 0 };
+    assert!(rt; print_text(&rt, rt.alloc(), &mut counter, &text)? == Ok(true));
+    assert!(rt; 1 < counter.most_lines && counter.most_lines <= 8);
     Ok(())
 }

@@ -33,10 +33,10 @@ const H1: u64 = 0x80;
 // A table that counts its probes and stores, and its stores of the first of two positions, and notes
 // whether either was probed.
 #[derive(Drop)]
-struct ProbeCounter {
+pub(super) struct ProbeCounter {
     table: BoundTable,
     watched: [Pos; 2],
-    probes: Cell<u32>,
+    pub(super) probes: Cell<u32>,
     stores: Cell<u32>,
     stored: Cell<u32>,
     seen: [Cell<bool>; 2],
@@ -73,7 +73,12 @@ fn note(watched: &Pos, seen: &Cell<bool>, probed: &Pos) {
 }
 
 // A counter over a new table of `entries` entries under Winner.
-fn count_probes(rt: &impl Abort, alloc: Global, entries: usize, watched: [Pos; 2]) -> ProbeCounter
+pub(super) fn count_probes(
+    rt: &impl Abort,
+    alloc: Global,
+    entries: usize,
+    watched: [Pos; 2],
+) -> ProbeCounter
     ensures { result.table ≡ record { scoring = Winner; entries = entries } }
 {
     ProbeCounter {

@@ -2,11 +2,12 @@
 
 use super::{
     CORNER_LEFT_OVER, Discs, EQUAL_CORNERS, LAST_CORNER, UNEQUAL_CORNERS, is_added, pos_of,
-    solved_of,
+    solved_of, task_of,
 };
-use endgame_search::Claim;
+use bound_table::NoTable;
+use endgame_search::{Claim, confirm};
 use othello_bits::{Pos, Sym};
-use othello_rules::{Best, Scoring, Side};
+use othello_rules::{Answer, Best, Scoring, Side};
 use solved_book::{Book, Claims};
 use std::alloc::Global;
 use std::process::Abort;
@@ -109,6 +110,45 @@ fn images_have_their_claims(rt: HostRuntime) -> Result<(), Fail> {
             assert!(rt; claims.find(&position.image(sym)) == Some(claim));
         }
         assert!(rt; claims.find(&position.pass()).is_none());
+    }
+    Ok(())
+}
+
+// The bytes of the header of `BOOK`.
+const HEADER_LEN: usize = 19;
+
+// A claim or an answer: the score and the mask of the best moves.
+type Scored = (i8, u64);
+
+// How many bytes after the header a book keeps, how many positions it has then, one of them, what
+// the book claims of it, and its answer.
+const CUT: [(usize, usize, Discs, Scored, Scored); 2] = [
+    (73, 1, CORNER_LEFT_OVER, (6, B1), (64, B1)),
+    (233, 3, EQUAL_CORNERS, (64, A1), (64, A1 | H1)),
+];
+
+#[test]
+fn a_book_that_was_cut_off_changes_no_answer(rt: HostRuntime) -> Result<(), Fail> {
+    for (kept, len, discs, claimed, answered) in CUT {
+        let claims = Claims::read(rt.alloc(), &BOOK[..HEADER_LEN + kept])?;
+        let task = task_of(&rt, pos_of(&rt, discs, Side::Black), Scoring::Winner);
+        let claim = claims.find(&task.pos()).expect(&rt, "a claim");
+        let answer = confirm(&NoTable::new(task.scoring()), task, claim).answer();
+        assert!(rt; claims.len() == len);
+        assert!(rt;
+            claim
+                == Claim {
+                    score: claimed.0,
+                    best: Best::Moves(claimed.1)
+                }
+        );
+        assert!(rt;
+            answer
+                == Answer {
+                    score: answered.0,
+                    best: Best::Moves(answered.1)
+                }
+        );
     }
     Ok(())
 }

@@ -2,6 +2,7 @@
 
 ghost use Rattle.std.specs.Prelude.{◌≤◌, length};
 
+use super::super::searches::count_probes;
 use super::{CountingGate, ONE, TWO_JOBS};
 use arrayvec::ArrayVec;
 use bound_table::NoTable;
@@ -10,7 +11,9 @@ use job_board::{Client, Desk, JobId, SubmitFault};
 use othello_bits::Pos;
 use othello_rules::Scoring;
 use program_settings::MOST_BYTES;
+use solved_book::Claims;
 use std::alloc::{AllocError, Global};
+use std::process::Abort;
 use std::sync::atomic::{AtomicU32, Ordering};
 use std::sync::{Mutex, Wait};
 use std::test::Fail;
@@ -192,5 +195,45 @@ fn an_unread_text_closes_the_sender(rt: HostRuntime) -> Result<(), Fail> {
     let mut client = Client::new(rt.alloc(), 0);
     let sent = send_and_close(&rt, &desk, &mut client, Err(AllocError));
     assert!(rt; sent.err() == Some(RunFault::Memory) && desk.close(&rt, &client) == Ok(false));
+    Ok(())
+}
+
+// A position with 60 empty squares. The move to E1 turns all white discs, and ends the game.
+const SIXTY_EMPTY: &[u8] = b"XOOO------------------------------------------------------------ X\n";
+
+// A book that claims another score of it.
+const WRONG_BOOK: &[u8] =
+    b"XOOO------------------------------------------------------------ X; E1:-10;\n";
+
+// How many probes the part of the text makes in a table that keeps nothing, with these claims.
+fn count_part_probes<R: Wait + Abort>(
+    rt: &R,
+    alloc: Global,
+    claims: Option<&Claims>,
+) -> Result<u32, RunFault> {
+    let position = Pos::new(0x1, 0xe).expect(rt, "no square is taken twice");
+    let counter = count_probes(rt, alloc, 0, [position; 2]);
+    let desk = Desk::new(alloc, 1).expect(rt, "memory");
+    client_part(
+        rt,
+        alloc,
+        SIXTY_EMPTY,
+        0,
+        60,
+        &desk,
+        &counter,
+        claims,
+        &NoGate,
+    )?;
+    Ok(counter.probes.get())
+}
+
+// A claim that is wrong is tested before the position is solved, which takes more probes.
+#[test]
+fn claims_of_wide_positions_are_tested(rt: HostRuntime) -> Result<(), Fail> {
+    let claims = Claims::read(rt.alloc(), WRONG_BOOK)?;
+    let without = count_part_probes(&rt, rt.alloc(), None)?;
+    let with_claims = count_part_probes(&rt, rt.alloc(), Some(&claims))?;
+    assert!(rt; 0 < without && without < with_claims);
     Ok(())
 }
