@@ -21,7 +21,7 @@ use Rattle.job_board.specs.declared.faults.SubmitFault.{SubmitFault}
 use Rattle.job_board.specs.declared.faults.SubmitFault.TheVariants as fault
 use Rattle.job_board.specs.declared.faults.JobFault.{JobFault}
 use Rattle.job_board.specs.Queues.{is_id_of, id_count}
-use Rattle.job_board.specs.Senders.{SenderView, BoardView, content_with, content_by, stage_in, stage_at, task_in, is_waiting, is_taken, is_finished, with_stage, with_task, with_one_handed, empty_state, empty_content}
+use Rattle.job_board.specs.Senders.{SenderView, BoardView, content_with, content_by, stage_of_job, stage_at, task_of_job, is_waiting, is_taken, is_finished, with_stage, with_task, with_one_handed, empty_state, empty_content}
 use Rattle.job_board.specs.Boards.{IsSender, IsBoardView, bit, ListsWaiting, taken_in, taken_count, IsBoard, AllDone}
 use Rattle.job_board.specs.Replies.{Submits, SubmitAs, submit_refusal, task_count, FinishAs, Finishes, give_back_reply_at, deliver_reply_at, deliver_reply_of, state_after_handed, after_deliver}
 
@@ -74,14 +74,14 @@ pub lists_set : (c : BoardView) (s : ℕ) (state new : SenderView) (ids ids' : L
 lists_set c s state new ids ids' at kept here there s' k =
     elim (cases_eq s' s) [
       | inl e ↦
-          let now : stage_at (set c s new) s' k ≡ slice_get new.stages k = ap (λ n. stage_at (set c s new) n k) e ∙ ap (stage_in k) (slice_get-set_same c s new (slice_get_within c s state at)) in
-          let before : stage_at c s k ≡ slice_get state.stages k = ap (stage_in k) at in
+          let now : stage_at (set c s new) s' k ≡ slice_get new.stages k = ap (λ n. stage_at (set c s new) n k) e ∙ ap (stage_of_job k) (slice_get-set_same c s new (slice_get_within c s state at)) in
+          let before : stage_at c s k ≡ slice_get state.stages k = ap (stage_of_job k) at in
           let old = kept s k in
           let step = here k in
           let same : id_count s' k ids' ≡ id_count s k ids' = ap (λ n. id_count n k ids') e in
           omega (arith, ap (λ o. bit (is_waiting o)) now, ap (λ o. bit (is_waiting o)) before, old, step, same)
       | inr ne ↦
-          let now : stage_at (set c s new) s' k ≡ stage_at c s' k = ap (stage_in k) (slice_get-set_other c s s' new ne) in
+          let now : stage_at (set c s new) s' k ≡ stage_at c s' k = ap (stage_of_job k) (slice_get-set_other c s s' new ne) in
           there s' k ne ∙ (kept s' k ∙ ap (λ o. bit (is_waiting o)) (sym now))
     ]
 
@@ -247,12 +247,12 @@ finish_ok (Some (Finished b)) task a u h = cc
 -- a reply to a finish that is lawful of the view of the job's sender is lawful of the board
 pub finish_at : (c : BoardView) (id : JobId) (a : TaskView) (r : Result (Unit {0}) JobFault) (state : SenderView) → slice_get c id.sender ≡ Some state
     → FinishAs (slice_get state.stages id.number) (slice_get state.tasks id.number) a r → Finishes c id a r
-finish_at c id a r state at h = let P : Option SenderView → Type 0 = λ o. FinishAs (stage_in id.number o) (task_in id.number o) a r in subst P (sym at) h
+finish_at c id a r state at h = let P : Option SenderView → Type 0 = λ o. FinishAs (stage_of_job id.number o) (task_of_job id.number o) a r in subst P (sym at) h
 
 -- a reply to a finish that is lawful of the board is lawful of the view of the job's sender
 pub finish_from : (c : BoardView) (id : JobId) (a : TaskView) (r : Result (Unit {0}) JobFault) (state : SenderView) → slice_get c id.sender ≡ Some state
     → Finishes c id a r → FinishAs (slice_get state.stages id.number) (slice_get state.tasks id.number) a r
-finish_from c id a r state at h = let P : Option SenderView → Type 0 = λ o. FinishAs (stage_in id.number o) (task_in id.number o) a r in subst P at h
+finish_from c id a r state at h = let P : Option SenderView → Type 0 = λ o. FinishAs (stage_of_job id.number o) (task_of_job id.number o) a r in subst P at h
 
 -- where a give back is accepted, the job was taken
 pub give_back_ok : (o : Option Stage) (u : Unit {0}) → Ok u ≡ give_back_reply_at o → o ≡ Some Taken
@@ -267,7 +267,7 @@ waiting_from (Some Waiting) h = refl
 waiting_from (Some Taken) h = absurd (omega arith)
 waiting_from (Some (Finished a)) h = absurd (omega arith)
 
-state_from : (k : ℕ) (o : Option SenderView) → stage_in k o ≡ Some Waiting → (state : SenderView) × (o ≡ Some state) × (slice_get state.stages k ≡ Some Waiting)
+state_from : (k : ℕ) (o : Option SenderView) → stage_of_job k o ≡ Some Waiting → (state : SenderView) × (o ≡ Some state) × (slice_get state.stages k ≡ Some Waiting)
 state_from k None e = cc
 state_from k (Some state) e = (state, refl, e)
 
@@ -280,7 +280,7 @@ first_state c id ids ids' taken room b moved = state_from id.number (slice_get c
 
 -- a job that the queue returned waits in the view of its sender
 pub first_stage : (c : BoardView) (id : JobId) (ids ids' : List JobId) (taken room : ℕ) (state : SenderView) → IsBoard c ids taken room → IsPermutation ids (id ∷ ids') → slice_get c id.sender ≡ Some state → slice_get state.stages id.number ≡ Some Waiting
-first_stage c id ids ids' taken room state b moved at = sym (ap (stage_in id.number) at) ∙ first_waits c id ids ids' taken room b moved
+first_stage c id ids ids' taken room state b moved at = sym (ap (stage_of_job id.number) at) ∙ first_waits c id ids ids' taken room b moved
 
 slice_get_none_past : {X : Type 0} (xs : List X) (k : ℕ) → k < length xs → slice_get xs k ≡ None → ⊥
 slice_get_none_past [] k lt e = omega arith
@@ -375,7 +375,7 @@ replicated zero x s y e = cc
 replicated (suc n) x zero y e = same_Some x y e
 replicated (suc n) x (suc s) y e = replicated n x s y e
 
-unqueued : (k : ℕ) (o : Option SenderView) → ((state : SenderView) → o ≡ Some state → state.stages ≡ []) → is_waiting (stage_in k o) ≡ false
+unqueued : (k : ℕ) (o : Option SenderView) → ((state : SenderView) → o ≡ Some state → state.stages ≡ []) → is_waiting (stage_of_job k o) ≡ false
 unqueued k None h = refl
 unqueued k (Some state) h = ap (λ (l : List Stage). is_waiting (slice_get l k)) (h state refl)
 
@@ -387,7 +387,7 @@ closed_all c done k d lt = (done k (get_or c k d) (slice_get-get_or c k d lt)).0
 
 stage_done : (c : BoardView) (taken room : ℕ) → IsBoard c [] taken room → taken ≡ 0 → (s k : ℕ) (state : SenderView) (stage : Stage) → slice_get c s ≡ Some state → slice_get state.stages k ≡ Some stage → is_finished (Some stage) ≡ true
 stage_done c taken room b none s k state Waiting at was =
-    let there : stage_at c s k ≡ Some Waiting = ap (stage_in k) at ∙ was in
+    let there : stage_at c s k ≡ Some Waiting = ap (stage_of_job k) at ∙ was in
     absurd (omega (arith, b.lists s k, ap (λ o. bit (is_waiting o)) there))
 stage_done c taken room b none s k state Taken at was = absurd (omega (arith, some_taken c [] taken room s k state b at was))
 stage_done c taken room b none s k state (Finished a) at was = refl

@@ -14,7 +14,7 @@ use Rattle.job_board.specs.declared.steps.Step.{Step}
 use Rattle.job_board.specs.declared.steps.Step.TheVariants as step
 use Rattle.job_board.specs.declared.steps.Reply.{Reply}
 use Rattle.job_board.specs.declared.steps.Reply.TheVariants as reply
-use Rattle.job_board.specs.Senders.{SenderView, BoardView, content_by, with_task, with_stage, with_one_handed, closed_state, stage_in, empty_state, empty_content}
+use Rattle.job_board.specs.Senders.{SenderView, BoardView, content_by, with_task, with_stage, with_one_handed, closed_state, stage_of_job, empty_state, empty_content}
 use Rattle.job_board.specs.Boards.{IsSender, IsBoardView}
 use Rattle.job_board.specs.Replies.{deliver_reply_in, deliver_reply, close_reply_in, give_back_reply_at}
 use Rattle.job_board.specs.Steps.{IsLawful, after, AreLawful, after_all}
@@ -142,11 +142,11 @@ stage_next : (c : BoardView) (s k : ℕ) (state : SenderView) (st : Step) (r : R
     → or_waiting (slice_get (state_step s state st r).stages k) ≡ stage_by s k (or_waiting (slice_get state.stages k)) st r
 stage_next c s k state (step.Submit s' t) (reply.Submitted (Ok n)) at law = push_if (s' == s) t state k
 stage_next c s k state step.Take (reply.Took (Some job)) at law =
-    restaged_if job.id s k Taken state (λ e. slice_get_within state.stages job.id.number Waiting (sym (ap (stage_in job.id.number) (ap (slice_get c) e ∙ at)) ∙ law.0))
+    restaged_if job.id s k Taken state (λ e. slice_get_within state.stages job.id.number Waiting (sym (ap (stage_of_job job.id.number) (ap (slice_get c) e ∙ at)) ∙ law.0))
 stage_next c s k state (step.Finish id a) (reply.Finished (Ok u)) at law =
     restaged_if id s k (Finished a) state (λ e. slice_get_within state.stages id.number Taken (finish_ok (slice_get state.stages id.number) (slice_get state.tasks id.number) a u (finish_from c id a (Ok u) state (ap (slice_get c) e ∙ at) law)).0)
 stage_next c s k state (step.GiveBack id) (reply.GaveBack (Ok u)) at law =
-    restaged_if id s k Waiting state (λ e. slice_get_within state.stages id.number Taken (give_back_ok (slice_get state.stages id.number) u (law ∙ ap (λ o. give_back_reply_at (stage_in id.number o)) (ap (slice_get c) e ∙ at))))
+    restaged_if id s k Waiting state (λ e. slice_get_within state.stages id.number Taken (give_back_ok (slice_get state.stages id.number) u (law ∙ ap (λ o. give_back_reply_at (stage_of_job id.number o)) (ap (slice_get c) e ∙ at))))
 stage_next c s k state (step.Deliver s') (reply.Handed (handed.Next d)) at law = cond_same (λ l. or_waiting (slice_get l.stages k)) (s' == s) (with_one_handed state) state refl
 stage_next c s k state (step.Close s') (reply.Closed r) at law = cond_same (λ l. or_waiting (slice_get l.stages k)) (s' == s) (closed_state state) state refl
 stage_next c s k state _ _ at law = refl

@@ -11,7 +11,7 @@ use Rattle.job_board.specs.declared.steps.Step.TheVariants as step
 use Rattle.job_board.specs.declared.steps.Reply.{Reply}
 use Rattle.job_board.specs.declared.steps.Reply.TheVariants as reply
 use Rattle.job_board.specs.declared.faults.SubmitFault.TheVariants as fault
-use Rattle.job_board.specs.Senders.{SenderView, BoardView, content_with, content_by, with_task, with_stage, with_one_handed, closed_state, stage_in, empty_state}
+use Rattle.job_board.specs.Senders.{SenderView, BoardView, content_with, content_by, with_task, with_stage, with_one_handed, closed_state, stage_of_job, empty_state}
 use Rattle.job_board.specs.Boards.{IsSender}
 use Rattle.job_board.specs.Replies.{SubmitAs, submit_refusal, task_count, deliver_reply_in, give_back_reply_at}
 use Rattle.job_board.specs.Steps.{IsLawful, after}
@@ -75,7 +75,7 @@ pub state_kept : (c : BoardView) (s : ℕ) (state : SenderView) (st : Step) (r :
 state_kept c s state (step.Submit s' t) (reply.Submitted (Ok n)) at h law = both s' s state (with_task t state) h (λ e. state_with_task state t h (submit_few state n c s' t (ap (slice_get c) e ∙ at) law))
 state_kept c s state step.Take (reply.Took (Some job)) at h law =
     both job.id.sender s state (with_stage job.id.number Taken state) h
-    (λ e. state_restaged state job.id.number Waiting Taken h (sym (ap (stage_in job.id.number) (ap (slice_get c) e ∙ at)) ∙ law.0) refl (λ a e. cc))
+    (λ e. state_restaged state job.id.number Waiting Taken h (sym (ap (stage_of_job job.id.number) (ap (slice_get c) e ∙ at)) ∙ law.0) refl (λ a e. cc))
 state_kept c s state (step.Finish id a) (reply.Finished (Ok u)) at h law =
     both id.sender s state (with_stage id.number (Finished a) state) h
     (λ e.
@@ -83,7 +83,7 @@ state_kept c s state (step.Finish id a) (reply.Finished (Ok u)) at h law =
     state_restaged state id.number Taken (Finished a) h ok.0 refl (λ a' e'. ok.1 ∙ ap Some (same_finished a a' e')))
 state_kept c s state (step.GiveBack id) (reply.GaveBack (Ok u)) at h law =
     both id.sender s state (with_stage id.number Waiting state) h
-    (λ e. state_restaged state id.number Taken Waiting h (give_back_ok (slice_get state.stages id.number) u (law ∙ ap (λ o. give_back_reply_at (stage_in id.number o)) (ap (slice_get c) e ∙ at))) refl (λ a e. cc))
+    (λ e. state_restaged state id.number Taken Waiting h (give_back_ok (slice_get state.stages id.number) u (law ∙ ap (λ o. give_back_reply_at (stage_of_job id.number o)) (ap (slice_get c) e ∙ at))) refl (λ a e. cc))
 state_kept c s state (step.Deliver s') (reply.Handed (handed.Next d)) at h law =
     both s' s state (with_one_handed state) h
     (λ e. state_handed state d h (law ∙ ap deliver_reply_in (ap (slice_get c) e ∙ at)))

@@ -11,7 +11,7 @@ use Rattle.job_board.specs.declared.steps.Step.{Step}
 use Rattle.job_board.specs.declared.steps.Step.TheVariants as step
 use Rattle.job_board.specs.declared.steps.Reply.{Reply}
 use Rattle.job_board.specs.declared.steps.Reply.TheVariants as reply
-use Rattle.job_board.specs.Senders.{SenderView, BoardView, content_with, with_task, with_stage, with_one_handed, closed_state, stage_in, task_in, is_finished, empty_state, empty_content}
+use Rattle.job_board.specs.Senders.{SenderView, BoardView, content_with, with_task, with_stage, with_one_handed, closed_state, stage_of_job, task_of_job, is_finished, empty_state, empty_content}
 use Rattle.job_board.specs.Boards.{IsSender, IsBoardView}
 use Rattle.job_board.specs.Replies.{FinishAs, deliver_reply_in, deliver_reply_at, close_reply_in, give_back_reply_at}
 use Rattle.job_board.specs.Steps.{IsLawful, after, AreLawful, after_all}
@@ -75,7 +75,7 @@ stage_run : (c : BoardView) (s : ℕ) (T : List TaskView) (P R : List Stage) (h 
     → Runs c (stage_steps (job_id s k) st) (stage_replies st) (set c s (state_of T (P ++ st ∷ R) h false))
 stage_run c s T P R h k Waiting at is fits =
     let taken : slice_get (P ++ Taken ∷ R) k ≡ Some Taken = slice_get-mid P Taken R k is in
-    one c _ (step.GiveBack (job_id s k)) (reply.GaveBack (Ok tt)) (sym (ap (λ o. give_back_reply_at (stage_in k o)) at ∙ ap give_back_reply_at taken)) (restage c s T P R h k Taken Waiting at is)
+    one c _ (step.GiveBack (job_id s k)) (reply.GaveBack (Ok tt)) (sym (ap (λ o. give_back_reply_at (stage_of_job k o)) at ∙ ap give_back_reply_at taken)) (restage c s T P R h k Taken Waiting at is)
 stage_run c s T P R h k Taken at is fits = none c _ (sym (set_same c s (state_of T (P ++ Taken ∷ R) h false) at))
 stage_run c s T P' R h k (Finished a) at is fits =
     let taken : slice_get (P' ++ Taken ∷ R) k ≡ Some Taken = slice_get-mid P' Taken R k is in
@@ -100,7 +100,7 @@ jobs_run c s T Tp (t ∷ ts) P (st ∷ sts) h k at split tk pk same fits =
     let lt : s < length c = slice_get_within c s (state_of T (P ++ Waiting ∷ R) h false) at in
     let take : Runs c (step.Take ∷ []) (reply.Took (Some (record { id = job_id s k; task = t })) ∷ []) c1 =
     one c c1 step.Take (reply.Took (Some (record { id = job_id s k; task = t })))
-    (ap (stage_in k) at ∙ slice_get-mid P Waiting R k pk, ap (task_in k) at ∙ here)
+    (ap (stage_of_job k) at ∙ slice_get-mid P Waiting R k pk, ap (task_of_job k) at ∙ here)
     (restage c s T P R h k Waiting Taken at pk) in
     let settle : Runs c1 (stage_steps (job_id s k) st) (stage_replies st) c2 =
     ends c1 _ c2 (stage_steps (job_id s k) st) (stage_replies st)

@@ -32,21 +32,21 @@ content_by c s f (Some state) = slice_set c s (f state)
 abbrev pub content_with : BoardView → ℕ → (SenderView → SenderView) → BoardView
 content_with c s f = content_by c s f (slice_get c s)
 
-abbrev pub stage_in : ℕ → Option SenderView → Option Stage
-stage_in k None = None
-stage_in k (Some state) = slice_get state.stages k
+abbrev pub stage_of_job : ℕ → Option SenderView → Option Stage
+stage_of_job k None = None
+stage_of_job k (Some state) = slice_get state.stages k
 
 -- the stage of job k of sender s; None if there is no such job
 abbrev pub stage_at : BoardView → ℕ → ℕ → Option Stage
-stage_at c s k = stage_in k (slice_get c s)
+stage_at c s k = stage_of_job k (slice_get c s)
 
-abbrev pub task_in : ℕ → Option SenderView → Option TaskView
-task_in k None = None
-task_in k (Some state) = slice_get state.tasks k
+abbrev pub task_of_job : ℕ → Option SenderView → Option TaskView
+task_of_job k None = None
+task_of_job k (Some state) = slice_get state.tasks k
 
 -- the task of job k of sender s; None if there is no such job
 abbrev pub task_at : BoardView → ℕ → ℕ → Option TaskView
-task_at c s k = task_in k (slice_get c s)
+task_at c s k = task_of_job k (slice_get c s)
 
 abbrev pub is_waiting : Option Stage → Bool
 is_waiting (Some Waiting) = true

@@ -1,7 +1,7 @@
 use Rattle.std.proofs.Common.{vec_len, refl, ◌≡◌, Some, slice_get, ap, sym, ◌∙◌, arith}
 use Rattle.std.proofs.lemmas.Option.{slice_get_read}
 use Rattle.job_board.specs.declared.jobs.Stage.TheVariants.{Waiting, Taken}
-use Rattle.job_board.specs.Senders.{with_stage, stage_in}
+use Rattle.job_board.specs.Senders.{with_stage, stage_of_job}
 use Rattle.job_board.specs.Replies.{give_back_reply_at}
 use Rattle.job_board.proofs.BoardFacts.{gives_back, give_back_ok, some_taken, change_at}
 use Rattle.job_board.proofs.board.Board.give_back.Goals as goal
@@ -27,7 +27,7 @@ invariant_of-self-2 c =
 pub returns-clause-lawful : goal.returns-clause-lawful
 returns-clause-lawful c =
     let at = slice_get_read c.self.inside.senders.items (vec_len c.self.inside.senders) c.args.id.sender c.in-Some.jobs.now (omega (arith, c.self.inside.senders.ok.0)) (c.in-Some.ensures.variant.0 refl) c.in-Some.ensures.value in
-    rw (← c.self.view_is) (c.in_ok-give_back.ensures.reply ∙ ap (λ o. give_back_reply_at (stage_in c.args.id.number o)) (sym at))
+    rw (← c.self.view_is) (c.in_ok-give_back.ensures.reply ∙ ap (λ o. give_back_reply_at (stage_of_job c.args.id.number o)) (sym at))
 
 pub returns-clause-content : goal.returns-clause-content
 returns-clause-content c =

@@ -2,7 +2,7 @@ use Rattle.std.proofs.Common.{◌≡◌, ◌∷◌, Some, slice_get, ap, sym, �
 use Rattle.std.proofs.lemmas.List.Sorted.{length_permutation}
 use Rattle.std.proofs.lemmas.Option.{slice_get_within}
 use Rattle.job_board.specs.declared.jobs.Stage.TheVariants.{Waiting, Taken}
-use Rattle.job_board.specs.Senders.{SenderView, with_stage, task_in}
+use Rattle.job_board.specs.Senders.{SenderView, with_stage, task_of_job}
 use Rattle.job_board.proofs.BoardFacts.{with_ids, read_again, takes, first_waits, first_state, first_stage, has_task, change_at}
 use Rattle.job_board.proofs.board.Board.take.Goals as goal
 
@@ -44,7 +44,7 @@ pub returns-clause-lawful : goal.returns-clause-lawful
 returns-clause-lawful c =
     let found : (state : SenderView) × (slice_get c.self.inside.senders.items c.in_ok-id.id.sender ≡ Some state) × (slice_get state.stages c.in_ok-id.id.number ≡ Some Waiting) = first_state c.self.inside.senders.items c.in_ok-id.id c.self.inside.waiting.jobs c.pop.new.self.jobs c.self.inside.taken c.self.inside.waiting.room c.self.invariant c.in_ok-id.ensures.some in
     let at = read_again c.self.inside.senders.items c.in_ok-id.id.sender found.0 c.index_mut-jobs.result.now found.1 c.index_mut-jobs.ensures.value in
-    rw (← c.self.view_is) (first_waits c.self.inside.senders.items c.in_ok-id.id c.self.inside.waiting.jobs c.pop.new.self.jobs c.self.inside.taken c.self.inside.waiting.room c.self.invariant c.in_ok-id.ensures.some, ap (task_in c.in_ok-id.id.number) at ∙ (sym c.task.ensures ∙ c.in-Some.is))
+    rw (← c.self.view_is) (first_waits c.self.inside.senders.items c.in_ok-id.id c.self.inside.waiting.jobs c.pop.new.self.jobs c.self.inside.taken c.self.inside.waiting.room c.self.invariant c.in_ok-id.ensures.some, ap (task_of_job c.in_ok-id.id.number) at ∙ (sym c.task.ensures ∙ c.in-Some.is))
 
 pub returns-clause-content : goal.returns-clause-content
 returns-clause-content c =
