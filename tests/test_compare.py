@@ -83,6 +83,7 @@ class Compare(Case):
             self.bad(listed, wrong.format(at))
         for listed, at in ((self.GAMES, 7), ("".join(lines[:-1]), 7), (self.listed + lines[1], 12)):
             self.bad(listed, f"it has no digest after line {at}; print it again")
+        self.bad(self.report, "it is a report; LIST comes first")
         for listed in (re.sub(", theo.*", "", self.GAMES), "", "% games\n"):
             self.bad(listed, "it has no theoretical score")
 

@@ -57,7 +57,7 @@ class Command(Case):
             (b"% games\r" + game + b"\r" + game + b"\r", "its lines end with CR alone"),
             (b"\r" + game, "its lines end with CR alone"),
             (b"f5\0d6\n" + game, "its line 1 has a NUL byte, so it is not a text"),
-            (b"PK\3\4\24\0\0\0", "its line 1 has a NUL byte, so it is not a text"),  # an archive
+            (b"PK\3\4\24\0\r\0", "its line 1 has a NUL byte, so it is not a text"),  # an archive
         ):
             write("bad", content)
             self.games("--empties=20", "bad", "text", status=3, out=self.line.format("text"),

@@ -91,7 +91,8 @@ def read_list(lines: Iterable[bytes]) -> Dict[int, Listed]:
         except NoPosition:
             continue
         except LineRefused as why:
-            raise BadList(f"its line {number} is refused: {why}") from None
+            is_report = number == 1 and text == b"[1]"
+            raise BadList("it is a report; LIST comes first" if is_report else f"its line {number} is refused: {why}") from None
         if not awaited and not is_digest(text):
             digest.add(text)
             uncovered = number

@@ -14,7 +14,7 @@ def text_lines(file: BinaryIO, name: str) -> Iterator[bytes]:
     number, line = 1, file.readline(MOST_BYTES + 1)
     if line.startswith(MARKS):
         raise NotText(f"cannot read {name}: it begins with a byte-order mark")
-    if not line.endswith(b"\n") and b"\r" in line.rstrip():
+    if not line.endswith(b"\n") and b"\r" in line.rstrip() and b"\0" not in line:
         raise NotText(f"cannot read {name}: its lines end with CR alone")
     while line:
         if len(line) > MOST_BYTES:
