@@ -163,7 +163,7 @@ def as_at_a_login():
 
 
 def refuse_threads():
-    """Makes every start of a thread fail, since the stack that it needs is larger than all memory; for `preexec_fn`."""
+    """Makes every thread fail to start, since its stack would take more memory than is allowed; for `preexec_fn`."""
     for limit, size in ((resource.RLIMIT_STACK, 1_000_000_000 << 10), (resource.RLIMIT_AS, 500_000_000 << 10)):
         resource.setrlimit(limit, (size, resource.getrlimit(limit)[1]))
 

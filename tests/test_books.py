@@ -121,8 +121,8 @@ class Files(Books):
         self.left({"it.book": BOOK, **others})
 
     def changed_meanwhile(self, place, change):
-        """Asserts that a run can't write its book after a change that comes once it prints more than a pipe holds."""
-        write("list", TEXT * 2000)
+        """Makes a change while a run prints its report, and asserts that the run then can't write its book."""
+        write("list", TEXT * 2000)  # whose report is more than a pipe holds
         program = self.start(PROGRAM, "--book-out", place, "list", **NOBODY)
         begun = program.stdout.read(1)
         change()
