@@ -2,7 +2,7 @@
 
 ghost use Rattle.std.specs.Prelude.{◌≡◌, ◌==◌, ◌∷◌, ◌<◌, ◌≤◌, ◌+◌, length};
 ghost use Rattle.std.specs.Iterator.{YieldsFirstRef, item_count};
-ghost use Rattle.std.specs.List.{position, position_or_len};
+ghost use Rattle.std.specs.List.{position};
 ghost use Rattle.std.specs.Str.Lines.{strip_carriage_return};
 ghost use Rattle.obf_text.specs.LineText.{lines_of, room_of};
 
@@ -44,14 +44,6 @@ fn without_return(line: &[u8]) -> &[u8]
     }
 }
 
-// The index at which the first line ends: that of its LF, or the length of the text.
-#[tactic(auto, using(crate::proofs::LineLemmas::place_steps))]
-fn line_end(text: &[u8]) -> usize
-    ensures { result ≡ position_or_len (λ b. b == 10) text.now }
-{
-    first_line_feed(text).unwrap_or(text.len())
-}
-
 // The index of the first LF. It is a function of its own so that a contract states what is found.
 fn first_line_feed(text: &[u8]) -> Option<usize>
     ensures { result ≡ position (λ b. b == 10) text.now }
@@ -65,11 +57,9 @@ fn first_line(text: &[u8]) -> (&[u8], &[u8])
     requires { 0 < length text.now }
     ensures { lines_of text.now ≡ result.0.now ∷ lines_of result.1.now }
 {
-    let end = line_end(text);
-    if end < text.len() {
-        (without_return(&text[..end]), &text[end + 1..])
-    } else {
-        (without_return(text), &text[text.len()..])
+    match first_line_feed(text) {
+        Some(end) => (without_return(&text[..end]), &text[end + 1..]),
+        None => (without_return(text), &text[text.len()..]),
     }
 }
 
