@@ -99,7 +99,7 @@ fn start_workers<'a, E, R: Threads + Wait + Sync, G: Gate>(
 
 // Starts the workers and a client for each file, in the order of the files, and joins the clients. All
 // lists are made before the first thread is started, so that nothing can fail between the starts and
-// the joins.
+// the joins. The scope's closure only calls it: of what it captures, it knows the types alone.
 fn solve_in_scope<'a, E, R: Threads + Wait + Sync, G: Gate>(
     scope: &Scope<'a, E>,
     crew: &Crew<'a, R, G>,
