@@ -2,8 +2,6 @@
 import random
 import re
 
-from bench import player
-
 from .games import UNREADABLE, Case, line_of, positions_of, random_game, report_of, squares_of, with_digest
 from .support import write
 
@@ -105,11 +103,10 @@ class Compare(Case):
             if 4 in positions:
                 lists.append(with_digest(line_of(positions[4], f"it.wtb, game {len(lists) + 1}, theoretical score 30")))
         reports, refused = [report_of(listed) for listed in lists], 0
-        moves = lambda position: player.moves(position.own, position.opp)  # noqa: E731
         for at, listed in enumerate(lists):
             for other, report in enumerate(reports):
                 try:
-                    Comparison(listed.encode().splitlines(True), report.encode().splitlines(True), moves)
+                    Comparison(listed.encode().splitlines(True), report.encode().splitlines(True))
                     self.assertEqual(at, other)
                 except Unfit:
                     refused += 1
@@ -126,9 +123,10 @@ class Compare(Case):
             (self.report[:-12], cut),
             ("[1]\n", cut),
             (self.report + self.report.replace("[1]", "[2]"), "the report is of several lists"),
-            ("".join(rows[:3] + ["x\n"] + rows[3:]), "line 4 of the report is not a row"),
-            (self.report.replace("2 +62 H1", "2 +62 H9"), "line 2 of the report is not a row"),
-            (self.report.replace("2 +62 H1", "9" * 5000 + " +62 H1"), "line 2 of the report is not a row"),
+            ("".join(rows[:3] + ["x\n"] + rows[3:]), "line 4 of the report is not a row of this list"),
+            (self.report.replace("2 +62 H1 unlisted", "2 +62 H1 agree"), "line 2 of the report is not a row of this list"),
+            (self.report.replace("2 +62 H1", "2 +62 H9"), "line 2 of the report is not a row of this list"),
+            (self.report.replace("2 +62 H1", "9" * 5000 + " +62 H1"), "line 2 of the report is not a row of this list"),
             ("".join(rows[:3] + rows[2:]), "line 4 of the report is a second row of line 3 of the list"),
             ("".join(rows[:2] + rows[3:]), "the report ends with `solved 9 refused 0`, but has 8 rows, 0 of them refused"),
         ):
@@ -136,30 +134,17 @@ class Compare(Case):
         self.games("compare", "list", "none", status=3, out="",
                    err=UNREADABLE.format("cannot read none", "No such file or directory"))
 
-    def test_rows_of_another_list_are_refused(self):
-        eighth = re.search("^8 (...) ", self.report, re.M)[1]
+    def test_rows_of_another_list_or_scoring_are_refused(self):
+        digest = [line.split()[:2] for line in self.report.splitlines()[6:-1]]
+        for number, score in digest:
+            said = f"line {number} of the list is part of its digest, {score}, but {{}} in the report, which is of another list or scoring"
+            for row, what in ((f"+{abs(int(score) - 1):02} --", f"has +{abs(int(score) - 1):02}"), ("+01 --", "has +01"), ("+08 H1", "has +08")):
+                self.unfit(self.listed, self.report.replace(f"{number} {score} --", f"{number} {row}"), said.format(what))
+            report = self.report.replace(f"{number} {score} -- unlisted", f"{number} refused: 1 empties, limit 0")
+            self.unfit(self.listed, report.replace("solved 9 refused 0", "solved 8 refused 1"), said.format("is refused"))
         for old, new, why in (
-            ("2 +62 H1", "2 +62 G1", "2 of the list has no legal move G1, which the report calls best"),
-            ("2 +62 H1", "2 +62 A1,H1,H2", "2 of the list has no legal move H2, which the report calls best"),
-            ("3 +62 H1", "3 +62 PS", "3 of the list has no legal move PS, which the report calls best"),
-            ("3 +62 H1", "3 +62 --", "3 of the list has no legal move --, which the report calls best"),
-            ("4 -64 PS", "4 -64 A1", "4 of the list has no legal move A1, which the report calls best"),
-            ("4 -64 PS", "4 -64 --", "4 of the list has no legal move --, which the report calls best"),
-            ("7 -32 --", "7 -32 PS", "7 of the list has no legal move PS, which the report calls best"),
-            ("7 -32 --", "7 -32 A1", "7 of the list has no legal move A1, which the report calls best"),
-            ("7 -32 --", "7 -30 --", "7 of the list is the end of a game with the score -32, and not -30"),
-            ("2 +62 H1", "2 +61 H1", "2 of the list has the score +61 in the report, which is of another scoring than winner"),
-            ("2 +62 H1", "2 -98 H1", "2 of the list has the score -98 in the report, which is of another scoring than winner"),
-            ("2 +62 H1 unlisted", "2 +62 H1 listed", "2 of the list lists no move, but the report says listed"),
             ("4 -64", "5 -64", "4 of the list has no row in the report"),
             ("2 +62", "1 +62", "1 of the list is not a position, but the report has a row for it"),
             ("7 -32", "12 -32", "7 of the list has no row in the report"),
-            (f"8 {eighth}", "8 +00", f"8 of the list is part of its digest, with the score {eighth}, and not +00"),
-            (f"8 {eighth} --", f"8 {eighth} A1", "8 of the list has no legal move A1, which the report calls best"),
         ):
             self.unfit(self.listed, self.report.replace(old, new), f"line {why}")
-        games = self.GAMES.replace(" X; % a", " X; H1:+62; % a")
-        self.unfit(*self.complete(games, self.ROWS), "line 2 of the list lists a move, but the report says unlisted")
-        for says in ("3 empties, limit 1", "board has 2 of 64 squares"):
-            both = self.complete(self.GAMES, self.ROWS.replace("3 +62 H1 unlisted", f"3 refused: {says}"))
-            self.unfit(*both, f"line 3 of the list has 2 empty squares, but the report says: {says}")

@@ -4,8 +4,8 @@ import random
 import subprocess
 import sys
 
-from .games import (PROGRAM, UNREADABLE, Case, line_of, positions_of, random_game, record, squares_of, transcript,
-                    with_digest, wthor)
+from .games import (PROGRAM, UNREADABLE, Case, line_of, positions_of, random_game, record, report_of, squares_of,
+                    transcript, with_digest, wthor)
 from .support import MOST_BYTES, limited, run, stored, write
 
 
@@ -125,7 +125,8 @@ class Command(Case):
             self.assertEqual((ran.returncode, ran.stdout), (status, out))
 
     def test_a_missing_library_ends_with_status_4(self):
-        for words in (("--empties=20", "text"), ("compare", "text", "text")):
+        write("report", report_of(with_digest(self.listed)))
+        for words in (("--empties=20", "text"), ("compare", "listed", "report", "--fix=new.wtb")):
             ran = run(PROGRAM, *words, env={**os.environ, "FFOSOLVE_LIBRARY": "/nowhere"})
             self.assertEqual((ran.returncode, ran.stdout), (4, b""))
             self.assertRegex(ran.stderr.decode(), "^ffosolve-games: /nowhere: .*\n$")

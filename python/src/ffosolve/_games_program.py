@@ -14,7 +14,6 @@ from ._games_arguments import NAME, options_of
 from ._library import LibraryNotFound, load
 from ._list_digest import ListDigest
 from ._published import BadList, Compared, Comparison, Unfit
-from ._solvers import Solver
 from ._text import NotText, text_lines
 
 DONE, REMARKED, MISUSED, UNREADABLE, NO_LIBRARY, INTERRUPTED = 0, 1, 2, 3, 4, 130
@@ -141,15 +140,15 @@ def wrong_scores(game: Game, played: Played) -> Iterator[str]:
 
 def compare(options: argparse.Namespace, find: Callable[[], Optional[str]], output: Output) -> int:
     """Prints the wrong theoretical scores of a list, after writing the WTHOR files with --fix."""
-    path, (listed, solved) = find(), options.files
+    listed, solved = options.files
     try:
-        found = Comparison(lines_of(listed), lines_of(solved), Solver(path).moves)
+        found = Comparison(lines_of(listed), lines_of(solved))
     except BadList as why:
         raise Stop(f"cannot compare {shown(listed)}: {why}") from None
     except Unfit as why:
         raise Stop(f"{shown(solved)} is not a report of {shown(listed)}: {why}") from None
     if options.fix is not None:
-        fix(options.fix, found.compared, Player(load(path)), options.real)
+        fix(options.fix, found.compared, Player(load(find())), options.real)
     for it in found.differences:
         difference = f"published {it.published}, exact {it.exact}, difference {it.published - it.exact:+}"
         output.line(os.fsencode(f"{it.file}, game {it.game}: {difference}"))

@@ -1,17 +1,15 @@
 """Published scores: a list of ffosolve-games is compared with the report of its solved positions."""
 import os
 import re
-from typing import Any, Callable, Dict, Iterable, List, NamedTuple, Optional, Tuple
+from typing import Dict, Iterable, List, NamedTuple, Optional
 
 from ._games import discs_of_black, final_score
 from ._list_digest import ListDigest, is_digest
 from ._positions import Line, Position
 from ._refusals import LineRefused, NoPosition
-from ._squares import square_names
 
 COMMENT = re.compile(r"[^%]*% (.+), game ([0-9]{1,10})(?:, theoretical score ([0-9]{1,3}))?")
-ROW = re.compile(r"([0-9]{1,18}) (?:([+-][0-9]{2}) ([A-H][1-8](?:,[A-H][1-8])*|PS|--) (\w+)|refused: (.+))")
-EMPTIES = re.compile("([0-9]{1,2}) empties, limit [0-9]{1,2}")
+ROW = re.compile(r"([0-9]{1,18}) (?:([+-][0-9]{2}) (?:[A-H][1-8](?:,[A-H][1-8])*|PS|--) unlisted|refused: .+)")
 LAST = re.compile("solved ([0-9]{1,18}) refused ([0-9]{1,18})")
 
 
@@ -32,15 +30,6 @@ class Listed(NamedTuple):
     score: Optional[int] = None  # the theoretical one: Black's discs, with the empty squares to the winner
 
 
-class Row(NamedTuple):
-    """A row of a report: the mover's score, the best moves and the word, or why the line is refused."""
-
-    score: Optional[int]
-    best: List[str]
-    word: str
-    refusal: str
-
-
 class Compared(NamedTuple):
     """A theoretical score and the exact one, in Black's discs."""
 
@@ -52,26 +41,26 @@ class Compared(NamedTuple):
 
 
 class Comparison:
-    """The theoretical scores of a list beside the exact ones of its report.
+    """The theoretical scores of a list beside the exact ones of its report. Raises BadList and Unfit."""
 
-    `moves` returns the mask of a position's legal moves. Raises BadList and Unfit.
-    """
-
-    def __init__(self, listed: Iterable[bytes], report: Iterable[bytes], moves: Callable[[Position], int]) -> None:
+    def __init__(self, listed: Iterable[bytes], report: Iterable[bytes]) -> None:
         lines, rows = read_list(listed), read_report(report)
         self.compared: List[Compared] = []
         self.refused = self.unscored = 0
         for number in sorted(lines.keys() | rows.keys()):
-            why = misfit(lines.get(number), rows.get(number), moves)
-            if why:
-                raise Unfit(f"line {number} of the list {why}")
-            line, row = lines[number], rows[number]
-            if line.score is None:
-                self.unscored += line.file != ""
-            elif row.score is None:
+            if number not in rows:
+                raise Unfit(f"line {number} of the list has no row in the report")
+            if number not in lines:
+                raise Unfit(f"line {number} of the list is not a position, but the report has a row for it")
+            line, score = lines[number], rows[number]
+            if not line.file:
+                check_digest(number, line.position, score)
+            elif line.score is None:
+                self.unscored += 1
+            elif score is None:
                 self.refused += 1
             else:
-                exact = discs_of_black(row.score, line.position.side)
+                exact = discs_of_black(score, line.position.side)
                 self.compared.append(Compared(line.position, line.file, line.game, line.score, exact))
         self.differences = [it for it in self.compared if it.published != it.exact]
 
@@ -119,49 +108,34 @@ def read_listed(text: bytes) -> Listed:
     return Listed(position, file, int(game), int(score) if score else None)
 
 
-def read_report(lines: Iterable[bytes]) -> Dict[int, Row]:
-    """The rows of a report of one list by the numbers of the list's lines."""
+def read_report(lines: Iterable[bytes]) -> Dict[int, Optional[int]]:
+    """The scores for the mover in a report of one list, by the numbers of the list's lines; None for refused lines."""
     texts = [os.fsdecode(line.rstrip(b"\r\n")) for line in lines]
     if not texts or texts[0] != "[1]":
         raise Unfit("the report does not begin with the line `[1]`" if texts else "the report is empty")
     last = LAST.fullmatch(texts[-1])
     if last is None:
         raise Unfit("the report does not end with the line `solved N refused N`, so it is incomplete")
-    found: Dict[int, Row] = {}
+    found: Dict[int, Optional[int]] = {}
     for place, text in enumerate(texts[1:-1], 2):
         match = ROW.fullmatch(text)
         if match is None:
             is_last = LAST.fullmatch(text) is not None
-            raise Unfit("the report is of several lists" if is_last else f"line {place} of the report is not a row")
-        number, score, best, word, refusal = match.groups("")
-        if int(number) in found:
+            raise Unfit("the report is of several lists" if is_last else f"line {place} of the report is not a row of this list")
+        number, score = int(match[1]), match[2]
+        if number in found:
             raise Unfit(f"line {place} of the report is a second row of line {number} of the list")
-        found[int(number)] = Row(None if refusal else int(score), best.split(","), word, refusal)
-    refused = sum(row.score is None for row in found.values())
+        found[number] = None if score is None else int(score)
+    refused = sum(score is None for score in found.values())
     if (len(found) - refused, refused) != (int(last[1]), int(last[2])):
         raise Unfit(f"the report ends with `{texts[-1]}`, but has {len(found)} rows, {refused} of them refused")
     return found
 
 
-def misfit(line: Optional[Listed], row: Optional[Row], moves: Callable[[Position], int]) -> str:
-    """Why a line of a list and a row of a report do not belong together, or "" if they may."""
-    if line is None or row is None:
-        return "has no row in the report" if row is None else "is not a position, but the report has a row for it"
-    position, said = line.position, row.refusal or f"{row.score:+03} {','.join(row.best)}"
-    if row.score is None:
-        match = EMPTIES.fullmatch(said)
-        fits = match is not None and int(match[1]) == position.empties
-        return "" if fits else f"has {position.empties} empty squares, but the report says: {said}"
-    legal = square_names(moves(position)) or (["PS"] if moves(position.passed()) else ["--"])
-    for name in row.best:
-        if name not in legal:
-            return f"has no legal move {name}, which the report calls best"
-    if (row.word == "unlisted") != (not position.listed):
-        return f"lists {'a move' if position.listed else 'no move'}, but the report says {row.word}"
-    if row.score % 2 or abs(row.score) > 64:
-        return f"has the score {row.score:+03} in the report, which is of another scoring than winner"
-    exact = final_score(position.own, position.opp)
-    if row.best == ["--"] and row.score != exact:
-        what = "the end of a game" if line.file else "part of its digest,"
-        return f"is {what} with the score {exact:+03}, and not {row.score:+03}"
-    return ""
+def check_digest(number: int, position: Position, score: Optional[int]) -> None:
+    """Raises Unfit if a report has another score for a line of the list's digest."""
+    exact = final_score(*position)
+    if score != exact:
+        said = "is refused" if score is None else f"has {score:+03}"
+        raise Unfit(f"line {number} of the list is part of its digest, {exact:+03}, but {said} in the report, "
+                    "which is of another list or scoring")
