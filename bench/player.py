@@ -1,12 +1,12 @@
-"""A plain player of Othello on masks, which shares nothing with the library: for lists of positions, and for tests.
+"""Plays Othello on masks by plain code that shares nothing with the library, for lists of positions and for tests.
 
-A position is the discs of the side to move and those of the other side; A1 is bit 0, and H8 bit 63.
+A position is two masks, the discs of the side to move and the other side's; A1 is bit 0, and H8 bit 63.
 """
 import functools
 import random
 
 NOT_A, NOT_H, FULL = 0xFEFEFEFEFEFEFEFE, 0x7F7F7F7F7F7F7F7F, (1 << 64) - 1
-# A shift to the left for each direction, or to the right where it is negative, and the squares that it may reach.
+# For each direction the shift to the left, or to the right if negative, and the squares that it can reach.
 STEPS = ((1, NOT_A), (-1, NOT_H), (8, FULL), (-8, FULL), (9, NOT_A), (-9, NOT_H), (7, NOT_H), (-7, NOT_A))
 START = (1 << 28 | 1 << 35, 1 << 27 | 1 << 36)
 
@@ -16,7 +16,7 @@ def shifted(mask, step, reached):
 
 
 def moves(own, opp):
-    """The squares to which the mover may move."""
+    """Returns the mask of the legal moves."""
     found = 0
     for step, reached in STEPS:
         run = shifted(own, step, reached) & opp
@@ -27,7 +27,7 @@ def moves(own, opp):
 
 
 def after(own, opp, square):
-    """The position after a move, in which the other side is to move."""
+    """Returns the position after a move; the other side is then the mover."""
     turned = 0
     for step, reached in STEPS:
         run, at = 0, shifted(square, step, reached)
@@ -40,8 +40,8 @@ def after(own, opp, square):
 
 
 def random_game(rng):
-    """The positions of a game of random moves, to its end: the discs of the mover and of the other side, whether Black
-    moves, and the move to it, which is 0 for a pass and None at the start."""
+    """Yields (own, opp, whether Black is to move, last move) for each position of a random game; the last move is 0 for a
+    pass, and None at the start."""
     own, opp, is_black, move = *START, True, None
     while True:
         yield own, opp, is_black, move
@@ -53,14 +53,14 @@ def random_game(rng):
 
 
 def random_position(rng, empties):
-    """The discs of the mover and of the other side, and whether Black moves; None where the game ends before."""
+    """Returns (own, opp, whether Black is to move) from a random game, or None if the game ends earlier."""
     for own, opp, is_black, _ in random_game(rng):
         if count(own | opp) == 64 - empties:
             return (own, opp, is_black) if moves(own, opp) or moves(opp, own) else None
 
 
 def random_lines(number, least, most, seed=1):
-    """OBF lines of positions of `least` to `most` empty squares in turn, each from a game that isn't over there."""
+    """Yields OBF lines of positions with `least` to `most` empty squares in turn, in which the game isn't over."""
     rng = random.Random(seed)
     for at in range(number):
         found = None
@@ -87,7 +87,7 @@ def line(own, opp, is_black):
 
 @functools.lru_cache(maxsize=None)
 def values(own, opp):
-    """The mover's value by minimax, under each of the scorings winner, discs and sign."""
+    """Returns the mover's minimax value under the scorings winner, discs and sign."""
     can = moves(own, opp)
     if can:
         return tuple(-min(of) for of in zip(*(values(*after(own, opp, square)) for square in squares_in(can))))
