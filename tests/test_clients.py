@@ -8,7 +8,7 @@ import unittest
 
 from .checkouts import VERSION
 from .prefix import CXX, PIP, C, installed_prefix, need_tool
-from .support import ROOT, built, run
+from .support import ROOT, built, lack, run
 
 SMALL, LARGE = 9, 10  # positions of examples/masks.txt, without the one of 20 empty squares and with it
 CMAKE = """cmake_minimum_required(VERSION 3.16)
@@ -142,6 +142,17 @@ class RustCrate(unittest.TestCase):
                 ran = PREFIX.cargo("test", self.crate, *features)
                 passed = re.findall(r"^test result: ok. (\d+) passed", ran.stdout, re.MULTILINE)
                 self.assertGreater(len(passed), 2, ran.stdout)
+
+    def test_the_compiler_that_the_manifests_name_takes_crate_and_example(self):
+        for name in ("rust", "examples"):  # without what another cargo has made
+            shutil.copytree(PREFIX.shipped / name, PREFIX.work / "oldest" / name)
+        for crate in (PREFIX.work / "oldest/rust", PREFIX.work / "oldest/examples/rust"):
+            oldest = re.search(r'^rust-version = "(.+)"$', (crate / "Cargo.toml").read_text(), re.MULTILINE)[1]
+            folders = [folder for folder in os.get_exec_path() if os.path.exists(f"{folder}/rustc")
+                       and run(f"{folder}/rustc", "--version", text=True).stdout.startswith(f"rustc {oldest}.")]
+            folder = folders[0] if folders else lack(f"rustc {oldest}")
+            places = {"RUSTC": f"{folder}/rustc", "CARGO_TARGET_DIR": str(PREFIX.work / "oldest/target")}
+            PREFIX.make(f"{folder}/cargo", "check", "--quiet", cwd=crate, env={**PREFIX.environment, **places})
 
     def test_ffosolve_lib_dir_names_the_folder_of_the_library(self):
         shutil.copytree(PREFIX.libraries, PREFIX.work / "libraries", symlinks=True)

@@ -5,7 +5,7 @@
 //!     cargo run <../masks.txt              if the library is not installed, FFOSOLVE_LIB_DIR names its folder
 use ffosolve::{Answer, Best, Position, Solver};
 use std::error::Error;
-use std::io::read_to_string;
+use std::io;
 use std::process::ExitCode;
 
 fn text(answer: Answer) -> String {
@@ -18,7 +18,8 @@ fn text(answer: Answer) -> String {
 
 fn read_positions() -> Result<Vec<Position>, Box<dyn Error>> {
     let mut positions = Vec::new();
-    for (at, line) in read_to_string(std::io::stdin())?.lines().enumerate() {
+    for (at, line) in io::stdin().lines().enumerate() {
+        let line = line?;
         let (own, opp) = line.split_once(' ').ok_or("two masks a line")?;
         let position = Position::new(u64::from_str_radix(own, 16)?, u64::from_str_radix(opp, 16)?);
         positions.push(position.map_err(|error| format!("position {}: {error}", at + 1))?);
