@@ -14,7 +14,7 @@ from .positions import need_modules, numpy, random_positions
 import ffosolve
 from ffosolve import Position, Scoring, Solver
 
-# Black has no move in the first; in the second nobody has one, and 16 squares are empty.
+# White has no move in the first; in the second neither side has one, and 16 squares are empty.
 AT_PASS = "-OOOOOOXXXXXXXXXXXXXXXXXXXXXXXXXXXXXXXXXXXXXXXXXXXXXXXXXXXXXXXXX O;"
 FINISHED = "XXXXXXXXXXXXXXXXXXXXXXXXXXXXXXXX----------------OOOOOOOOOOOOOOOO X;"
 
@@ -136,8 +136,8 @@ class Answers(unittest.TestCase):
 
 class MostEmpties(unittest.TestCase):
     def test_the_default_is_that_of_the_programs(self):
-        told = run(built(), "--help", check=True).stdout.decode()
-        default = re.search(r"--max-empties.*?\[default: (\d+)\]", told, re.DOTALL)[1]
+        text = run(built(), "--help", check=True).stdout.decode()
+        default = re.search(r"--max-empties.*?\[default: (\d+)\]", text, re.DOTALL)[1]
         self.assertEqual(Solver().max_empties, int(default))
 
     def test_more_are_refused_before_anything_is_solved(self):
@@ -157,8 +157,8 @@ class MostEmpties(unittest.TestCase):
         ):
             with self.assertRaises(ffosolve.TooManyEmpties) as refused:
                 call()
-            told = why if index is None else f"position at index {index}: {why}"
-            self.assertEqual((str(refused.exception), refused.exception.index), (told, index))
+            text = why if index is None else f"position at index {index}: {why}"
+            self.assertEqual((str(refused.exception), refused.exception.index), (text, index))
 
     def test_a_limit_is_a_number_up_to_sixty(self):
         self.assertEqual([Solver(max_empties=most).max_empties for most in (0, 60)], [0, 60])

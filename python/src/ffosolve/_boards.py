@@ -54,7 +54,7 @@ class Board:
     __repr__ = __str__
 
     def _text(self, at: int) -> str:
-        """What a text has at a square: a letter, or its score, with a star where that is best."""
+        """The text of a square: a letter, or its score, with a star if that is the best one."""
         if at not in self.scores:
             return self.letters[at]
         return f"{self.scores[at]:+}" + "*" * (self.scores[at] == self.best)

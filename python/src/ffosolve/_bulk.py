@@ -28,7 +28,7 @@ class Part(NamedTuple):
 
 
 def weight_of(count: int, empties: int) -> int:
-    """The most that so many positions with at most so many empty squares weigh."""
+    """The weight of `count` positions that all have `empties` empty squares."""
     return count << max(0, empties - LIGHTEST)
 
 

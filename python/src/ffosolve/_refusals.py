@@ -1,4 +1,4 @@
-"""Why a call is refused. Nothing is lost by a refusal: the arguments are as they were."""
+"""Refusals of calls. A refused call changes nothing."""
 import copyreg
 import enum
 import reprlib
@@ -33,7 +33,7 @@ REFUSALS: Dict[int, Type["Refused"]] = {}  # by their statuses
 
 
 class Refused(Exception):
-    """A call was refused. `index` is that of the refused position, from 0, if the call was for a list, else None."""
+    """A call was refused. If it was for a list, `index` is that of the refused position, from 0; otherwise None."""
 
     status: int  # a Status, except for an OtherRefusal
     reason: str
@@ -49,7 +49,7 @@ class Refused(Exception):
         self.index = index
 
     def __reduce__(self) -> Tuple[Any, ...]:
-        """Copies its members: not all that it was made with is among its arguments."""
+        """Pickles the members, since `args` does not hold them all."""
         return copyreg.__newobj__, (type(self), *self.args), vars(self)  # type: ignore[attr-defined]
 
 
@@ -62,7 +62,7 @@ class TooManyEntries(Refused, ValueError):
 
 
 class UnequalLengths(Refused, ValueError):
-    """No call of a Solver raises this: it makes as many answers as there are positions."""
+    """No call of a Solver raises this, since it makes room for as many answers as positions."""
 
     status, reason = Status.UNEQUAL_LENGTHS, "not as many answers as positions"
 
@@ -88,7 +88,7 @@ class NoMemory(Refused, MemoryError):
 
 
 class OtherRefusal(Refused):
-    """A status that this package does not know: the library is newer."""
+    """A status of a newer library, which this package does not know."""
 
     def __init__(self, status: int) -> None:
         self.status, self.reason = status, f"refused with status {status}"
@@ -96,8 +96,8 @@ class OtherRefusal(Refused):
 
 
 class LineRefused(Refused, ValueError):
-    """A line of OBF text is refused. `line` is its number, from 1, if many were read, else None. `at` is the column, from 1
-    in bytes, for BadSquare and BadSide; for ShortBoard it is the number of squares."""
+    """A line of OBF text was refused. If many were read, `line` is its number, from 1; otherwise None. `at` is the column,
+    from 1 in bytes, for BadSquare and BadSide, and the number of squares for ShortBoard."""
 
     def __init__(self, at: int = 0, line: Optional[int] = None) -> None:
         self.at, self.line, self.reason = at, line, self.reason.format(at)
@@ -122,7 +122,7 @@ class ShortBoard(LineRefused):
 
 
 class BadSquare(LineRefused):
-    """A byte in the place of a square is not one."""
+    """A byte among the squares is not a square."""
 
     status, reason = Status.BAD_SQUARE, "bad square at column {}"
 
@@ -133,9 +133,9 @@ class BadSide(LineRefused):
     status, reason = Status.BAD_SIDE, "bad side at column {}"
 
 
-def refusal_of(status: int, *told: Any) -> Refused:
-    """The refusal for a status, made with what is known of it."""
-    return REFUSALS[status](*told) if status in REFUSALS else OtherRefusal(status)
+def refusal_of(status: int, *arguments: Any) -> Refused:
+    """The refusal for a status, with the arguments of its class."""
+    return REFUSALS[status](*arguments) if status in REFUSALS else OtherRefusal(status)
 
 
 def checked_number(name: str, value: int, least: int) -> int:
