@@ -5,7 +5,7 @@ from typing import TYPE_CHECKING, Any, List, NamedTuple
 
 import numpy
 
-from ._bulk import LIGHTEST, MOST_WEIGHT, in_order, interruptible, weight_of
+from ._bulk import LIGHTEST, MOST_WEIGHT, in_order, interruptible
 from ._library import CAnswer, CMoveScores, CPosition
 from ._masks import refusal_for
 from ._rules import accept
@@ -65,7 +65,7 @@ def found_by(solver: "Solver", call: Any, record: Any, kind: Any, masks: Any, th
         asked = (CPosition * count).from_buffer(masks, run.start * ctypes.sizeof(CPosition))
         to = (record * count).from_buffer(found, run.start * ctypes.sizeof(record))
         more = asked, count, int(solver.scoring), entries, to, count, ctypes.c_size_t()
-        accept(interruptible(call, weight_of(count, run.empties), *more))
+        accept(interruptible(call, count, run.empties, *more))
 
     deque(in_order(call_for, runs_of(solver, masks, threads), threads), 0)
     return found

@@ -17,7 +17,9 @@ B = TypeVar("B")
 MOST_WEIGHT, LIGHTEST = 256, 8
 MOST_SECONDS = 0.01  # for which more positions are waited for before a part is solved
 AHEAD = 32  # parts for each thread, so that one that takes long holds up no other thread
-BRIEF = 16  # the weight of a call that is too short for Ctrl-C
+# A call is brief for one position with 14 empty squares, which takes at most 0.15 s, and for 4 times as many positions with
+# each square less, down to 8.
+BRIEF = 4096
 
 
 class Part(NamedTuple):
@@ -25,11 +27,6 @@ class Part(NamedTuple):
     empties: int  # the most empty squares of a position
     positions: List[Sequence[int]]
     refusal: Optional[Refused] = None  # of the position after them, with which the parts end
-
-
-def weight_of(count: int, empties: int) -> int:
-    """The weight of `count` positions that all have `empties` empty squares."""
-    return count << max(0, empties - LIGHTEST)
 
 
 def parts_of(
@@ -91,10 +88,14 @@ def in_order(call: Callable[[A], B], parts: Iterable[A], threads: int) -> Iterat
             tasks.put(None)
 
 
-def interruptible(call: Callable[..., A], weight: int, *arguments: Any) -> A:
-    """What a call of the library returns. The main thread has another one make it, unless the call is brief: so a signal
-    handler can raise at once, such as that of Ctrl-C. The call itself then goes on until it or the process ends."""
-    if weight <= BRIEF or threading.current_thread() is not threading.main_thread():
+def interruptible(call: Callable[..., A], count: int, empties: int, *arguments: Any) -> A:
+    """What a call of the library returns, for `count` positions with at most `empties` empty squares.
+
+    The main thread has another one make it, unless the call is brief. So a signal handler such as that of Ctrl-C can raise
+    at once; the call itself goes on until it or the process ends.
+    """
+    is_brief = count << 2 * max(0, empties - LIGHTEST) <= BRIEF
+    if is_brief or threading.current_thread() is not threading.main_thread():
         return call(*arguments)
     future: "Future[A]" = Future()
     try:

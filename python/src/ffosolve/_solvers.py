@@ -8,7 +8,7 @@ from typing import TYPE_CHECKING, Any, Callable, Dict, Iterable, Iterator, List,
 
 from ._answers import Answer, Kind
 from ._boards import OTHER
-from ._bulk import MOST_SECONDS, MOST_WEIGHT, Part, checked_threads, in_order, interruptible, parts_of, weight_of
+from ._bulk import MOST_SECONDS, MOST_WEIGHT, Part, checked_threads, in_order, interruptible, parts_of
 from ._games import Game, Player
 from ._library import MOST_EMPTIES, MOST_ENTRIES, CAnswer, CMoveScores, load
 from ._masks import c_positions, empties_of, refusal_for
@@ -167,7 +167,7 @@ class Solver:
     def _answer(self, call: Any, position: Position, *claim: CAnswer) -> Answer:
         empties, answer = self._checked_empties(position), CAnswer()
         asked = c_positions([position])[0], self._scoring, self._entries_for(empties), *claim, answer
-        accept(interruptible(call, weight_of(1, empties), *asked))
+        accept(interruptible(call, 1, empties, *asked))
         return Answer(answer.score, KINDS[answer.kind], answer.best)
 
     def _all_parts(self, positions: Iterable[Position], *limits: float) -> List[Part]:
@@ -188,7 +188,7 @@ class Solver:
         asked, count, entries = c_positions(part.positions), len(part.positions), self._entries_for(part.empties)
         found = (record * count)()
         more = asked, count, self._scoring, entries, found, count, ctypes.c_size_t()
-        accept(interruptible(call, weight_of(count, part.empties), *more))
+        accept(interruptible(call, count, part.empties, *more))
         return read(found), part.refusal
 
 
