@@ -100,7 +100,8 @@ constants: ## writes the version, the greatest table and the default of --max-em
 	sed -i -E 's/^(version = ").*"/\1$(version)"/' rust/Cargo.toml
 	sed -i -E 's/(MOST_ENTRIES(: usize)? = )[0-9_]+/\1$(entries)/; s/(max_empties: int = )[0-9]+/\1$(empties)/' \
 	    python/src/ffosolve/_library.py python/src/ffosolve/_solvers.py rust/src/solvers.rs
-	sed -i -E 's/(has at most )[0-9,]+( entries)/\1$(subst _,$(comma),$(entries))\2/' docs/user-guide.md
+	sed -i -E 's/(has at most )[0-9,]+( entries)/\1$(subst _,$(comma),$(entries))\2/; s/( empties, limit )[0-9]+/\1$(empties)/' \
+	    docs/user-guide.md examples/kinds.report examples/kinds.scores
 	sed -i -E 's/^(\| `--max-empties N` .* )[0-9]+ \|$$/\1$(empties) |/' README.md
 
 look: export list = $(LIST)

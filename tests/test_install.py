@@ -262,7 +262,8 @@ class Installed(Case):
 
     def test_make_constants_writes_what_files_repeat(self):
         table, settings = "crates/bound_table/src/bound_table.rt", "crates/program_settings/src/limits.rt"
-        cargo, readme, guide = "rust/Cargo.toml", "README.md", "docs/user-guide.md"
+        cargo, readme = "rust/Cargo.toml", "README.md"
+        shown = "docs/user-guide.md", "examples/kinds.report", "examples/kinds.scores"
         rust, *python = "rust/src/solvers.rs", "python/src/ffosolve/_library.py", "python/src/ffosolve/_solvers.py"
         entries = re.search(r"MOST_ENTRIES: usize = (\w+)", stored(table).decode())[1]
         empties = re.search(r"DEFAULT_EMPTIES: u8 = (\d+)", stored(settings).decode())[1]
@@ -270,13 +271,13 @@ class Installed(Case):
             ("VERSION", VERSION, "1.12.3", (f"{NUMBER:_}", "11_203")),
             (table, entries, "1_234_567", (entries.replace("_", ","), "1,234,567")),
             (settings, f"u8 = {empties}", "u8 = 7", (f'"{empties}"', '"7"'), (f"0 to 60 | {empties} |", "0 to 60 | 7 |"),
-             (f"max_empties: int = {empties}", "max_empties: int = 7")),
+             (f"max_empties: int = {empties}", "max_empties: int = 7"), (f" empties, limit {empties}", " empties, limit 7")),
         ):
-            for name in ("Makefile", "packaging/packages.mk", "VERSION", table, settings, cargo, readme, guide, rust, *python):
+            for name in ("Makefile", "packaging/packages.mk", "VERSION", table, settings, cargo, readme, *shown, rust, *python):
                 write(name, stored(name))
             write(source, stored(source).decode().replace(old, new))
             self.assertEqual(run("make", "-s", "constants").returncode, 0)
-            for name in (settings, cargo, readme, guide, rust, *python):
+            for name in (settings, cargo, readme, *shown, rust, *python):
                 wanted = stored(name).decode()
                 for pair in ((old, new), *repeated):
                     wanted = wanted.replace(*pair)
