@@ -8,9 +8,9 @@ fn folder() -> PathBuf {
         return folder.into();
     }
     let pkg_config = var("PKG_CONFIG").unwrap_or_else(|_| "pkg-config".into());
-    let told = Command::new(pkg_config).args(["--variable=libdir", "ffosolve"]).output();
-    // A blank of a path comes with a backslash before it.
-    match told.map(|told| String::from_utf8_lossy(&told.stdout).trim().replace("\\ ", " ")) {
+    let ran = Command::new(pkg_config).args(["--variable=libdir", "ffosolve"]).output();
+    // pkg-config writes a backslash before each blank of a path.
+    match ran.map(|ran| String::from_utf8_lossy(&ran.stdout).trim().replace("\\ ", " ")) {
         Ok(folder) if !folder.is_empty() => folder.into(),
         _ => "/usr/local/lib".into(),
     }

@@ -1,4 +1,4 @@
-//! Answers.
+//! The answer for a position.
 use crate::raw;
 use crate::Squares;
 
@@ -21,7 +21,7 @@ pub struct Answer {
 }
 
 impl Answer {
-    /// The best moves, none where the best is a pass or the game is over.
+    /// The best moves: none if the best is a pass or the game is over.
     pub const fn squares(self) -> Squares {
         match self.best {
             Best::Moves(squares) => squares,

@@ -1,4 +1,4 @@
-//! What is refused.
+//! Why calls and lines are refused.
 use crate::{MOST_EMPTIES, MOST_ENTRIES};
 use std::fmt;
 
@@ -9,7 +9,7 @@ pub enum Error {
     UnknownScoring,
     TooManyEntries,
     SharedSquare,
-    /// The position has more than `MOST_EMPTIES` empty squares; in a list, the first such has this index.
+    /// The position has more than `MOST_EMPTIES` empty squares; `index` is that of the first such in a list.
     TooManyEmpties { index: usize },
     /// The move is not legal.
     NoMove,
@@ -20,7 +20,7 @@ pub enum Error {
 }
 
 impl Error {
-    /// What a status says, with the index of the position that is refused.
+    /// The error for a status, with the index of the position that is refused.
     pub(crate) fn of_status(status: i32, index: usize) -> Result<(), Error> {
         match status {
             0 => Ok(()),
@@ -59,11 +59,11 @@ impl std::error::Error for Error {}
 pub enum ObfError {
     /// The line is blank or a comment.
     NoPosition,
-    /// The line ends after so many squares.
+    /// The line ends after this many squares.
     ShortBoard { squares: usize },
     /// A byte that is not a square.
     BadSquare { column: usize },
-    /// A byte that is not a side to move, or the end of the line in its place.
+    /// The side to move is missing: another byte stands there, or the line ends.
     BadSide { column: usize },
     /// Out of memory for the moves that the line lists.
     NoMemory,
@@ -72,7 +72,7 @@ pub enum ObfError {
 }
 
 impl ObfError {
-    /// What a status says, with what the library wrote to `at`.
+    /// The error for a status, with what the library wrote to `at`.
     pub(crate) fn of_status(status: i32, at: usize) -> Result<(), ObfError> {
         match status {
             0 => Ok(()),

@@ -49,10 +49,10 @@ impl Line {
     /// squares and before the side are skipped.
     ///
     /// # Errors
-    /// `NoPosition` where the line is blank or a comment, else the first fault from the left; `NoMemory`.
+    /// `NoPosition` if the line is blank or a comment, otherwise the first fault from the left; `NoMemory`.
     pub fn from_obf<T: AsRef<[u8]> + ?Sized>(text: &T) -> Result<Line, ObfError> {
         let text = without_end(text.as_ref());
-        let mut listed = vec![raw::Listed::default(); text.len() / 4]; // a move has four bytes at least, as `A1:0`
+        let mut listed = vec![raw::Listed::default(); text.len() / 4]; // a move has at least four bytes, as in `A1:0`
         let line = read_line(text, &mut listed)?;
         let listed = listed.iter().take(line.listed).map(listed_of).collect();
         let side = if line.side == 0 { Side::Black } else { Side::White };
@@ -77,17 +77,17 @@ fn listed_of(listed: &raw::Listed) -> (Listed, i8) {
     (what, listed.score as i8)
 }
 
-/// A line without its end: an LF, and a CR before it.
+/// Removes the end of a line: an LF, and a CR before it.
 pub(crate) fn without_end(line: &[u8]) -> &[u8] {
     let line = line.strip_suffix(b"\n").unwrap_or(line);
     line.strip_suffix(b"\r").unwrap_or(line)
 }
 
-/// What a line says; of the moves that it lists, as many as there is room for are written.
+/// Reads a line; writes as many of the moves that it lists as there is room for.
 pub(crate) fn read_line(text: &[u8], listed: &mut [raw::Listed]) -> Result<raw::Line, ObfError> {
     let (mut line, mut at) = (raw::Line::default(), 0);
     let (to, room) = (listed.as_mut_ptr(), listed.len());
-    // SAFETY: the text has so many bytes, and there is room for so many moves; what is written is this call's own.
+    // SAFETY: the text has this length, and `listed` this room; what is written is this call's own.
     let status = unsafe { raw::ffosolve_read_line(text.as_ptr(), text.len(), &mut line, to, room, &mut at) };
     ObfError::of_status(status, at)?;
     Ok(line)

@@ -1,4 +1,4 @@
-//! Positions.
+//! A position, and the rules of the game.
 use crate::lines::{read_line, without_end};
 use crate::raw;
 use crate::{Error, ObfError, Square, Squares};

@@ -35,7 +35,7 @@ pub struct Listed {
     pub square: u8,
 }
 
-/// What each move is worth, by the squares' numbers, with 127 at the other squares; and the mask of the moves.
+/// The score of each move at its square's number, with 127 at the other squares; and the mask of the moves.
 #[repr(C)]
 #[derive(Clone, Copy, PartialEq, Eq, Hash, Debug)]
 pub struct MoveScores {

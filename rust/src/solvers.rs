@@ -1,8 +1,8 @@
-//! The solver.
+//! The solver, its scorings and its limits.
 use crate::raw;
 use crate::{Answer, Error, Position, Square, Squares};
 
-/// The most empty squares that a position may have to be solved.
+/// The most empty squares of a position that is solved.
 pub const MOST_EMPTIES: usize = 60;
 /// The most entries of a table.
 pub const MOST_ENTRIES: usize = 4_194_304;
@@ -68,7 +68,7 @@ impl Solver {
         Solver { scoring, ..self }
     }
 
-    /// The solver with tables of so many entries. With more than `MOST_ENTRIES` its calls are refused.
+    /// The solver with tables of this many entries. With more than `MOST_ENTRIES` its calls are refused.
     #[must_use]
     pub const fn entries(self, entries: usize) -> Solver {
         Solver { entries: Some(entries), ..self }
@@ -109,7 +109,7 @@ impl Solver {
         let mut answers = vec![raw::Answer::default(); asked.len()];
         let (count, scoring, entries, mut at) = (asked.len(), self.scoring as u32, self.table(positions), 0);
         let (from, to) = (asked.as_ptr(), answers.as_mut_ptr());
-        // SAFETY: there are so many positions, and room for so many answers, in lists of this call's own.
+        // SAFETY: the lists have these lengths, and the answers are this call's own.
         let status = unsafe { raw::ffosolve_solve_all(from, count, scoring, entries, to, count, &mut at) };
         Error::of_status(status, at)?;
         Ok(answers.into_iter().map(Answer::of_raw).collect())

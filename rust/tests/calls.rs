@@ -82,7 +82,7 @@ fn equals_have_one_hash_and_others_differ() {
 }
 
 #[test]
-fn tells_the_discs_of_positions_and_the_squares_of_sets() {
+fn positions_have_discs_and_sets_have_squares() {
     let two = position(1, 2);
     assert_eq!([two.own(), two.opp(), two.empties()], [Squares(1), Squares(2), Squares(!3)]);
     assert_eq!(two.passed(), position(2, 1));
@@ -145,7 +145,7 @@ fn threads_may_share_all() {
 }
 
 #[test]
-fn tells_versions_sizes_and_limits() {
+fn versions_sizes_and_limits_are_those_of_the_header() {
     let parts = include_str!("../../VERSION").trim().split('.').map(|part| part.parse::<u32>().expect("a number"));
     assert_eq!(parts.fold(0, |number, part| 100 * number + part), library_version());
     let sizes: Vec<usize> = (0..=ffosolve::MOST_EMPTIES).map(table_entries).collect();
