@@ -94,7 +94,7 @@ class PythonPackage(unittest.TestCase):
         self.assertRegex(ran.stderr, r"Ran [1-9]\d* tests")
 
     def test_pip_installs_its_program(self):
-        for words, wanted in ((["--version"], f"ffosolve-games {VERSION}\n"), (["--empties", "59"], r"\S{64} O; % standard input, game 1\n")):
+        for words, wanted in ((["--version"], f"ffosolve-games {VERSION}\n"), (["--empties", "59"], r"\S{64} O; % -, game 1\n")):
             self.assertRegex(PREFIX.make(self.site / "bin/ffosolve-games", *words, text="f5").stdout, rf"\A{wanted}\Z")
 
     def test_a_library_of_another_version_or_without_a_call_is_refused(self):
