@@ -19,7 +19,8 @@ A Solver solves one position, or many. Scores are for the side to move.
     >>> [answer.score for answer in solver.solve_all([position, position.play("A1")], threads=2)]
     [62, -52]
 
-`Solver(max_empties=24)` also solves positions with 21 to 24 empty squares. Two more take some 3 to 16 times as long.
+`Solver(max_empties=24)` takes positions with up to 24 empty squares, more than by default. Two more take some 3 to 16 times
+as long.
 
 `read_lines("list.obf")` reads positions from a file of OBF lines, and `read_games("WTH_2001.wtb")` reads games; the positions
 of a game are `solver.positions(game)`. `compare_scores` says how far an evaluation's scores are from those of `ffoscores`.
