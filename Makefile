@@ -13,9 +13,9 @@ LIBDIR = $(PREFIX)/lib
 INCLUDEDIR = $(PREFIX)/include
 MANDIR = $(PREFIX)/share/man
 LIST =
-# The level of processors that the programs are for: by default the best level of this machine.
+# The level of processors to build for: by default the best one that this machine runs.
 CPU := $(shell /lib64/ld-linux-x86-64.so.2 --help 2>&1 | grep -q 'x86-64-v3 .supported' && echo x86-64-v3 || echo x86-64-v2)
-tell = 2# the descriptor on which a build reports how far it is
+tell = 2# the descriptor to which a build reports its progress
 
 levels = x86-64-v2 x86-64-v3
 programs = ffosolve ffoscores
@@ -29,8 +29,7 @@ $(if $(filter $(levels),$(CPU)),,$(error CPU is $(CPU), but has to be one of: $(
 all: $(programs:%=out/%) library ## proves and builds the programs and the library for C
 	echo "built: $(programs:%=out/%), which bin/ runs; out/library"
 
-# What rt makes. Make itself does not see a change with an older time, or a file that is gone. find does, by the times of status of
-# files and folders.
+# What rt makes. Make does not notice a change with an older time, or a removed file; find does, by status times.
 changed = $(if $(shell find crates crates.txt -name out -prune -o -name must-fail -prune -o -cnewer $1.sum -print -quit 2>&1),always)
 level = $(notdir $(@D))
 objects := $(foreach level,$(levels),$(programs:%=out/$(level)/%.o))
@@ -41,7 +40,7 @@ $(objects): $$(call changed,$$@)
 $(levels:%=out/%/libffosolve_c.a): $$(call changed,$$@)
 	exec scripts/prove $@ ffosolve_c lib $(level) $(tell)
 
-# What is linked from that: first next to its place, since another make can be at work.
+# What is linked from those: under another name at first, since another make may be running.
 kit = $$(dirname "$$(rt doc)")
 new = $@.$$$$
 needs.x86-64-v2 = 2
@@ -54,7 +53,7 @@ $(objects:.o=): %: %.o packaging/level.s
 	rm $(new).o
 	mv -f $(new) $@
 
-# One object, with the toolchain's calls of malloc and free, that shows only the calls of the header.
+# One object with the toolchain's malloc and free, which exports only the calls of the header.
 $(levels:%=out/%/libffosolve.o): out/%/libffosolve.o: out/%/libffosolve_c.a
 	ld -r -o $(new).o --whole-archive $< --no-whole-archive "$(kit)/c/liblibc_c.a"
 	objcopy --wildcard --keep-global-symbol='$(exported)' $(new).o $(new)
@@ -71,18 +70,18 @@ $(levels:%=out/%/libffosolve.so): %.so: %.o VERSION
 	rm $(new).map
 	mv -f $(new) $@
 
-# What bin/ runs.
+# The programs that bin/ runs.
 $(programs:%=out/%): out/%: out/$(CPU)/% always
 	cmp -s $< $@ || { cp $< $(new) && mv -f $(new) $@; }
 
-# Writes a text with the version, the greatest table and places in it: $(call fill,FILE,TO).
+# Copies a file, with the version, the greatest table and folders filled in: $(call fill,FILE,TO).
 number = $(shell echo $(version) | awk -F . '{ print 10000 * $$1 + 100 * $$2 + $$3 }')
 constant = $(shell awk -F '[ ;]+' '/const $1:/ { print $$(NF - 1) }' $2)
 entries = $(call constant,MOST_ENTRIES,crates/bound_table/src/bound_table.rt)
 fill = sed -e 's/@VERSION@/$(version)/g; s/@NUMBER@/$(number)/g; s/@MAJOR@/$(major)/g; s/@ENTRIES@/$(subst _,,$(entries))/g' \
     -e "s|@BINDIR@|$(BINDIR)|g; s|@INCLUDE@|$$(realpath -ms --relative-to='$(LIBDIR)' '$(INCLUDEDIR)')|g" $1 | install -D -m 644 /dev/stdin $2
 
-# The library for programs under development. The shared one has two names; rt refuses a checkout in which one is a link.
+# The library for programs under development. The shared one is there twice, since rt refuses a checkout with a link.
 library: out/$(CPU)/libffosolve.a out/$(CPU)/libffosolve.so ## builds libffosolve.a, libffosolve.so and ffosolve.h in out/library
 	install -C -D -m 644 -t out/library $^
 	install -C -m 644 out/$(CPU)/libffosolve.so out/library/libffosolve.so.$(major)
@@ -122,18 +121,17 @@ look: ## solves three positions in about a minute, with nothing proved; LIST=FIL
 check: levels ## tests everything; the last line counts what passed
 	$(MAKE) -f tests/check.mk
 
-# Installing. `install` puts a new file into the place of an old one, so that a program that is running keeps its own file.
+# `install` replaces a file by a new one, so a running program keeps its own.
 lib = "$(DESTDIR)$(LIBDIR)
 share = "$(DESTDIR)$(PREFIX)/share
 doc = $(share)/doc/ffosolve
 documents = README.md LICENSE CHANGELOG.md VERSION \
     $(shell find docs examples python rust crates/*/specs \( -name __pycache__ -o -name target -o -name Cargo.lock \) -prune -o -type f -print)
-# What the scripts run. The documents have it too, but a system may leave those out, as images of Debian do.
+# The package that the scripts run. The documents have it too, but some systems leave documents out.
 modules = VERSION $(shell find python/src -name __pycache__ -prune -o -type f -print)
 absolute = case "$(PREFIX)" in /*) ;; *) echo "PREFIX is $(PREFIX), but has to begin with a slash" >&2; exit 1 ;; esac
 
-# Completions offer files, the values of --scoring, and the options in the installed program's --help. So a TAB after bin/ffosolve of
-# a checkout builds nothing.
+# Completions read the --help of the installed program, so a TAB after bin/ffosolve in a checkout builds nothing.
 install: $(programs:%=out/$(CPU)/%) $(foreach level,$(levels),out/$(level)/libffosolve.a out/$(level)/libffosolve.so) ## installs programs, library, manual pages, completions and documents under PREFIX (/usr/local), in DESTDIR
 	$(absolute)
 	install -D -t "$(DESTDIR)$(BINDIR)" $(programs:%=out/$(CPU)/%)
@@ -178,7 +176,7 @@ uninstall: ## removes what make install installed, and folders that are then emp
 	done
 	rm -f $(lib)/"libffosolve.* $(lib)/libffosolve-x86-64-v3.a" $(lib)/glibc-hwcaps/x86-64-v3/"libffosolve.* $(lib)/pkgconfig/ffosolve.pc" "$(DESTDIR)$(INCLUDEDIR)/ffosolve.h"
 	rm -rf $(doc)" $(share)/ffosolve" $(lib)/cmake/ffosolve"
-	# The folders of the system stay, empty or not.
+	# System folders stay, even if they are empty.
 	case '$(PREFIX)' in /usr | /usr/local) exit 0 ;; esac
 	rmdir --ignore-fail-on-non-empty 2>/dev/null \
 	    "$(DESTDIR)$(BINDIR)" $(lib)/glibc-hwcaps/x86-64-v3" $(lib)/glibc-hwcaps" $(lib)/pkgconfig" $(lib)/cmake" $(lib)" \

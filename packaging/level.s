@@ -1,5 +1,5 @@
-# What a program needs of the processor, bit LEVEL of GNU_PROPERTY_X86_ISA_1_NEEDED: the loader of the C library reads it, and ends
-# the program with one line, and status 127, where the processor has less.
+# The processor level that a program needs, bit LEVEL of GNU_PROPERTY_X86_ISA_1_NEEDED. On a lesser processor the C library's loader
+# prints one line and ends the program with status 127.
 	.section .note.level, "a", @note
 	.p2align 3
 	.long 4, 16, 5

@@ -1,7 +1,7 @@
-# Packages of what is committed, with programs and libraries for both levels of processors. They are put together in a temporary
-# folder, since rt refuses links in a checkout.
+# Makes packages from a clean checkout, with programs and libraries for both levels of processors. They are put together in a
+# temporary folder, since rt refuses links in a checkout.
 
-# The version of a package: VERSION and, after the commit that set it, the number of later commits and the last one.
+# The version of a package: VERSION and, if commits came after the one that set it, their number and the last one.
 later = $(shell git rev-list --count "$$(git log -1 --format=%H -- VERSION)..HEAD" 2>/dev/null)
 package = $(version)$(patsubst %,+%.g$(shell git rev-parse HEAD | cut -c 1-7),$(filter-out 0,$(later)))
 archive = ffosolve-$(package)-linux-x86-64
@@ -9,7 +9,7 @@ clean = change=$$(git status --porcelain | head -n 1) || exit; [ -z "$$change" ]
 room = room=$$(mktemp -d); trap 'rm -rf "$$room"' EXIT; umask 022
 seconds = $$(git log -1 --format=%ct)
 
-# Makes an installation under $$room: $(call lay,WORDS,PREFIX). What is in bin/ picks the program of the best level.
+# Installs into $$room: $(call lay,WORDS,PREFIX). The programs in bin/ start those of the best level.
 lay = $(MAKE) -s install CPU=x86-64-v2 DESTDIR="$$room" PREFIX=$2 $1 >/dev/null; \
     for program in $(programs); do \
         for level in $(levels); do install -D "out/$$level/$$program" "$$room$2/libexec/ffosolve/$$level/$$program"; done; \
@@ -41,7 +41,7 @@ dist: levels ## makes out/ffosolve-VERSION-linux-x86-64.tar.gz, which runs where
 	(cd out && sha256sum $(archive).tar.gz >$(archive).tar.gz.sha256)
 	echo "made: $$PWD/out/$(archive).tar.gz"
 
-# The package for Python is where Debian's Python looks, as if pip had put it there; but pip can't remove it.
+# The package for Python is where Debian's Python looks for it, as if installed by pip; but pip can't remove it.
 deb: levels ## makes out/ffosolve_VERSION_amd64.deb, a package for Debian
 	$(clean)
 	$(room)
