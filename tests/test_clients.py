@@ -45,7 +45,7 @@ class Examples(unittest.TestCase):
         self.assertEqual((ran.returncode, ran.stdout), (1, ""))
         self.assertIn("position 2: the masks share a square", ran.stderr)
 
-    def test_in_c_and_cxx_by_pkg_config(self):
+    def test_those_in_c_and_cxx_are_built_by_pkg_config(self):
         need_tool("pkg-config")
         self.assertEqual(PREFIX.make("pkg-config", "--modversion", "ffosolve").stdout.strip(), VERSION)
         flags = shlex.split(PREFIX.make("pkg-config", "--cflags", "--libs", "ffosolve").stdout)
@@ -55,8 +55,8 @@ class Examples(unittest.TestCase):
                 program = PREFIX.compile(compiler, "by-pkg-config", [*words, source], "-x", "none", *flags)
                 self.answers(program, count=count)
 
-    def test_in_c_and_cxx_by_cmake(self):
-        """As docs/library.md shows it, with either library. A newer version is not found."""
+    def test_those_in_c_and_cxx_are_built_by_cmake(self):
+        """Takes the CMakeLists.txt of docs/library.md, with either library. A newer version is not found."""
         need_tool("cmake")
         (first, second, _), (block, _) = VERSION.split("."), shown("cmake")
         for name in ("answers.c", "answers.cpp"):
@@ -73,12 +73,12 @@ class Examples(unittest.TestCase):
         self.assertNotEqual(ran.returncode, 0)
         self.assertIn(VERSION, ran.stderr)
 
-    def test_in_python(self):
+    def test_the_one_in_python_runs(self):
         script = [PREFIX.site and sys.executable, PREFIX.shipped / "examples/python/answers.py"]
         self.answers(*script)
         self.answers(*script, PREFIX.shared, count=SMALL)
 
-    def test_in_rust(self):
+    def test_the_one_in_rust_runs(self):
         self.assertTrue(PREFIX.crate)
         PREFIX.cargo("build", PREFIX.work / "examples/rust", "--quiet")
         self.answers(PREFIX.work / "target/debug/answers")

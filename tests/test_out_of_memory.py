@@ -43,14 +43,14 @@ class OutOfMemory(InFolder):
         if prepare:  # otherwise the number of the request that starts a thread varies from run to run
             self.assertEqual(len(goes_on), threads + 1, f"of {number - 1} requests these did not end the run: {goes_on}")
 
-    def test_standard_input(self):
+    def test_a_run_over_standard_input_reports_it(self):
         self.refused(threads=3, printed=PRINTED, prepare=refuse_threads)
 
-    def test_files_and_books_without_workers(self):
+    def test_a_run_over_files_and_books_reports_it(self):
         self.refused("--workers", "0", *BOOKS, *FILES, threads=2, prepare=refuse_threads)
 
-    def test_files_and_books_with_workers_that_cannot_start(self):
+    def test_a_run_whose_workers_cannot_start_reports_it(self):
         self.refused("--workers", "2", *BOOKS, *FILES, threads=4, prepare=refuse_threads)
 
-    def test_files_and_books_with_workers(self):
+    def test_a_run_with_workers_reports_it(self):
         self.refused("--workers", "2", *BOOKS, *FILES, threads=4)

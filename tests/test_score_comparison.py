@@ -44,7 +44,7 @@ class Comparison(InFolder):
         self.assertRaises(TypeError, compare_scores, LISTED, "list.scores")
         self.assertRaises(FileNotFoundError, compare_scores, "list.obf", "none.scores")
 
-    def test_every_kind_of_line(self):
+    def test_lines_of_every_kind_are_counted(self):
         kinds, scores = (stored("examples", f"kinds.{end}").splitlines() for end in ("obf", "scores"))
         found = compare_scores(kinds, scores)
         self.assertEqual(found[:2] + found[3:], (8, 11, 27 / 11, 12, 5, 0, 3))

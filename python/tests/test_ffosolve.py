@@ -291,7 +291,7 @@ class Obf(unittest.TestCase):
             self.assertEqual(list(parse_lines(nothing)), [])
         self.assertEqual(list(read_lines([])), [])
 
-    def test_a_file_by_its_path(self):
+    def test_a_file_is_read_by_its_path(self):
         with tempfile.TemporaryDirectory() as folder:
             path = pathlib.Path(folder, "it.obf")
             path.write_text(f"% X\n{CORNERS}\n")
