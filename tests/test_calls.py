@@ -55,7 +55,7 @@ class Calls(unittest.TestCase):
         self.calls, self.wanted = "\n".join(calls), "".join(f"{wanted}\n" for _, wanted in rows)
 
     def printed(self, compiler, header, folder):
-        """What programs compiled with a header print of the inline forms and of the calls. They are built in a folder."""
+        """Returns what programs compiled with this header, in a folder, print about the inline functions and the calls."""
         words = ("-I", header.parent), ("-I", header.parent, "-x", "none", PREFIX.archive)
         nulls, calls = (PREFIX.compile(compiler, folder / name, [TESTS / f"library_{name}.c"], *more)
                         for name, more in zip(("nulls", "calls"), words))
@@ -67,7 +67,7 @@ class Calls(unittest.TestCase):
                 self.assertEqual(self.printed(compiler, PREFIX.header, PREFIX.work), (NULLS, self.wanted))
 
     def test_each_wrong_header_is_noticed(self):
-        """A number that is one more, members or parameters exchanged, and a null pointer that is passed on."""
+        """Adds one to a number, exchanges members or parameters, or passes on a null pointer."""
         wrong = [
             PREFIX.text[:found.start()] + (new(found) if callable(new) else found.expand(new)) + PREFIX.text[found.end():]
             for pattern, new in (

@@ -27,7 +27,7 @@ def setUpModule():
 
 
 def shown(language, *names):
-    """The only block in a language that documents show, and what it prints according to its comments."""
+    """Returns the one code block in a language of the documents, and the output that its comments show."""
     texts = "".join((ROOT / name).read_text() for name in names or ("README.md", "docs/library.md"))
     (block,) = re.findall(rf"^```{language}\n(.*?)^```$", texts, re.MULTILINE | re.DOTALL)
     return block, "".join(f"{line}\n" for line in re.findall(r"(?:  # |// )(.*)$", block, re.MULTILINE))

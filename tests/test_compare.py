@@ -94,7 +94,7 @@ class Compare(Case):
         self.compare(listed, f"{rows}solved 18 refused 0\n", out="compared 8 differ 0 refused 0 unscored 2\n", err="")
 
     def test_the_report_of_another_game_is_refused(self):
-        """100 lists of one game each, and the report of each other one."""
+        """Tries 100 lists of one game, each with the reports of the others."""
         from ffosolve._published import Comparison, Unfit
 
         rng, lists = random.Random(8), []

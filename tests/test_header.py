@@ -76,7 +76,7 @@ class Header(unittest.TestCase):
         self.assertEqual(ran.stdout, "True\n")
 
     def test_a_compiler_warns_if_a_status_is_ignored(self):
-        """Of every call that returns a status, and of the inline forms."""
+        """Tries every call that returns a status, and the inline functions."""
         declared = re.findall(r"^(?:static __inline__ )?int32_t (ffosolve_\w+)\(([^)]*)\)", PREFIX.text, re.MULTILINE)
         names = {name for name, _ in declared}
         self.assertLessEqual({"ffosolve_solve", "ffosolve_solve_all_or_null", "ffosolve_read_line_or_null"}, names)

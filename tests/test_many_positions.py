@@ -69,7 +69,7 @@ class Lists(unittest.TestCase):
             self.assertEqual(list(answers), self.answers[1:50])
 
     def test_as_many_threads_as_asked_call_at_once(self):
-        """Each with the scoring of the solver, and its number of table entries."""
+        """Each gets the scoring and the number of table entries of the solver."""
         for threads in (3, 6):
             solver, positions = Solver(scoring=2, entries=7), random_positions(threads, [16])  # each is a part of its own
             answers, scores = solver.solve_all(positions), solver.move_scores_all(positions)
@@ -155,7 +155,7 @@ class Arrays(unittest.TestCase):
         self.own, self.opp = numpy.array(self.positions, numpy.uint64).T
 
     def as_lists(self, solver, positions, threads):
-        """The answers and the scores of the calls for arrays, in the form of those for lists."""
+        """Returns what the calls for arrays find, in the form of those for lists."""
         own, opp = numpy.array(positions, numpy.uint64).reshape(-1, 2).T
         answers, scores = (call(own, opp, threads=threads) for call in (solver.solve_arrays, solver.move_scores_arrays))
         self.assertEqual([str(array.dtype) for array in (*answers, scores)], ["int32", "int32", "uint64", "int8"])
@@ -165,7 +165,7 @@ class Arrays(unittest.TestCase):
             for row in scores.tolist()]
 
     def test_arrays_hold_what_lists_hold(self):
-        """On one thread and on several, under each scoring, and for no position."""
+        """Tries one thread and several, each scoring, and no position."""
         for scoring, threads, count in (*((scoring, 1, 90) for scoring in ffosolve.Scoring), (0, 3, 400), (0, 2, 0)):
             solver, positions = Solver(scoring=scoring), self.positions[:count]
             wanted = solver.solve_all(positions), solver.move_scores_all(positions)

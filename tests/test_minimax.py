@@ -59,7 +59,7 @@ class RandomPositions(unittest.TestCase):
             self.assertRaises(ffosolve.NoMove, solver.play, position, square)
 
     def test_python_finds_what_minimax_finds(self):
-        """On eight threads at once, and as lists."""
+        """Tries eight threads at once, and lists."""
         self.assertEqual(len(self.rows), 3 * (POSITIONS + DEEP))
         with ThreadPoolExecutor(8) as pool:
             self.assertEqual(len(list(pool.map(self.compare, range(len(self.rows)), self.rows))), len(self.rows))

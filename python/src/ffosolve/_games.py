@@ -23,7 +23,7 @@ TEXT = bytes([*b"\t\n\v\f\r", *range(32, 256)])  # first bytes of a text; that o
 
 
 class NotGames(ValueError):
-    """A file is not a WTHOR file of games, for this reason."""
+    """A file is not a WTHOR file of games; the text says why."""
 
 
 class GameRefused(ValueError):
@@ -137,7 +137,7 @@ def game_of(number: int, record: bytes) -> Game:
 
 
 def final_score(own: int, opp: int) -> int:
-    """The mover's score of a finished game: discs less the other side's, the empty squares counted for the winner."""
+    """The mover's score of a finished game: discs minus the other side's; the winner gets the empty squares."""
     mine, theirs = bin(own).count("1"), bin(opp).count("1")
     return mine - theirs + (64 - mine - theirs) * ((mine > theirs) - (mine < theirs))
 

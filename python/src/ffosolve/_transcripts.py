@@ -26,5 +26,5 @@ def words_of(text: str) -> List[str]:
 
 
 def plain(word: str) -> str:
-    """A square without the blank inside it, or a run of hyphens as the two of a pass."""
+    """A square without its inner blank; a run of hyphens as `--`, a pass."""
     return "--" if word[0] == "-" else word if word in PASSES else word[0] + word[-1]
