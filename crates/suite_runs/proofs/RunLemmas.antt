@@ -6,7 +6,6 @@ use Rattle.program_settings.specs.declared.input_fault.InputFault.{InputFault}
 use Rattle.program_settings.specs.declared.input_fault.InputFault.TheVariants as input
 use Rattle.program_settings.specs.declared.limits.TheConstants.{MOST_FILES}
 use Rattle.program_settings.proofs.InputFaultLemmas.{refusal_cases}
-use Rattle.suite_runs.specs.Part.{IsPartFault}
 use Rattle.suite_runs.specs.RunFault.{run_fault_of}
 use Rattle.suite_runs.specs.Runs.{Answers}
 use Rattle.suite_runs.specs.declared.run_fault.RunFault.{RunFault}
@@ -91,19 +90,6 @@ pub refused_answers : {X : Type 0} (P : X → Type 0) (refused : InputFault) (fa
     → refusal_of texts ≡ Some refused → fault ≡ run_fault_of refused → Answers {X = X} P texts (Err fault)
 refused_answers P input.TooManyFiles fault texts e same = rw same e
 refused_answers P (input.FileTooLarge n) fault texts e same = rw same e
-
--- so is a fault of a part
-pub part_fault_answers : {X : Type 0} (P : X → Type 0) (fault : RunFault) (texts : List (List ℕ))
-    → refusal_of texts ≡ None → IsPartFault fault → Answers {X = X} P texts (Err fault)
-part_fault_answers P fault texts none (inl e) = rw e none
-part_fault_answers P fault texts none (inr e) = rw e none
-
--- and the fault of a run before it
-pub fault_answers : {X Y : Type 0} (P : X → Type 0) (Q : Y → Type 0) (fault : RunFault) (texts : List (List ℕ)) → Answers {X = X} P texts (Err fault) → Answers {X = Y} Q texts (Err fault)
-fault_answers P Q Memory texts a = a
-fault_answers P Q Mixed texts a = a
-fault_answers P Q TooManyFiles texts a = a
-fault_answers P Q (FileTooLarge n) texts a = a
 
 pub refused_unmixed : (refused : InputFault) (fault : RunFault) → fault ≡ run_fault_of refused → fault ≡ Mixed → ⊥
 refused_unmixed input.TooManyFiles fault same h = let bad : TooManyFiles ≡ Mixed = sym same ∙ h in cc
