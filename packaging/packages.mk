@@ -9,8 +9,8 @@ clean = change=$$(git status --porcelain | head -n 1) || exit; [ -z "$$change" ]
 room = room=$$(mktemp -d); trap 'rm -rf "$$room"' EXIT; umask 022
 seconds = $$(git log -1 --format=%ct)
 
-# Installs into $$room: $(call lay,WORDS,PREFIX). The programs in bin/ start those of the best level.
-lay = $(MAKE) -s install CPU=x86-64-v2 DESTDIR="$$room" PREFIX=$2 $1 >/dev/null; \
+# Installs into $$room: $(call stage,WORDS,PREFIX). The programs in bin/ start those of the best level.
+stage = $(MAKE) -s install CPU=x86-64-v2 DESTDIR="$$room" PREFIX=$2 $1 >/dev/null; \
     for program in $(programs); do \
         for level in $(levels); do install -D "out/$$level/$$program" "$$room$2/libexec/ffosolve/$$level/$$program"; done; \
         install packaging/start "$$room$2/bin/$$program"; \
@@ -30,7 +30,7 @@ dist: levels ## makes out/ffosolve-VERSION-linux-x86-64.tar.gz, which runs where
 	$(clean)
 	$(room)
 	top="$$room/$(archive)"
-	$(call lay,,/$(archive))
+	$(call stage,,/$(archive))
 	rm "$$top/share/doc/ffosolve/README.md"
 	ln -s share/doc/ffosolve/examples "$$top/examples"
 	$(call texts,archive,deb,bin/,share/doc/ffosolve,$$top)
@@ -46,7 +46,7 @@ deb: levels ## makes out/ffosolve_VERSION_amd64.deb, a package for Debian
 	$(clean)
 	$(room)
 	usr="$$room/usr" doc="$$room/usr/share/doc/ffosolve" python="$$room/usr/lib/python3/dist-packages"
-	$(call lay,LIBDIR=/usr/lib/x86_64-linux-gnu,/usr)
+	$(call stage,LIBDIR=/usr/lib/x86_64-linux-gnu,/usr)
 	$(call texts,deb,archive,,/usr/share/doc/ffosolve,$$doc)
 	wheel=$$(cd python/backend && FFOSOLVE_WHEEL_VERSION='$(package)' python3 -Bc 'import sys, ffosolve_wheel; print(ffosolve_wheel.build_wheel(sys.argv[1]))' "$$room")
 	python3 -m zipfile -e "$$room/$$wheel" "$$python"
