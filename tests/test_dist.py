@@ -160,12 +160,11 @@ class Unpacked(InFolder):
     def test_the_commands_of_readme_print_what_it_shows(self):
         shows(self, UNPACKED / "README.md", 7, lambda *words: run(*words, cwd=UNPACKED, env=WITHOUT_RT, text=True, timeout=300))
 
-    def test_ffosolve_many_solves_with_the_program_that_runs_on_every_machine(self):
-        need("parallel", "parallel")
+    def test_ffosolve_many_has_the_programs_of_both_levels(self):
         words = (UNPACKED / "bin/ffosolve-many", "--quiet", "work", ROOT / "examples/first.obf")
         self.ends((0, FIRST, ""), *words, env=WITHOUT_RT, text=True)
-        program, = Path("work").glob("run-*/program")
-        self.assertEqual(program.read_bytes(), (UNPACKED / "libexec/ffosolve/x86-64-v2/ffosolve").read_bytes())
+        programs = [path.read_bytes() for path in sorted(Path("work").glob("run-*/program-?"))]
+        self.assertEqual(programs, [(UNPACKED / "libexec/ffosolve" / level / "ffosolve").read_bytes() for level in LEVELS[::-1]])
 
     def test_the_program_for_the_level_that_the_loader_reports_is_started(self):
         top = self.folder / "top"

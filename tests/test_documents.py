@@ -10,7 +10,7 @@ import re
 import subprocess
 import unittest
 
-from tests.support import ROOT, InFolder, built, need, run, stored
+from tests.support import ROOT, InFolder, built, run, stored
 
 DOCUMENTS = ["README.md", "CONTRIBUTING.md", *sorted(f"docs/{path.name}" for path in ROOT.glob("docs/*.md"))]
 TEXTS = {name: stored(name).decode() for name in DOCUMENTS}
@@ -43,7 +43,7 @@ def stripped(text):
 def made_by_blocks(text):
     """Returns the files that the commands of blocks `sh` would make: after `-o` or `>`, or as a folder of ffosolve-many."""
     block = "\n".join(blocks_of(text, "sh"))
-    found = re.findall(r"(?: -o |[^<>&\d]>|bin/ffosolve-many (?:--hosts \w+ )?)([\w./-]+)", block)
+    found = re.findall(r"(?: -o |[^<>&\d]>|bin/ffosolve-many (?:--scheduler \S+ )?)([\w./-]+)", block)
     return [name for name in found if not name.startswith("/")]
 
 
@@ -65,7 +65,6 @@ def printed_by(commands):
 
 class Commands(InFolder):
     def test_commands_print_what_is_shown_and_leave_only_ignored_files(self):
-        need("parallel", "parallel")
         built()
         for name in DOCUMENTS:
             with self.subTest(name=name):

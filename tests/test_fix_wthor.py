@@ -10,7 +10,7 @@ from pathlib import Path
 
 from .games import (PROGRAM, Case, discs_of_black, positions_of, random_game, record, report_of, squares_of, with_digest,
                     wthor)
-from .support import ROOT, SECONDS, as_at_a_login, built, limited, need, run, stored, wait_until, write
+from .support import ROOT, SECONDS, as_at_a_login, built, limited, run, stored, wait_until, write
 
 
 class Fix(Case):
@@ -223,7 +223,6 @@ class Fix(Case):
         self.assertEqual(Path("new.wtb").read_bytes(), self.wanted)
 
     def test_the_commands_of_guide_and_help_fix_a_file(self):
-        need("parallel", "parallel")
         built("ffosolve")
         rows = [f"{{0}}, game {at + 1}: published {self.published[at]}, exact {self.exact[at]}, difference {less}\n"
                 for at, less in ((2, "-2"), (5, "+7"))]

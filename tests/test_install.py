@@ -236,7 +236,6 @@ class Installed(Case):
         self.assertIn(f"libffosolve.so.1 => {self.root}/lib/libffosolve.so.1 ", ran.stdout, ran)
 
     def test_ffosolve_many_runs_without_the_documents(self):
-        need("parallel", "parallel")
         self.install()
         shutil.rmtree(self.root / "share/doc")
         places = {**self.places, "PATH": f"{self.root}/bin:/usr/bin:/bin"}

@@ -53,17 +53,26 @@ class Slurm(InFolder):
             self.start(*words, stdout=subprocess.DEVNULL, stderr=subprocess.DEVNULL)
         wait_until(lambda: b"idle" in run("sinfo", "-h", "-o", "%T").stdout)
 
-    def test_array_of_the_document_solves_all_parts(self):
-        script = re.search(r"```sh\n(#!/bin/sh\n#SBATCH.*?)```", stored("docs/many-machines.md").decode(), re.DOTALL)[1]
-        write("part.sh", script)
+        self.enterContext(mock.patch.dict(os.environ, PATH=f"/usr/bin:{os.environ['PATH']}"))  # with Debian's dask
+        self.scripts = re.findall(r"```sh\n(#!/bin/sh\n#SBATCH.*?)```", stored("docs/many-machines.md").decode(), re.DOTALL)
         write("list.obf", positions(60, 1, 5))
         shutil.copy(built(), lay_many(".").parent)
+        self.one = run("bin/ffosolve", "--book-out", "one.book", "list.obf").stdout
+
+    def test_the_job_array_of_the_document_solves_all_parts(self):
+        write("part.sh", self.scripts[1])
         words = ("bin/ffosolve-many", "--lines=3", "work", "list.obf", "--book-out", "joined.book")
-        ran = run(*words, "--cut")
-        self.assertEqual(ran.stdout, b"20 parts, 0 of them solved; sh work/run-*/solve NAME solves one, from 0000000 to 0000019\n")
-        ran = run("sbatch", "--wait", "--array=0-19", "part.sh", check=True, timeout=5 * SECONDS)
+        self.assertEqual(run(*words, "--cut").stdout[:32], b"20 parts, 0 of them solved; pyth")
+        run("sbatch", "--wait", "--array=0-19", "part.sh", check=True, timeout=5 * SECONDS)
         ran = run(*words)
         self.assertIn(b"20 of them solved before", ran.stderr)
-        one = run("bin/ffosolve", "--book-out", "one.book", "list.obf")
-        self.assertEqual((ran.returncode, ran.stdout), (0, one.stdout))
+        self.assertEqual((ran.returncode, ran.stdout), (0, self.one))
         self.assertEqual(Path("joined.book").read_bytes(), Path("one.book").read_bytes())
+
+    def test_the_job_of_the_document_solves_a_list_on_its_own_cluster(self):
+        need("dask", "python3-distributed")
+        job = self.scripts[0].replace("--nodes=4", "--nodes=1").replace("--cpus-per-task=8", "--cpus-per-task=2")
+        write("job.sh", job.replace("list.obf", "--lines=3 list.obf"))
+        run("sbatch", "--wait", "--output=job.log", "job.sh", check=True, timeout=5 * SECONDS)
+        self.assertEqual(Path("list.report").read_bytes(), self.one, Path("job.log").read_text())
+        self.assertIn("60 lines in 20 parts, 0 of them solved before", Path("job.log").read_text())

@@ -56,7 +56,9 @@ def metadata():
         ("Metadata-Version", "2.1"), ("Name", "ffosolve"), ("Version", package_version()), ("Summary", summary),
         ("Home-page", home), ("Author", author), ("Author-email", f"{author} <{address}>"), ("License", terms),
         ("Project-URL", f"Homepage, {home}"), *(("Classifier", it) for it in settings("classifiers")),
-        ("Requires-Python", python), ("Description-Content-Type", "text/markdown"),
+        ("Requires-Python", python), ("Provides-Extra", "many"),
+        *(("Requires-Dist", f'{it}; extra == "many"') for it in settings("many")),
+        ("Description-Content-Type", "text/markdown"),
     ]
     told = ast.get_docstring(ast.parse(next(texts("src/ffosolve/__init__.py"))))
     return "".join(f"{name}: {text}\n" for name, text in fields) + f"\n{told}\n"

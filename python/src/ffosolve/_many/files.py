@@ -1,5 +1,6 @@
 """Files: what they are, what they hold, and how they are written."""
 import contextlib
+import errno
 import hashlib
 import os
 import shutil
@@ -8,26 +9,34 @@ import tempfile
 from pathlib import Path
 
 from .._text import MOST_BYTES
-from .messages import NAME, UNREADABLE, Refusal
+from .messages import NAME, UNREADABLE, Refusal, cannot, shown
 
 
-def check_readable(path):
-    """Refuses what is not a file that can be read."""
-    if path.is_dir() or not os.access(path, os.R_OK):
-        why = ": it is a folder" if path.is_dir() else "" if path.exists() else ": it is not there"
-        raise Refusal(UNREADABLE, f"cannot read {path}{why}")
+def path_of(name):
+    """The path of a file that is read; `-` is standard input. Refuses one that can't be read."""
+    path = Path("/dev/stdin" if name == "-" else name)
+    try:
+        if str(path) == "/dev/stdin" and sys.stdin is None:
+            raise Refusal(UNREADABLE, f"cannot read {name}: standard input is closed")
+        path.stat()
+        if path.is_dir() or not os.access(path, os.R_OK):
+            number = errno.EISDIR if path.is_dir() else errno.EACCES
+            raise OSError(number, os.strerror(number))
+    except OSError as why:
+        raise cannot("read", name, why) from None
+    return path
 
 
 def is_same(one, other):
-    """Whether two paths, or descriptors, are of one file; /dev/null is none."""
+    """Whether two paths, or descriptors, are the same file, other than /dev/null."""
     with contextlib.suppress(OSError):
         return os.path.samefile(one, other) and not os.path.samefile(one, os.devnull)
     return False
 
 
-def regular(path, stack):
-    """The path of a regular file that can be read; of a copy for as long as the stack lasts, where it is none, as a pipe."""
-    check_readable(path)
+def regular(name, stack):
+    """The path of a readable regular file: the file itself or, for a pipe, a temporary copy that lives as long as `stack`."""
+    path = path_of(name)
     if path.is_file():
         return path
     try:
@@ -35,19 +44,19 @@ def regular(path, stack):
         with path.open("rb") as source, open(copy.name, "wb") as target:
             shutil.copyfileobj(source, target)
     except OSError as why:
-        raise Refusal(UNREADABLE, f"cannot copy {path} to {tempfile.gettempdir()}: {why.strerror}") from why
+        raise cannot(f"copy {shown(name)} to", tempfile.gettempdir(), why) from why
     return Path(copy.name)
 
 
 def read_or_nothing(path):
-    """The bytes of a file; none where it can't be read."""
+    """The bytes of a file; none if it can't be read."""
     with contextlib.suppress(OSError):
         return path.read_bytes()
     return b""
 
 
 def digest_of(path, size=sys.maxsize):
-    """The SHA-256 of a file's first bytes, of all if not given; that of nothing where it can't be read."""
+    """The SHA-256 of a file, or of its first `size` bytes; that of nothing if it can't be read."""
     digest = hashlib.sha256()
     with contextlib.suppress(OSError), path.open("rb") as file:
         while block := file.read(min(size, MOST_BYTES)):
@@ -57,7 +66,7 @@ def digest_of(path, size=sys.maxsize):
 
 
 def write_whole(path, pieces, mode=None):
-    """Writes a file next to the path, and renames it to the path when it is whole and on the disk."""
+    """Writes a file beside the path, and renames it to the path when all of it is on the disk."""
     beside = path.with_name(f"{path.name}.{os.urandom(4).hex()}.new")
     try:
         with beside.open("xb") as file:

@@ -1,60 +1,59 @@
-"""The folder of a list: who may work in it, what it was begun with, and what is laid there.
-
-The scripts in `shell` are laid in it, with words like @run@ filled in. `solve` solves a part, here or on another
-machine; `job` asks or sweeps a machine, or has a part solved; `ask` is what another machine runs to be asked or swept.
-`ssh_config` holds where the user's own configuration says nothing.
-"""
+"""The folder of a list: who may work in it, what it was begun with, and the files that solving needs."""
 import contextlib
 import fcntl
 import itertools
 import json
 import os
 import re
-import shlex
+import shutil
 import time
 from pathlib import Path
 
+from . import solve
 from .files import digest_of, read_or_nothing, write_whole
-from .messages import NAME, REFUSED, UNREADABLE, Refusal, say
+from .messages import NAME, REFUSED, UNBUILT, UNREADABLE, Refusal, say, shown
 from .parts import Run, cut_list
 from .programs import run_options
+from .solve import Failed, fit_program
 
-SCRIPTS = {path.name: path.read_text() for path in Path(__file__).with_name("shell").iterdir()}
-MARK = "the work of ffosolve-many, form 1"
-LOCK, ASKED, HOSTS, LOG = "lock", "asked.json", "hosts", "log"
-LOCK_SECONDS = 2  # for what a killed run leaves to be ended
-HOST_SECONDS = 30  # for a machine's answer
+MARK = "the work of ffosolve-many, form 2"
+LOCK, ASKED = "lock", "asked.json"
+LOCK_SECONDS = 2  # until the programs of a killed run have ended
 
 
 def read_asked(folder):
-    """What was asked for when a folder was begun; None where it was not."""
+    """What was asked for when a folder was begun; None if it was not. Refuses the folder of an earlier version."""
     try:
-        asked = json.loads(read_or_nothing(folder / ASKED))
+        asked = json.loads((folder / ASKED).read_bytes())
+        if asked["mark"] == MARK.replace("2", "1"):
+            raise Refusal(REFUSED, f"{shown(folder)} was begun by an earlier version: use another folder")
         is_own = asked["mark"] == MARK and re.fullmatch("run-[0-9a-f]{12}", asked["run"])
-        return asked if is_own and asked.keys() == {"mark", "run", "options", "program", "list"} else None
-    except (ValueError, TypeError, KeyError):
+        return asked if is_own and asked.keys() == {"mark", "run", "options", "programs", "list"} else None
+    except (OSError, ValueError, TypeError, KeyError):
         return None
 
 
 def lock_folder(folder):
-    """Makes a folder, refuses one that has files of anybody else's, locks it against other runs, and gives the lock."""
+    """Makes a folder, and locks it against other runs until this process ends. Refuses one with files of others."""
     folder.mkdir(parents=True, exist_ok=True)
-    found, mark = sorted(os.listdir(folder)), read_or_nothing(folder / LOCK)
+    found, lock = sorted(os.listdir(folder)), folder / LOCK
+    mark = lock.read_bytes() if lock.is_file() else b""
     others = [name for name in found if name != LOCK and not (mark and name.endswith(".new"))]
-    if (others or mark not in (b"", MARK.encode())) and read_asked(folder) is None:
-        raise Refusal(REFUSED, f"{folder} has files that are not {NAME}'s, as {found[0]}: name a new or an empty folder")
-    lock, end = os.open(folder / LOCK, os.O_RDWR | os.O_CREAT, 0o666), time.monotonic() + LOCK_SECONDS
+    if read_asked(folder) is None and (others or mark not in (b"", MARK.encode())):
+        raise Refusal(REFUSED, f"{shown(folder)} has files that are not {NAME}'s, such as {shown(found[0])}: "
+                               "name a new or an empty folder")
+    descriptor, end = os.open(lock, os.O_RDWR | os.O_CREAT, 0o666), time.monotonic() + LOCK_SECONDS
     while time.monotonic() < end:
         with contextlib.suppress(BlockingIOError):
-            fcntl.flock(lock, fcntl.LOCK_EX | fcntl.LOCK_NB)
-            os.pwrite(lock, MARK.encode(), 0)
-            return lock
+            fcntl.flock(descriptor, fcntl.LOCK_EX | fcntl.LOCK_NB)
+            os.pwrite(descriptor, MARK.encode(), 0)
+            return
         time.sleep(0.05)
-    raise Refusal(UNREADABLE, f"another run works in {folder}")
+    raise Refusal(UNREADABLE, f"another run works in {shown(folder)}")
 
 
 def difference(name, before, now):
-    """How the folder was begun, where an option differs."""
+    """How the folder was begun, if an option differs."""
     if name == "--book-in" and before and now:
         return "with another book as --book-in"
     value = "" if name == "--book-in" or before is True else f" {before}"
@@ -62,65 +61,67 @@ def difference(name, before, now):
 
 
 def check_asked(before, options, listed, source, command):
-    """Refuses other options and another list than those the folder was begun with; a longer list goes on."""
-    kept = {**dict.fromkeys(options, False), **before["options"]}  # an earlier version did not know --complete
+    """Refuses options and a list other than those the folder was begun with; the list may have grown at its end."""
+    kept = before["options"]
     if differing := [difference(name, kept[name], now) for name, now in options.items() if kept[name] != now]:
-        raise Refusal(REFUSED, f"{command.folder} was begun {' and '.join(differing)}: "
+        raise Refusal(REFUSED, f"{shown(command.folder)} was begun {' and '.join(differing)}: "
                                "use another folder, or the same options")
     if before["list"] != listed and before["list"]["digest"] != digest_of(source, before["list"]["bytes"]):
-        paths = sorted((command.folder / before["run"] / "parts").glob("[0-9]" * 7))
-        with source.open("rb") as new:
-            pairs = itertools.zip_longest(new, (line for path in paths for line in path.open("rb")))
-            line = next((at for at, (one, other) in enumerate(pairs, 1) if one != other), 1)
-        raise Refusal(REFUSED, f"{command.list} is not the list that {command.folder} was begun with, from line {line} "
-                               "on: use another folder, or the same list (it may have grown at its end)")
+        copy = command.folder / before["run"] / "list"
+        with source.open("rb") as new, open(copy if copy.is_file() else os.devnull, "rb") as old:
+            line = next((at for at, (one, other) in enumerate(itertools.zip_longest(new, old), 1) if one != other), 1)
+        raise Refusal(REFUSED, f"{shown(command.list)} is not the list that {shown(command.folder)} was begun with, from line "
+                               f"{line} on: use another folder, or the same list (it may have grown at its end)")
 
 
-def lay_scripts(run, command, *names):
-    """Lays scripts in the run's folder, with what the run says in place of their @words@."""
-    book = "book-in" if command.book_in is not None else ""
-    words = ["./program", *run_options(command)] + ([f"--book-in={book}"] if book else [])
-    values = {"program": shlex.join(words) + (' --book-out="$new.book"' if run.has_book else ""),
-              "run": run.name, "book": book, "seconds": str(HOST_SECONDS), "kind": run.endings[0].removeprefix("."),
-              "most": "1" if run.has_scores else "0",  # the greatest status of a part that is solved: 1 is a remark
-              "endings": " ".join(run.endings), "files": " ".join(f'"$new{ending}"' for ending in run.endings)}
-    for path in map(run.place.joinpath, names):
-        lay(path, re.sub("@([a-z]+)@", lambda found: values[found[1]], SCRIPTS[path.name]).encode())
+def write(path, content, mode=None):
+    """Writes a file of the run, unless it is there."""
+    if not path.is_file() or path.read_bytes() != content:
+        write_whole(path, [content], mode)
 
 
-def lay(path, content):
-    """Lays a file, and the folder that it is in, where it isn't there whole."""
-    if read_or_nothing(path) != content:
-        path.parent.mkdir(parents=True, exist_ok=True)
-        path.write_bytes(content)
+def lay_files(place, source, listed, starts, program, book_in, digests):
+    """Writes the files that solving needs; returns the digests of the programs, which stay those of the first time."""
+    (place / "results").mkdir(parents=True, exist_ok=True)
+    if not (place / "list").is_file() or digest_of(place / "list") != listed["digest"]:
+        with source.open("rb") as file:
+            write_whole(place / "list", iter(lambda: file.read(1 << 20), b""))
+    if digests != [digest_of(path) for path in sorted(place.glob("program-?"))] or not digests:
+        for number, content in enumerate(program.files()):
+            write(place / f"program-{number}", content, 0o755)
+    if book_in:
+        write(place / "book-in", book_in.read_bytes())
+    write(place / "starts", starts.tobytes())
+    write(place / "solve.py", Path(solve.__file__).read_bytes())
+    return [digest_of(path) for path in sorted(place.glob("program-?"))]
 
 
-def prepare(command, source, parts, listed, program, book_in):
-    """Begins the folder, or goes on with it: gives the run, whose parts and tools lie there."""
-    # What has to be the same for the results to be used again. What changes no result is not here.
+def prepare(command, source, program, book_in):
+    """Begins the folder, or goes on with it; returns the run."""
+    starts, listed = cut_list(source, command.lines, shown(command.list))
+    lock_folder(command.folder)
+    # What has to be the same for the results to be used again; the others change no result.
     options = {"--lines": command.lines, "--scoring": command.scoring, "--max-empties": command.max_empties,
                "--scores": command.scores, "--complete": command.complete,
                "--book-in": digest_of(book_in) if book_in else "", "--book-out": command.book_out is not None}
     before = read_asked(command.folder)
-    if before is not None:
+    asked = before or {"mark": MARK, "run": f"run-{os.urandom(6).hex()}", "options": options, "programs": []}
+    place = command.folder / asked["run"]
+    if before:
         check_asked(before, options, listed, source, command)
-        if not (command.folder / before["run"]).is_dir():
-            say(f"{command.folder / before['run']} is gone: all parts are solved again")
-    begun = {"mark": MARK, "run": f"run-{os.urandom(6).hex()}", "options": options, "program": ""}
-    asked = {**(before or begun), "list": listed}
-    run = Run(command.folder, asked["run"], parts, command.scoring, command.scores, command.book_out is not None)
-    if is_lacking := digest_of(run.place / "program") != asked["program"]:  # otherwise that of the first run stays
-        asked["program"] = digest_of(program.itself)
-    if asked != before:
-        write_whole(command.folder / ASKED, [json.dumps(asked, indent=1).encode(), b"\n"])
-    lay_scripts(run, command, "solve")
-    if cut_list(source, command.lines, command.list, lambda part, text: lay(run.path(part), text)) != (parts, listed):
-        raise Refusal(UNREADABLE, f"{command.list} changes while it is read")
-    if is_lacking:
-        write_whole(run.place / "program", [program.itself.read_bytes()], 0o755)
-    if program.for_all.is_file():
-        (run.place / "v2").mkdir(exist_ok=True)
-        write_whole(run.place / "v2/program", [program.for_all.read_bytes()], 0o755)
-    if book_in:
-        lay(run.place / "book-in", book_in.read_bytes())
-    return run
+        if not place.is_dir():
+            say(f"{shown(place)} is gone: all parts are solved again")
+    for name in ("list", "programs"):  # in the order in which they are known
+        asked = {**asked, "list": listed} if name == "list" else {
+            **asked, name: lay_files(place, source, listed, starts, program, book_in, asked["programs"])}
+        write(command.folder / ASKED, json.dumps(asked, indent=1).encode() + b"\n")
+    if digest_of(place / "list") != listed["digest"]:
+        raise Refusal(UNREADABLE, f"{shown(command.list)} changes while it is read")
+    task = {"run": asked["run"], "words": run_options(command) + ["--book-in=book-in"] * bool(book_in),
+            "has_book": command.book_out is not None, "most": int(command.scores)}
+    try:
+        program, task["known"] = fit_program(task, place)
+    except Failed as why:
+        raise Refusal(UNBUILT, f"on this machine {why}") from None
+    write(place / "task.json", json.dumps(task).encode())
+    return Run(place, command.lines, starts, listed["lines"], task, command.scoring), program

@@ -3,9 +3,11 @@ import contextlib
 import os
 import signal
 import sys
+import threading
 
 NAME = "ffosolve-many"
 DONE, UNSOLVED, REFUSED, UNREADABLE, UNBUILT = range(5)
+PRINTING = threading.RLock()
 
 
 class Refusal(Exception):
@@ -16,30 +18,46 @@ def misused(text):
     return Refusal(REFUSED, f"{text}. Try '{NAME} --help'")
 
 
+def cannot(verb, name, why):
+    """The refusal of a file that can't be read or written, with the system's reason."""
+    return Refusal(UNREADABLE, f"cannot {verb} {shown(name)}: {why.strerror or why}")
+
+
+def shown(name):
+    """A file's name in a form that can be typed: as it is, or as $'..' if it has control characters or is not UTF-8."""
+    name = os.fspath(name)
+    letters = (chr(byte) if 32 <= byte < 127 and byte not in b"\\'" else f"\\x{byte:02x}" for byte in os.fsencode(name))
+    return name if name.isprintable() else f"$'{''.join(letters)}'"
+
+
+def counted(count, name):
+    return f"{count} {name}" if count == 1 else f"{count} {name}s"
+
+
 def outcome(action, *words):
-    """The status of an action, whose refusal is told; a negative one is the signal that the program is to end by."""
+    """The status of an action, after its refusal is printed; a negative one is the signal by which the program has to end."""
     try:
         return action(*words)
     except Refusal as why:
         say(why.args[1])
         return why.args[0]
-    except BrokenPipeError:  # of standard output, which nobody reads any more
+    except BrokenPipeError:  # standard output is no longer read
         return -signal.SIGPIPE
     except OSError as why:
-        say(f"{why.filename or 'a file'}: {why.strerror}")
+        say(f"{shown(why.filename or 'a file')}: {why.strerror or why}")
         return UNREADABLE
 
 
 def say(text):
-    """Prints a line on standard error, on a terminal over the one that is shown there."""
-    show("")
-    with contextlib.suppress(OSError):
+    """Prints a line on standard error. On a terminal it replaces the one that is shown there."""
+    with PRINTING, contextlib.suppress(OSError):
+        show("")
         print(f"{NAME}: {text}", file=sys.stderr, flush=True)
 
 
 def show(text):
-    """Shows a line on a terminal until the next one, without the last of what it says where it is too long."""
-    with contextlib.suppress(OSError):
+    """Shows a line on a terminal until the next one, and leaves out the end of one that is too long."""
+    with PRINTING, contextlib.suppress(OSError):
         columns = os.get_terminal_size(sys.stderr.fileno()).columns or 80
         line = f"{NAME}: {text}" if text else ""
         while len(line) >= columns:
@@ -49,13 +67,13 @@ def show(text):
 
 @contextlib.contextmanager
 def standard_output():
-    """Standard output, whose fault is told."""
+    """Standard output; what can't be written there is refused."""
     if sys.stdout is None:
         raise Refusal(UNREADABLE, "cannot write standard output: it is closed")
     try:
-        with open(1, "wb", closefd=False) as output:  # that of PYTHONUNBUFFERED may write a part alone
+        with open(1, "wb", closefd=False) as output:  # PYTHONUNBUFFERED's may write only a part
             yield output
     except BrokenPipeError:
         raise
     except OSError as why:
-        raise Refusal(UNREADABLE, f"cannot write standard output: {why.strerror}") from why
+        raise cannot("write", "standard output", why) from why

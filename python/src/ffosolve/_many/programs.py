@@ -1,4 +1,4 @@
-"""ffosolve and ffoscores, which are next to this program, and the tools that the work needs."""
+"""ffosolve and ffoscores, which are next to this program."""
 import os
 import re
 import shutil
@@ -6,55 +6,53 @@ import subprocess
 from pathlib import Path
 
 from .messages import NAME, UNBUILT, Refusal
+from .solve import guarded
 
-NO_DISCS = b"-" * 64 + b" X;"  # refused with any options, and what is told then of the most empty squares
+NO_DISCS = b"-" * 64 + b" X;"  # refused under any options, by a message that has the limit of empty squares
 LIMITS = {"ffosolve": rb"\[1\]\n1 refused: 64 empties, limit (\d+)\nsolved 0 refused 1\n",
           "ffoscores": rb"%% refused: 64 empties, limit (\d+): %b\n" % NO_DISCS}
 
 
 class Program:
-    """A program of a folder: what starts it, in a checkout with a build; itself; and as any machine runs it."""
+    """A program of a folder: `start`, which in a checkout is a script that builds it, and the files that work elsewhere."""
 
     def __init__(self, folder, name):
         self.start, root = Path(folder, name), Path(folder).parent
-        is_checkout = (root / "crates.txt").is_file()
-        # A checkout and a package may have it for several levels of processors.
-        self.for_all = root / ("out" if is_checkout else "libexec/ffosolve") / "x86-64-v2" / name
-        self.itself = root / "out" / name if is_checkout else self.for_all if self.for_all.is_file() else self.start
+        self.is_checkout = (root / "crates.txt").is_file()
+        self.place = root / ("out" if self.is_checkout else "libexec/ffosolve")
         if not os.access(self.start, os.X_OK):
             raise Refusal(UNBUILT, f"{name} is missing: it has to be next to {NAME}, in {folder}")
 
-    def tell(self, *words, stdout=subprocess.PIPE, **how):
-        """The status of a run, and what it prints on standard error, without its name."""
+    def files(self):
+        """The contents of its files for the levels of processors, the best level first."""
+        levels = [self.place / level / self.start.name for level in ("x86-64-v3", "x86-64-v2")]
+        here = self.place / self.start.name if self.is_checkout else self.start
+        has_levels = not self.is_checkout and levels[1].is_file()
+        places = levels if has_levels else [levels[0], here, levels[1]]
+        return list(dict.fromkeys(path.read_bytes() for path in places if path.is_file()))
+
+    def try_run(self, *words, stdout=subprocess.PIPE, **how):
+        """The status of a run, and its messages on standard error, without the program's name."""
         ran = subprocess.run([self.start, *words], stdin=subprocess.DEVNULL, stdout=stdout, stderr=subprocess.PIPE, **how)
         return ran.returncode, ran.stderr.decode(errors="replace").strip().removeprefix("ffosolve: ")
 
     def check(self, options):
-        """Builds it where it isn't built, and has it refuse what it refuses of the options and of the read book. Gives the
-        most empty squares of what it solves."""
-        ran = subprocess.run([self.start, *options, "/dev/stdin"], input=NO_DISCS, stdout=subprocess.PIPE)
-        told = re.fullmatch(LIMITS[self.start.name], ran.stdout)
-        if ran.returncode and not told:
+        """Builds it if it isn't built, and has it refuse wrong options and a wrong book. Returns the greatest number of empty
+        squares that it solves."""
+        if not shutil.which("setpriv"):
+            raise Refusal(UNBUILT, "setpriv is not on the path: apt-get install util-linux")
+        ran = subprocess.run(guarded([self.start, *options, "/dev/stdin"]), input=NO_DISCS, stdout=subprocess.PIPE)
+        found = re.fullmatch(LIMITS[self.start.name], ran.stdout)
+        if ran.returncode and not found:
             raise SystemExit(ran.returncode if ran.returncode > 0 else UNBUILT)
-        if not told or not os.access(self.itself, os.X_OK):
+        if not found:
             raise Refusal(UNBUILT, f"{self.start} is not the program {self.start.name}")
-        return told[1].decode()
+        return found[1].decode()
 
 
 def run_options(command):
-    """The options of ffosolve or ffoscores but for books."""
-    # The parts keep all processors busy: by itself each needs no more than one thread.
+    """The options of ffosolve or ffoscores except for books."""
+    # The parts keep all processors busy, so none of them needs more than one thread.
     options = {"max-empties": command.max_empties, "scoring": command.scoring, "workers": command.workers or 0,
                "table": command.table}
     return [f"--{name}={value}" for name, value in options.items() if value is not None] + ["--complete"] * command.complete
-
-
-def check_tools(has_far=False):
-    """Refuses where a tool is missing; other machines need two more."""
-    packages = {"parallel": "parallel", "sha256sum": "coreutils", "flock": "util-linux"}
-    for name, package in (packages | {"ssh": "openssh-client", "tar": "tar"} if has_far else packages).items():
-        if not shutil.which(name):
-            raise Refusal(UNBUILT, f"{name} is not on the path: apt-get install {package}")
-    told = subprocess.run(["parallel", "--version"], stdin=subprocess.DEVNULL, capture_output=True, check=False)
-    if not told.stdout.startswith(b"GNU parallel"):
-        raise Refusal(UNBUILT, "parallel on the path is not GNU parallel: apt-get install parallel")

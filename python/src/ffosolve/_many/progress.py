@@ -1,14 +1,17 @@
 """How far the work is, and how long the rest of it will take."""
+import array
 import time
 
+from .messages import counted
 from .parts import asked_lines
+from .solve import HEAD
 
 LONG_SECONDS = 600  # after which a part is named
 GROWTH = 2.5  # of the work, with each empty square
 
 
 def weight_of(text, most):
-    """How much work the lines of a part are, by their empty squares, against one without any."""
+    """The work of lines with at most `most` empty squares, in units of a line without any."""
     fronts = [line.lstrip()[:64] for line in asked_lines(text).values()]
     empties = [front.count(b"-") + front.count(b".") for front in fronts]
     return sum(GROWTH ** count if count <= most else 1 for count in empties)
@@ -19,55 +22,47 @@ def span_of(seconds):
     return f"{seconds:.0f} s" if seconds < 120 else f"{hours} h {minutes} min" if hours else f"{minutes} min"
 
 
-def rate_of(lines, seconds):
-    """Lines in the shortest time in which they are ten."""
-    for unit, length in (("a second", 1), ("a minute", 60), ("an hour", 3600)):
-        if lines * length >= 10 * seconds:
-            break
-    return f"{lines * length / seconds:.0f} lines {unit}"
-
-
 class Progress:
-    """Which parts are there, what the unsolved ones weigh, which are at work, and what the solved ones took."""
+    """The work that is left, the time that the solved parts took, and the parts at work, each with its machine and start."""
 
     def __init__(self, run, parts, most):
-        self.parts = {part.name: part for part in run.parts}
-        self.weights = {part.name: weight_of(run.read(part), most) for part in parts}
-        self.running = {}  # the machine that works at a part, and since when
-        self.begun = self.ended = time.monotonic()
-        self.seconds, self.weight, self.lines = 0.0, 0.0, 0
+        self.run, self.weights, self.running = run, array.array("d", bytes(8 * run.parts)), {}
+        self.parts, self.lines, self.seconds, self.weight = len(parts), sum(map(run.size, parts)), 0.0, 0.0
+        self.worked = time.monotonic()
+        for number in parts:
+            self.weights[number] = weight_of(run.text(number), most)
+        self.left_weight = sum(self.weights)
 
-    def end(self, name, is_solved):
-        """A part is no longer at work: it is solved, or waits again."""
-        self.ended = time.monotonic()
-        _, since = self.running.pop(name, (None, self.ended))
-        if is_solved and name in self.weights:
-            self.weight += self.weights.pop(name)
-            self.seconds += self.ended - since
-            self.lines += self.parts[name].lines
+    def update(self, at_work):
+        """Takes the machines of the parts that are now at work. A moment without any is the one between two parts."""
+        now = time.monotonic()
+        if at_work or now > self.worked + 2:
+            self.running = {number: (machine, self.running.get(number, (None, now))[1]) for number, machine in at_work.items()}
+        self.worked = now if at_work else self.worked
+
+    def end(self, number, record):
+        """Counts a solved part."""
+        self.seconds += float(HEAD.match(record)[7])
+        self.weight, self.left_weight = self.weight + self.weights[number], self.left_weight - self.weights[number]
+        self.parts, self.lines, self.weights[number] = self.parts - 1, self.lines - self.run.size(number), 0
 
     def left(self):
-        """The seconds that are left, once a tenth of the work is done, or None before."""
-        if not self.weight or self.weight * 10 < self.weight + sum(self.weights.values()):
+        """The seconds that are left, or None before a tenth of the work is done."""
+        if not self.weight or self.weight * 9 < self.left_weight:
             return None
         rate, now = self.seconds / self.weight, time.monotonic()
-        rests = [max(0, self.weights.get(name, 0) * rate - now + since) for name, (_, since) in self.running.items()]
-        waiting = sum(weight for name, weight in self.weights.items() if name not in self.running) * rate
-        return max(rests + [(waiting + sum(rests)) / max(1, len(rests))])
+        rests = [max(0, self.weights[number] * rate - now + since) for number, (_, since) in self.running.items()]
+        waiting = self.left_weight - sum(self.weights[number] for number in self.running)
+        return max(rests + [(waiting * rate + sum(rests)) / max(1, len(rests))])
 
     def text(self):
-        """What is told of it, the most important first; the part that has run longest, once it has run ten minutes."""
-        now = time.monotonic()
-        whole = sum(part.lines for part in self.parts.values())
-        solved = whole - sum(self.parts[name].lines for name in self.weights)
-        at_work = len({machine for machine, _ in self.running.values()})
-        left = self.left() if at_work else None
-        text = (f"{100 * solved // max(1, whole)}%, " + (f"{span_of(left)} left, " if left is not None else "")
-                + f"{at_work or 'no'} machine{'s' if at_work > 1 else ''} at work, "
-                f"parts {len(self.parts) - len(self.weights)} of {len(self.parts)}, lines {solved} of {whole}, "
-                + rate_of(self.lines, max(0.1, now - self.begun)))
-        running = [(since, name, machine) for name, (machine, since) in self.running.items()]
-        since, name, machine = min(running, default=(now, "", ""))
-        if now - since >= LONG_SECONDS:
-            text += f"; {self.parts[name].span()} runs for {span_of(now - since)} on {machine}"
+        """A line about it, the most important first. A part that has run for ten minutes is named."""
+        machines, all_lines = len({machine for machine, _ in self.running.values()}), max(1, self.run.all_lines)
+        left = self.left() if machines else None
+        text = (f"{100 * (self.run.all_lines - self.lines) // all_lines}%, " + (f"{span_of(left)} left, " if left is not None else "")
+                + f"{counted(machines, 'machine') if machines else 'no machine'} at work, "
+                f"parts {self.run.parts - self.parts} of {self.run.parts}")
+        since, number = min(((since, number) for number, (_, since) in self.running.items()), default=(time.monotonic(), 0))
+        if time.monotonic() - since >= LONG_SECONDS:
+            text += f"; {self.run.span(number)} runs for {span_of(time.monotonic() - since)} on {self.running[number][0]}"
         return text

@@ -1,0 +1,201 @@
+"""The workers of a Dask cluster, which solve parts."""
+import asyncio
+import collections
+import concurrent.futures
+import contextlib
+import inspect
+import logging
+import os
+import shutil
+import sys
+import threading
+import time
+import warnings
+from pathlib import Path
+
+from .messages import UNBUILT, UNREADABLE, Refusal, say
+from .solve import Failed, fit_program, solve
+
+try:
+    import cloudpickle
+    import distributed
+except ImportError as why:
+    raise Refusal(UNBUILT, f"--scheduler needs Python's package distributed ({why}): apt-get install python3-distributed, "
+                           "or pip install 'ffosolve[many]'") from None
+
+CONNECT_SECONDS = 10
+LOST_SECONDS = 600  # after which a scheduler that is lost ends the run
+STRAY_SECONDS = 10  # after which a part that no worker has is submitted again
+MOST_FAILS = 3  # of a worker, one after the other
+
+
+class Program(distributed.WorkerPlugin):
+    """Puts the program of a run on each worker, including those that join later. A worker on which it works gets a resource
+    with the run's name, which every part needs; another one gets a resource whose name says why not."""
+
+    def __init__(self, name, task, files):
+        self.name, self.task, self.files, self.is_over = name, task, files, False
+
+    async def setup(self, worker):
+        self.place, why = Path(worker.local_directory).absolute() / self.name, ""
+        try:
+            self.program = await asyncio.get_running_loop().run_in_executor(None, self.write)
+        except (OSError, Failed) as fault:
+            why = f": {fault}"
+        await worker.set_resources(**{f"{self.name}{why}": 0 if why else worker.state.nthreads})
+
+    def write(self):
+        self.place.mkdir(parents=True, exist_ok=True)
+        for name, content in self.files.items():
+            (self.place / name).write_bytes(content)
+            (self.place / name).chmod(0o755)
+        return fit_program(self.task, self.place)[0]
+
+    def teardown(self, worker):
+        self.is_over = True
+        shutil.rmtree(self.place, ignore_errors=True)
+
+
+def solver(name):
+    """The function that solves a part on a worker. It is a local one so that all versions of Dask send its code."""
+    def solve_part(part, text):
+        worker = distributed.get_worker()
+        plugin, key = worker.plugins[name], worker.get_current_task()
+
+        def is_wanted():
+            return not plugin.is_over and getattr(worker.state.tasks.get(key), "state", None) == "executing"
+        try:
+            return worker.address, solve(plugin.task, plugin.place, plugin.program, part, text, is_wanted), None
+        except Failed as why:
+            return worker.address, None, str(why)
+    return solve_part
+
+
+async def leave_out(name, dask_worker):
+    """Has a worker get no more parts."""
+    await dask_worker.set_resources(**{name: 0})
+
+
+def aside(action, *words, **options):
+    """Begins a call that may hang, as long as a worker does not answer."""
+    def attempt():
+        with contextlib.suppress(Exception):
+            action(*words, **options)
+    thread = threading.Thread(target=attempt, daemon=True)
+    thread.start()
+    return thread
+
+
+class Cluster:
+    """An engine, as `engine.Threads` is one."""
+
+    tries = 3  # of a part
+
+    def __init__(self, address, run):
+        logging.disable()
+        warnings.simplefilter("ignore")
+        for module in ("solve", "cluster"):  # workers do not have these
+            cloudpickle.register_pickle_by_value(sys.modules[f"{__package__}.{module}"])
+        files = {path.name: path.read_bytes() for path in run.place.glob("*") if path.name in ("book-in",) or
+                 path.name.startswith("program-")}
+        self.address, self.run, self.name = address, run, f"ffosolve-{run.task['run']}-{os.urandom(3).hex()}"
+        self.plugin, self.fault, self.ready, self.count = Program(self.name, run.task, files), None, {}, 0
+        self.flying, self.stray, self.fails, self.told, self.running = {}, {}, collections.Counter(), set(), {}
+        try:
+            self.connect()
+        except Exception as why:
+            raise Refusal(UNREADABLE, f"cannot reach the scheduler {address}: {str(why).splitlines()[0]}") from None
+        threading.Thread(target=self.watch, daemon=True).start()
+
+    def connect(self):
+        """Connects to the scheduler, and has it give each worker the program."""
+        place = {"scheduler_file" if os.path.isfile(self.address) else "address": self.address}
+        self.client = distributed.Client(**place, timeout=CONNECT_SECONDS, set_as_default=False)
+        register = getattr(self.client, "register_plugin", None) or self.client.register_worker_plugin
+        aside(register, self.plugin, name=self.name)
+        self.pool = self.client.get_executor(pure=False, resources={self.name: 1})
+        every = {"n_workers": -1} if "n_workers" in inspect.signature(self.client.scheduler_info).parameters else {}
+        self.workers = lambda: self.client.scheduler_info(**every)["workers"]
+
+    def watch(self):
+        """Follows what the scheduler says of its workers, and connects again if it is lost."""
+        lost = None
+        while not self.fault:
+            time.sleep(0.5 if not self.ready else 1)
+            try:
+                if lost is not None:
+                    self.connect()
+                    lost = say(f"the scheduler {self.address} is back")
+                if self.client.status != "running":
+                    raise OSError
+                self.look()
+            except Exception:
+                self.ready, now = {}, time.monotonic()
+                if self.client.status == "running":
+                    continue
+                if lost is None:
+                    lost = now
+                    say(f"the scheduler {self.address} is lost; it is waited for, {LOST_SECONDS} seconds at most")
+                    aside(self.client.close)
+                elif now > lost + LOST_SECONDS:
+                    self.fault = Refusal(UNREADABLE, f"the scheduler {self.address} is lost; the same command goes on with "
+                                                     "what is solved")
+
+    def look(self):
+        """Sees which workers have the program, and which parts they have."""
+        workers, processing, now = self.workers(), self.client.processing(), time.monotonic()
+        for address, worker in workers.items():
+            for text in worker["resources"]:
+                if text.startswith(f"{self.name}: ") and (address, text) not in self.told:
+                    self.told.add((address, text))
+                    say(f"{address} is left out{text.removeprefix(self.name)}")
+        self.ready = {address: worker for address, worker in workers.items() if worker["resources"].get(self.name)}
+        flying, self.running = dict(self.flying), {}
+        for address, keys in processing.items():
+            if address in self.ready:  # one that is left out keeps its parts, and does nothing
+                own = sorted(key for key in keys if key in flying)
+                self.stray.update(dict.fromkeys(own, now))
+                for key in own[:self.ready[address]["nthreads"]]:
+                    self.running[flying[key][0]] = self.ready[address]["host"]
+        for key, (_, future) in flying.items() if self.ready else ():
+            if now > self.stray.setdefault(key, now) + STRAY_SECONDS:
+                future.cancel()
+
+    def room(self):
+        """How many parts may be submitted and not yet done; none while no worker has the program."""
+        if self.fault:
+            raise self.fault
+        threads = sum(worker["nthreads"] for worker in self.ready.values())
+        return 2 * threads + 2 if threads else 0
+
+    def submit(self, number):
+        self.count += 1
+        key = f"{self.name}-{self.count:09d}"
+        future = self.pool.submit(solver(self.name), f"{number:07d}", self.run.text(number), key=key)
+        self.flying[key] = number, future
+        future.add_done_callback(lambda _: (self.flying.pop(key, None), self.stray.pop(key, None)))
+        return future
+
+    def result(self, future):
+        try:
+            return future.result()
+        except concurrent.futures.CancelledError:
+            return None, None, None
+        except Exception as why:
+            return self.address, None, "its workers ended" if "KilledWorker" in repr(why) else str(why) or repr(why)
+
+    def at_work(self):
+        return self.running
+
+    def judge(self, machine, is_solved):
+        """Leaves out a worker after three failures in a row, but never the last one."""
+        self.fails[machine] = 0 if is_solved else self.fails[machine] + 1
+        if self.fails[machine] >= MOST_FAILS and machine in self.ready and len(self.ready) > 1:
+            say(f"{machine} is left out: {MOST_FAILS} parts failed in a row")
+            del self.ready[machine]
+            aside(self.client.run, leave_out, self.name, workers=[machine])
+
+    def close(self):
+        """Has the workers remove the program, if they do so at once."""
+        self.fault = self.fault or Refusal(UNREADABLE, "it is over")
+        aside(self.client.unregister_worker_plugin, self.name).join(1)

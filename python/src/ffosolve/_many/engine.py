@@ -1,0 +1,101 @@
+"""Solves the unsolved parts of a list on an engine: threads of this machine, or the workers of a cluster."""
+import array
+import collections
+import concurrent.futures
+import queue
+import resource
+import sys
+import time
+
+from .messages import say, show
+from .progress import Progress
+from .solve import Failed, solve
+
+FILES = 8  # that a job has open while its program is started; three while it runs
+HERE = "this machine"
+
+
+class Threads:
+    """Threads of this machine, each of which waits for one program."""
+
+    tries = 1  # of a part
+
+    def __init__(self, run, program, jobs):
+        files = resource.getrlimit(resource.RLIMIT_NOFILE)[1]
+        resource.setrlimit(resource.RLIMIT_NOFILE, (files, files))
+        self.run, self.program, self.running = run, program, {}
+        self.jobs = jobs if files == resource.RLIM_INFINITY else max(1, min(jobs, files // FILES - 4))
+        if self.jobs < jobs:
+            say(f"{self.jobs} of {jobs} jobs work at a time, since no more than {files} files may be open (ulimit -n)")
+        self.pool = concurrent.futures.ThreadPoolExecutor(self.jobs)
+
+    def room(self):
+        """How many parts may be submitted and not yet done."""
+        return 2 * self.jobs
+
+    def submit(self, number):
+        """A future of a part's machine, its record, and why it has none."""
+        return self.pool.submit(self.solve, number, self.run.text(number))
+
+    def solve(self, number, text):
+        self.running[number] = HERE
+        try:
+            return HERE, solve(self.run.task, self.run.place, self.program, f"{number:07d}", text), None
+        except Failed as why:
+            return HERE, None, str(why)
+        finally:
+            del self.running[number]
+
+    def result(self, future):
+        """The result of a future; without a machine if the part has to be submitted again."""
+        return future.result()
+
+    def at_work(self):
+        """The machines of the parts that are at work."""
+        return dict(self.running)
+
+    def judge(self, machine, is_solved):
+        """Takes note of whether a machine solved a part."""
+
+    def close(self):
+        """Ends the work; the programs end with this process."""
+
+
+def solve_parts(run, engine, most, quiet):
+    """Solves the unsolved parts of a run, and returns those that failed. `most` is the limit of empty squares."""
+    parts, failed, tries, flying, done = run.unsolved(), array.array("L"), collections.Counter(), {}, queue.SimpleQueue()
+    progress, waiting, again = Progress(run, parts, most), iter(parts), collections.deque()
+    left, due, shown, is_terminal = len(parts), time.monotonic(), time.monotonic(), sys.stderr.isatty()
+    while left:
+        while len(flying) < engine.room() and (number := again.popleft() if again else next(waiting, None)) is not None:
+            future = engine.submit(number)
+            flying[future] = number
+            future.add_done_callback(done.put)
+        now = time.monotonic()
+        if now >= due:
+            due = now + 1
+            progress.update(engine.at_work())
+            if not quiet and now >= shown + (1 if is_terminal else 60):
+                shown = now
+                (show if is_terminal else say)(progress.text())
+        try:
+            future = done.get(timeout=max(0.01, due - now))
+        except queue.Empty:
+            continue
+        number = flying.pop(future)
+        machine, record, why = engine.result(future)
+        if record and run.keep(number, record):
+            left -= 1
+            progress.end(number, record)
+            engine.judge(machine, True)
+        elif not machine:
+            again.append(number)
+        else:
+            say(f"{machine} failed {run.span(number)}: {why or 'its results are not complete'}")
+            engine.judge(machine, False)
+            tries[number] += 1
+            is_last = tries[number] == engine.tries
+            (failed if is_last else again).append(number)
+            left -= is_last
+    show("")
+    return failed

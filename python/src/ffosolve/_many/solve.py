@@ -1,0 +1,114 @@
+"""Solves one part of a list: on a thread of ffosolve-many, on a worker of a cluster, or as `python3 solve.py PART`.
+
+It needs only Python and util-linux, so it works on machines without this package.
+"""
+import array
+import hashlib
+import json
+import os
+import re
+import signal
+import subprocess
+import sys
+import time
+from pathlib import Path
+
+KNOWN = b"-OXXXXX-XXXXXXXOXXXXXXXXXXXXXXXXXXXOXXXXXXXXXXXXXXXXXXXXXXXXXXXX X; H1:+62; A1:+52;\n"
+KNOWN_SECONDS = 30  # after which a machine is too slow to solve that line
+HEAD = re.compile(rb"((run-[0-9a-f]{12}) (\d{7}) (\d) (\d+) (\d+) (\d+\.\d+)) ([0-9a-f]{64})\n")
+
+
+class Failed(Exception):
+    """Why a part was not solved."""
+
+
+def guarded(words):
+    """The command of a program that is killed when this process ends, even if it ends before `setpriv` has arranged that."""
+    return ["setpriv", "--pdeathsig", "KILL", "sh", "-c", '[ "$PPID" = "$0" ] && exec "$@"', str(os.getpid()), *words]
+
+
+def digest_of(head, text, results):
+    """The SHA-256 of what was asked and of what came out."""
+    return hashlib.sha256(b"\n".join((head, text, results))).hexdigest().encode()
+
+
+def solve(task, place, program, part, text, is_wanted=lambda: True):
+    """Solves the lines `text` with a program, and returns the record of their results: a line with the run, the part, the
+    program's status, the sizes of its output and its book, the seconds it took, and the digest; then output and book.
+
+    `task` holds the run, the program's `words`, the greatest status of a solved part, and whether a book is written. A book
+    that is read lies in the folder `place`. Kills the program once `is_wanted` returns false. Raises Failed.
+    """
+    # The book comes through the pipe of standard error, so it needs no room on a disk.
+    words, begun, given = [*task["words"], *["--book-out=/dev/stderr"] * task["has_book"]], time.monotonic(), text
+    pipes = dict.fromkeys(("stdin", "stdout", "stderr"), subprocess.PIPE)
+    try:
+        process = subprocess.Popen(guarded([program, *words]), cwd=place, start_new_session=True, **pipes)
+    except OSError as why:
+        raise Failed(f"{why.filename or 'pipe'}: {why.strerror}") from None
+    with process:
+        while True:
+            try:
+                output, errors = process.communicate(given, timeout=0.5)
+                break
+            except subprocess.TimeoutExpired:
+                given = None
+                if not is_wanted():
+                    process.kill()
+    status = process.returncode
+    if not 0 <= status <= task["most"]:
+        name = f"status {status}" if status >= 0 else f"killed by {signal.Signals(-status).name}"
+        raise Failed((errors.decode(errors="replace").strip() or name).splitlines()[0])
+    book = errors[max(0, errors.find(b"% ffobook ")):] if task["has_book"] else b""
+    head = f"{task['run']} {part} {status} {len(output)} {len(book)} {time.monotonic() - begun:.3f}".encode()
+    return b"%b %b\n%b%b" % (head, digest_of(head, text, output + book), output, book)
+
+
+def fit_program(task, place):
+    """The first program in a folder that solves a known line, and the results, which have to be those that `task` has as
+    `known`, if it has. Raises Failed."""
+    why = "is missing"
+    for program in sorted(place.absolute().glob("program-?")):
+        end = time.monotonic() + KNOWN_SECONDS
+        try:
+            record = solve(task, place, program, "0000000", KNOWN, lambda end=end: time.monotonic() < end)
+            results = record.partition(b"\n")[2].decode("latin-1")
+            if results == task.get("known", results):
+                return program, results
+            why = "solves a known line wrong"
+        except Failed as fault:
+            is_late = time.monotonic() >= end
+            why = f"needs more than {KNOWN_SECONDS} seconds for a known line" if is_late else f"can't solve a known line: {fault}"
+    raise Failed(f"the program {why}")
+
+
+def keep(place, part, record):
+    """Writes a record into the folder of results. It has its name once all of it is on the disk."""
+    new = place / f"results/{part}.{os.urandom(4).hex()}.new"
+    try:
+        with new.open("xb") as file:
+            file.write(record)
+            file.flush()
+            os.fsync(file.fileno())
+        new.replace(new.with_name(part))
+    finally:
+        new.unlink(missing_ok=True)
+
+
+def main(place, part):
+    """Solves a part of the list that was cut into a folder, and keeps its record there."""
+    task = json.loads((place / "task.json").read_text())
+    starts = array.array("Q", (place / "starts").read_bytes())
+    if not re.fullmatch("[0-9]{7}", part) or int(part) + 1 >= len(starts):
+        raise Failed(f"the parts are 0000000 to {len(starts) - 2:07d}")
+    with (place / "list").open("rb") as file:
+        file.seek(starts[int(part)])
+        text = file.read(starts[int(part) + 1] - starts[int(part)])
+    keep(place, part, solve(task, place, fit_program(task, place)[0], part, text))
+
+
+if __name__ == "__main__":
+    try:
+        main(Path(__file__).resolve().parent, " ".join(sys.argv[1:]))
+    except (Failed, OSError) as why:
+        sys.exit(f"part {' '.join(sys.argv[1:])}: {why}")

@@ -1,0 +1,114 @@
+"""What the tests of ffosolve-many share: where it is installed, and how it is run."""
+import os
+import shutil
+import stat
+import sys
+import unittest
+from pathlib import Path
+from unittest import mock
+
+from tests.support import InFolder, built, lay_many, module_folder, positions, run, write
+
+BOARD = b"-OXXXXX-XXXXXXXOXXXXXXXXXXXXXXXXXXXOXXXXXXXXXXXXXXXXXXXXXXXXXXXX"  # two empty squares
+# Stands before a program. Appends its words to the file $WORDS. Unless it is asked for the known line, it dies or fails as the
+# part says, or as $FAILS says, and takes $PAUSE seconds, or 45 once $LAST parts are solved; $SPOIL is done with what it prints.
+ACTING = """\
+#!@python@ -IS
+import os, signal, subprocess, sys, time
+places, text, real = os.environ, sys.stdin.buffer.read(), "@real@"
+if "WORDS" in places:
+    open(places["WORDS"], "a").write(" ".join(sys.argv[1:]) + "\\n")
+if b"H1:+62; A1:+52;" not in text and text.strip(b"-") != b" X;" and text:
+    if b"DIE" in text:
+        os.kill(os.getpid(), signal.SIGKILL)
+    if b"FAIL" in text or "FAILS" in places and os.path.exists(places["FAILS"]):
+        sys.exit("ffosolve: out of memory")
+    is_last = "LAST" in places and len([name for name in os.listdir("results") if "." not in name]) >= int(places["LAST"])
+    time.sleep(45 if is_last else float(places.get("PAUSE", 0)))
+    spoil = places.get("SPOIL")
+else:
+    spoil = places.get("SPOIL_KNOWN")
+if spoil:
+    sys.stdout.buffer.write(eval(spoil)(subprocess.run([real, *sys.argv[1:]], input=text, stdout=subprocess.PIPE).stdout))
+    sys.exit()
+file = os.memfd_create("text")
+os.write(file, text)
+os.lseek(file, 0, 0)
+os.dup2(file, 0)
+os.execv(real, [real, *sys.argv[1:]])
+"""
+
+
+def install(name, script=None):
+    """Installs ffosolve-many with both programs, or with a script in the place of each that can run it; returns its path."""
+    many = lay_many(BASE / name)
+    for program in ("ffosolve", "ffoscores"):
+        place = shutil.copy(built(program), many.with_name(f"real-{program}" if script else program))
+        if script:
+            write(many.with_name(program), script.replace("@real@", str(place)).replace("@python@", sys.executable))
+    return many
+
+
+def set_up_module():
+    """Makes what the tests of a module share."""
+    global BASE, MANY, ACTS, SMALL
+    BASE = module_folder()
+    for name in ("tmp", "python"):
+        (BASE / name).mkdir()
+    os.symlink(sys.executable, BASE / "python/python3")  # at once, even if python3 on the path is a wrapper
+    places = {"TMPDIR": f"{BASE}/tmp", "PATH": f"{BASE}/python:{os.environ['PATH']}"}
+    unittest.enterModuleContext(mock.patch.dict(os.environ, places))
+    MANY, ACTS = install("plain"), install("acting prefix", ACTING)
+    SMALL = positions(60, 1, 5)
+
+
+class Case(InFolder):
+    """A test in a folder of its own, with a list of 60 positions and what ffosolve prints of it."""
+
+    WORDS = ("--lines=20", "work", "list.obf", "--book-out", "joined.book")
+
+    def setUp(self):
+        super().setUp()
+        write("list.obf", SMALL)
+        self.one = self.solve("list.obf")
+
+    def solve(self, *words):
+        """What one run of ffosolve prints, with the book in `one.book`."""
+        ran = run(MANY.with_name("ffosolve"), "--book-out", "one.book", *words)
+        self.assertEqual((ran.returncode, ran.stderr), (0, b""))
+        return ran.stdout
+
+    def many(self, *words, by=None, places={}, **how):
+        """Runs the command, with places in its environment."""
+        return run(by or MANY, *words, env={**os.environ, **places}, **how)
+
+    def ends(self, status, output, message, *words, **how):
+        """Runs a command that ends with a status and this output, and has this message among others; returns the run."""
+        ran = self.many(*words, **how)
+        self.assertEqual((ran.returncode, ran.stdout), (status, output), ran.stderr.decode())
+        self.assertIn(message, ran.stderr.decode())
+        return ran
+
+    def same(self, *words, text=None, message="", **how):
+        """Runs a command that prints what one run of ffosolve does; returns its messages."""
+        return self.ends(0, self.one if text is None else text, message, *words, **how).stderr.decode()
+
+    def same_book(self, name="joined.book"):
+        self.assertEqual(Path(name).read_bytes(), Path("one.book").read_bytes())
+
+    def files(self):
+        """All files of the test's folder: their contents and permissions by their paths."""
+        return {path: (path.is_file() and path.read_bytes(), stat.S_IMODE(path.lstat().st_mode)) for path in Path(".").rglob("*")}
+
+    def refused(self, status, message, *words, **how):
+        """A command ends with a status and one line, prints nothing else, and leaves all files and folders as they are."""
+        before = self.files()
+        lines = self.ends(status, b"", message, *words, **how).stderr.decode().splitlines()
+        self.assertEqual((len(lines), lines[0].startswith("ffosolve-many: ")), (1, True), lines)
+        self.assertEqual(self.files(), before)
+        if status == 2:
+            self.assertRegex(lines[0], "Try 'ffosolve-many --help'|use |name |merged|no part can hold it")
+
+    def place(self, name=""):
+        """A file of the run in the folder `work`."""
+        return next(Path("work").glob("run-*")) / name

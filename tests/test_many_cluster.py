@@ -1,0 +1,208 @@
+"""bin/ffosolve-many on a Dask cluster of this machine: whatever happens to its processes, the report and the book are those of
+one run of ffosolve."""
+import os
+import random
+import shutil
+import signal
+import subprocess
+import sys
+import threading
+import time
+import types
+import unittest
+from pathlib import Path
+from unittest import mock
+
+from tests import many
+from tests.many import ACTING, Case, install
+from tests.support import SECONDS, InFolder, as_at_a_login, change_many, lack, processes_with, run, wait_until, write
+
+PYTHON = next((python for python in (sys.executable, "/usr/bin/python3")
+               if run(python, "-c", "import distributed").returncode == 0), None)
+TTL = 5  # seconds until the scheduler gives up a worker that is silent
+
+
+def setUpModule():
+    global HASTY
+    if PYTHON is None:
+        lack("distributed (Debian: python3-distributed)")
+    many.set_up_module()
+    HASTY = install("hasty", ACTING)
+    for name, old, new in (("LOST_SECONDS", 600, 5), ("STRAY_SECONDS", 10, 3)):
+        change_many(HASTY, "cluster", f"{name} = {old}", f"{name} = {new}")
+    change_many(HASTY, "solve", "KNOWN_SECONDS = 30", "KNOWN_SECONDS = 2")
+    change_many(HASTY, "engine", "(1 if is_terminal else 60)", "1")
+
+
+class Cluster(Case):
+    WORDS = ("--lines=4", "--book-in=one.book", *Case.WORDS[1:])  # 15 parts
+
+    def setUp(self):
+        super().setUp()
+        self.workers, self.port = {}, "0"
+        self.start_scheduler()
+
+    def daemon(self, name, *words, **places):
+        """Starts a process of the cluster, in a session of its own, which ends with the test."""
+        settings = {"DASK_DISTRIBUTED__SCHEDULER__WORKER_TTL": f"{TTL}s", "DASK_DISTRIBUTED__COMM__TIMEOUTS__CONNECT": "3s"}
+        with open(f"{name}.log", "ab") as log:
+            ran = subprocess.Popen([PYTHON, "-m", f"distributed.cli.dask_{name.rstrip('123')}", *words, "--no-dashboard"],
+                                   stdin=subprocess.DEVNULL, stdout=log, stderr=log, start_new_session=True,
+                                   env={**os.environ, **settings, **places})
+        self.addCleanup(lambda: ran.poll() is None and (os.killpg(ran.pid, signal.SIGKILL), ran.wait()))
+        return ran
+
+    def start_scheduler(self):
+        Path("scheduler.json").unlink(missing_ok=True)
+        self.scheduler = self.daemon("scheduler", "--host=127.0.0.1", f"--port={self.port}", "--scheduler-file=scheduler.json")
+        wait_until(Path("scheduler.json").exists)
+        self.port = Path("scheduler.json").read_text().partition("tcp://127.0.0.1:")[2].partition('"')[0]
+
+    def start_workers(self, *names, **places):
+        """Starts workers of one thread each, and waits until the scheduler knows them."""
+        before = self.known()
+        for name in names:
+            self.workers[name] = self.daemon(name, f"127.0.0.1:{self.port}", "--nthreads=1", f"--local-directory={name}", **places)
+        wait_until(lambda: self.known() >= before + len(names))
+
+    def known(self):
+        return Path("scheduler.log").read_text().count("Register worker")
+
+    def signal(self, number, *names):
+        """Sends a signal to all processes of workers."""
+        for name in names:
+            os.killpg(self.workers[name].pid, number)
+
+    def begin(self, *words, by=None, **places):
+        """Starts the command, with its messages in the file `messages`."""
+        with open("messages", "wb") as log:
+            return self.start(PYTHON, by or HASTY, "--scheduler", "scheduler.json", *(words or self.WORDS), stderr=log,
+                              env={**os.environ, **places}, preexec_fn=as_at_a_login)
+
+    def ended(self, ran, *names):
+        """The command ends with the report and the book of one run; returns its messages. Nothing works any more on workers, or
+        on these."""
+        output, _ = ran.communicate(timeout=2 * SECONDS)
+        self.assertEqual((ran.returncode, output), (0, self.one), self.messages())
+        self.same_book()
+        wait_until(lambda: not self.programs(*names))
+        return self.messages()
+
+    def messages(self):
+        return Path("messages").read_text()
+
+    def programs(self, *names):
+        """The numbers of the programs at work on workers, or on these."""
+        return [number for name in names or self.workers for number in processes_with("cwd", self.folder / name)]
+
+    def done(self):
+        return len(list(Path("work").glob("run-*/results/" + "[0-9]" * 7)))
+
+    def test_report_book_and_scores_are_those_of_one_run(self):
+        self.start_workers("worker1", "worker2")
+        self.ended(self.begin(by=many.MANY))
+        shutil.rmtree("work")
+        self.same(many.MANY, "--scheduler", f"tcp://127.0.0.1:{self.port}", *self.WORDS, by=PYTHON)
+        self.assertEqual([*Path(".").rglob("ffosolve-run-*")], [])
+        scores = run(many.MANY.with_name("ffoscores"), "list.obf").stdout
+        self.same(many.MANY, "--scheduler=scheduler.json", "--scores", "scores", "list.obf", by=PYTHON, text=scores)
+
+    def test_workers_that_are_killed_or_fall_silent_or_join_late(self):
+        self.start_workers("worker1", "worker2", "worker3", PAUSE="1")
+        ran = self.begin()
+        wait_until(lambda: self.done() >= 1 and self.programs("worker1") and self.programs("worker2"))
+        self.signal(signal.SIGKILL, "worker1")
+        self.signal(signal.SIGSTOP, "worker2")
+        self.start_workers("worker1", PAUSE="0.1")
+        wait_until(lambda: self.programs("worker1"))
+        self.ended(ran, "worker1", "worker3")
+
+    def test_all_workers_are_silent_for_longer_than_the_scheduler_waits(self):
+        self.start_workers("worker1", "worker2", PAUSE="1")
+        ran = self.begin()
+        wait_until(lambda: self.done() >= 2)
+        self.signal(signal.SIGSTOP, "worker1", "worker2")
+        wait_until(lambda: "%, no machine at work, parts " in self.messages())
+        self.assertIsNone(ran.poll())
+        self.signal(signal.SIGCONT, "worker1", "worker2")
+        self.ended(ran)
+
+    def test_a_cluster_without_workers_is_waited_for(self):
+        ran = self.begin()
+        wait_until(lambda: "0%, no machine at work, parts 0 of 15" in self.messages())
+        self.start_workers("worker1")
+        self.ended(ran)
+
+    def test_a_worker_whose_program_is_wrong_or_late_gets_no_part(self):
+        self.start_workers("worker1", SPOIL_KNOWN="lambda text: text.replace(b'+', b'-')")
+        self.start_workers("worker2", SPOIL_KNOWN="lambda text: time.sleep(60)")
+        ran = self.begin(WORDS="words")
+        wait_until(lambda: self.messages().count(" is left out: ") == 2)
+        self.start_workers("worker3")
+        messages = self.ended(ran)
+        for why in ("solves a known line wrong", "needs more than 2 seconds for a known line"):
+            self.assertRegex(messages, rf"\n.*: tcp://127\.0\.0\.1:\d+ is left out: the program {why}\n")
+        self.assertNotIn("failed", messages)
+
+    def test_a_worker_that_fails_three_parts_in_a_row_is_left_out_but_not_the_last_one(self):
+        self.start_workers("worker1", SPOIL="lambda text: text[:-5]")
+        self.start_workers("worker2", PAUSE="1")
+        messages = self.ended(self.begin())
+        self.assertRegex(messages, r" failed part 00000\d\d \(lines \d+ to \d+\): its results are not complete\n")
+        self.assertRegex(messages, r" is left out: 3 parts failed in a row\n")
+        shutil.rmtree("work")
+        self.signal(signal.SIGKILL, "worker2")
+        wait_until(lambda: "Remove worker" in Path("scheduler.log").read_text())
+        ran = self.begin()
+        self.assertEqual((ran.communicate(timeout=SECONDS)[0], ran.returncode), (b"", 1), self.messages())
+        self.assertIn("not solved: 15 of 15 parts: part 0000000 (lines 1 to 4), ", self.messages())
+        self.assertEqual(self.messages().count("failed part 0000000 "), 3)
+
+    def test_a_scheduler_that_ends_is_waited_for_and_then_the_run_ends(self):
+        self.start_workers("worker1", PAUSE="0.5")
+        for is_back in (True, False):
+            ran = self.begin()
+            wait_until(lambda: self.done() >= 2)
+            self.signal(signal.SIGKILL, *self.workers)
+            self.scheduler.kill()
+            self.scheduler.wait()
+            wait_until(lambda: " is lost; it is waited for, 5 seconds at most\n" in self.messages())
+            if is_back:
+                self.start_scheduler()
+                self.start_workers("worker1")
+                self.assertIn("scheduler.json is back\n", self.ended(ran))
+                shutil.rmtree("work")
+                self.signal(signal.SIGKILL, *self.workers)
+                self.start_workers("worker1", PAUSE="0.5")
+        self.assertEqual((ran.communicate(timeout=SECONDS)[0], ran.returncode), (b"", 3))
+        self.assertRegex(self.messages(), r"\n.*: the scheduler .* is lost; the same command goes on with what is solved\n$")
+        self.start_scheduler()
+        self.start_workers("worker1")
+        self.ended(self.begin())
+
+    def test_signals_end_the_programs_of_the_workers_and_kills_at_random_moments_lose_nothing(self):
+        self.start_workers("worker1", "worker2", PAUSE="0.7")
+        rng = random.Random(1)
+        for number in (signal.SIGINT, signal.SIGTERM, signal.SIGHUP, signal.SIGKILL, *[signal.SIGKILL] * 3):
+            ran = self.begin()
+            time.sleep(rng.uniform(0.5, 4))
+            if number != signal.SIGKILL:
+                wait_until(lambda: len(self.programs()) == 2 or ran.poll() is not None)
+            ran.send_signal(number)
+            output, _ = ran.communicate(timeout=SECONDS)
+            wait_until(lambda: not self.programs(), 2 + 2 * os.getloadavg()[0] / os.cpu_count())
+            if output:
+                shutil.rmtree("work")
+                continue
+            self.assertEqual(ran.returncode, -number)
+            self.assertNotIn("Traceback", self.messages())
+        self.ended(self.begin())
+
+    def test_schedulers_that_cannot_be_reached(self):
+        self.scheduler.kill()
+        change = install("impatient")
+        change_many(change, "cluster", "CONNECT_SECONDS = 10", "CONNECT_SECONDS = 1")
+        for address in (f"tcp://127.0.0.1:{self.port}", "nonsense"):
+            self.ends(3, b"", f"cannot reach the scheduler {address}: ", change, "--scheduler", address, "work", "list.obf", by=PYTHON)
+        self.refused(4, "--scheduler needs Python's package distributed (No module named ", many.MANY, "--scheduler=h1:8786",
+                     "other", "list.obf", by=write("python", f'#!/bin/sh\nexec "{PYTHON}" -S "$@"\n').absolute())

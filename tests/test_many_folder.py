@@ -1,0 +1,385 @@
+"""bin/ffosolve-many: interrupted at any moment it goes on, and results that are not complete are not taken."""
+import contextlib
+import json
+import os
+import random
+import shutil
+import signal
+import stat
+import threading
+import time
+from pathlib import Path
+from unittest import mock
+
+from tests import many
+from tests.many import ACTING, Case, install, set_up_module as setUpModule
+from tests.support import (MOST_BYTES, SECONDS, InFolder, as_at_a_login, change_many, limited, processes_with, run, wait_until,
+                           write)
+
+from ffosolve._many import command, files, folder, messages, parts, solve
+
+KILLS = int(os.environ.get("KILLS", 10))  # runs that are killed at random moments
+
+
+class Functions(InFolder):
+    """What no output shows: faults of programs and disks, and the order in which files are written."""
+
+    def test_signals_after_the_first_are_ignored(self):
+        with mock.patch.object(signal, "signal") as handled, self.assertRaises(KeyboardInterrupt):
+            command.catch(signal.SIGTERM, None)
+        self.assertEqual([words[0][0] for words in handled.call_args_list], [*command.SIGNALS])
+        self.assertEqual([words[0][1](0, None) for words in handled.call_args_list], [None] * len(command.SIGNALS))
+
+    def test_a_report_is_taken_if_it_is_complete(self):
+        whole, numbers = b"[1]\n1 +02 A1 right\n2 refused: bad side at column 65\nsolved 1 refused 1\n", [1, 2]
+        rows = {1: b"+02 A1 right", 2: b"refused: bad side at column 65"}
+        self.assertEqual(parts.read_report(whole, numbers), rows)
+        for end in range(len(whole)):
+            self.assertIsNone(parts.read_report(whole[:end], numbers), end)
+        for old, new in ((b"[1]", b"[2]"), (b"1 +", b"2 +"), (b"1 +", b"01 +"), (b"A1", b"\0\0"), (b" right", b""),
+                         (b"solved 1", b"solved 2"), (b"refused 1", b"refused 0"), (b"2 refused: ", b"2 refused "),
+                         (b"solved 1 refused 1", b"solved 2 refused 0"), (b"solved", b"Solved"),
+                         (b"\nsolved", b"\n\nsolved"), (b"2 refused: bad side at column 65\n", b"")):
+            self.assertIsNone(parts.read_report(whole.replace(old, new), numbers), new)
+        for others in ([1, 3], [1], [1, 2, 3]):
+            self.assertIsNone(parts.read_report(whole, others))
+
+    def test_scores_are_complete_with_a_line_for_each_of_the_part(self):
+        one = parts.Run.__new__(parts.Run)
+        one.task = {"most": 1}
+        for text, is_whole in ((b"a\nb\nc\n", True), (b"a\nb\n", False), (b"a\nb\nc", False), (b"a\nb\nc\nd\n", False)):
+            self.assertEqual(one.is_whole(b"1\n2\n3\n", text, b""), is_whole)
+
+    def test_a_file_is_on_the_disk_before_it_has_its_name(self):
+        Path("results").mkdir()
+        for make, path in ((lambda: files.write_whole(Path("it"), [b"text"]), Path("it")),
+                           (lambda: solve.keep(Path(), "0000000", b"text"), Path("results/0000000"))):
+            synced = []
+            with mock.patch.object(os, "fsync", lambda file: synced.append((stat.S_ISREG(os.fstat(file).st_mode), path.exists()))):
+                make()
+            self.assertEqual(synced, [(True, False), (False, True)][:len(synced)])  # and then its folder
+            with mock.patch.object(os, "fsync", side_effect=OSError), self.assertRaises(OSError):
+                make()
+            self.assertEqual((path.read_bytes(), os.listdir(path.parent).count(path.name)), (b"text", 1))
+        self.assertEqual((sorted(os.listdir()), os.listdir("results")), (["it", "results"], ["0000000"]))
+
+    def test_the_lock_of_a_run_that_ends_is_waited_for(self):
+        folder.lock_folder(Path("work"))
+        lock = max(int(name) for name in os.listdir("/proc/self/fd"))
+        lock = next(file for file in range(lock, 2, -1) if os.path.realpath(f"/proc/self/fd/{file}").endswith("work/lock"))
+        threading.Timer(0.5, os.close, [lock]).start()
+        folder.lock_folder(Path("work"))
+
+
+class Resuming(Case):
+    """Nothing is lost, and nothing is taken that is not complete."""
+
+    def begin(self, *words):
+        self.same(*self.WORDS, *words)
+        Path("joined.book").unlink()
+
+    def again(self, solved, *words, **how):
+        """Solves the other parts alone, and prints what one run does."""
+        self.same(*self.WORDS, *words, message=f"in 3 parts, {solved} of them solved before;", **how)
+        self.same_book()
+        Path("joined.book").unlink()
+
+    def test_a_part_whose_results_are_not_complete_is_solved_again(self):
+        self.begin()
+        self.again(3)
+        path = self.place("results/0000001")
+        whole = path.read_bytes()
+        head, _, results = whole.partition(b"\n")
+        report, book = results[:int(head.split()[3])], results[int(head.split()[3]):]
+        seconds = float(head.split()[5])
+
+        def record(report, book, run=head.split()[0], part=b"0000001", status=b"0"):
+            """A record with a right digest."""
+            head = b"%b %b %b %d %d %.3f" % (run, part, status, len(report), len(book), seconds)
+            text = b"".join(many.SMALL.splitlines(keepends=True)[20:40])
+            return b"%b %b\n%b%b" % (head, solve.digest_of(head, text, report + book), report, book)
+        self.assertEqual(record(report, book), whole)
+        for spoiled in (None, b"", whole[:-1], whole[:whole[:-1].rindex(b"\n") + 1], bytes(len(whole)), whole + b"\n",
+                        whole.replace(b"+", b"-", 1), self.place("results/0000000").read_bytes(),
+                        record(report, book, run=b"run-0123456789ab"), record(report, book, part=b"0000002"),
+                        record(report, book, status=b"1"), record(report.replace(b"\n1 ", b"\n2 "), book),
+                        record(report, book.replace(b"winner", b"discs")), record(report, b"")):
+            path.unlink() if spoiled is None else path.write_bytes(spoiled)
+            self.again(2)
+            self.assertEqual(path.read_bytes().partition(b"\n")[2], results)
+
+    def test_a_removed_run_is_solved_again(self):
+        self.begin()
+        shutil.rmtree(self.place())
+        self.same(*self.WORDS, message="is gone: all parts are solved again")
+        self.same_book()
+
+    def test_the_folder_keeps_the_program_that_it_was_begun_with(self):
+        self.begin()
+        before = self.place("program-0").read_bytes()
+        self.place("results/0000001").unlink()
+        self.again(2, by=many.ACTS)
+        self.assertEqual(self.place("program-0").read_bytes(), before)
+
+    def test_damaged_files_of_the_run_are_written_again(self):
+        read = "--book-in=one.book"
+        self.begin(read)
+        names = ("list", "starts", "program-0", "book-in", "solve.py", "task.json")
+        before = {path: path.read_bytes() for path in map(self.place, names)}
+        for path, whole in before.items():
+            path.write_bytes(whole[:-5])
+        self.again(3, read)
+        self.assertEqual({path: path.read_bytes() for path in before}, before)
+
+    def test_other_options_are_refused_by_name(self):
+        words = ("--lines=20", "--scoring=discs", "--max-empties=07", "--complete", "--book-in=one.book", "work", "list.obf")
+        write("other.book", b"% ffobook 2 winner\n")
+        self.one = self.solve("--scoring=discs", "list.obf")
+        self.same(*words)
+        for old, new, how in (("--lines=20", "--lines=21", "with --lines 20"),
+                              ("--scoring=discs", "--scoring=sign", "with --scoring discs"),
+                              ("--max-empties=07", "--max-empties=8", "with --max-empties 07"),
+                              ("--complete", "--quiet", "with --complete"),
+                              ("--complete", "--book-out=new", "with --complete and without --book-out"),
+                              ("--book-in=one.book", "--book-in=other.book", "with another book as --book-in"),
+                              ("--book-in=one.book", "--quiet", "with --book-in")):
+            self.refused(2, f"work was begun {how}: use another folder, or the same options",
+                         *(new if word == old else word for word in words))
+        self.refused(2, "begun with --lines 20 and with --scoring discs and with --max-empties 07 and without --scores "
+                        "and with --complete and with --book-in: use another folder", "--scores", "work", "list.obf")
+        self.same(*words, "--table=9", "--workers=1", "--jobs=3", message=", 3 of them solved before")
+
+    def test_the_folder_of_an_earlier_version_is_refused(self):
+        self.begin()
+        asked = json.loads(Path("work/asked.json").read_text())
+        write("work/asked.json", json.dumps({**asked, "mark": "the work of ffosolve-many, form 1", "program": ""}))
+        self.refused(2, "work was begun by an earlier version: use another folder", *self.WORDS)
+
+    def test_a_list_that_grew_at_its_end_goes_on(self):
+        self.begin()
+        for text, message in ((many.SMALL[:68 * 30], "90 lines in 5 parts, 3 of them"),
+                              (many.SMALL[:68 * 30] + b"% more" + many.SMALL[:68 * 40], "130 lines in 7 parts, 4 of them")):
+            write("list.obf", many.SMALL + text)
+            self.one = self.solve("list.obf")
+            self.same(*self.WORDS, message=message)
+        self.same_book()
+        self.same(*self.WORDS, message="130 lines in 7 parts, 7 of them solved before")
+
+    def test_a_list_that_changed_is_refused_by_its_first_line_that_differs(self):
+        self.begin()
+        lines = many.SMALL.splitlines(keepends=True)
+        for text, line in ((b"".join(lines[:29] + [b"\n"] + lines[30:]), 30), (b"".join(lines[:-1]), 60),
+                           (b"%\n" + many.SMALL, 1), (b"", 1)):
+            write("list.obf", text)
+            self.refused(2, f"from line {line} on: use another folder, or the same list", *self.WORDS)
+        write("list.obf", many.SMALL)
+        self.again(3)
+
+    def test_a_part_that_failed_is_solved_again_alone(self):
+        write("list.obf", many.SMALL + b"% FAIL\n" + many.SMALL + b"% DIE\n")
+        self.one = self.solve("list.obf")
+        for _ in range(2):
+            ran = self.ends(1, b"", "not solved: 2 of 7 parts: part 0000003 (lines 61 to 80), part 0000006 (lines 121 to 122). "
+                                    "The same command solves only these\n", *self.WORDS, by=many.ACTS)
+            self.assertIn(b": this machine failed part 0000003 (lines 61 to 80): ffosolve: out of memory\n", ran.stderr)
+            self.assertIn(b": this machine failed part 0000006 (lines 121 to 122): killed by SIGKILL\n", ran.stderr)
+            self.assertEqual((Path("joined.book").exists(), len([*self.place("results").glob("000000[36]*")])), (False, 0))
+        self.place("program-0").unlink()
+        self.same(*self.WORDS, message=", 5 of them solved before")
+        self.same_book()
+        self.ends(3, b"", "not solved: 2 of 7 parts: ", "--scores", "--lines=20", "work2", "list.obf", by=many.ACTS)
+
+    def test_what_killed_runs_left_is_removed_and_nothing_else(self):
+        self.begin()
+        self.place("results/0000002").unlink()
+        strays = [self.place(name) for name in ("results/0000001.0123abcd.new", "program-0.0123abcd.new", "tmp.new/1.book",
+                                                "../asked.json.0123abcd.new")]
+        kept = [self.place(name) for name in ("results/mine.txt", "notes", "copy", "../notes.new")]
+        for path in strays + kept:
+            write(path, "?")
+        self.again(2)
+        self.assertEqual([path.exists() for path in strays + kept], [False] * 4 + [True] * 4)
+
+    def test_a_full_disk_ends_the_run_and_it_goes_on_when_there_is_room(self):
+        by = install("full")
+        change_many(by, "solve", "file.write(record)", "file.write(record) if 'ROOM' in os.environ or part < '0000005' else "
+                                 "open('/dev/full', 'wb', 0).write(b'?')")
+        words = ("--jobs=1", "--lines=5", *self.WORDS[1:])
+        ran = self.ends(3, b"", ": No space left on device\n", *words, by=by)
+        self.assertIn(b"cannot write work/run-", ran.stderr)
+        self.same(*words, message=", 5 of them solved before", by=by, places={"ROOM": ""})
+        self.same_book()
+
+
+class Files(Case):
+    """What is read, also from a pipe, and which folders are used."""
+
+    def test_a_list_on_standard_input(self):
+        self.same("--lines=20", "work", "-", message="-: 60 lines in 3 parts", input=many.SMALL)
+        self.same("--lines=20", "work", "/dev/stdin", message=", 3 of them solved before", input=many.SMALL)
+        self.assertEqual({path.name for path in Path("work").iterdir()}, {"asked.json", "lock", self.place().name})
+        with open("list.obf", "rb") as file:
+            self.same("--lines=20", "work", "-", message=", 3 of them solved before", stdin=file)
+        self.refused(2, "- is not the list that work was begun with, from line 1 on", "--lines=20", "work", "-",
+                     input=many.SMALL[68:])
+        ran = run("sh", "-c", '"$0" work - <&-', many.MANY)
+        self.assertEqual((ran.returncode, ran.stdout, ran.stderr),
+                         (3, b"", b"ffosolve-many: cannot read -: standard input is closed\n"))
+
+    def test_a_piped_list_and_book_are_read(self):
+        self.same("-c", '"$0" work <(cat list.obf) --book-in <(cat one.book) --book-out joined.book', many.MANY, by="bash")
+        self.same_book()
+        self.assertEqual(self.place("book-in").read_bytes(), Path("one.book").read_bytes())
+        self.assertEqual(os.listdir(many.BASE / "tmp"), [])
+
+    def test_texts_that_are_not_lists_are_refused(self):
+        for text, message in ((b"\xef\xbb\xbf" + many.SMALL, "it begins with a byte-order mark"),
+                              (many.SMALL.decode().encode("utf-16"), "it begins with a byte-order mark"),
+                              (many.SMALL.replace(b"\r", b"").replace(b"\n", b"\r"), "its lines end with CR alone"),
+                              (b"\r" + many.SMALL.partition(b"\n")[0].rstrip(), "its lines end with CR alone")):
+            write("other.obf", text)
+            self.refused(3, f"cannot read other.obf: {message}", "other.obf")
+            self.refused(3, f"cannot read -: {message}", "work", "-", input=text)
+        write("list.obf", many.SMALL.partition(b"\n")[0].rstrip() + b"\r")  # a line that lacks the end of its end
+        self.same("list.obf", text=self.solve("list.obf"))
+
+    def test_a_pipe_for_which_there_is_no_room(self):
+        self.refused(3, f"cannot copy - to {many.BASE}/tmp: File too large", "work", "-", input=many.SMALL,
+                     preexec_fn=limited("RLIMIT_FSIZE", 1000))
+
+    def test_a_part_has_at_most_the_bytes_of_a_file(self):
+        half, most = b"%" * (MOST_BYTES // 2 - 1) + b"\n", "has more than 1048576 bytes: "
+        Path("empty").mkdir()
+        for text, message in ((b"%" * (MOST_BYTES + 1), f"line 1 of - {most}no part can hold it"),
+                              (b"\n\n" + (b"%" + half) * 2, f"part 0000001 (from line 3 of - on) {most}use fewer lines, "
+                                                            "such as --lines 1")):
+            for name in ("a/b/work", "empty"):
+                self.refused(2, message, "--lines=2", name, "-", input=text)
+        self.assertEqual(self.many("--cut", "--lines=2", "work", "-", input=half * 4).stdout[:8], b"2 parts,")
+
+    def test_a_list_that_changes_while_it_is_read(self):
+        by = install("changing")
+        cut = "    lock_folder(command.folder)\n"
+        change_many(by, "folder", cut, f'{cut}    source.write_bytes(source.read_bytes().replace(b"X", b"O", 1))\n')
+        self.ends(3, b"", "list.obf changes while it is read", "--lines=6", "work", "list.obf", by=by)
+
+    def test_a_folder_with_other_files_is_refused_and_untouched(self):
+        for name in ("log", "run-1/parts", "lock", "copy", "a.new"):
+            write(Path("mine", name), "mine")
+        message = "name a new or an empty folder"
+        self.refused(2, f"mine has files that are not ffosolve-many's, such as a.new: {message}", "mine", "list.obf")
+        self.refused(2, message, ".", "list.obf")
+        for asked in ("{}", "[]", "", '{"mark": "the work of ffosolve-many, form 2", "run": "; x"}'):
+            write("mine/asked.json", asked)
+            self.refused(2, message, "mine", "list.obf")
+        for names in ("copy", "lock copy", "a.new", "lock a.new", "lock log"):
+            for name in names.split():
+                write(Path(names, name), "")
+            self.refused(2, message, names, "list.obf")
+
+    def test_a_folder_that_is_empty_or_was_just_begun_is_used(self):
+        for names in ((), ("lock",), ("lock", "asked.json.0123abcd.new")):
+            Path("work").mkdir()
+            for name in names:
+                write(Path("work", name), folder.MARK if len(names) > 1 else "")
+            self.same("work", "list.obf")
+            self.assertEqual([*Path("work").glob("*.new")], [])
+            shutil.rmtree("work")
+
+
+class Signals(Case):
+    """A signal ends all of a run."""
+
+    WORDS = ("--jobs=2", "--lines=5", *Case.WORDS[1:])
+
+    def open(self, *program, last="", **how):
+        """Starts the command, in a session of its own; each part takes 45 seconds once `last` are solved."""
+        places = {**os.environ, "PAUSE": "0.15", "LAST": str(last or 99)}
+        return self.start(*program, *self.WORDS, start_new_session=True, preexec_fn=as_at_a_login, env=places, **how)
+
+    def at_work(self, done):
+        """A run of twelve parts, once so many are solved, and two others are at work."""
+        ran = self.open(many.ACTS, last=done)
+        wait_until(lambda: self.done() >= done and len(self.programs()) == 2)
+        self.assertIsNone(ran.poll(), "it ended too early")
+        return ran
+
+    def done(self):
+        """How many parts are solved."""
+        return len(list(Path("work").glob("run-*/results/" + "[0-9]" * 7)))
+
+    def workers(self):
+        """The command lines, by their numbers, of processes that work in the test's folder."""
+        return processes_with("cwd", str(self.folder))
+
+    def programs(self):
+        return [number for number, words in self.workers().items() if "program-0" in words]
+
+    def whole_at_last(self, message=""):
+        """The command prints what one run does; then the folder is removed."""
+        self.same(*self.WORDS, by=many.ACTS, message=message)
+        self.same_book()
+        shutil.rmtree("work")
+        Path("joined.book").unlink()
+
+    def test_signals_end_all_of_it_within_a_second_and_it_goes_on(self):
+        for at, number in enumerate((signal.SIGTERM, signal.SIGINT, signal.SIGHUP, signal.SIGKILL), 1):
+            ran = self.at_work(2 * at)
+            ran.send_signal(number)
+            output, errors = ran.communicate(timeout=SECONDS)
+            wait_until(lambda: not self.workers(), 1 + os.getloadavg()[0] / os.cpu_count())
+            self.assertEqual((ran.returncode, output), (-number, b""))
+            interrupted = b"interrupted; the same command goes on with what is solved\n" in errors
+            self.assertEqual((interrupted, b"Traceback" in errors), (number != signal.SIGKILL, False))
+        self.whole_at_last("lines in 12 parts, 8 of them solved before")
+
+    def test_two_signals_together_end_it_without_a_traceback(self):
+        pairs = [(signal.SIGINT, signal.SIGTERM), (signal.SIGTERM, signal.SIGINT), (signal.SIGHUP, signal.SIGINT)] * 2
+        runs = []
+        for number in range(len(pairs)):
+            write(f"{number}/list.obf", many.SMALL)
+            runs.append(self.open(many.ACTS, last="0", cwd=f"{number}"))
+        wait_until(lambda: len(self.programs()) == 2 * len(runs))
+        for ran, pair in zip(runs, pairs):
+            for one in (signal.SIGSTOP, *pair, signal.SIGCONT):  # so that both come at once
+                ran.send_signal(one)
+        for ran, pair in zip(runs, pairs):
+            _, errors = ran.communicate(timeout=SECONDS)
+            self.assertIn(-ran.returncode, pair)
+            self.assertRegex(errors.decode(), "^.*\n.*: interrupted; the same command goes on with what is solved\n$")
+
+    def test_an_interrupt_at_the_start_prints_no_traceback(self):
+        by = install("starting")
+        change_many(by, "command", "import contextlib\n", "import contextlib, time\nopen('begun', 'w').close()\ntime.sleep(40)\n")
+        ran = self.open(by)
+        wait_until(Path("begun").exists)
+        ran.send_signal(signal.SIGINT)
+        self.assertEqual((ran.communicate(timeout=SECONDS), ran.returncode), ((b"", b""), -signal.SIGINT))
+
+    def test_a_second_command_in_the_folder_is_refused(self):
+        ran = self.at_work(1)
+        self.ends(3, b"", "another run works in work\n", *self.WORDS, by=many.ACTS)
+        self.assertIsNone(ran.poll())
+
+    def test_an_ignored_interrupt_is_ignored(self):
+        ran = self.open("sh", "-c", 'trap "" INT; exec "$@"', "sh", many.ACTS)
+        wait_until(lambda: self.done() > 0)
+        ran.send_signal(signal.SIGINT)
+        self.assertEqual((ran.communicate(timeout=SECONDS)[0], ran.returncode), (self.one, 0))
+
+    def test_kills_at_random_moments_lose_nothing(self):
+        """Of the program, of its group, or of one process that works for it."""
+        rng = random.Random(1)
+        for _ in range(KILLS):
+            ran = self.open(many.ACTS)
+            time.sleep(rng.uniform(0, 2))
+            worker = rng.choice([*self.workers()] or [ran.pid])
+            kill, one = rng.choice(((os.killpg, ran.pid), (os.kill, ran.pid), (os.kill, worker)))
+            with contextlib.suppress(ProcessLookupError):
+                kill(one, signal.SIGKILL)
+            output, _ = ran.communicate(timeout=SECONDS)
+            self.assertIn(ran.returncode, (0, -9) if output else (1, 3, 4, -9))
+            self.assertIn(output, (self.one, b""))
+            wait_until(lambda: not self.workers(), 1 + os.getloadavg()[0] / os.cpu_count())
+            if ran.returncode == 0 or rng.randrange(4) == 0:
+                self.whole_at_last()
