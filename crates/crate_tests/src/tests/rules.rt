@@ -11,13 +11,13 @@ use othello_rules::{RuleFault, Scoring, Side, Square};
 // turns: from north round to north-west, the nearest first.
 type Turned = (Discs, &'static [u8], &'static [u8]);
 
-// The mover's discs and the opponent's of UNEQUAL_CORNERS where White is to move.
+// The mover's discs and the opponent's of UNEQUAL_CORNERS with White to move.
 const UNEQUAL_WHITE: Discs = (UNEQUAL_CORNERS.1, UNEQUAL_CORNERS.0);
 
 const TURNED: [Turned; 13] = [
     (UNEQUAL_CORNERS, b"A1", &[1]),
     (UNEQUAL_CORNERS, b"H1", &[15]),
-    // Occupied, and empty where nothing is turned.
+    // Occupied squares, and empty ones on which nothing is turned.
     (UNEQUAL_CORNERS, b"B1", &[]),
     (UNEQUAL_WHITE, b"A1", &[]),
     // G2, F3 and E4, and then G1 to C1.

@@ -34,7 +34,7 @@ fn join(board: &[u8], rest: &[u8]) -> ArrayVec<u8, 160> {
     line
 }
 
-// Whether the line is whole in so much room, or the fault the writer's if the room is too small.
+// Whether the line is whole in this much room, or the fault is the writer's if there is less.
 fn is_written_in(room: usize, grid: &Grid, answer: &Answer, whole: &[u8]) -> bool {
     let mut bytes = [0; 160];
     let Some(mut left) = bytes.get_mut(..room) else {
