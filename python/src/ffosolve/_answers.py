@@ -1,4 +1,4 @@
-"""Answers."""
+"""The answer for a position."""
 import enum
 from typing import List, NamedTuple
 
@@ -6,7 +6,7 @@ from ._squares import square_names
 
 
 class Kind(enum.IntEnum):
-    """What attains a score."""
+    """How a score is reached."""
 
     MOVES = 0
     PASS = 1  # the side to move has no legal move, but the other side has one
@@ -17,8 +17,8 @@ ENDS = {Kind.PASS: "PS", Kind.OVER: "--"}
 
 
 class Answer(NamedTuple):
-    """The score of a position for the side to move, -64 to 64; what attains it; and the mask of every move that does, 0
-    if `kind` is PASS or OVER. As text it is `+62 A1,H1`, `-04 PS` for a pass, or `+32 --` if the game is over."""
+    """The score of a position for the side to move, -64 to 64; how it is reached; and the mask of all the best moves, which
+    is 0 if `kind` is PASS or OVER. As text it is `+62 A1,H1`, `-04 PS` for a pass, or `+32 --` if the game is over."""
 
     score: int
     kind: Kind

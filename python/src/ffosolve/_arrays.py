@@ -19,7 +19,7 @@ SIZES = numpy.array([bin(byte).count("1") for byte in range(256)], numpy.uint8)
 
 
 class Answers(NamedTuple):
-    """The members of many answers as arrays of int32, int32 and uint64."""
+    """Many answers: an array for each member, of int32, int32 and uint64."""
 
     score: Any
     kind: Any
@@ -45,7 +45,7 @@ def masks_of(own: Any, opp: Any) -> Any:
 
 
 def runs_of(solver: "Solver", masks: Any, threads: int) -> List[Run]:
-    """The parts of positions, for a number of threads. Raises the refusal of the first position that is refused."""
+    """Cuts positions into parts for a number of threads. Raises the refusal of the first refused position."""
     own, opp = masks[:, 0], masks[:, 1]
     empties = 64 - SIZES[(own | opp).view(numpy.uint8)].reshape(-1, 8).sum(axis=1, dtype=numpy.int64)
     for index in numpy.flatnonzero((own & opp != 0) | (empties > solver.max_empties)).tolist():
@@ -57,7 +57,7 @@ def runs_of(solver: "Solver", masks: Any, threads: int) -> List[Run]:
 
 
 def found_by(solver: "Solver", call: Any, record: Any, kind: Any, masks: Any, threads: int) -> Any:
-    """An array of what a call writes for each position: the elements are of `kind`, which is the library's `record`."""
+    """What a call writes for each position: an array whose elements have the type `kind`, the library's `record`."""
     found: Any = numpy.empty(len(masks), kind)
 
     def call_for(run: Run) -> None:

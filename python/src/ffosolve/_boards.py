@@ -22,10 +22,10 @@ def checked_side(side: str) -> str:
 class Board:
     """A position to look at: a picture in a notebook, a text when it is printed.
 
-    `own` and `opp` are the masks of the mover's discs and the other side's, and `side` is the mover's colour, "X" for
-    Black or "O" for White. `scores` are written into their squares, by the squares' names; the greatest are marked.
-    `state` follows the side's name below the board. Raises ValueError for another side and for a score in a square that
-    is not empty, and TypeError for a score that is not a number."""
+    `own` and `opp` are the masks of the discs of the side to move and of the other side. `side` is the colour of the side
+    to move, "X" for Black or "O" for White, and `state` follows its name below the board. `scores` has scores by squares'
+    names; they are written into their squares, and the highest are marked. Raises ValueError for another side and for a
+    score in a square that is not empty, and TypeError for a score that is not a number."""
 
     def __init__(self, own: int, opp: int, side: str, scores: Optional[Mapping[str, float]] = None,
                  state: str = "is to move") -> None:

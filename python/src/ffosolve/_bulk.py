@@ -1,4 +1,4 @@
-"""Many positions: they are cut into parts, which threads solve, and the results come in order."""
+"""Solves many positions: cuts them into parts, solves these on threads, and yields the results in order."""
 import queue
 import threading
 import time
@@ -15,8 +15,8 @@ B = TypeVar("B")
 # A part of this weight is solved in some hundredths of a second. A position weighs 1 up to 8 empty squares, and twice as
 # much with each further one, so from 16 on it has a part of its own.
 MOST_WEIGHT, LIGHTEST = 256, 8
-MOST_SECONDS = 0.01  # for which more positions are waited for before a part is solved
-AHEAD = 32  # parts for each thread, so that one that takes long holds up no other thread
+MOST_SECONDS = 0.01  # the longest wait for more positions before a part is solved
+AHEAD = 32  # parts for each thread, so that a part that takes long does not hold up the other threads
 # A call is brief for one position with 14 empty squares, which takes at most 0.15 s, and for 4 times as many positions with
 # each square less, down to 8.
 BRIEF = 4096
@@ -35,7 +35,7 @@ def parts_of(
     most_weight: float = MOST_WEIGHT,
     most_seconds: float = MOST_SECONDS,
 ) -> Iterator[Part]:
-    """The parts of positions, up to the first one that is refused."""
+    """Cuts positions into parts, up to the first refused one."""
     clock = time.monotonic
     start, most, weight, part, end = 0, 0, 0, [], clock() + most_seconds  # type: ignore[var-annotated]
     for position in positions:
@@ -63,7 +63,7 @@ def checked_threads(threads: int) -> int:
 
 
 def in_order(call: Callable[[A], B], parts: Iterable[A], threads: int) -> Iterator[B]:
-    """What a call returns for each part, in their order, as it comes."""
+    """Yields what a call returns for each part, in their order, each as soon as it is known."""
     if threads == 1:
         yield from map(call, parts)
         return
@@ -89,10 +89,10 @@ def in_order(call: Callable[[A], B], parts: Iterable[A], threads: int) -> Iterat
 
 
 def interruptible(call: Callable[..., A], count: int, empties: int, *arguments: Any) -> A:
-    """What a call of the library returns, for `count` positions with at most `empties` empty squares.
+    """What a call of the library returns for `count` positions with at most `empties` empty squares.
 
-    The main thread has another one make it, unless the call is brief. So a signal handler such as that of Ctrl-C can raise
-    at once; the call itself goes on until it or the process ends.
+    Unless it is brief, the main thread lets another one make it. So Ctrl-C, or another signal, can raise an exception at
+    once; the call itself goes on until it or the process ends.
     """
     is_brief = count << 2 * max(0, empties - LIGHTEST) <= BRIEF
     if is_brief or threading.current_thread() is not threading.main_thread():
@@ -106,7 +106,7 @@ def interruptible(call: Callable[..., A], count: int, empties: int, *arguments: 
 
 
 def start_worker(tasks: Iterable[Tuple["Future[B]", A]], call: Callable[[A], B]) -> None:
-    """Starts a thread that makes the calls of tasks. A process doesn't wait for it when it ends."""
+    """Starts a thread that makes a call for each task. The process ends without waiting for it."""
 
     def work() -> None:
         for future, part in tasks:

@@ -1,4 +1,4 @@
-"""The shared library: how it is found, and its calls as ffosolve.h declares them."""
+"""Finds the shared library, and declares its calls as ffosolve.h does."""
 import ctypes
 import functools
 import os
@@ -13,7 +13,7 @@ _loaded: List[ctypes.CDLL] = []
 
 
 class LibraryNotFound(OSError):
-    """The shared library isn't there, or this package can't call it."""
+    """There is no shared library that this package can call."""
 
 
 class CPosition(ctypes.Structure):
@@ -29,9 +29,9 @@ class CMoveScores(ctypes.Structure):
 
 
 def places() -> List[str]:
-    """Where to look for the library, in this order, if no path is given: the path in the environment variable
-    FFOSOLVE_LIBRARY; this package, if it was installed with the library, for the best level of processors that loads;
-    the search path of the system's loader; `lib` of this Python; /usr/local/lib."""
+    """Where to look for the library if no path is given, in order: the path in the environment variable FFOSOLVE_LIBRARY, or
+    else this package, if it was installed with the library, for the best level of processors that loads; the search path
+    of the system's loader; `lib` of this Python; /usr/local/lib."""
     named = os.environ.get("FFOSOLVE_LIBRARY")
     if named:
         return [named]
@@ -41,7 +41,7 @@ def places() -> List[str]:
 
 
 def load(path: Union[str, "os.PathLike[str]", None] = None) -> ctypes.CDLL:
-    """The library with a path, or else the first that is found. Raises LibraryNotFound."""
+    """Loads the library with a path, or else the first that is found. Raises LibraryNotFound."""
     errors = []
     for place in [os.path.abspath(path)] if path is not None else places():
         try:
@@ -53,7 +53,7 @@ def load(path: Union[str, "os.PathLike[str]", None] = None) -> ctypes.CDLL:
 
 
 def loaded() -> ctypes.CDLL:
-    """A library that was loaded before, or else the first that is found. All of them play by the same rules."""
+    """A library that is loaded already, or else the first that is found. All of them play by the same rules."""
     return _loaded[0] if _loaded else load()
 
 

@@ -1,4 +1,4 @@
-"""Positions as two masks: how many squares are empty, why one is not solved, and how the library reads them."""
+"""Positions as two masks: their empty squares, their refusals, and their form in the library."""
 import array
 import itertools
 import reprlib
@@ -17,7 +17,7 @@ def not_a_position(it: object) -> TypeError:
 
 
 def empties_of(position: Sequence[int]) -> int:
-    """How many squares are empty. Raises TypeError for another object than a position."""
+    """How many squares are empty. Raises TypeError for anything but a position."""
     try:
         own, opp = position
         return 64 - size_of(own | opp)

@@ -32,9 +32,9 @@ class Masks(NamedTuple):
 class Position(Masks):
     """The masks of the discs of the side to move (`own`) and of the other side (`opp`), and the colour of the side to move.
 
-    Square A1 is bit 0 of a mask and H8 bit 63. Any two numbers can be put in; the rules and a Solver refuse what is not a
-    position. `side` is "X" (black) or "O" (white). Positions are printed and shown in their colours, but no answer depends
-    on them: positions with equal masks are equal. Raises ValueError for another side.
+    Square A1 is bit 0 of a mask and H8 bit 63. Any two numbers make a Position; the rules and a Solver refuse impossible
+    ones. `side` is "X" (black) or "O" (white). Positions are printed and shown in their colours, but no answer depends on
+    them: positions with equal masks are equal. Raises ValueError for another side.
 
     A position does not change: `play`, `play_all` and `passed` return another one. The shared library knows the rules, so
     `legal_moves`, `must_pass`, `is_over`, `play`, `play_all` and `score` raise LibraryNotFound without it. They raise
@@ -167,7 +167,7 @@ class Line(Position):
 
     `listed` has the moves that the line lists, in their order, each with its score from -64 to 64:
     `(("H1", 62), ("A1", 52))`. "PS" is a pass, and "--" the end of the game. They are as they are in the line, right or
-    wrong. `number` is the line's number, from 1, if many were read, else None.
+    wrong. `number` is the line's number, from 1, if `read_lines` read it, and otherwise None.
     """
 
     listed: Tuple[Tuple[str, int], ...] = ()
@@ -175,7 +175,7 @@ class Line(Position):
 
 
 def read_line(text: Union[str, bytes], number: Optional[int]) -> Line:
-    """The position of a line. The line's number stands in its refusals."""
+    """Reads a line. A refusal has the line's number."""
     try:
         found: Any = LINE.match(without_end(text))
         _, letters, _, side, rest = found.groups()
@@ -193,7 +193,7 @@ def read_line(text: Union[str, bytes], number: Optional[int]) -> Line:
 
 
 def fault_of(found: "re.Match[bytes]", number: Optional[int]) -> LineRefused:
-    """Why a line holds no position: the first fault from the left."""
+    """The first reason, from the left, why a line holds no position."""
     content, squares = found.string[found.end(1):], len(found[2])
     if not content or content.startswith(b"%"):
         return NoPosition(0, number)

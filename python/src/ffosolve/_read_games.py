@@ -1,4 +1,4 @@
-"""Games of files, as a program reads them."""
+"""Reads the games of a file."""
 import contextlib
 import io
 import os
@@ -40,7 +40,7 @@ def read_games(
 
 @contextlib.contextmanager
 def opened(source: Any) -> Iterator[Any]:
-    """A file whose first bytes can be peeked at. A file of the caller stays open."""
+    """A file that has `peek`. If the caller opened it, it stays open."""
     if isinstance(source, (str, os.PathLike)):
         with open(source, "rb") as file:
             yield file

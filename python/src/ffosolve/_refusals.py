@@ -13,7 +13,7 @@ __all__ = [
 
 
 class Status(enum.IntEnum):
-    """What a call of the library returns, as ffosolve.h names it."""
+    """What a call of the library returns, with the names of ffosolve.h."""
 
     DONE = 0
     UNKNOWN_SCORING = 1
@@ -112,7 +112,7 @@ class LineRefused(Refused, ValueError):
 
 
 class NoPosition(LineRefused):
-    """`read_lines` skips these lines."""
+    """The line is blank or a comment. `read_lines` skips it."""
 
     status, reason = Status.SKIPPED, "no position: the line is blank or a comment"
 
@@ -139,7 +139,8 @@ def refusal_of(status: int, *arguments: Any) -> Refused:
 
 
 def checked_number(name: str, value: int, least: int) -> int:
-    """An argument that is a whole number and not less than `least`. Raises TypeError and ValueError, which name it."""
+    """The value of an argument that has to be a whole number, at least `least`. Raises TypeError and ValueError with its
+    name."""
     if not hasattr(value, "__index__"):
         raise TypeError(f"{name} is a whole number, not {reprlib.repr(value)}")
     if value < least:

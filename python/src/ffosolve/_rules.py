@@ -19,7 +19,7 @@ def moves(library: ctypes.CDLL, position: Sequence[int]) -> int:
 
 
 def play(library: ctypes.CDLL, position: Sequence[int], square: Union[int, str]) -> Tuple[int, int]:
-    """The masks after a move to a square, for the other side, which is then to move. Raises SharedSquare and NoMove."""
+    """The masks after a move to a square; the other side is then to move. Raises SharedSquare and NoMove."""
     number = number_of(square)
     is_square, after = 0 <= number < 64, CPosition()
     status = library.ffosolve_play(c_position(position), number if is_square else NO_SQUARE, after)
@@ -30,7 +30,7 @@ def play(library: ctypes.CDLL, position: Sequence[int], square: Union[int, str])
 
 
 def illegal_move(library: ctypes.CDLL, position: Sequence[int], move: str) -> NoMove:
-    """The refusal of a move, which names the side to move and shows the board as an OBF line."""
+    """The refusal of a move. It names the side to move, and shows the board as an OBF line."""
     (own, opp), side = position, getattr(position, "side", "X")
     why = f" for {SIDES[side]}"
     if not moves(library, position):
@@ -39,6 +39,6 @@ def illegal_move(library: ctypes.CDLL, position: Sequence[int], move: str) -> No
 
 
 def accept(status: int) -> None:
-    """Raises the refusal that a status stands for, unless that is DONE."""
+    """Raises the refusal for a status, unless that is DONE."""
     if status != Status.DONE:
         raise refusal_of(status)

@@ -1,4 +1,4 @@
-"""An author's scores for moves, beside the exact ones that ffoscores prints."""
+"""Compares the scores of an evaluation with the exact ones that ffoscores prints."""
 import itertools
 import re
 from typing import Any, Iterator, List, NamedTuple, Tuple, Union
@@ -24,7 +24,7 @@ class WrongScore(NamedTuple):
 
 
 class ScoreComparison(NamedTuple):
-    """How far the scores of a list are from the exact ones. An error is a number of discs, without sign."""
+    """How far the scores of a list are from the exact ones. Errors are in discs, without sign."""
 
     lines: int  # positions with exact scores
     moves: int  # listed scores of legal moves
@@ -70,8 +70,8 @@ def compare_scores(listed: Source, scored: Source) -> ScoreComparison:
 
 
 def pairs_of(listed: Source, scored: Source) -> Iterator[Tuple[int, Any, Any]]:
-    """The lines of the list that hold a position or are refused: each with its number, and what the output has for it, which
-    is None if it is refused."""
+    """Yields each line of the list that is not skipped: its number, its text, and the line that `ffoscores` printed for it,
+    or None if it is refused."""
     both = itertools.zip_longest(lines_of(listed), lines_of(scored), fillvalue=b"")
     for number, (text, answer) in enumerate(both, 1):
         line, exact = found_in(text, number), found_in(answer, number)
@@ -91,7 +91,7 @@ def found_in(text: Union[str, bytes], number: int) -> Union[Line, LineRefused]:
 
 
 def fields_of(text: Union[str, bytes]) -> List[bytes]:
-    """What stands between the semicolons of a line."""
+    """The pieces of a line between semicolons."""
     found: Any = LINE.match(without_end(text))
     pieces: List[bytes] = found[5].split(b";")
     return pieces

@@ -1,4 +1,4 @@
-"""The scoring."""
+"""The ways of counting a score."""
 import enum
 from typing import Optional, Union
 
@@ -6,7 +6,7 @@ from ._refusals import UnknownScoring
 
 
 class Scoring(enum.IntEnum):
-    """What a score counts when the game is over, for the side to move. A string finds it too: `Scoring("winner")`."""
+    """What a score counts when the game is over, for the side to move. `Scoring("winner")` is Scoring.WINNER."""
 
     WINNER = 0  # its discs minus the other side's; the winner gets the empty squares
     DISCS = 1  # its discs minus the other side's

@@ -142,7 +142,7 @@ class Solver:
         return moves(self._library, position)
 
     def play(self, position: Position, square: Union[int, str]) -> Position:
-        """The position after a move, as `Position.play` returns it."""
+        """The position after a move, as `Position.play` returns it, by the rules of this solver's library."""
         return Position(*play(self._library, position, square), OTHER[getattr(position, "side", "X")])
 
     def positions(self, game: Union[Game, str]) -> List[Position]:
@@ -171,7 +171,7 @@ class Solver:
         return Answer(answer.score, KINDS[answer.kind], answer.best)
 
     def _all_parts(self, positions: Iterable[Position], *limits: float) -> List[Part]:
-        """The parts of positions. Raises the refusal of the first position that is refused."""
+        """Cuts positions into parts. Raises the refusal of the first refused position."""
         parts = list(parts_of(positions, self._max_empties, *limits))
         if parts and parts[-1].refusal is not None:
             raise parts[-1].refusal
@@ -184,7 +184,7 @@ class Solver:
         return self._call_for(part, self._library.ffosolve_move_scores_all, CMoveScores, scores_in)
 
     def _call_for(self, part: Part, call: Any, record: Any, read: "Callable[[Any], List[A]]") -> "Results[A]":
-        """What the call writes for the positions of a part, a record for each, as `read` returns it."""
+        """The results of a call for the positions of a part. It writes a record for each, which `read` reads."""
         asked, count, entries = c_positions(part.positions), len(part.positions), self._entries_for(part.empties)
         found = (record * count)()
         more = asked, count, self._scoring, entries, found, count, ctypes.c_size_t()
@@ -201,7 +201,7 @@ def answers_in(found: Any) -> List[Answer]:
 
 
 def scores_in(found: Any) -> List[Dict[str, int]]:
-    """For each position, the scores of the moves by their squares' names."""
+    """The scores of each position's moves, by the squares' names."""
     rows = []
     for row in MOVE_SCORES.iter_unpack(found):
         its, moves = {}, row[64]

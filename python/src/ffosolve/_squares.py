@@ -14,7 +14,7 @@ def square_name(number: int) -> str:
 
 
 def square_number(name: str) -> int:
-    """The number, 0 to 63, of the square with a name, in either case. Raises ValueError if it is not a name."""
+    """The number, 0 to 63, of the square with a name, in either case. Raises ValueError for any other name."""
     try:
         return NAMES.index(name.upper())
     except (AttributeError, ValueError):
@@ -22,7 +22,7 @@ def square_number(name: str) -> int:
 
 
 def number_of(square: Union[int, str]) -> int:
-    """The number of a square that is given by its name or its number."""
+    """The number of a square, which may be a name or a number."""
     if not isinstance(square, str) and not hasattr(square, "__index__"):
         raise TypeError(f"a square is a name such as 'F5' or a number from 0 to 63, not {reprlib.repr(square)}")
     return square_number(square) if isinstance(square, str) else operator.index(square)
