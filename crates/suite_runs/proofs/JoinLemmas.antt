@@ -2,7 +2,7 @@
 use Rattle.std.proofs.Common.{◌≡◌, ℕ, List, [], ◌∷◌, ◌++◌, map, refl, sym, ap, ap₂, ◌∙◌, inl}
 use Rattle.std.specs.Prelude.{Option, Some, None, Result, Ok, Err, IfOk, IfErr, Vec}
 use Rattle.std.specs.declared.alloc.Global.{Global}
-use Rattle.std.proofs.lemmas.List.{append-nil, map-append}
+use Rattle.std.proofs.lemmas.List.{map-append}
 use Rattle.othello_rules.specs.declared.scoring.Scoring.{Scoring}
 use Rattle.program_settings.specs.declared.criteria.Criteria.{Criteria}
 use Rattle.suite_runs.specs.Part.{GivesPart, GivesParts, IsPartFault, part_view, part_view_of}
