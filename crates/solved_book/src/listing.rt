@@ -53,7 +53,11 @@ fn field_lists_pass(listed_move: ListedMove, listed_score: i8, score: i8) -> boo
 fn is_pass_listed(listed: &[(ListedMove, i8)], score: i8) -> bool
     ensures { result ≡ list_any (field_lists_pass score) listed.now }
 {
-    listed.iter().any(|(listed_move, listed_score)| field_lists_pass(*listed_move, *listed_score, score))
+    listed.iter().any(|(listed_move, listed_score)| field_lists_pass(
+        *listed_move,
+        *listed_score,
+        score,
+    ))
 }
 
 // The squares that are listed with a score; if there is none, a pass if one is listed with it,
