@@ -1,8 +1,9 @@
 """What the programs print for --help, --version and command lines that they refuse, before they read anything."""
 import os
+import re
 import subprocess
 
-from tests.support import ROOT, InFolder, built, run, stored
+from tests.support import ROOT, InFolder, built, run, stored, write
 from ffosolve import MOST_ENTRIES
 
 LARGE = MOST_ENTRIES + 1
@@ -86,6 +87,22 @@ class CommandLines(InFolder):
             for line in ("--help", "-h", "-hx", "--help --best", "none.obf -h"):
                 with self.subTest(name=name, line=line):
                     self.ends((0, text, b""), name, *line.split())
+
+    def test_limits_that_help_names_hold(self):
+        for name, status in zip(PROGRAMS, (1, 3)):
+            text = " ".join(run(built(name), "--help").stdout.decode().split())
+            limits = re.findall(r"--(\S+) <N> [^<]*?\b0 to (\d+)", text)
+            self.assertEqual([option for option, _ in limits], ["max-empties", "workers"])
+            for option, most in limits:
+                for number, wanted in ((int(most), 0), (int(most) + 1, 2)):
+                    self.assertEqual(run(built(name), f"--{option}={number}", "--version").returncode, wanted, (name, option))
+            files, size = set(re.findall(r"(?:files, at most|more than) (\d+)", text)), set(re.findall(r"(\d+) MiB", text))
+            self.assertEqual((len(files), len(size)), (1, 1))
+            files, size = int(*files), int(*size) << 20
+            write("most", b" " * size)
+            write("large", b" " * (size + 1))
+            for words, wanted in ((["/dev/null"] * files, 0), (["/dev/null"] * (files + 1), status), (["most"], 0), (["large"], status)):
+                self.assertEqual(run(built(name), *words).returncode, wanted, (name, len(words), words[0]))
 
     def test_version_is_that_of_the_file_version(self):
         for name in PROGRAMS:

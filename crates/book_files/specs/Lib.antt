@@ -1,3 +1,2 @@
 pub mod BookPlace
 pub mod SolveError
-pub mod ProgressText

@@ -39,17 +39,17 @@ unfoldable pub solve_error_text : SolveError → List ℕ
 solve_error_text error = codes "ffosolve: " ++ (solve_error_reason error ++ 10 ∷ [])
 
 -- the exit status of `ffosolve` after an error
-abbrev pub status_of : SolveError → ℕ
-status_of (Program Memory) = 1
-status_of (Program (BadInput fault)) = 1
-status_of (Program BadWords) = 2
-status_of (Program (CannotRead name)) = 3
-status_of (Program (CannotWrite name)) = 3
-status_of Mixed = 1
-status_of (BadBook fault) = 3
-status_of (BadPlace name) = 3
-status_of (OverwritesFile name) = 3
-status_of (OverwritesBookIn name) = 3
+abbrev pub solve_status_of : SolveError → ℕ
+solve_status_of (Program Memory) = 1
+solve_status_of (Program (BadInput fault)) = 1
+solve_status_of (Program BadWords) = 2
+solve_status_of (Program (CannotRead name)) = 3
+solve_status_of (Program (CannotWrite name)) = 3
+solve_status_of Mixed = 1
+solve_status_of (BadBook fault) = 3
+solve_status_of (BadPlace name) = 3
+solve_status_of (OverwritesFile name) = 3
+solve_status_of (OverwritesBookIn name) = 3
 
 -- the error comes before anything is printed; each does except `CannotWrite`
 abbrev pub IsSilent : SolveError → Type 0

@@ -1,8 +1,8 @@
 //! The place of a file that is to be written. It is tested before anything is solved.
 
-ghost use Rattle.std.specs.Prelude.{◌≡◌, ◌⊎◌, ◌↔◌, None, IfErr, IfOk, IfSome, IsOk};
+ghost use Rattle.std.specs.Prelude.{◌≡◌, ◌⊎◌, ◌↔◌, IfErr, IfOk, IsOk, Ok};
 ghost use Rattle.book_files.specs.BookPlace.{IsFree, IsRefusalOf};
-ghost use Rattle.book_files.specs.SolveError.{IsSilent, status_of};
+ghost use Rattle.book_files.specs.SolveError.{IsSilent, solve_status_of};
 
 use crate::found::Found;
 use crate::solve_error::{SolveError, place_error};
@@ -96,36 +96,31 @@ pub struct BookPlace<'a> {
     pub found: Found,
 }
 
-/// Tests that the book to be written, if there is one, can be written under its name, and destroys
-/// nothing there, and gives its place; None if there is no name. A file of that name, unless it
-/// is a pipe, has to open for writing. It must be possible to make a file next to it, if it is a
-/// regular file or doesn't exist. The errors are `BadPlace` with the name, even if it is empty or
-/// the file is read as a list; `OverwritesBookIn` if the file is the book that is read, by
-/// whatever name; `OverwritesFile` if it isn't empty and doesn't begin as a book; `CannotRead`
-/// if that can't be seen; and out of memory.
+/// Tests that a book can be written under this name, where this was found, and destroys nothing
+/// there. A file of that name, unless it is a pipe, has to open for writing. It must be possible to
+/// make a file next to it, if it is a regular file or doesn't exist. The errors are `BadPlace` with
+/// the name, even if it is empty or the file is read as a list; `OverwritesBookIn` if the file is
+/// the book that is read; `OverwritesFile` if it isn't empty and doesn't begin as a book;
+/// `CannotRead` if what is there can't be read; and out of memory.
 pub fn find_place<'a, T: Files>(
     rt: &T,
     alloc: Global,
-    name: &'a Option<String>,
-    book_in: &Option<String>,
-    lists: &[String],
-) -> Result<Option<BookPlace<'a>>, SolveError<'a>>
-    ensures named { IfOk result (λ place. place ≡ None ↔ name.now ≡ None) }
-    ensures free { IfOk result (λ place. IfSome place (λ p. IsFree p.found)) }
+    name: &'a str,
+    found: io::Result<Found>,
+) -> Result<BookPlace<'a>, SolveError<'a>>
+    ensures found { IfOk result (λ place. found ≡ Ok place.found) }
+    ensures free { IfOk result (λ place. IsFree place.found) }
+    ensures refused { IfOk found (λ f. (IsFree f → ⊥) → IfErr result (IsRefusalOf f name.entry)) }
     ensures silent { IfErr result IsSilent }
-    ensures status { IfErr result (λ error. (status_of error ≡ 1) ⊎ (status_of error ≡ 3)) }
+    ensures status { IfErr result (λ error. (solve_status_of error ≡ 1) ⊎ (solve_status_of error ≡ 3)) }
 {
-    let Some(name) = name else {
-        return Ok(None);
-    };
-    let name = name.as_str();
-    let found = match Found::under(rt, name, book_in, lists) {
+    let found = match found {
         Ok(found) => found,
         Err(fault) => return Err(SolveError::Program(read_error(&fault, name))),
     };
     check_found(found, name)?;
     match try_place(rt, alloc, name) {
-        Ok(()) => Ok(Some(BookPlace { name, found })),
+        Ok(()) => Ok(BookPlace { name, found }),
         Err(fault) => Err(place_error(&fault, name)),
     }
 }

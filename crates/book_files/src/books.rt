@@ -3,7 +3,7 @@
 ghost use Rattle.std.specs.Prelude.{◌≡◌, ◌⊎◌, ◌↔◌, None, IfOk, IfErr, IfSome};
 ghost use Rattle.solved_book.specs.Books.{book_text};
 ghost use Rattle.book_files.specs.BookPlace.{IsFree};
-ghost use Rattle.book_files.specs.SolveError.{IsSilent, status_of};
+ghost use Rattle.book_files.specs.SolveError.{IsSilent, solve_status_of};
 
 use crate::book_place::BookPlace;
 use crate::new_file::NewFile;
@@ -77,7 +77,7 @@ pub fn read_claims<'a, T: Files>(
     name: &'a Option<String>,
 ) -> Result<Option<Claims>, SolveError<'a>>
     ensures silent { IfErr result IsSilent }
-    ensures status { IfErr result (λ error. (status_of error ≡ 1) ⊎ (status_of error ≡ 3)) }
+    ensures status { IfErr result (λ error. (solve_status_of error ≡ 1) ⊎ (solve_status_of error ≡ 3)) }
 {
     let Some(name) = name else {
         return Ok(None);
@@ -124,7 +124,7 @@ pub fn ready_book<'a, T: Files>(
 /// Writes the book, if one is to be written. The error is `CannotWrite` with the book's name.
 pub fn write_book<'a, T: Files>(rt: &T, book: &Option<NewFile<'a>>) -> Result<(), SolveError<'a>>
     ensures told { IfErr result (λ error. IsSilent error → ⊥) }
-    ensures status { IfErr result (λ error. status_of error ≡ 3) }
+    ensures status { IfErr result (λ error. solve_status_of error ≡ 3) }
 {
     let Some(file) = book else {
         return Ok(());

@@ -70,7 +70,7 @@ fn leads_to<T: Files>(rt: &T, name: &str, file: &Metadata) -> bool {
 impl Found {
     /// What is found under this name, where the program reads this book and these lists. The error
     /// is that of a file that can't be read.
-    pub(crate) fn under<T: Files>(
+    pub fn under<T: Files>(
         rt: &T,
         name: &str,
         book_in: &Option<String>,

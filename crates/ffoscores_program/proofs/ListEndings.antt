@@ -7,8 +7,9 @@ use Rattle.list_printer.specs.Output.{AppendsFront}
 use Rattle.program_settings.specs.InputFault.{first_large}
 use Rattle.program_settings.specs.declared.limits.TheConstants.{MOST_FILES}
 use Rattle.program_settings.specs.Settings.{criteria_of}
-use Rattle.ffoscores_program.specs.Options.{ListRequest}
+use Rattle.ffoscores_program.specs.Options.{AsksLists, ListRequest, ffoscores}
 use Rattle.ffoscores_program.specs.Lists.{AreLists, PrintsLists, StopsLists}
+use Rattle.program_parts.specs.CommandLine.{IsFaultless}
 use Rattle.program_parts.specs.Inputs.{AreFrontsOf}
 use Rattle.program_parts.specs.declared.program_error.ProgramError.{ProgramError}
 use Rattle.program_parts.proofs.EndingLemmas.{whole_texts}
@@ -29,3 +30,7 @@ pub stopped : (r : Result Bool ProgramError) (q : ListRequest) (given old new : 
     → OnErr r (StopsLists q given old new)
 stopped (Ok right) q given old new texts lists front = tt
 stopped (Err error) q given old new texts lists front = inr (record { texts = texts; lists = lists; front = front })
+
+-- clap finds no fault in words that ask for a request
+pub asked_faultless : (words : List (List ℕ)) (r : ListRequest) → AsksLists words r → IsFaultless ffoscores words
+asked_faultless words r a = record { names = a.names; named = a.named; faultless = a.faultless }

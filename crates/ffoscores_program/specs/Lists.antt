@@ -60,7 +60,8 @@ pub record AreListsBegun (words : List (List ℕ)) (given old new : Option (List
 -- something in them is wrong; with 3 after printing nothing, help or the version, or a front.
 pub record EndsFfoscores (words : List (List ℕ)) (given old new : Option (List ℕ)) (status : ℕ)
     : Type 0 where
-  pub ends : EndsProgram ffoscores words old new status (AreListsPrinted words given old new true)
+  pub ends : EndsProgram ffoscores 3 words old new status
+      (AreListsPrinted words given old new true)
   pub wrong : status ≡ 1 → AreListsPrinted words given old new false
   pub stopped : status ≡ 3
       → AsksForText ffoscores words ⊎ ((new ≡ old) ⊎ AreListsBegun words given old new)

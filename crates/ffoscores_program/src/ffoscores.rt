@@ -95,6 +95,7 @@ fn carry_out<'a, T: Files + Threads + Wait, R: Read, W: Write>(
 /// can't be written, or if memory ran out. An error that ends the program early is printed on
 /// standard error, as one line or as clap's text, and the lines that were printed before stay; a
 /// failure of standard error changes nothing.
+#[tactic(auto, using(crate::proofs::ListEndings::asked_faultless))]
 pub fn list_program<T: Files + Threads + Wait, R: Read, W: Write, E: Write>(
     rt: &T,
     alloc: Global,

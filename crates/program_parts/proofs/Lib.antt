@@ -5,3 +5,4 @@ pub mod NumberLemmas
 pub mod DefaultLemmas
 pub mod SettingsLemmas
 pub mod EndingLemmas
+pub mod OptionLemmas

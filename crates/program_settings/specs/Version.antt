@@ -1,7 +1,7 @@
 -- The version as a text and as a number.
 use Rattle.std.specs.Prelude.{◌≡◌, ◌++◌, ◌/◌, ◌%◌, ℕ, List, codes, refl}
 use Rattle.std.specs.Fmt.{decimal, digits}
-use Rattle.program_settings.specs.declared.limits.TheConstants.{VERSION, VERSION_NUMBER}
+use Rattle.program_settings.specs.declared.version.TheConstants.{VERSION, VERSION_NUMBER}
 
 -- the text of the version with this number
 abbrev pub version_text : ℕ → List ℕ

@@ -1,4 +1,5 @@
-//! What is set for a run and for every program: limits, settings, and which files are refused.
+//! What is set for a run and for every program: limits, settings, the version, and which files are
+//! refused.
 //!
 //! ```rust
 //! use program_settings::{MOST_FILES, Settings, check_files};
@@ -15,12 +16,13 @@ mod criteria;
 mod input_fault;
 mod limits;
 mod settings;
+mod version;
 
 pub use criteria::Criteria;
 pub use input_fault::{InputFault, check_files};
 pub use limits::{
     DEFAULT_EMPTIES, DEFAULT_EMPTIES_TEXT, DEFAULT_ENTRIES, DEFAULT_ENTRIES_TEXT, DEFAULT_WORKERS,
     DEFAULT_WORKERS_TEXT, MOST_BYTES, MOST_EMPTIES, MOST_ENTRIES, MOST_FILES, MOST_WORKERS,
-    VERSION, VERSION_NUMBER,
 };
 pub use settings::Settings;
+pub use version::{VERSION, VERSION_NUMBER};

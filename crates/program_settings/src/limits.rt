@@ -1,12 +1,8 @@
-//! The limits of a run, their defaults, and the version.
+//! The limits of a run, and their defaults.
 
 use bound_table::BoundTable;
 use endgame_search::Task;
 
-/// The version, as `--version` prints it.
-pub const VERSION: &str = "1.1.0";
-/// The version as a number: 10000 times its first part, plus 100 times the second, plus the third.
-pub const VERSION_NUMBER: u32 = 10_100;
 /// The greatest limit of empty squares that settings may have.
 pub const MOST_EMPTIES: u8 = Task::MOST_EMPTIES;
 /// The most worker threads.

@@ -1,12 +1,10 @@
 -- How a call of `ffosolve` ended.
-use Rattle.std.proofs.Common.{◌≡◌, ◌≤◌, ◌<◌, ℕ, List, sym, subst, ◌∙◌, arith, inl, inr}
+use Rattle.std.proofs.Common.{◌≡◌, ◌≤◌, ◌<◌, ℕ, List, sym, ◌∙◌, arith, inl, inr}
 use Rattle.std.specs.Prelude.{◌↔◌, Option, Some, None, Result, Ok, Err, IfErr, IsErrOf, OnOk}
 use Rattle.std.proofs.lemmas.Bool.{cases_lt}
-use Rattle.clap.specs.Words.{kind_of}
-use Rattle.clap.specs.declared.error.Error.{Error}
-use Rattle.program_parts.specs.CommandLine.{AsksForText, HasFaultBy, IsFaultless, IsTextKind}
+use Rattle.program_parts.specs.CommandLine.{IsFaultless}
 use Rattle.suite_solver.specs.Options.{Asks, Request, ffosolve}
-use Rattle.book_files.specs.SolveError.{IsSilent, status_of}
+use Rattle.book_files.specs.SolveError.{IsSilent, solve_status_of}
 use Rattle.book_files.specs.declared.solve_error.SolveError.{SolveError}
 use Rattle.program_settings.specs.InputFault.{first_large}
 use Rattle.program_settings.specs.declared.limits.TheConstants.{MOST_FILES}
@@ -40,18 +38,13 @@ pub told_late : (r : Result (Unit {0}) SolveError) (P : Type 0) → IfErr r (λ 
 told_late (Ok nothing) P h = tt
 told_late (Err error) P h = λ silent. absurd (h silent)
 
-three_not_one : (error : SolveError) → status_of error ≡ 3 → status_of error ≡ 1 → ⊥
+three_not_one : (error : SolveError) → solve_status_of error ≡ 3 → solve_status_of error ≡ 1 → ⊥
 three_not_one error three one = let e = sym three ∙ one in omega (arith, e)
 
-pub not_refused : (r : Result (Unit {0}) SolveError) (P : Type 0) → IfErr r (λ error. status_of error ≡ 3) → IfErr r (λ error. status_of error ≡ 1 → P)
+pub not_refused : (r : Result (Unit {0}) SolveError) (P : Type 0) → IfErr r (λ error. solve_status_of error ≡ 3) → IfErr r (λ error. solve_status_of error ≡ 1 → P)
 not_refused (Ok nothing) P h = tt
 not_refused (Err error) P h = λ one. absurd (three_not_one error h one)
 
 -- clap finds no fault in words that ask for a request
 pub asked_faultless : (words : List (List ℕ)) (r : Request) → Asks words r → IsFaultless ffosolve words
 asked_faultless words r a = record { names = a.names; named = a.named; faultless = a.faultless }
-
--- help or the version, which clap returns as an error, was asked for
-pub text_asked : (words : List (List ℕ)) (error : Error) → HasFaultBy ffosolve words (kind_of error) → IsTextKind (kind_of error) → AsksForText ffosolve words
-text_asked words error h (inl e) = inl (subst (λ k. HasFaultBy ffosolve words k) e h)
-text_asked words error h (inr e) = inr (subst (λ k. HasFaultBy ffosolve words k) e h)

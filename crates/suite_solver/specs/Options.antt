@@ -2,9 +2,8 @@
 use Rattle.std.specs.Prelude.{◌≡◌, Bool, List, [], codes, Option, Some, option_map, string_bytes, unwrap_or}
 use Rattle.clap.specs.Faults.{fault_of}
 use Rattle.clap.specs.Words.{App, Rule, Text, all_of, first_of, matches_of, new_rule, with_rule}
-use Rattle.clap.specs.declared.error.kind.ErrorKind.{ErrorKind}
 use Rattle.program_settings.specs.Settings.{SettingsView}
-use Rattle.program_parts.specs.CommandLine.{HasFaultBy, HasFlag, HasSettings, IsFaultFor, IsTakenBy, NameList, NamesScorings}
+use Rattle.program_parts.specs.CommandLine.{HasFlag, HasSettings, IsFaultFor, IsTakenBy, NameList, NamesScorings}
 use Rattle.program_parts.specs.CommandLine.{files_rule, flag_rule, versioned, with_settings}
 use Rattle.program_parts.specs.Inputs.{names_of}
 use Rattle.program_parts.specs.declared.option_fault.OptionFault.{OptionFault}
@@ -57,10 +56,6 @@ pub record Asks (words : List Text) (r : Request) : Type 0 where
 -- clap takes the words of `ffosolve`
 abbrev pub IsTaken : List Text → Type 0
 IsTaken words = IsTakenBy ffosolve words
-
--- clap finds a fault of this kind in the words of `ffosolve`
-abbrev pub HasFault : List Text → ErrorKind → Type 0
-HasFault words kind = HasFaultBy ffosolve words kind
 
 -- the fault is `Memory`, or an error of a kind that clap finds in the words of `ffosolve`
 abbrev pub IsFaultOf : List Text → OptionFault → Type 0

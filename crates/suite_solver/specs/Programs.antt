@@ -1,8 +1,7 @@
 -- The reports of `ffosolve`, and its exit statuses.
-use Rattle.std.specs.Prelude.{◌≡◌, ◌≢◌, ◌⊎◌, ℕ, ◌≤◌, List, length, Option, None}
+use Rattle.std.specs.Prelude.{◌≡◌, ℕ, ◌≤◌, List, length, Option, None}
 use Rattle.std.specs.Io.KnownBytes.{Appends}
 use Rattle.std.specs.List.{concat}
-use Rattle.program_parts.specs.CommandLine.{AsksForText, IsFaultless}
 use Rattle.program_parts.specs.Endings.{EndsProgram}
 use Rattle.program_parts.specs.Inputs.{AreTextsOf}
 use Rattle.suite_solver.specs.Options.{Asks, Request, ffosolve}
@@ -20,7 +19,7 @@ pub record PrintsReports (c : SettingsView) (texts : List (List ℕ)) (old new :
   pub written : Appends old new (concat (reports c.scoring (criteria_of c) texts))
 
 -- the reports of the files of these names, or of standard input, were printed
-pub record Prints (c : SettingsView) (names : List (List ℕ)) (given old new : Option (List ℕ))
+pub record PrintsReportsOf (c : SettingsView) (names : List (List ℕ)) (given old new : Option (List ℕ))
     : Type 0 where
   pub texts : List (List ℕ)
   pub read : AreTextsOf names given texts
@@ -31,14 +30,11 @@ pub record Prints (c : SettingsView) (names : List (List ℕ)) (given old new : 
 pub record IsAnswered (words : List (List ℕ)) (given old new : Option (List ℕ)) : Type 0 where
   pub request : Request
   pub asked : Asks words request
-  pub printed : Prints request.settings request.files given old new
+  pub printed : PrintsReportsOf request.settings request.files given old new
 
 -- A call of `ffosolve` ended: with 0 after printing the reports that the words ask for, and with
--- 1 or 2 before printing anything. With a status other than 2, clap finds no fault in the words, or
--- they ask for help or the version, or memory was refused before clap had taken them.
+-- 1 or 2 before printing anything.
 pub record EndsFfosolve (words : List (List ℕ)) (given old new : Option (List ℕ)) (status : ℕ)
     : Type 0 where
-  pub ends : EndsProgram ffosolve words old new status (IsAnswered words given old new)
+  pub ends : EndsProgram ffosolve 1 words old new status (IsAnswered words given old new)
   pub unwritten : status ≡ 1 → new ≡ old
-  pub unrefused : status ≢ 2
-      → (status ≡ 1) ⊎ (AsksForText ffosolve words ⊎ IsFaultless ffosolve words)

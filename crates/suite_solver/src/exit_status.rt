@@ -4,7 +4,7 @@ ghost use Rattle.std.specs.Prelude.{◌≡◌, IfOk, IsErr};
 ghost use Rattle.std.specs.Process.{exit_status};
 ghost use Rattle.program_parts.specs.Inputs.{names_of};
 ghost use Rattle.program_parts.specs.Endings.{EndsUnread};
-ghost use Rattle.book_files.specs.SolveError.{status_of};
+ghost use Rattle.book_files.specs.SolveError.{solve_status_of};
 ghost use Rattle.suite_solver.specs.Programs.{EndsFfosolve};
 
 use crate::ffosolve::program;
@@ -36,7 +36,7 @@ impl Termination for ExitStatus {
 
 // The exit status after this error.
 fn error_status(error: &SolveError<'_>) -> u8
-    ensures { result ≡ status_of error.now }
+    ensures { result ≡ solve_status_of error.now }
 {
     match error {
         SolveError::Program(ProgramError::Memory | ProgramError::BadInput(_)) | SolveError::Mixed =>
@@ -50,10 +50,10 @@ fn error_status(error: &SolveError<'_>) -> u8
     }
 }
 
-/// Prints the error that ends the program, and gives the exit status. A failure of standard error
+/// PrintsReportsOf the error that ends the program, and gives the exit status. A failure of standard error
 /// changes nothing.
 pub(crate) fn print_error<E: Write>(error: &SolveError<'_>, errors: &mut E) -> u8
-    ensures { result ≡ status_of error.now }
+    ensures { result ≡ solve_status_of error.now }
 {
     let _ = error.print(errors);
     error_status(error)

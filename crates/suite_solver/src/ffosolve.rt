@@ -5,19 +5,19 @@ ghost use Rattle.std.specs.List.{concat};
 ghost use Rattle.std.specs.Io.KnownBytes.{Appends};
 ghost use Rattle.program_parts.specs.Inputs.{names_of};
 ghost use Rattle.book_files.specs.BookPlace.{IsFree};
-ghost use Rattle.book_files.specs.SolveError.{IsSilent, status_of};
+ghost use Rattle.book_files.specs.SolveError.{IsSilent, solve_status_of};
 ghost use Rattle.program_parts.specs.declared.program_error.ProgramError.TheVariants.{BadInput};
 ghost use Rattle.book_files.specs.declared.solve_error.SolveError.TheVariants.{Program};
-ghost use Rattle.suite_solver.specs.Programs.{EndsFfosolve, Prints, PrintsReports};
+ghost use Rattle.suite_solver.specs.Programs.{EndsFfosolve, PrintsReportsOf, PrintsReports};
 ghost use Rattle.obf_text.specs.LineText.{texts_of};
 ghost use Rattle.program_settings.specs.InputFault.{refusal_of};
 ghost use Rattle.program_settings.specs.declared.input_fault.InputFault.{InputFault};
 
 use crate::exit_status::print_error;
 use crate::ffosolve_options::{Options, read_options};
+use crate::progress::run_with_progress;
 use book_files::{
-    BookPlace, NewFile, SolveError, find_place, read_claims, ready_book, run_with_progress,
-    write_book,
+    BookPlace, Found, NewFile, SolveError, find_place, read_claims, ready_book, write_book,
 };
 use program_parts::{OptionFault, ProgramError, end_without_options, read_files};
 use program_settings::check_files;
@@ -60,8 +60,8 @@ fn solve_and_print<'a, T: Files + Clock + Threads + Wait + Sync, W: Write, E: Wr
     ensures silent { IfErr result
         (λ error. IsSilent error → W.contents output.new ≡ W.contents output.old) }
     ensures unwritten { IfErr result
-        (λ error. status_of error ≡ 1 → W.contents output.new ≡ W.contents output.old) }
-    ensures status { IfErr result (λ error. (status_of error ≡ 1) ⊎ (status_of error ≡ 3)) }
+        (λ error. solve_status_of error ≡ 1 → W.contents output.new ≡ W.contents output.old) }
+    ensures status { IfErr result (λ error. (solve_status_of error ≡ 1) ⊎ (solve_status_of error ≡ 3)) }
 {
     let outcome = run_with_progress(
         rt,
@@ -93,10 +93,15 @@ fn place_of_run<'a, T: Files>(
     ensures files { (fault : InputFault) → refusal_of (texts_of texts.now) ≡ Some fault
         → IsErrOf result (Program (BadInput fault)) }
     ensures silent { IfErr result IsSilent }
-    ensures status { IfErr result (λ error. (status_of error ≡ 1) ⊎ (status_of error ≡ 3)) }
+    ensures status { IfErr result (λ error. (solve_status_of error ≡ 1) ⊎ (solve_status_of error ≡ 3)) }
 {
     check_files(texts)?;
-    find_place(rt, alloc, &asked.book_out, &asked.book_in, &asked.files)
+    let Some(name) = &asked.book_out else {
+        return Ok(None);
+    };
+    let name = name.as_str();
+    let found = Found::under(rt, name, &asked.book_in, &asked.files);
+    Ok(Some(find_place(rt, alloc, name, found)?))
 }
 
 // Reads the book and then the files, tests them and the place of the book to be written, solves,
@@ -109,13 +114,13 @@ fn carry_out<'a, T: Files + Clock + Threads + Wait + Sync, R: Read, W: Write, E:
     output: &mut W,
     errors: &mut E,
 ) -> Result<(), SolveError<'a>>
-    ensures reported { OnOk result (Prints asked.now.settings (names_of asked.now.files.items)
+    ensures reported { OnOk result (PrintsReportsOf asked.now.settings (names_of asked.now.files.items)
         (R.remaining input.old) (W.contents output.old) (W.contents output.new)) }
     ensures silent { IfErr result
         (λ error. IsSilent error → W.contents output.new ≡ W.contents output.old) }
     ensures unwritten { IfErr result
-        (λ error. status_of error ≡ 1 → W.contents output.new ≡ W.contents output.old) }
-    ensures status { IfErr result (λ error. (status_of error ≡ 1) ⊎ (status_of error ≡ 3)) }
+        (λ error. solve_status_of error ≡ 1 → W.contents output.new ≡ W.contents output.old) }
+    ensures status { IfErr result (λ error. (solve_status_of error ≡ 1) ⊎ (solve_status_of error ≡ 3)) }
 {
     let claims = read_claims(rt, alloc, &asked.book_in)?;
     let texts = read_files(rt, alloc, &asked.files, input)?;

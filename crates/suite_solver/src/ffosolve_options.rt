@@ -78,8 +78,8 @@ fn ffosolve_command<'a>(alloc: Global, names: &'a [&'a str]) -> Result<Command<'
     ensures { IfOk result (λ c. app_of c ≡ ffosolve names.entry) }
 {
     let bare = bare_command(alloc, "ffosolve", ABOUT, AFTER_HELP);
-    let workers = "Use N solver threads besides one per file, 0 to 64;\nreports stay the same";
-    let complete = "Also report differ where a line lists moves, but not\nevery best one";
+    let workers = "Add N solver threads, 0 to 64, to the one per file;\nreports stay the same";
+    let complete = "Also report differ if a line lists moves, but omits a\nbest one";
     let for_runs = with_settings(alloc, bare, workers, complete, names)?;
     let book_in = book_arg(
         alloc,
@@ -99,8 +99,8 @@ fn ffosolve_command<'a>(alloc: Global, names: &'a [&'a str]) -> Result<Command<'
         "Report on standard error how many positions are\n\
          solved, at most every five seconds, and at the end",
     );
-    let telling = writing_books.arg(progress)?;
-    telling.arg(files_arg(alloc))
+    let reporting = writing_books.arg(progress)?;
+    reporting.arg(files_arg(alloc))
 }
 
 // The name of a book's file under this option; None if the words have none.

@@ -1,5 +1,6 @@
 //! Books of worked positions: what they hold, what is written for them, and what is found in them.
 
+mod cut;
 mod find;
 mod write;
 

@@ -1,6 +1,5 @@
 //! Lines that report the progress of a run.
 
-use book_files::ProgressGate;
 use std::alloc::Global;
 use std::io::Write;
 use std::rt::Clock;
@@ -10,7 +9,7 @@ use std::test::Fail;
 use std::thread::Threads;
 use std::time::Duration;
 use std::{io, thread};
-use suite_runs::Gate;
+use suite_solver::{Gate, ProgressGate};
 
 // A clock that a test moves, and that can be read a given number of times.
 #[derive(Drop)]
@@ -80,6 +79,25 @@ fn tells_each_five_seconds(rt: HostRuntime) {
     clock.move_on(400);
     gate.end();
     assert!(rt; errors.as_slice() == TOLD);
+}
+
+// A position counts once it is solved, and not once its job begins.
+#[test]
+fn counts_what_is_solved(rt: HostRuntime) {
+    let clock = MovedClock::new(0, 100);
+    let mut errors = Vec::new(rt.alloc());
+    let gate = ProgressGate::new(&clock, 1, &mut errors);
+    gate.submitted(&rt, 0, 3);
+    for number in 0..3 {
+        gate.enter(&rt, 0, number);
+    }
+    clock.move_on(5_000);
+    gate.leave(&rt, 0, 2);
+    gate.finished(&rt, 0, 2);
+    clock.move_on(1_000);
+    gate.end();
+    assert!(rt; errors.as_slice()
+        == b"ffosolve: solved 1 of 3 in 5 s\nffosolve: solved 1 of 3 in 6 s\n");
 }
 
 // What is reported for two jobs, by a clock that can be read this many times.

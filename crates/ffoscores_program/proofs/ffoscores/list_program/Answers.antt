@@ -1,6 +1,7 @@
-use Rattle.std.proofs.Common.{arith, rules}
+use Rattle.std.proofs.Common.{arith, inr, rules}
 use Rattle.program_parts.proofs.EndingLemmas.{in_range_of, not_one}
 use Rattle.ffoscores_program.specs.Options.{list_request_of}
+use Rattle.ffoscores_program.proofs.ListEndings.{asked_faultless}
 use Rattle.ffoscores_program.proofs.ffoscores.list_program.Goals as goal
 
 pub returns : goal.returns
@@ -10,6 +11,7 @@ returns g c = record {
     done = search rules;
     taken = search rules;
     refused = search rules;
+    unrefused = search rules;
   };
   wrong = not_one _ _ c.end_without_options.ensures.status;
   stopped = search rules;
@@ -22,6 +24,7 @@ returns-in-Ok-false g c = record {
     done = λ e. absurd (omega arith);
     taken = λ t e. absurd (omega arith);
     refused = λ e. absurd (omega arith);
+    unrefused = λ h. inr (inr (asked_faultless _ _ c.in-Ok.ensures.asked));
   };
   wrong = λ e. record {
     request = list_request_of c.in-Ok.asked;

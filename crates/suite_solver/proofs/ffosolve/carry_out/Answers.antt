@@ -1,7 +1,7 @@
 use Rattle.std.proofs.Common.{◌≡◌}
 use Rattle.program_parts.specs.Inputs.{names_of}
 use Rattle.obf_text.specs.LineText.{texts_of}
-use Rattle.suite_solver.specs.Programs.{Prints}
+use Rattle.suite_solver.specs.Programs.{PrintsReportsOf}
 use Rattle.suite_solver.proofs.ProgramLemmas.{not_refused, on_ok, told_late}
 use Rattle.program_parts.proofs.EndingLemmas.{whole_texts}
 use Rattle.suite_solver.proofs.ffosolve.carry_out.Goals as goal
@@ -13,7 +13,7 @@ returns-clause-reported g c =
     let texts = texts_of c.in_ok-texts.texts.items in
     let fronts = rw c.deref.ensures.value at c.in_ok-texts.ensures.ok in
     let p = rw c.deref-3.ensures.value at c.in_ok-book.ensures.reported in
-    on_ok c.write_book.result (Prints c.args.asked.now.settings names given (g.W.Write.contents c.args.output.now) (g.W.Write.contents c.solve_and_print.new.output)) (record {
+    on_ok c.write_book.result (PrintsReportsOf c.args.asked.now.settings names given (g.W.Write.contents c.args.output.now) (g.W.Write.contents c.solve_and_print.new.output)) (record {
       texts = texts;
       read = whole_texts names given texts fronts p.small p.few;
       printed = p;

@@ -9,7 +9,7 @@ returns g c = record {
     done = search rules;
     taken = search rules;
     refused = search rules;
+    unrefused = search rules;
   };
-  unrefused = search rules;
   unwritten = not_one _ _ c.end_without_options.ensures.status;
 }

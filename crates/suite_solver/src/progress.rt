@@ -1,11 +1,11 @@
 //! Runs that report their progress on standard error.
 
-ghost use Rattle.std.specs.Prelude.{◌≡◌, ◌+◌, ◌/◌, ◌<◌, ◌≤◌, ◌⊎◌, ◌↔◌, ℕ, false, length, None, Some, IfOk, IsErrOf, IsTrue, OnOk};
+ghost use Rattle.std.specs.Prelude.{◌≡◌, ◌<◌, ◌≤◌, ◌↔◌, ℕ, false, length, Some, IfOk, IsErrOf, IsTrue, OnOk};
 ghost use Rattle.std.specs.Duration.{as_nanos};
 ghost use Rattle.std.specs.Io.KnownBytes.{Appends};
 ghost use Rattle.program_settings.specs.Limits.{most_files};
 ghost use Rattle.program_settings.specs.Settings.{criteria_of};
-ghost use Rattle.book_files.specs.ProgressText.{progress_text};
+ghost use Rattle.suite_solver.specs.ProgressText.{IsDue, progress_line};
 ghost use Rattle.obf_text.specs.LineText.{texts_of};
 ghost use Rattle.suite_runs.specs.Outcome.{IsBookOf};
 ghost use Rattle.suite_reports.specs.Reports.{reports};
@@ -42,8 +42,7 @@ struct Progress {
 #[tactic(auto, unfolding(crate::specs::ProgressText::progress_text, crate::specs::ProgressText::total_text))]
 fn write_progress<E: Write>(errors: &mut E, progress: Progress) -> io::Result<()>
     ensures { OnOk result (Appends (E.contents errors.old) (E.contents errors.new)
-        (progress_text progress.solved progress.total
-        (as_nanos progress.elapsed / 1_000_000_000))) }
+        (progress_line progress)) }
 {
     let (solved, seconds) = (progress.solved, progress.elapsed.as_secs());
     match progress.total {
@@ -55,27 +54,12 @@ fn write_progress<E: Write>(errors: &mut E, progress: Progress) -> io::Result<()
     }
 }
 
-// Whether five seconds have passed between two times of a run.
-fn is_due(last: Duration, elapsed: Duration) -> bool
-    ensures { IsTrue result ↔ (as_nanos last + 5_000_000_000 ≤ as_nanos elapsed) }
+// Whether a line is due, if the last one came at this time of the run.
+fn is_due(last: Duration, progress: Progress) -> bool
+    ensures { IsTrue result ↔ IsDue (as_nanos last) progress }
 {
-    elapsed.saturating_sub(last).as_nanos() >= PAUSE
-}
-
-// Writes a line if one is due, after the last one at `last`. If all positions are
-// solved, it leaves that to the line at the end. Returns the time of what is now the last line. A
-// failure of the stream changes nothing.
-fn tell_if_due<E: Write>(errors: &mut E, last: Duration, progress: Progress) -> Duration
-    ensures paced { (as_nanos progress.elapsed < as_nanos last + 5_000_000_000)
-        → E.contents errors.new ≡ E.contents errors.old }
-    ensures noted { (result ≡ progress.elapsed)
-        ⊎ ((result ≡ last) × (E.contents errors.new ≡ E.contents errors.old)) }
-{
-    if !is_due(last, progress.elapsed) || progress.total == Some(progress.solved) {
-        return last;
-    }
-    let _ = write_progress(errors, progress);
-    progress.elapsed
+    progress.elapsed.saturating_sub(last).as_nanos() >= PAUSE
+        && progress.total != Some(progress.solved)
 }
 
 // Where the lines go, and the time of the run at which the last one came.
@@ -86,8 +70,23 @@ struct Lines<'a, E: Write> {
 }
 
 impl<E: Write> Lines<'_, E> {
-    fn tell_if_due(&mut self, progress: Progress) {
-        self.last = tell_if_due(self.errors, self.last, progress);
+    // Writes the line of the progress if one is due, and keeps its time. The error is that of the
+    // writer.
+    fn report(&mut self, progress: Progress) -> io::Result<()>
+        ensures written { IsDue (as_nanos self.old.last) progress → OnOk result (Appends
+            (E.contents self.old.errors.now) (E.contents self.new.errors.now)
+            (progress_line progress)) }
+        ensures kept { IsDue (as_nanos self.old.last) progress
+            → self.new.last ≡ progress.elapsed }
+        ensures early { (IsDue (as_nanos self.old.last) progress → ⊥)
+            → (E.contents self.new.errors.now ≡ E.contents self.old.errors.now)
+            × (self.new.last ≡ self.old.last) }
+    {
+        if !is_due(self.last, progress) {
+            return Ok(());
+        }
+        self.last = progress.elapsed;
+        write_progress(self.errors, progress)
     }
 }
 
@@ -164,7 +163,7 @@ impl<C: Clock + Sync, E: Write + Send> Gate for ProgressGate<'_, C, E> {
             return;
         };
         if let Some(mut lines) = self.lines.try_lock() {
-            lines.tell_if_due(progress);
+            let _ = lines.report(progress);
         }
     }
 }

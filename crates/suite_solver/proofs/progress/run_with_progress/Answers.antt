@@ -1,4 +1,4 @@
-use Rattle.book_files.proofs.progress.run_with_progress.Goals as goal
+use Rattle.suite_solver.proofs.progress.run_with_progress.Goals as goal
 
 pub returns-clause-too_many : goal.returns-clause-too_many
 returns-clause-too_many g c = c.run-outcome.ensures.too_many

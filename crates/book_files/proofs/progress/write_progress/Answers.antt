@@ -1,8 +1,0 @@
-use Rattle.std.proofs.Common.{rules}
-use Rattle.book_files.specs.ProgressText.{progress_text}
-use Rattle.book_files.specs.ProgressText.{total_text}
-use Rattle.book_files.proofs.progress.write_progress.Goals as goal
-
-pub returns-in-Some : goal.returns-in-Some
-unfolding progress_text total_text
-returns-in-Some g c = search rules
