@@ -1,8 +1,11 @@
--- What a book may be written over.
-use Rattle.std.specs.Prelude.{◌≡◌, ℕ, List, [], ◌∷◌}
+-- What a book may be written over, and the text that is written.
+use Rattle.std.specs.Prelude.{◌≡◌, ℕ, List, [], ◌∷◌, map}
 use Rattle.std.specs.Borrow.{Bor}
 use Rattle.othello_rules.specs.declared.scoring.Scoring.{Scoring}
-use Rattle.solved_book.specs.Books.{header}
+use Rattle.solved_book.specs.Books.{BookView, book_text, header}
+use Rattle.suite_runs.specs.Outcome.{IsBookOf, tasks_of_views}
+use Rattle.suite_runs.specs.Part.{part_view_of}
+use Rattle.suite_runs.specs.declared.solved_files.SolvedFiles.{SolvedFiles}
 use Rattle.book_files.specs.declared.found.Found.{Found}
 use Rattle.book_files.specs.declared.found.Found.TheVariants as found
 use Rattle.book_files.specs.declared.solve_error.SolveError.{SolveError}
@@ -27,3 +30,9 @@ IsRefusalOf found.Other name error = error ≡ OverwritesFile name
 IsRefusalOf found.List name error = error ≡ BadPlace name
 IsRefusalOf found.BookIn name error = error ≡ OverwritesBookIn name
 IsRefusalOf _ name error = ⊥
+
+-- the text is that of a book of all positions of these solved files
+pub record IsBookTextOf (files : SolvedFiles) (text : List ℕ) : Type 0 where
+  pub book : BookView
+  pub holds : IsBookOf files.scoring (tasks_of_views (map part_view_of files.parts.items)) book
+  pub written : text ≡ book_text book.scoring book.positions

@@ -2,7 +2,7 @@
 
 ghost use Rattle.std.specs.Prelude.{◌≡◌, ◌⊎◌, ◌↔◌, None, IfOk, IfErr, IfSome};
 ghost use Rattle.solved_book.specs.Books.{book_text};
-ghost use Rattle.book_files.specs.BookPlace.{IsFree};
+ghost use Rattle.book_files.specs.BookPlace.{IsBookTextOf, IsFree};
 ghost use Rattle.book_files.specs.SolveError.{IsSilent, solve_status_of};
 
 use crate::book_place::BookPlace;
@@ -16,6 +16,7 @@ use std::io::Read;
 use std::os::unix::fs::FileTypeExt;
 use std::rt::Files;
 use std::{fs, io};
+use suite_runs::SolvedFiles;
 
 // How many bytes of a book are looked at before the rest is read.
 const FRONT: usize = 65_536;
@@ -100,23 +101,24 @@ fn text_of(alloc: Global, book: &Book) -> Result<Vec<u8>, AllocError>
     }
 }
 
-/// Makes the file of the book that is to be written at this place, with the book's text; None if
-/// there is no place. Nothing is opened. The only error is out of memory.
+/// Makes the file that is to be written at this place, with the text of the book of these solved
+/// files; None if there is no place. Nothing is opened. The only error is out of memory.
 pub fn ready_book<'a, T: Files>(
     rt: &T,
     alloc: Global,
     place: &Option<BookPlace<'a>>,
-    book: &Book,
+    solved: &SolvedFiles,
 ) -> Result<Option<NewFile<'a>>, AllocError>
     requires { IfSome place.now (λ p. IsFree p.found) }
     ensures placed { IfOk result (λ file. file ≡ None ↔ place.now ≡ None) }
     ensures text { IfOk result (λ file. IfSome file
-        (λ file. file.text.items ≡ book_text book.now.scoring book.now.positions)) }
+        (λ file. IsBookTextOf solved.now file.text.items)) }
 {
     let Some(place) = place else {
         return Ok(None);
     };
-    let text = text_of(alloc, book)?;
+    let book = solved.book(alloc)?;
+    let text = text_of(alloc, &book)?;
     let file = NewFile::new(rt, alloc, place.name, text)?;
     Ok(Some(file))
 }

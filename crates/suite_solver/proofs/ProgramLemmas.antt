@@ -1,33 +1,10 @@
 -- How a call of `ffosolve` ended.
-use Rattle.std.proofs.Common.{◌≡◌, ◌≤◌, ◌<◌, ℕ, List, sym, ◌∙◌, arith, inl, inr}
-use Rattle.std.specs.Prelude.{◌↔◌, Option, Some, None, Result, Ok, Err, IfErr, IsErrOf, OnOk}
-use Rattle.std.proofs.lemmas.Bool.{cases_lt}
+use Rattle.std.proofs.Common.{◌≡◌, ℕ, List, sym, ◌∙◌, arith}
+use Rattle.std.specs.Prelude.{Result, Ok, Err, IfErr, OnOk}
 use Rattle.program_parts.specs.CommandLine.{IsFaultless}
 use Rattle.suite_solver.specs.Options.{Asks, Request, ffosolve}
 use Rattle.book_files.specs.SolveError.{IsSilent, solve_status_of}
 use Rattle.book_files.specs.declared.solve_error.SolveError.{SolveError}
-use Rattle.program_settings.specs.InputFault.{first_large}
-use Rattle.program_settings.specs.declared.limits.TheConstants.{MOST_FILES}
-use Rattle.suite_runs.specs.declared.run_fault.RunFault.{RunFault}
-use Rattle.suite_runs.specs.declared.run_fault.RunFault.TheVariants.{FileTooLarge, TooManyFiles}
-use Rattle.suite_runs.specs.declared.outcome.Outcome.{Outcome}
-
-ok_no_fault : (o : Outcome) (fault : RunFault) → IsErrOf {T = Outcome} {E = RunFault} (Ok o) fault → ⊥
-ok_no_fault o fault e = cc
-
--- a run that gives reports has few texts
-pub given_few : (o : Outcome) (n : ℕ) → (IsErrOf {T = Outcome} {E = RunFault} (Ok o) TooManyFiles ↔ MOST_FILES < n) → n ≤ MOST_FILES
-given_few o n iff = elim (cases_lt MOST_FILES n) [
-  | inl many ↦ absurd (ok_no_fault o TooManyFiles (iff.1 many))
-  | inr few ↦ omega (arith, few)
-]
-
--- and none that is too large
-pub given_small : (o : Outcome) (n : ℕ) (texts : List (List ℕ)) (first : Option ℕ) → first_large texts ≡ first → n ≤ MOST_FILES
-    → ((sender : ℕ) → IsErrOf {T = Outcome} {E = RunFault} (Ok o) (FileTooLarge sender) ↔ ((n ≤ MOST_FILES) × (first_large texts ≡ Some sender)))
-    → first_large texts ≡ None
-given_small o n texts None e few iff = e
-given_small o n texts (Some sender) e few iff = absurd (ok_no_fault o (FileTooLarge sender) ((iff sender).1 (few, e)))
 
 pub on_ok : (r : Result (Unit {0}) SolveError) (P : Type 0) → P → OnOk r P
 on_ok (Ok nothing) P p = p

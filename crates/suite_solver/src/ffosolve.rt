@@ -15,7 +15,7 @@ ghost use Rattle.program_settings.specs.declared.input_fault.InputFault.{InputFa
 
 use crate::exit_status::print_error;
 use crate::ffosolve_options::{Options, read_options};
-use crate::progress::run_with_progress;
+use crate::progress::solve_with_progress;
 use book_files::{
     BookPlace, Found, NewFile, SolveError, find_place, read_claims, ready_book, write_book,
 };
@@ -63,7 +63,7 @@ fn solve_and_print<'a, T: Files + Clock + Threads + Wait + Sync, W: Write, E: Wr
         (λ error. solve_status_of error ≡ 1 → W.contents output.new ≡ W.contents output.old) }
     ensures status { IfErr result (λ error. (solve_status_of error ≡ 1) ⊎ (solve_status_of error ≡ 3)) }
 {
-    let outcome = run_with_progress(
+    let solved = solve_with_progress(
         rt,
         alloc,
         texts,
@@ -72,8 +72,9 @@ fn solve_and_print<'a, T: Files + Clock + Threads + Wait + Sync, W: Write, E: Wr
         asked.progress,
         errors,
     )?;
-    let book = ready_book(rt, alloc, place, &outcome.book)?;
-    match write_reports(output, &outcome.reports) {
+    let book = ready_book(rt, alloc, place, &solved)?;
+    let reports = solved.reports(alloc)?;
+    match write_reports(output, &reports) {
         Ok(()) => Ok(book),
         Err(_) => Err(SolveError::Program(ProgramError::CannotWrite("standard output"))),
     }

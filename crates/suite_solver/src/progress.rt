@@ -1,17 +1,11 @@
 //! Runs that report their progress on standard error.
 
-ghost use Rattle.std.specs.Prelude.{◌≡◌, ◌<◌, ◌≤◌, ◌↔◌, ℕ, false, length, Some, IfOk, IsErrOf, IsTrue, OnOk};
+ghost use Rattle.std.specs.Prelude.{◌≡◌, ◌↔◌, false, IsTrue, OnOk};
 ghost use Rattle.std.specs.Duration.{as_nanos};
 ghost use Rattle.std.specs.Io.KnownBytes.{Appends};
-ghost use Rattle.program_settings.specs.Limits.{most_files};
-ghost use Rattle.program_settings.specs.Settings.{criteria_of};
-ghost use Rattle.suite_solver.specs.ProgressText.{IsDue, progress_line};
 ghost use Rattle.obf_text.specs.LineText.{texts_of};
-ghost use Rattle.suite_runs.specs.Outcome.{IsBookOf};
-ghost use Rattle.suite_reports.specs.Reports.{reports};
-ghost use Rattle.suite_runs.specs.Runs.{all_tasks};
-ghost use Rattle.program_settings.specs.InputFault.{first_large};
-ghost use Rattle.suite_runs.specs.declared.run_fault.RunFault.TheVariants.{FileTooLarge, TooManyFiles};
+ghost use Rattle.suite_runs.specs.Runs.{Answers, AreFilesOf};
+ghost use Rattle.suite_solver.specs.ProgressText.{IsDue, progress_line};
 
 use program_settings::Settings;
 use solved_book::Claims;
@@ -24,7 +18,7 @@ use std::sync::atomic::{AtomicUsize, Ordering};
 use std::sync::{Mutex, Wait};
 use std::thread::Threads;
 use std::time::{Duration, Instant};
-use suite_runs::{Gate, NoGate, Outcome, RunFault, run};
+use suite_runs::{Gate, NoGate, RunFault, SolvedFiles, solve_files};
 
 // The least time from one line to the next, in nanoseconds, except for the last line.
 const PAUSE: u128 = 5_000_000_000;
@@ -168,32 +162,26 @@ impl<C: Clock + Sync, E: Write + Send> Gate for ProgressGate<'_, C, E> {
     }
 }
 
-/// Does the work of `run`. With `progress`, lines on `errors` give the number of solved positions:
-/// at most one every five seconds, and one at the end.
-pub fn run_with_progress<T: Clock + Threads + Wait + Sync, E: Write + Send>(
+/// Solves files on threads, as `solve_files` does. With `progress`, lines on `errors` report the
+/// number of solved positions: at most one every five seconds, and one at the end.
+pub fn solve_with_progress<T: Clock + Threads + Wait + Sync, E: Write + Send>(
     rt: &T,
     alloc: Global,
-    texts: &[Vec<u8>],
+    files: &[Vec<u8>],
     settings: &Settings,
     claims: Option<&Claims>,
     progress: bool,
     errors: &mut E,
-) -> Result<Outcome, RunFault>
+) -> Result<SolvedFiles, RunFault>
     ensures silent { progress ≡ false → E.contents errors.new ≡ E.contents errors.old }
-    ensures too_many { IsErrOf result TooManyFiles ↔ most_files < length texts.now }
-    ensures too_large { (sender : ℕ) → IsErrOf result (FileTooLarge sender) ↔
-        ((length texts.now ≤ most_files) × (first_large (texts_of texts.now) ≡ Some sender)) }
-    ensures reports { IfOk result (λ outcome. texts_of outcome.reports.items ≡ reports
-        settings.now.scoring (criteria_of settings.now) (texts_of texts.now)) }
-    ensures book { IfOk result (λ outcome. IsBookOf settings.now.scoring (all_tasks
-        settings.now.scoring settings.now.max_empties (texts_of texts.now))
-        outcome.book) }
+    ensures solved { Answers (AreFilesOf settings.now (texts_of files.now))
+        (texts_of files.now) result }
 {
     if !progress {
-        return run(rt, alloc, texts, settings, claims, &NoGate);
+        return solve_files(rt, alloc, files, settings, claims, &NoGate);
     }
-    let gate = ProgressGate::new(rt, texts.len(), errors);
-    let outcome = run(rt, alloc, texts, settings, claims, &gate);
+    let gate = ProgressGate::new(rt, files.len(), errors);
+    let solved = solve_files(rt, alloc, files, settings, claims, &gate);
     gate.end();
-    outcome
+    solved
 }
