@@ -1,6 +1,5 @@
 //! Books of worked positions: what they hold, what is written for them, and what is found in them.
 
-mod cut;
 mod find;
 mod write;
 

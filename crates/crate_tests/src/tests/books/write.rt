@@ -11,7 +11,7 @@ use std::io::Write;
 use std::test::Fail;
 use suite_solver::{Check, Refusal, ReportRow, RowResult, write_report};
 
-pub(super) const THREE: &[Turn] = &[
+const THREE: &[Turn] = &[
     (LAST_CORNER, Side::Black),
     (CORNER_LEFT_OVER, Side::Black),
     (EQUAL_CORNERS, Side::Black),

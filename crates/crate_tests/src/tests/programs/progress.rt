@@ -49,7 +49,7 @@ impl Clock for MovedClock {
 // seconds after a line, two of them in its fifth second or later as whole seconds are counted.
 const PAUSES: [u64; 11] = [4_999, 1, 1, 4_998, 901, 4_200, 799, 1, 24_100, 1, 9_999];
 
-const TOLD: &[u8] = b"\
+const LINES: &[u8] = b"\
 ffosolve: solved 2 in 5 s
 ffosolve: solved 5 in 10 s
 ffosolve: solved 8 of 11 in 15 s
@@ -60,7 +60,7 @@ ffosolve: solved 11 of 11 in 50 s
 // A line comes no sooner than five seconds after the last, except for the line at the end, which
 // alone says that all are solved. The number of all jobs is known once both files are submitted.
 #[test]
-fn tells_each_five_seconds(rt: HostRuntime) {
+fn lines_come_five_seconds_apart(rt: HostRuntime) {
     let clock = MovedClock::new(3_100, 100);
     let mut errors = Vec::new(rt.alloc());
     let gate = ProgressGate::new(&clock, 2, &mut errors);
@@ -78,7 +78,7 @@ fn tells_each_five_seconds(rt: HostRuntime) {
     }
     clock.move_on(400);
     gate.end();
-    assert!(rt; errors.as_slice() == TOLD);
+    assert!(rt; errors.as_slice() == LINES);
 }
 
 // A position counts once it is solved, and not once its job begins.
@@ -100,8 +100,8 @@ fn counts_what_is_solved(rt: HostRuntime) {
         == b"ffosolve: solved 1 of 3 in 5 s\nffosolve: solved 1 of 3 in 6 s\n");
 }
 
-// What is reported for two jobs, by a clock that can be read this many times.
-fn told_by(rt: &impl Wait, alloc: Global, reads_left: u64) -> Vec<u8> {
+// What is written for two jobs, by a clock that can be read this many times.
+fn lines_by(rt: &impl Wait, alloc: Global, reads_left: u64) -> Vec<u8> {
     let clock = MovedClock::new(0, reads_left);
     let mut errors = Vec::new(alloc);
     let gate = ProgressGate::new(&clock, 1, &mut errors);
@@ -116,7 +116,7 @@ fn told_by(rt: &impl Wait, alloc: Global, reads_left: u64) -> Vec<u8> {
     errors
 }
 
-const TOLD_OF_TWO: &[u8] = b"\
+const LINES_OF_TWO: &[u8] = b"\
 ffosolve: solved 1 of 2 in 5 s
 ffosolve: solved 2 of 2 in 10 s
 ";
@@ -124,16 +124,16 @@ ffosolve: solved 2 of 2 in 10 s
 // The clock is read as the run begins, after each job and at the end. If it can't be read, nothing
 // more is reported.
 #[test]
-fn tells_by_its_clock(rt: HostRuntime) {
-    let (none, whole) = (told_by(&rt, rt.alloc(), 0), told_by(&rt, rt.alloc(), 4));
-    assert!(rt; none.is_empty() && whole.as_slice() == TOLD_OF_TWO);
+fn a_clock_that_fails_ends_the_lines(rt: HostRuntime) {
+    let (none, whole) = (lines_by(&rt, rt.alloc(), 0), lines_by(&rt, rt.alloc(), 4));
+    assert!(rt; none.is_empty() && whole.as_slice() == LINES_OF_TWO);
     for reads in 1..4 {
-        let told = told_by(&rt, rt.alloc(), reads);
-        assert!(rt; TOLD_OF_TWO.starts_with(&told) && told.len() < TOLD_OF_TWO.len());
+        let lines = lines_by(&rt, rt.alloc(), reads);
+        assert!(rt; LINES_OF_TWO.starts_with(&lines) && lines.len() < LINES_OF_TWO.len());
     }
 }
 
-// What a writer and a test tell each other.
+// What a writer and a test signal to each other.
 #[derive(Drop)]
 struct Signals {
     is_writing: AtomicBool,
@@ -184,7 +184,7 @@ fn end_job<R: Wait, G: Gate>(rt: &R, gate: &G, signals: &Signals, thread: usize)
 
 // A thread that ends a job goes on while another one writes a line.
 #[test]
-fn waits_for_no_stream(rt: HostRuntime) -> Result<(), Fail> {
+fn no_job_waits_for_the_stream(rt: HostRuntime) -> Result<(), Fail> {
     let signals = Signals {
         is_writing: AtomicBool::new(false),
         may_end: AtomicBool::new(false),
