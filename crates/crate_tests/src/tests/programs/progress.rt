@@ -81,6 +81,11 @@ fn lines_come_five_seconds_apart(rt: HostRuntime) {
     assert!(rt; errors.as_slice() == LINES);
 }
 
+const LINES_OF_ONE: &[u8] = b"\
+ffosolve: solved 1 of 3 in 5 s
+ffosolve: solved 1 of 3 in 6 s
+";
+
 // A position counts once it is solved, and not once its job begins.
 #[test]
 fn counts_what_is_solved(rt: HostRuntime) {
@@ -96,8 +101,7 @@ fn counts_what_is_solved(rt: HostRuntime) {
     gate.finished(&rt, 0, 2);
     clock.move_on(1_000);
     gate.end();
-    assert!(rt; errors.as_slice()
-        == b"ffosolve: solved 1 of 3 in 5 s\nffosolve: solved 1 of 3 in 6 s\n");
+    assert!(rt; errors.as_slice() == LINES_OF_ONE);
 }
 
 // What is written for two jobs, by a clock that can be read this many times.

@@ -8,7 +8,7 @@ returns-clause-read g c = rw c.in-Ok.is (record {
     done = λ e. absurd (omega arith);
     taken = λ t e. absurd (omega arith);
     refused = λ e. refl;
-    unrefused = λ h. inl refl;
+    unrefused = λ h. inl (omega arith);
   };
   wrong = λ e. absurd (omega arith);
   stopped = λ e. inr (inl refl);
