@@ -61,13 +61,6 @@ def real_score(squares):
     return 40 if can_move(last) or can_move(passed(last)) else discs_of_black(last)
 
 
-def best_moves(position):
-    own, opp, _ = position
-    scores = {NAMES[square.bit_length() - 1]: -player.values(*player.after(own, opp, square))[0]
-              for square in player.squares_in(player.moves(own, opp))}
-    return [name for name in scores if scores[name] == score(position)] or ["PS" if can_move(passed(position)) else "--"]
-
-
 # Games as they stand in files.
 
 
@@ -111,13 +104,13 @@ def with_digest(lines):
 
 
 def report_of(listed, refused=None):
-    """Returns the report of a list, by the plain player. `refused` has reasons by the numbers of lines."""
+    """Returns the report of a list by the plain player, which names no moves. `refused` has reasons by line numbers."""
     rows, refused = [], refused or {}
     for number, line in enumerate(listed.splitlines(), 1):
         if line and line[0] != "%":
             black, white = (sum(1 << square for square in range(64) if line[square] == letter) for letter in "XO")
             at = (black, white, True) if line[65] == "X" else (white, black, False)
-            row = f"refused: {refused[number]}" if number in refused else f"{score(at):+03} {','.join(best_moves(at))} unlisted"
+            row = f"refused: {refused[number]}" if number in refused else f"{score(at):+03} -- unlisted"
             rows.append(f"{number} {row}\n")
     return f"[1]\n{''.join(rows)}solved {len(rows) - len(refused)} refused {len(refused)}\n"
 
