@@ -168,26 +168,14 @@ def refuse_threads():
         resource.setrlimit(limit, (size, resource.getrlimit(limit)[1]))
 
 
-def link_to(path):
-    """Returns the target of a link, or "" if it is gone or another user's."""
-    try:
-        return os.readlink(path)
-    except OSError:
-        return ""
-
-
-def processes_with(what, place):
-    """Returns {number: command line} of the other processes with a link into a folder; `what` is `cwd`, `exe` or `fd`."""
+def processes_in(place):
+    """Returns {number: command line} of the other processes whose current folder is this one or below it."""
     found = {}
-    for number in map(int, filter(str.isdigit, os.listdir("/proc"))):
-        link = f"/proc/{number}/{what}"
-        try:
-            links = [f"{link}/{name}" for name in os.listdir(link)] if what == "fd" else [link]
-            if number != os.getpid() and any(link_to(link).startswith(str(place)) for link in links):
+    for number in set(filter(str.isdigit, os.listdir("/proc"))) - {str(os.getpid())}:
+        with contextlib.suppress(OSError):  # it has ended, or is another user's
+            if os.readlink(f"/proc/{number}/cwd").startswith(str(place)):
                 words = Path(f"/proc/{number}/cmdline").read_bytes()
-                found[number] = words.decode(errors="replace").replace("\0", " ")
-        except OSError:  # it has ended, or is another user's
-            continue
+                found[int(number)] = words.decode(errors="replace").replace("\0", " ")
     return found
 
 

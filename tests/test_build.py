@@ -8,7 +8,7 @@ import time
 from pathlib import Path
 
 from tests.checkouts import path_without
-from tests.support import (NOBODY, ROOT, SECONDS, InFolder, as_at_a_login, is_v3, lack, need, processes_with, run,
+from tests.support import (NOBODY, ROOT, SECONDS, InFolder, as_at_a_login, is_v3, lack, need, processes_in, run,
                            wait_until, write)
 
 # Writes its starts, its descriptors and its standard input to files, and waits, fails or changes a source if the environment says so.
@@ -99,7 +99,7 @@ class Case(InFolder):
 
     def nothing_is_left(self):
         """Waits until no process is in the checkout, where rt would wait for 45 seconds."""
-        wait_until(lambda: not processes_with("cwd", self.root), 30)
+        wait_until(lambda: not processes_in(self.root), 30)
 
 
 class Builds(Case):
@@ -312,7 +312,7 @@ class Signals(Case):
             ran = self.begin(WAITS="yes")
             wait_until(lambda: self.builds() >= count)
             waits = self.begin()
-            wait_until(lambda: any(words.startswith("flock 9") for words in processes_with("cwd", self.root).values()))
+            wait_until(lambda: any(words.startswith("flock 9") for words in processes_in(self.root).values()))
             for one in (waits, ran):
                 one.send_signal(number)
                 self.assertEqual((one.communicate(timeout=20)[0], one.returncode), ("", -number))

@@ -7,7 +7,7 @@ import subprocess
 import unittest
 from pathlib import Path
 
-from tests.support import ROOT, SECONDS, InFolder, as_at_a_login, need, processes_with, run, wait_until, write
+from tests.support import ROOT, SECONDS, InFolder, as_at_a_login, need, processes_in, run, wait_until, write
 
 MODULE = "import os, time, unittest\nfrom tests.support import *\n\n\nclass Some(InFolder):\n"
 PASSES = "    def test_a(self):\n        pass\n"
@@ -78,7 +78,7 @@ class Modules(Check):
             kill(make.pid, number)
             make.communicate(timeout=SECONDS)
             self.assertNotEqual(make.returncode, 0)
-            wait_until(lambda: not processes_with("cwd", self.folder), 30)
+            wait_until(lambda: not processes_in(self.folder), 30)
 
     def test_a_module_inherits_no_flags_of_make_and_no_ignored_interrupt(self):
         Path("Makefile").write_text("check:\n\t$(MAKE) -f tests/check.mk\n\nsome:\n\techo made\n")

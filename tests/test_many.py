@@ -213,7 +213,9 @@ class Words(Case):
         write("secret", many.SMALL, 0o600)
         self.refused(3, "cannot read secret: Permission denied\n", "work", "secret", **NOBODY)
         self.refused(3, "cannot write work: Permission denied\n", "work", "list.obf", **NOBODY)
-        self.refused(3, "cannot write book: Permission denied\n", "/tmp/work", "list.obf", "--book-out=book", **NOBODY)
+        os.mkdir("open")
+        os.chmod("open", 0o777)
+        self.refused(3, "cannot write book: Permission denied\n", "open/work", "list.obf", "--book-out=book", **NOBODY)
 
     def test_what_the_program_refuses(self):
         write("bad.book", b"?\n")

@@ -15,7 +15,7 @@ from unittest import mock
 
 from tests import many
 from tests.many import ACTING, Case, install
-from tests.support import SECONDS, InFolder, as_at_a_login, change_many, lack, processes_with, run, wait_until, write
+from tests.support import SECONDS, InFolder, as_at_a_login, change_many, lack, processes_in, run, wait_until, write
 
 PYTHON = next((python for python in (sys.executable, "/usr/bin/python3")
                if run(python, "-c", "import distributed").returncode == 0), None)
@@ -93,7 +93,7 @@ class Cluster(Case):
 
     def programs(self, *names):
         """The numbers of the programs at work on workers, or on these."""
-        return [number for name in names or self.workers for number in processes_with("cwd", self.folder / name)]
+        return [number for name in names or self.workers for number in processes_in(self.folder / name)]
 
     def done(self):
         return len(list(Path("work").glob("run-*/results/" + "[0-9]" * 7)))

@@ -13,7 +13,7 @@ from unittest import mock
 
 from tests import many
 from tests.many import ACTING, Case, install, set_up_module as setUpModule
-from tests.support import (MOST_BYTES, SECONDS, InFolder, as_at_a_login, change_many, limited, processes_with, run, wait_until,
+from tests.support import (MOST_BYTES, SECONDS, InFolder, as_at_a_login, change_many, limited, processes_in, run, wait_until,
                            write)
 
 from ffosolve._many import command, files, folder, messages, parts, solve
@@ -310,7 +310,7 @@ class Signals(Case):
 
     def workers(self):
         """The command lines, by their numbers, of processes that work in the test's folder."""
-        return processes_with("cwd", str(self.folder))
+        return processes_in(str(self.folder))
 
     def programs(self):
         return [number for number, words in self.workers().items() if "program-0" in words]

@@ -6,7 +6,7 @@ import time
 from pathlib import Path
 
 from tests import support
-from tests.support import (ROOT, SECONDS, InFolder, as_at_a_login, built, limited, processes_with, refuse_threads, run,
+from tests.support import (ROOT, SECONDS, InFolder, as_at_a_login, built, limited, processes_in, refuse_threads, run,
                            stored, wait_until)
 from tests.test_threads import threads_of
 
@@ -113,4 +113,4 @@ class Streams(InFolder):
         os.killpg(begun.pid, signal.SIGINT)
         self.assertEqual(begun.stdout.read(), b"")
         begun.wait(SECONDS)
-        wait_until(lambda: not processes_with("cwd", self.folder))
+        wait_until(lambda: not processes_in(self.folder))
