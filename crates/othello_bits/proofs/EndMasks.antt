@@ -54,10 +54,6 @@ one_way_down i j e = one_way_up j i e
 some_rest : (m i : ℕ) → in_mask m i ≡ true → 0 < m
 some_rest m i b = elim (cases_lt 0 m) [ inl l ↦ l | inr z ↦ let none : m ≡ 0 = omega arith in absurd (false≢true (sym (none_from_zero m none i) ∙ b)) ]
 
-no : (b : Bool) → (b ≡ true → ⊥) → b ≡ false
-no false h = refl
-no true h = absurd (h refl)
-
 -- the bits of a mask that has square t alone, where t is own
 abbrev IsEnd : ℕ → ℕ → ℕ → Type 0
 IsEnd own t end = (i : ℕ) → in_mask end i ≡ (in_mask own t && eqb t i)
