@@ -24,10 +24,10 @@ def built(name="ffosolve", level=""):
     return ROOT / path
 
 
-def build_peer(folder, level):
+def build_peer(folder, level, *words):
     """Compiles bench/peer.rs, and returns the path."""
     peer = Path(folder, f"{level}-peer")
-    subprocess.run(["rustc", "-C", "opt-level=3", "-C", f"target-cpu={level}", "-o", peer, BENCH / "peer.rs"], check=True)
+    subprocess.run(["rustc", "-C", "opt-level=3", "-C", f"target-cpu={level}", *words, "-o", peer, BENCH / "peer.rs"], check=True)
     return peer
 
 

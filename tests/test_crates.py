@@ -19,6 +19,12 @@ class Crates(unittest.TestCase):
         self.assertIn("run=ended status=0 ", printed)
         self.assertEqual(len(re.findall(r"^test \S+ \.\.\. ok$", printed, re.M)), sum(sources.values()), printed)
 
+    def test_the_search_in_plain_rust_has_the_counts_that_they_expect(self):
+        if shutil.which("rustc") is None:
+            lack("rustc")
+        expected = ROOT / "crates/crate_tests/src/tests/searches/counts.rt"
+        self.assertIn(run(ROOT / "bench/run", "counts", text=True, check=True).stdout, expected.read_text())
+
 
 class Links(unittest.TestCase):
     def test_the_checkout_has_no_link_which_rt_ci_would_refuse(self):

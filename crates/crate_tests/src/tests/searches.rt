@@ -1,6 +1,7 @@
 //! The answers of worked positions, the order of moves, and which positions a search asks its table for.
 
 mod claims;
+mod counts;
 mod orders;
 mod probes;
 

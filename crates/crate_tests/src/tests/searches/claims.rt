@@ -21,8 +21,11 @@ fn the_value_in_windows(rt: HostRuntime) {
     assert!(rt; value_in(&table, position, 0, 1) >= 1);
 }
 
-// What is claimed of each position: scores that are too high or too low by this much, and moves.
+// What is claimed of each position: scores that are too high or too low by this much, some scores
+// whatever the right one is, and moves.
 const CHANGES: [i8; 7] = [0, 1, -1, 2, -2, 127, -127];
+
+const SCORES: [i8; 3] = [-128, 52, 100];
 
 const BESTS: [Best; 7] = [
     Best::Moves(0),
@@ -42,10 +45,11 @@ fn has_answer(solved: Solved, score: i8, best: Best) -> bool {
 fn is_answered<T: Bounds>(table: &T, task: Task, score: i8, best: Best) -> bool
     requires { task.scoring ≡ T.scoring table.now }
 {
+    let close = CHANGES.map(|change| score.saturating_add(change));
     for claimed in BESTS {
-        for change in CHANGES {
+        for claimed_score in close.into_iter().chain(SCORES) {
             let claim = Claim {
-                score: score.saturating_add(change),
+                score: claimed_score,
                 best: claimed,
             };
             if !has_answer(confirm(table, task, claim), score, best) {

@@ -39,20 +39,43 @@ fn a_quarter_begins_at_13_16_and_19_empty_squares(rt: HostRuntime) -> Result<(),
     Ok(())
 }
 
+// Calls of `value_in` store 3,302 positions with 4 to 11 empty squares. Returns how many of them the
+// table shows then.
+fn count_shown_of_many(rt: &impl Abort, table: &BoundTable) -> u32 {
+    let mut shown = 0u32;
+    for is_stored in [false, true] {
+        for squares in 0..4096u64 {
+            let position = with_empty_squares(rt, squares);
+            if squares.count_ones() > 7 {
+                continue;
+            }
+            if !is_stored {
+                let _ = value_in(table, position, -65, 65);
+            } else if shows(table, position, 64) {
+                shown = shown.wrapping_add(1);
+            }
+        }
+    }
+    shown
+}
+
 #[test]
-fn many_stores_of_few_empty_squares_replace_none_of_many(rt: HostRuntime) -> Result<(), Fail> {
+fn many_stores_of_few_empty_squares_replace_none_of_more(rt: HostRuntime) -> Result<(), Fail> {
     let table = BoundTable::new(rt.alloc(), 64, Scoring::Winner)?;
     for empties in [13, 16, 19] {
         let _ = value_in(&table, with_empties(&rt, empties), -65, 65);
     }
-    // 3,302 positions with 4 to 11 empty squares.
-    for squares in 0..4096u64 {
-        if squares.count_ones() <= 7 {
-            let _ = value_in(&table, with_empty_squares(&rt, squares), -65, 65);
-        }
-    }
+    assert!(rt; count_shown_of_many(&rt, &table) <= 16);
     for empties in [13, 16, 19] {
         assert!(rt; shows(&table, with_empties(&rt, empties), 64));
     }
+    Ok(())
+}
+
+// 3,302 stores to 4,096 entries that are chosen at random leave 2,267 positions.
+#[test]
+fn all_entries_of_a_quarter_are_used(rt: HostRuntime) -> Result<(), Fail> {
+    let table = BoundTable::new(rt.alloc(), 16_384, Scoring::Winner)?;
+    assert!(rt; count_shown_of_many(&rt, &table) > 2_100);
     Ok(())
 }
