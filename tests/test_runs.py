@@ -33,14 +33,6 @@ class Runs(InFolder):
                 self.ends((usual.returncode, usual.stdout, b""), *words, input=KINDS, preexec_fn=little)
                 self.ends(refused, *words, "--table", MOST_ENTRIES, input=KINDS, preexec_fn=little)
 
-    def test_the_table_saves_time_for_positions_that_come_again_on_any_thread(self):
-        for name in OUT_OF_MEMORY:
-            for workers in ("0", "3"):
-                with self.subTest(name=name, workers=workers):
-                    words = ("--workers", workers, "--table")
-                    without, usual = (self.seconds(name, *words, table, text=(HARD + ADVISED) * 8) for table in ("0", "65536"))
-                    self.assertGreater(without, 1.5 * usual)
-
     def test_a_right_book_saves_time_with_workers_and_with_progress(self):
         run(built(), "--book-out", "right.book", input=ADVISED, check=True)
         for words, lines in (("--workers 0", 1), ("--workers 0 --progress", 1), ("--workers 8 --table 0", 8)):
