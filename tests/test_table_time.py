@@ -1,4 +1,5 @@
 """The time that a table saves for positions that come again, in a run of a program and in a call of the library."""
+import ctypes
 import time
 import unittest
 
@@ -6,6 +7,8 @@ from .prefix import installed_prefix
 from .support import built, run
 from .test_runs import ADVISED, HARD, spent
 import ffosolve
+from ffosolve._library import CAnswer, CMoveScores, load
+from ffosolve._masks import c_positions
 
 AGAIN = 8  # times that a position comes
 
@@ -35,9 +38,13 @@ class TableTime(unittest.TestCase):
                     self.assertLess(usual, without / 4)
 
     def test_a_call_takes_a_quarter_of_the_time_of_a_call_for_each_position(self):
-        solver, position = ffosolve.Solver(str(PREFIX.shared), entries=65_536), ffosolve.Position.from_obf(HARD.decode())
-        for one, many in ((solver.solve, solver.solve_all), (solver.move_scores, solver.move_scores_all)):
-            with self.subTest(call=many.__name__):
-                apart = seconds(lambda: [one(position) for _ in range(AGAIN)], time.process_time)
-                together = seconds(lambda: many([position] * AGAIN), time.process_time)
+        library, asked = load(str(PREFIX.shared)), c_positions([ffosolve.Position.from_obf(HARD.decode())] * AGAIN)
+
+        def solve(call, record, count):
+            self.assertEqual(call(asked, count, 0, 65_536, (record * count)(), count, ctypes.c_size_t()), 0)
+
+        for call, record in ((library.ffosolve_solve_all, CAnswer), (library.ffosolve_move_scores_all, CMoveScores)):
+            with self.subTest(call=call.__name__):
+                apart, together = (seconds(lambda: [solve(call, record, count) for _ in range(AGAIN // count)], time.process_time)
+                                   for count in (1, AGAIN))
                 self.assertLess(together, apart / 4)
