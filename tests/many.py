@@ -11,7 +11,7 @@ from tests.support import InFolder, built, lay_many, module_folder, positions, r
 
 BOARD = b"-OXXXXX-XXXXXXXOXXXXXXXXXXXXXXXXXXXOXXXXXXXXXXXXXXXXXXXXXXXXXXXX"  # two empty squares
 # Stands before a program. Appends its words to the file $WORDS. Unless it is asked for the known line, it dies or fails as the
-# part says, or as $FAILS says, and takes $PAUSE seconds, or 45 once $LAST parts are solved; $SPOIL is done with what it prints.
+# part says, or as $FAILS says, and takes $PAUSE seconds, or 45 once $LAST parts are solved; $SPOIL changes its output.
 ACTING = """\
 #!@python@ -IS
 import os, signal, subprocess, sys, time
@@ -63,7 +63,7 @@ def set_up_module():
 
 
 class Case(InFolder):
-    """A test in a folder of its own, with a list of 60 positions and what ffosolve prints of it."""
+    """A test in a folder of its own, with a list of 60 positions and what ffosolve prints for it."""
 
     WORDS = ("--lines=20", "work", "list.obf", "--book-out", "joined.book")
 
@@ -83,25 +83,25 @@ class Case(InFolder):
         return run(by or MANY, *words, env={**os.environ, **places}, **how)
 
     def ends(self, status, output, message, *words, **how):
-        """Runs a command that ends with a status and this output, and has this message among others; returns the run."""
+        """Asserts the status and the output of a run, and a message among others; returns the run."""
         ran = self.many(*words, **how)
         self.assertEqual((ran.returncode, ran.stdout), (status, output), ran.stderr.decode())
         self.assertIn(message, ran.stderr.decode())
         return ran
 
     def same(self, *words, text=None, message="", **how):
-        """Runs a command that prints what one run of ffosolve does; returns its messages."""
+        """Asserts that a run prints what one run of ffosolve does; returns its messages."""
         return self.ends(0, self.one if text is None else text, message, *words, **how).stderr.decode()
 
     def same_book(self, name="joined.book"):
         self.assertEqual(Path(name).read_bytes(), Path("one.book").read_bytes())
 
     def files(self):
-        """All files of the test's folder: their contents and permissions by their paths."""
+        """The contents and permissions of all files of the test's folder, by their paths."""
         return {path: (path.is_file() and path.read_bytes(), stat.S_IMODE(path.lstat().st_mode)) for path in Path(".").rglob("*")}
 
     def refused(self, status, message, *words, **how):
-        """A command ends with a status and one line, prints nothing else, and leaves all files and folders as they are."""
+        """Asserts that a run ends with a status and one line on standard error, and changes no file or folder."""
         before = self.files()
         lines = self.ends(status, b"", message, *words, **how).stderr.decode().splitlines()
         self.assertEqual((len(lines), lines[0].startswith("ffosolve-many: ")), (1, True), lines)

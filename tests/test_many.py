@@ -1,4 +1,4 @@
-"""bin/ffosolve-many: what it prints of a list is what ffosolve prints of it."""
+"""bin/ffosolve-many: it prints what ffosolve prints for a list."""
 import io
 import os
 import re
@@ -64,7 +64,7 @@ class Results(Case):
         self.same(*self.WORDS, "--max-empties=3", message=", 3 of them solved before")
         self.refused(2, "work was begun with --max-empties 3: use another folder", *self.WORDS)
 
-    def test_lines_of_each_kind_and_none(self):
+    def test_lines_of_each_kind_and_none_at_all_are_solved(self):
         kinds, blank = stored("examples/kinds.obf"), b"\r\n \t\n\t % X\n% no end of the last line\n\r\r\n \r\n"
         whole, best = kinds + blank + kinds.rstrip(b"\n"), stored("tests/rows/best.obf")
         for text, lines, *words in (whole, 4), (whole, 1000), (b"", 4), (best, 4, "--complete"):
@@ -151,16 +151,16 @@ class Results(Case):
         for place, streams in enumerate(("<&- 2>&-", "2>/dev/full", "2>&-")):
             self.same("-c", f'exec "{many.MANY}" {place} list.obf {streams}', by="sh")
 
-    def test_more_jobs_than_files_that_may_be_open(self):
+    def test_jobs_are_limited_by_the_files_that_may_be_open(self):
         message = "28 of 300 jobs work at a time, since no more than 256 files may be open (ulimit -n)"
         self.same("--jobs=300", "--lines=1", *self.WORDS[1:], message=message, preexec_fn=limited("RLIMIT_NOFILE", 256))
         self.same_book()
 
 
 class Words(Case):
-    """What is refused, each by a line that names the word."""
+    """Each refusal is a line that names the word."""
 
-    def test_command_lines(self):
+    def test_wrong_command_lines_are_refused(self):
         for name in ("two.obf", "kept", b"not\xff"):
             write(os.fsdecode(name), many.SMALL)
         os.symlink("kept", "link")
@@ -209,7 +209,7 @@ class Words(Case):
             with self.subTest(words=words):
                 self.refused(status, message, *words)
 
-    def test_files_that_may_not_be_read_or_written(self):
+    def test_files_that_may_not_be_read_or_written_are_named(self):
         write("secret", many.SMALL, 0o600)
         self.refused(3, "cannot read secret: Permission denied\n", "work", "secret", **NOBODY)
         self.refused(3, "cannot write work: Permission denied\n", "work", "list.obf", **NOBODY)
@@ -217,7 +217,7 @@ class Words(Case):
         os.chmod("open", 0o777)
         self.refused(3, "cannot write book: Permission denied\n", "open/work", "list.obf", "--book-out=book", **NOBODY)
 
-    def test_what_the_program_refuses(self):
+    def test_what_the_program_refuses_is_refused_in_its_words(self):
         write("bad.book", b"?\n")
         for status, message, *words in ((2, "'61'", "--max-empties", 61), (2, "'a;b'", "--scoring", "a;b"),
                                         (2, "'x'", "--workers=x"), (2, "'99999999'", "--table=99999999"),
@@ -225,7 +225,7 @@ class Words(Case):
             self.ends(status, b"", message, "work", "list.obf", *words)
             self.assertFalse(Path("work").exists())
 
-    def test_help_and_version_anywhere(self):
+    def test_help_and_version_are_printed_whatever_else_is_given(self):
         for words in (("--help",), ("-h",), ("list.obf", "--help"), ("work", "-h", "list.obf")):
             ran = self.many(*words, places={"COLUMNS": "80"})
             self.assertEqual((ran.returncode, ran.stderr), (0, b""))
@@ -239,7 +239,7 @@ class Words(Case):
         for word in ("-V", "--version"):
             self.assertEqual(self.same("list.obf", word, by=by, text=b"ffosolve-many 1.2.3\n"), "")
 
-    def test_programs_and_tools_that_are_missing_or_others(self):
+    def test_missing_or_wrong_programs_and_tools_are_named(self):
         by = install("lacking", "#!/bin/sh\n:\n")
         self.refused(4, "is not the program ffosolve", "list.obf", by=by)
         shutil.copy(many.MANY.with_name("ffosolve"), by.with_name("ffoscores"))
@@ -305,7 +305,7 @@ class Merging(Case):
         change_many(by, "books", "whole.seek(0)", "whole.write(b'no entry\\n'); whole.seek(0)")
         self.ends(3, b"", "the merged book: book line 62: bad square", "--merge-books", "one.book", by=by)
 
-    def test_books_that_are_refused(self):
+    def test_books_that_cannot_be_merged_are_named(self):
         write("discs.book", b"% ffobook 2 discs\r\n")
         for others in (["discs.book"], ["discs.book", "one.book"]):
             self.refused(2, "one.book has the scoring winner and discs.book discs", "--merge-books", "one.book", *others)
@@ -333,7 +333,7 @@ class Merging(Case):
 
 
 class Progress(InFolder):
-    """How far the work is, and how long it will take, by a clock of the test."""
+    """Progress and the time that is left, by a clock of the test."""
 
     # Seconds that bench/peer.rs took for the parts of six lines of 264 positions of 8 to 18 empty squares.
     TOOK = (0.010, 0.278, 0.010, 0.223, 0.028, 0.331, 0.060, 0.105, 0.138, 1.174, 0.240, 0.010, 0.173, 0.014, 0.264,
@@ -347,7 +347,7 @@ class Progress(InFolder):
         self.enterContext(mock.patch.object(time, "monotonic", lambda: self.now))
 
     def progress(self, count, lines=1, weights=None):
-        """The progress of a run of so many unsolved parts, all of the same number of lines, and of these weights."""
+        """The progress of a run over unsolved parts, all of the same number of lines, with these weights."""
         a_run = parts.Run.__new__(parts.Run)
         a_run.lines, a_run.all_lines, a_run.parts = lines, count * lines, count
         with mock.patch.object(progress, "weight_of", lambda number, _: weights[number] if weights else 1.0):
@@ -407,7 +407,7 @@ class Progress(InFolder):
         for empties, seconds in ((6, 0.666 / 0.0042), (8, 8.76 / 0.0042)):  # 20 and 22 empty squares, and 14
             self.assertTrue(0.5 < growth ** empties / seconds < 2)
 
-    def test_times_in_words(self):
+    def test_times_are_shown_in_words(self):
         for seconds, words in ((0, "0 s"), (119, "119 s"), (120, "2 min"), (3599, "1 h 0 min"), (7500, "2 h 5 min")):
             self.assertEqual(progress.span_of(seconds), words)
 

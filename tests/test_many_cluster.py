@@ -1,5 +1,4 @@
-"""bin/ffosolve-many on a Dask cluster of this machine: whatever happens to its processes, the report and the book are those of
-one run of ffosolve."""
+"""bin/ffosolve-many on a Dask cluster of this machine: whatever happens there, it prints what one run of ffosolve does."""
 import os
 import random
 import shutil
@@ -43,7 +42,7 @@ class Cluster(Case):
         self.start_scheduler()
 
     def daemon(self, name, *words, **places):
-        """Starts a process of the cluster, in a session of its own, which ends with the test."""
+        """Starts a process of the cluster in a session of its own, and ends it with the test."""
         settings = {"DASK_DISTRIBUTED__SCHEDULER__WORKER_TTL": f"{TTL}s", "DASK_DISTRIBUTED__COMM__TIMEOUTS__CONNECT": "3s"}
         with open(f"{name}.log", "ab") as log:
             ran = subprocess.Popen([PYTHON, "-m", f"distributed.cli.dask_{name.rstrip('123')}", *words, "--no-dashboard"],
@@ -80,8 +79,8 @@ class Cluster(Case):
                               env={**os.environ, **places}, preexec_fn=as_at_a_login)
 
     def ended(self, ran, *names):
-        """The command ends with the report and the book of one run; returns its messages. Nothing works any more on workers, or
-        on these."""
+        """Asserts that a run prints what one run of ffosolve does, and that no program is left on these workers, by default on
+        any; returns its messages."""
         output, _ = ran.communicate(timeout=2 * SECONDS)
         self.assertEqual((ran.returncode, output), (0, self.one), self.messages())
         self.same_book()
@@ -92,7 +91,7 @@ class Cluster(Case):
         return Path("messages").read_text()
 
     def programs(self, *names):
-        """The numbers of the programs at work on workers, or on these."""
+        """The process numbers of the programs on these workers, by default on all."""
         return [number for name in names or self.workers for number in processes_in(self.folder / name)]
 
     def done(self):
@@ -107,7 +106,7 @@ class Cluster(Case):
         scores = run(many.MANY.with_name("ffoscores"), "list.obf").stdout
         self.same(many.MANY, "--scheduler=scheduler.json", "--scores", "scores", "list.obf", by=PYTHON, text=scores)
 
-    def test_workers_that_are_killed_or_fall_silent_or_join_late(self):
+    def test_workers_may_be_killed_or_fall_silent_or_join_late(self):
         self.start_workers("worker1", "worker2", "worker3", PAUSE="1")
         ran = self.begin()
         wait_until(lambda: self.done() >= 1 and self.programs("worker1") and self.programs("worker2"))
@@ -117,7 +116,7 @@ class Cluster(Case):
         wait_until(lambda: self.programs("worker1"))
         self.ended(ran, "worker1", "worker3")
 
-    def test_all_workers_are_silent_for_longer_than_the_scheduler_waits(self):
+    def test_all_workers_may_be_silent_for_longer_than_the_scheduler_waits(self):
         self.start_workers("worker1", "worker2", PAUSE="1")
         ran = self.begin()
         wait_until(lambda: self.done() >= 2)
@@ -198,7 +197,7 @@ class Cluster(Case):
             self.assertNotIn("Traceback", self.messages())
         self.ended(self.begin())
 
-    def test_schedulers_that_cannot_be_reached(self):
+    def test_a_scheduler_that_cannot_be_reached_is_named(self):
         self.scheduler.kill()
         change = install("impatient")
         change_many(change, "cluster", "CONNECT_SECONDS = 10", "CONNECT_SECONDS = 1")

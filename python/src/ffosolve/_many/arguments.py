@@ -57,7 +57,7 @@ OPTIONS = {
 
 
 class Once(argparse.Action):
-    """Stores the value of an option, which is given once and is not empty; `const` is the greatest value of a number."""
+    """Stores the value of an option, and refuses a second or an empty one; `const` is the greatest value of a number."""
 
     def __call__(self, parser, namespace, value, option_string=None):
         if getattr(namespace, self.dest) is not None:
@@ -100,7 +100,7 @@ def parse(words):
 
 
 def complete(command):
-    """Finds FOLDER and LIST among the words, and sets what is not given."""
+    """Finds FOLDER and LIST among the words, and sets the defaults."""
     if not command.words:
         raise misused("no list is named; for standard input use `-`, with a FOLDER before it")
     if len(command.words) > 2:

@@ -1,4 +1,4 @@
-"""Books: how those of parts, or of several lists, become one, and how that is written."""
+"""Merges the books of parts, or of several lists, and writes the result."""
 import contextlib
 import heapq
 import io
@@ -64,7 +64,7 @@ def merged(books):
 
 
 def book_of(run, folder):
-    """The lines of the book of all parts, by way of files in a folder, each the book of a batch of parts."""
+    """The lines of the book of all parts, merged in batches by way of files in a folder."""
     paths, books = [], (io.BytesIO(book) for _, _, book in run.solved())
     while batch := list(itertools.islice(books, BATCH)):
         paths.append(Path(folder, f"{len(paths)}.book"))

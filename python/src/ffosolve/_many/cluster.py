@@ -72,12 +72,12 @@ def solver(name):
 
 
 async def leave_out(name, dask_worker):
-    """Has a worker get no more parts."""
+    """Takes the resource that parts need from a worker, so it gets no more."""
     await dask_worker.set_resources(**{name: 0})
 
 
 def aside(action, *words, **options):
-    """Begins a call that may hang, as long as a worker does not answer."""
+    """Starts a call on a thread of its own, since it hangs while a worker does not answer."""
     def attempt():
         with contextlib.suppress(Exception):
             action(*words, **options)
@@ -87,7 +87,7 @@ def aside(action, *words, **options):
 
 
 class Cluster:
-    """An engine, as `engine.Threads` is one."""
+    """The workers of a cluster, with the methods of `engine.Threads`."""
 
     tries = 3  # of a part
 
@@ -108,7 +108,7 @@ class Cluster:
         threading.Thread(target=self.watch, daemon=True).start()
 
     def connect(self):
-        """Connects to the scheduler, and has it give each worker the program."""
+        """Connects to the scheduler, which then puts the program on each worker."""
         place = {"scheduler_file" if os.path.isfile(self.address) else "address": self.address}
         self.client = distributed.Client(**place, timeout=CONNECT_SECONDS, set_as_default=False)
         register = getattr(self.client, "register_plugin", None) or self.client.register_worker_plugin
@@ -142,7 +142,7 @@ class Cluster:
                                                      "what is solved")
 
     def look(self):
-        """Sees which workers have the program, and which parts they have."""
+        """Updates which workers have the program, and which parts they have."""
         workers, processing, now = self.workers(), self.client.processing(), time.monotonic()
         for address, worker in workers.items():
             for text in worker["resources"]:
@@ -162,7 +162,7 @@ class Cluster:
                 future.cancel()
 
     def room(self):
-        """How many parts may be submitted and not yet done; none while no worker has the program."""
+        """How many parts may be submitted but not done at a time: none while no worker has the program."""
         if self.fault:
             raise self.fault
         threads = sum(worker["nthreads"] for worker in self.ready.values())
@@ -196,6 +196,6 @@ class Cluster:
             aside(self.client.run, leave_out, self.name, workers=[machine])
 
     def close(self):
-        """Has the workers remove the program, if they do so at once."""
+        """Makes the workers remove the program, but waits for a second only."""
         self.fault = self.fault or Refusal(UNREADABLE, "it is over")
         aside(self.client.unregister_worker_plugin, self.name).join(1)

@@ -30,7 +30,7 @@ class Threads:
         self.pool = concurrent.futures.ThreadPoolExecutor(self.jobs)
 
     def room(self):
-        """How many parts may be submitted and not yet done."""
+        """How many parts may be submitted but not done at a time."""
         return 2 * self.jobs
 
     def submit(self, number):
@@ -51,11 +51,11 @@ class Threads:
         return future.result()
 
     def at_work(self):
-        """The machines of the parts that are at work."""
+        """The machine of each part that is being solved."""
         return dict(self.running)
 
     def judge(self, machine, is_solved):
-        """Takes note of whether a machine solved a part."""
+        """Notes whether a machine solved a part."""
 
     def close(self):
         """Ends the work; the programs end with this process."""

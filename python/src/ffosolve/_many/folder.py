@@ -22,7 +22,7 @@ LOCK_SECONDS = 2  # until the programs of a killed run have ended
 
 
 def read_asked(folder):
-    """What was asked for when a folder was begun; None if it was not. Refuses the folder of an earlier version."""
+    """The options and the list with which a folder was begun; None if it was not. Refuses a folder of an earlier version."""
     try:
         asked = json.loads((folder / ASKED).read_bytes())
         if asked["mark"] == MARK.replace("2", "1"):
@@ -53,7 +53,7 @@ def lock_folder(folder):
 
 
 def difference(name, before, now):
-    """How the folder was begun, if an option differs."""
+    """Describes the value of an option with which the folder was begun."""
     if name == "--book-in" and before and now:
         return "with another book as --book-in"
     value = "" if name == "--book-in" or before is True else f" {before}"

@@ -67,7 +67,7 @@ def show(text):
 
 @contextlib.contextmanager
 def standard_output():
-    """Standard output; what can't be written there is refused."""
+    """Standard output, which refuses to go on if it can't be written."""
     if sys.stdout is None:
         raise Refusal(UNREADABLE, "cannot write standard output: it is closed")
     try:

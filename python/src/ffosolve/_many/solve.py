@@ -23,7 +23,7 @@ class Failed(Exception):
 
 
 def guarded(words):
-    """The command of a program that is killed when this process ends, even if it ends before `setpriv` has arranged that."""
+    """The command of a program that is killed when this process ends, even if that is before `setpriv` runs."""
     return ["setpriv", "--pdeathsig", "KILL", "sh", "-c", '[ "$PPID" = "$0" ] && exec "$@"', str(os.getpid()), *words]
 
 
