@@ -59,19 +59,20 @@ class Faults(Case):
         self.games(*words, name, status=len(why) > 0 if status is None else status, out=out, err=err)
 
     def test_wrong_moves_of_transcripts_are_reported(self):
+        start, after = (f"for Black in {player.line(*positions_of(squares)[60 - len(squares)])}" for squares in ([], [37, 43]))
         lines = (
             ("f5d6c3", None),
             ("% a comment", None),
             ("", None),
             ("\r", None),
-            ("f5d6d5", "move 3: D5 is not a legal move"),
+            ("f5d6d5", f"move 3: D5 is not a legal move {after}"),
             ("F5 D6 C5 z9", "move 4: 'z9' is not a square"),
             ("f5d6c", "move 3: 'c' is not a square"),
             ("f5d6i1c3", "move 3: 'i1' is not a square"),
             ("f5a9", "move 2: 'a9' is not a square"),
-            ("e4", "move 1: E4 is not a legal move"),
-            ("f5d6psc3", "move 3: it passes where there is a legal move"),
-            ("pass", "move 1: it passes where there is a legal move"),
+            ("e4", f"move 1: E4 is not a legal move {start}"),
+            ("f5d6psc3", f"move 3: a pass is not a legal move {after}"),
+            ("pass", f"move 1: a pass is not a legal move {start}"),
             ("f5", "move 1: it ends here, with 59 empty squares; 58 are asked for"),
             ("f5d6c3d3c4f4c5b3c2\xff", "move 10: '\ufffd' is not a square"),
         )
@@ -82,8 +83,9 @@ class Faults(Case):
     def test_only_a_pass_may_follow_the_end_of_a_game(self):
         rng = random.Random(1)
         game = squares_of(random_game(rng))
+        end = player.line(*positions_of(game)[60 - len(game)])
         for more in (game[:1], game[-1:]):
-            why = f", game 1, move {len(game) + 1}: {NAMES[more[0]]} comes after the end of the game"
+            why = f", game 1, move {len(game) + 1}: {NAMES[more[0]]} is not a legal move: the game is over in {end}"
             self.reads(transcript(game + more), "", why, name="long", words=["--empties=30"])
         self.reads(transcript(game) + "--pass", line_of(positions_of(game)[30], "passes, game 1"), name="passes", words=["--empties=30"])
 
@@ -97,6 +99,8 @@ class Faults(Case):
         game = squares_of(random_game(random.Random(2)))
         line = line_of(positions_of(game)[22], "it.wtb, game 1, theoretical score 33")
         whole = record(game)
+        at = positions_of(game)[50]
+        illegal = f"{NAMES[game[9]]} is not a legal move for {'Black' if at[2] else 'White'} in {player.line(*at)}"
         gap, no_square, twice = (whole[:18] + bytes([byte]) + whole[19:] for byte in (0, 99, whole[17]))
         for records, count, why in (
             ([whole, whole[:67]], 2, "game 2: the file ends after 67 of the 68 bytes of this game, but its header counts 2 games"),
@@ -106,7 +110,7 @@ class Faults(Case):
             ([whole, b"\n"], 1, "game 2: the file goes on, but its header counts 1 game"),
             ([whole, gap], 2, "game 2, move 11: 0 is not a square"),
             ([whole, no_square], 2, "game 2, move 11: 99 is not a square"),
-            ([whole, twice], 2, f"game 2, move 11: {NAMES[game[9]]} is not a legal move"),
+            ([whole, twice], 2, f"game 2, move 11: {illegal}"),
             ([whole, record([])], 2, "game 2: it has no moves"),
             ([whole, record(game[:37])], 2, "game 2, move 37: it ends here, with 23 empty squares; 22 are asked for"),
         ):

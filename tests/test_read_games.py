@@ -13,7 +13,7 @@ from . import positions  # noqa: F401, which names the library
 from .support import InFolder
 from .games import discs_of_black, positions_of, random_game, record, squares_of, transcript, wthor
 import ffosolve
-from ffosolve import Solver
+from ffosolve import Position, Solver
 
 
 class Games(InFolder):
@@ -52,7 +52,8 @@ class Games(InFolder):
 
     def test_a_wrong_transcript_is_refused_with_the_move_and_the_reason(self):
         for text, move, why in (
-            ("1. f5 2. d5 3. c3", 2, "D5 is not a legal move"), ("f5d6c33d3", 4, "'3d' is not a square"),
+            ("1. f5 2. d5 3. c3", 2, f"D5 is not a legal move for White in {Position.start().play('f5').to_obf()}"),
+            ("f5d6c33d3", 4, "'3d' is not a square"),
             ("f5d6c33-31", 4, "'3-' is not a square"), ("f5 d6 33-31 c3", 3, "'33' is not a square"),
             ("f5 d6 100-3", 3, "'10' is not a square"),
         ):

@@ -6,6 +6,7 @@ from typing import Any, BinaryIO, Iterator, List, NamedTuple, Optional, Sequence
 from ._boards import OTHER
 from ._library import CPosition
 from ._positions import START, Position
+from ._rules import illegal_move
 from ._squares import NAMES, square_name
 from ._text import text_lines
 from ._transcripts import PASSES, words_of
@@ -151,7 +152,7 @@ class Player:
     """Plays games by the rules of the library."""
 
     def __init__(self, library: ctypes.CDLL) -> None:
-        self._play, self._moves = library.ffosolve_play, library.ffosolve_moves
+        self._library, self._play, self._moves = library, library.ffosolve_play, library.ffosolve_moves
 
     def play(self, game: Game, empties: int) -> Played:
         """A game's first position with a number of empty squares, and how the game ends. It is played to its end, since an
@@ -178,13 +179,14 @@ class Player:
         found = [START] if left in wanted else []
         for index, square in enumerate(game.moves):
             if play(at, square, after):
-                if self._has_move(at):
-                    raise self._refusal(at, game, index)
-                at, side = CPosition(at.opp, at.own), OTHER[side]
+                other = CPosition(at.opp, at.own)
+                if self._has_move(at) or square != PASS and not self._has_move(other):
+                    raise self._refusal(Position(at.own, at.opp, side), game, index)
+                at, side = other, OTHER[side]
                 if square == PASS:
                     continue
                 if play(at, square, after):
-                    raise self._refusal(at, game, index)
+                    raise self._refusal(Position(at.own, at.opp, side), game, index)
             at, after, side, left = after, at, OTHER[side], left - 1
             if left in wanted:
                 found.append(Position(at.own, at.opp, side))
@@ -195,13 +197,11 @@ class Player:
         self._moves(at, moves)
         return moves.value != 0
 
-    def _refusal(self, at: CPosition, game: Game, index: int) -> GameRefused:
+    def _refusal(self, position: Position, game: Game, index: int) -> GameRefused:
         """Why a move of a game is illegal."""
-        square = game.moves[index]
+        move = game.moves[index]
         number = sum(it != PASS for it in game.moves[:index]) + 1
-        if square == NO_SQUARE:
+        if move == NO_SQUARE:
             return GameRefused(f"{game.words[index]!r} is not a square", game.number, number)
-        if square == PASS:
-            return GameRefused("it passes where there is a legal move", game.number, number)
-        why = "is not a legal move" if self._has_move(at) else "comes after the end of the game"
-        return GameRefused(f"{square_name(square)} {why}", game.number, number)
+        name = "a pass" if move == PASS else square_name(move)
+        return GameRefused(illegal_move(self._library, position, name).reason, game.number, number)
