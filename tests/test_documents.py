@@ -118,7 +118,7 @@ class Definitions(unittest.TestCase):
         sources = {path: path.read_text() for path in ROOT.glob("crates/*/src/**/*.rt")}
         for name in ("definitions.md", "guarantees.md", "architecture.md"):
             for owner, mark, word in re.findall(r"`([A-Z]\w*(?=\.)|\w+(?=::))(\.(?!antt|md)|::)(\w+)`", TEXTS[f"docs/{name}"]):
-                of_type = re.compile(rf"\b(?:impl|enum) {owner} ")
+                of_type = re.compile(rf"\b(?:impl(?:<.*>)?|enum) {owner}\b")
                 files = [path for path, text in sources.items() if path.stem == owner or of_type.search(text)]
                 files = files if mark == "::" else ROOT.glob(f"crates/*/specs/{owner}.antt")
                 self.assertTrue(defines(files, word), f"{name}: {owner}{mark}{word}")
