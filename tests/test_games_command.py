@@ -125,7 +125,9 @@ class Command(Case):
             self.assertEqual((ran.returncode, ran.stdout), (status, out))
 
     def test_a_missing_library_ends_with_status_4(self):
-        write("report", report_of(with_digest(self.listed)))
+        listed = with_digest(line_of(positions_of(self.game)[4], "x.wtb, game 1, theoretical score 30"))
+        write("listed", listed)
+        write("report", report_of(listed))
         for words in (("--empties=20", "text"), ("compare", "listed", "report", "--fix=new.wtb")):
             ran = run(PROGRAM, *words, env={**os.environ, "FFOSOLVE_LIBRARY": "/nowhere"})
             self.assertEqual((ran.returncode, ran.stdout), (4, b""))
