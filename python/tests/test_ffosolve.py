@@ -320,4 +320,4 @@ class Obf(unittest.TestCase):
         self.assertEqual(sizes, sorted(sizes))
         self.assertLessEqual(max(sizes), ffosolve.MOST_ENTRIES)
         at = [sizes[empties] for empties in (0, 10, 11, 14, 15, 19, 20, 60)]  # as ffosolve.h says
-        self.assertEqual(at, [0, 0, 1024, 1024, 65536, 65536, 1000000, 1000000])
+        self.assertEqual(at, [0, 0, 4096, 4096, 65536, 65536, 1000000, 1000000])

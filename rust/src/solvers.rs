@@ -37,7 +37,7 @@ impl TryFrom<u32> for Scoring {
 pub const fn table_entries(empties: usize) -> usize {
     match empties {
         0..=10 => 0,
-        11..=14 => 1_024,
+        11..=14 => 4_096,
         15..=19 => 65_536,
         _ => 1_000_000,
     }

@@ -151,7 +151,7 @@ fn versions_sizes_and_limits_are_those_of_the_header() {
     let sizes: Vec<usize> = (0..=ffosolve::MOST_EMPTIES).map(table_entries).collect();
     assert!(sizes.windows(2).all(|pair| pair[0] <= pair[1]) && sizes[ffosolve::MOST_EMPTIES] <= ffosolve::MOST_ENTRIES);
     let at = [0, 10, 11, 14, 15, 19, 20, 60].map(|empties| sizes[empties]); // as ffosolve.h says
-    assert_eq!(at, [0, 0, 1024, 1024, 65536, 65536, 1000000, 1000000]);
+    assert_eq!(at, [0, 0, 4096, 4096, 65536, 65536, 1000000, 1000000]);
     // SAFETY: the call takes a number.
     let limits = [0, 1, 2].map(|number| unsafe { raw::ffosolve_limit(number) });
     assert_eq!(limits, [ffosolve::MOST_ENTRIES, ffosolve::MOST_EMPTIES, 3]);
