@@ -17,9 +17,15 @@ OLD = BOOK + b"% an old book, longer than the new one\n" * 99
 NOTES = b"notes, not a book\n"
 # How a run ends: its status, whether it prints a report, and its error. A place is refused before anything is solved.
 DONE = (0, True, b"")
-REFUSED = (3, False, b"ffosolve: cannot write it.book\n")
-UNWRITTEN = (3, True, b"ffosolve: cannot write it.book\n")
-UNREAD = (3, False, b"ffosolve: cannot read it.book\n")
+DENIED, IN_THE_WAY = "permission denied", "another file is in the way"
+
+
+def unwritten(cause, name="it.book", prints=False):
+    """How a run ends that can't write its book: the cause stands on a second line, if it is known."""
+    return 3, prints, "".join(f"ffosolve: {line}\n" for line in (f"cannot write {name}", cause) if line).encode()
+
+
+UNREAD = (3, False, b"ffosolve: cannot read it.book\nffosolve: permission denied\n")
 NO_BOOK = (3, False, b"ffosolve: it.book is not a book and would be overwritten\n")
 
 
@@ -74,11 +80,11 @@ class Files(Books):
     def test_a_place_without_permission_is_refused(self):
         self.addCleanup(os.chmod, ".", 0o755)
         for place, folder_mode, file_mode, wanted in (
-            ("it.book", 0o555, 0o666, REFUSED),
-            ("it.book", 0o777, 0o444, REFUSED),
-            ("there", 0o777, 0o444, REFUSED),  # by a link
+            ("it.book", 0o555, 0o666, unwritten(DENIED)),
+            ("it.book", 0o777, 0o444, unwritten(DENIED)),
+            ("there", 0o777, 0o444, unwritten(DENIED)),  # by a link
             ("it.book", 0o777, 0o222, UNREAD),  # it might not be a book
-            *[("it.book", 0o1777, 0o666, UNWRITTEN)] * (os.getuid() == 0),  # only root may replace root's file
+            *[("it.book", 0o1777, 0o666, unwritten(DENIED, prints=True))] * (os.getuid() == 0),  # only root may replace root's file
         ):
             with self.subTest(place=place, folder=oct(folder_mode), file=oct(file_mode)):
                 write(place, OLD, file_mode)
@@ -95,11 +101,12 @@ class Files(Books):
         return {**os.environ, "LD_PRELOAD": str(preload("watch", place)), "WATCHED": str(place / "watched"), **more}
 
     def test_a_full_or_broken_disk_keeps_the_old_book(self):
-        for how in ({"preexec_fn": lambda: shorter_than(100)}, {"env": self.watched(NO_SYNC="1")}):
+        for how, cause in (({"preexec_fn": lambda: shorter_than(100)}, "the file would be too large"),
+                           ({"env": self.watched(NO_SYNC="1")}, "")):
             for old in ({"it.book": OLD}, {}):
                 for name, text in old.items():
                     write(name, text)
-                self.solves(UNWRITTEN, **how)
+                self.solves(unwritten(cause, prints=True), **how)
                 self.left(old)
 
     def test_a_new_file_is_synced_before_it_is_renamed(self):
@@ -113,30 +120,30 @@ class Files(Books):
         others = dict.fromkeys(("it.book.part", *(f"it.book.{number}.part" for number in range(100))), b"of another")
         for name, text in {"it.book": OLD, **others}.items():
             write(name, text)
-        self.solves(REFUSED)
+        self.solves(unwritten(IN_THE_WAY))
         self.assertEqual((content("it.book"), content("it.book.99.part")), (OLD, b"of another"))
         os.remove("it.book.99.part")
         self.solves(DONE)
         del others["it.book.99.part"]
         self.left({"it.book": BOOK, **others})
 
-    def changed_meanwhile(self, place, change):
+    def changed_meanwhile(self, place, change, cause):
         """Makes a change while a run prints its report, and asserts that the run then can't write its book."""
         write("list", TEXT * 2000)  # whose report is more than a pipe holds
         program = self.start(PROGRAM, "--book-out", place, "list", **NOBODY)
         begun = program.stdout.read(1)
         change()
         report, error = program.communicate(timeout=SECONDS)
-        self.assertEqual((begun, report[-3:], program.returncode), (b"[", b" 0\n", 3))
-        self.assertEqual(error, f"ffosolve: cannot write {place}\n".encode())
+        self.assertEqual((begun, report[-3:]), (b"[", b" 0\n"))
+        self.assertEqual((program.returncode, True, error), unwritten(cause, place, prints=True))
 
     def test_a_file_that_appears_during_the_run_stays(self):
         os.chmod(".", 0o777)
-        for name, new, new_mode in (("it.book", NOTES, 0o666), ("it.book", BOOK, 0o444),
-                                    ("it.book", OLD, 0o222), ("it.book.0.part", b"of another", 0o666)):
+        for name, new, new_mode, cause in (("it.book", NOTES, 0o666, IN_THE_WAY), ("it.book", BOOK, 0o444, DENIED),
+                                           ("it.book", OLD, 0o222, DENIED), ("it.book.0.part", b"of another", 0o666, IN_THE_WAY)):
             with self.subTest(name=name, new=new[:9]):
                 write("it.book", OLD, 0o666)
-                self.changed_meanwhile("it.book", lambda: write(name, new, new_mode))
+                self.changed_meanwhile("it.book", lambda: write(name, new, new_mode), cause)
                 os.chmod(name, 0o644)
                 self.left({"list": TEXT * 2000, "it.book": OLD, name: new})
 
@@ -147,17 +154,18 @@ class Files(Books):
             os.chmod("there", 0o777)
             for name, text in old.items():
                 write(f"there/{name}", text, 0o666)
-            self.changed_meanwhile("there/it.book", lambda: os.chmod("there", 0))
+            self.changed_meanwhile("there/it.book", lambda: os.chmod("there", 0), DENIED)
             os.chmod("there", 0o755)
             self.assertEqual({name: content(f"there/{name}") for name in os.listdir("there")}, old)
 
     def test_a_long_name_a_missing_folder_and_a_folder_are_refused(self):
         write("some.book", OLD)
-        for name in ("b" * 251, "no/it.book", "some.book/it.book"):
-            self.solves((3, False, f"ffosolve: cannot write {name}\n".encode()), name)
+        for name, cause in (("b" * 251, "its name is too long"), ("no/it.book", ""),
+                            ("some.book/it.book", "a part of its name is not a folder")):
+            self.solves(unwritten(cause, name), name)
             self.assertEqual((os.listdir(), content("some.book")), (["some.book"], OLD))
         os.mkdir("it.book")
-        self.solves(REFUSED)
+        self.solves(unwritten("it is a folder"))
         self.assertEqual(os.listdir("it.book"), [])
 
     def test_a_link_stays_and_its_target_is_written(self):
@@ -168,7 +176,7 @@ class Files(Books):
             write("there", OLD)
         os.remove("it.book")
         os.symlink("no/there", "it.book")
-        self.solves(REFUSED)
+        self.solves(unwritten(""))
         self.assertTrue(os.path.islink("it.book"))
 
 
@@ -192,7 +200,7 @@ class Streams(Books):
 
     def test_a_full_device_stays_and_is_reported(self):
         name = self.device("full", 7)
-        self.solves((3, True, f"ffosolve: cannot write {name}\n".encode()), name)
+        self.solves(unwritten("no space left", name, prints=True), name)
         self.assertTrue(stat.S_ISCHR(os.lstat(name).st_mode))
 
     def test_a_device_can_be_both_list_and_book(self):
@@ -210,7 +218,7 @@ class Lists(Books):
         for name in ("list", "./list", "twin", "link"):
             for lists in (("list",), ("other", "list", "other")):
                 with self.subTest(name=name, lists=lists):
-                    self.solves((3, False, b"ffosolve: cannot write " + name.encode() + b"\n"), name, *lists)
+                    self.solves(unwritten("it is in use", name), name, *lists)
                     self.assertEqual((content("list"), sorted(os.listdir())), (TEXT, ["link", "list", "other", "twin"]))
 
     def test_files_with_one_inode_number_on_two_file_systems_are_two(self):
@@ -232,9 +240,9 @@ class Lists(Books):
         self.addCleanup(os.close, folder)
         for words, error in (
             ("", "cannot read standard input"),
-            ("list .", "cannot read ."),
+            ("list .", "cannot read .\nffosolve: it is a folder"),
             ("list none.obf none", "cannot read none.obf"),
-            ("--book-in . list", "cannot read ."),
+            ("--book-in . list", "cannot read .\nffosolve: it is a folder"),
             ("--book-in none.book none.obf", "cannot read none.book"),
             ("--book-in bad.book none.obf", "book line 1: bad square at column 1"),
             ("--book-in large.book none.obf", "book line 2: bad square at column 1"),
@@ -251,7 +259,7 @@ class Lists(Books):
         self.addCleanup(os.close, os.open("pipe", os.O_RDWR))
         too_large = b"ffosolve: file 2 is larger than %d bytes\n" % MOST_BYTES
         for place, error in (("", b"cannot write "), ("no/it.book", b"cannot write no/it.book"),
-                             ("notes/it.book", b"cannot write notes/it.book"),
+                             ("notes/it.book", b"cannot write notes/it.book\nffosolve: a part of its name is not a folder"),
                              ("notes", b"notes is not a book and would be overwritten")):
             with self.subTest(place=place):
                 self.solves((1, False, b"ffosolve: more than 64 files\n"), place, *["list"] * 65, "pipe")
@@ -276,7 +284,7 @@ class Overwrites(Books):
 
     def test_the_log_that_standard_output_goes_to_is_not_overwritten(self):
         os.symlink("/proc/self/fd/1", "out")
-        for old, error in ((NOTES, b"out is not a book and would be overwritten"), (b"", b"cannot write out")):
+        for old, error in ((NOTES, b"out is not a book and would be overwritten"), (b"", b"cannot write out\nffosolve: another file is in the way")):
             write("log", old)
             with self.subTest(old=old), open("log", "ab") as log:
                 ran = run(PROGRAM, "--book-out", "out", input=TEXT, capture_output=False, stdout=log, stderr=subprocess.PIPE)

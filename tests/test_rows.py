@@ -74,7 +74,7 @@ class Rows(InFolder):
         for number in os.openpty():
             self.addCleanup(os.close, number)
         name = os.ttyname(number)
-        self.ends((3, b"", f"ffosolve: cannot read {name}\n".encode()), built(), "--book-in", name, timeout=20)
+        self.ends((3, b"", f"ffosolve: cannot read {name}\nffosolve: it is neither a file nor a pipe\n".encode()), built(), "--book-in", name, timeout=20)
         for lines, error in (("yes ?", "1: bad square at column 1"), ("yes ? | tr -d '\\n'", "1: bad square at column 1"),
                             ("(echo '% ffobook 3 winner'; yes %)", "1: unknown header"),
                             (f"(echo; yes '{'X' * 64}')", "2: bad side at column 65")):

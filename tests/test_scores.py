@@ -92,7 +92,7 @@ class Streams(Scores):
         Path("large.obf").write_bytes(b" " * LARGE)
         for words, why in (
             ("two.obf none.obf", "cannot read none.obf"),
-            ("two.obf .", "cannot read ."),
+            ("two.obf .", "cannot read .\nffoscores: it is a folder"),
             ("two.obf large.obf none.obf", "cannot read none.obf"),
             ("two.obf large.obf two.obf large.obf", f"file 2 is larger than {LARGE - 1} bytes"),
             ("two.obf " * 65, "more than 64 files"),

@@ -1,6 +1,7 @@
 -- What a book may be written over, and the text that is written.
 use Rattle.std.specs.Prelude.{◌≡◌, ℕ, List, [], ◌∷◌, map}
 use Rattle.std.specs.Borrow.{Bor}
+use Rattle.std.specs.declared.io.ErrorKind.TheVariants as kind
 use Rattle.othello_rules.specs.declared.scoring.Scoring.{Scoring}
 use Rattle.solved_book.specs.Books.{BookView, book_text, header}
 use Rattle.suite_runs.specs.Outcome.{IsBookOf, tasks_of_views}
@@ -27,7 +28,7 @@ IsFree _ = ⊥
 -- the error of a place where this was found, by its name; a place that is free has none
 abbrev pub IsRefusalOf : Found → Bor (List ℕ) → SolveError → Type 0
 IsRefusalOf found.Other name error = error ≡ OverwritesFile name
-IsRefusalOf found.List name error = error ≡ BadPlace name
+IsRefusalOf found.List name error = error ≡ BadPlace name kind.ResourceBusy
 IsRefusalOf found.BookIn name error = error ≡ OverwritesBookIn name
 IsRefusalOf _ name error = ⊥
 

@@ -1,12 +1,13 @@
 -- The errors that end `ffosolve` early: their reasons, their lines and their statuses.
-use Rattle.std.specs.Prelude.{ℕ, List, [], ◌∷◌, ◌++◌, codes}
+use Rattle.std.specs.Prelude.{ℕ, List, [], ◌++◌, codes}
 use Rattle.solved_book.specs.Faults.{book_fault_text}
 use Rattle.solved_book.specs.declared.book_fault.BookFault.{BookFault}
 use Rattle.solved_book.specs.declared.book_fault.BookFault.TheVariants as book
 use Rattle.program_settings.specs.declared.input_fault.InputFault.TheVariants as input
 use Rattle.suite_runs.specs.declared.run_fault.RunFault.{RunFault}
 use Rattle.suite_runs.specs.declared.run_fault.RunFault.TheVariants as run
-use Rattle.program_parts.specs.ProgramError.{error_reason}
+use Rattle.program_parts.specs.Cause.{cause_line, cause_text, error_line}
+use Rattle.program_parts.specs.ProgramError.{error_cause, error_reason}
 use Rattle.program_parts.specs.declared.program_error.ProgramError.TheVariants.{Memory, BadInput, BadWords, CannotRead, CannotWrite}
 use Rattle.book_files.specs.declared.solve_error.SolveError.{SolveError}
 use Rattle.book_files.specs.declared.solve_error.SolveError.TheVariants.{Program, Mixed, BadBook, BadPlace, OverwritesFile, OverwritesBookIn}
@@ -28,30 +29,38 @@ unfoldable pub solve_error_reason : SolveError → List ℕ
 solve_error_reason (Program error) = error_reason error
 solve_error_reason Mixed = codes "answers mixed"
 solve_error_reason (BadBook fault) = book_fault_text fault
-solve_error_reason (BadPlace name) = codes "cannot write " ++ name.now
+solve_error_reason (BadPlace name kind) = codes "cannot write " ++ name.now
 solve_error_reason (OverwritesFile name) = name.now ++ codes " is not a book and would be overwritten"
 solve_error_reason (OverwritesBookIn name) =
     name.now ++ (codes " is read and would be overwritten: write --book-out NEW, then "
     ++ (codes "ffosolve-many --merge-books " ++ (name.now ++ codes " NEW")))
 
--- the line of an error on standard error
+-- why a file can't be read or written
+abbrev pub solve_error_cause : SolveError → List ℕ
+solve_error_cause (Program error) = error_cause error
+solve_error_cause (BadPlace name kind) = cause_text kind
+solve_error_cause _ = []
+
+-- the lines of an error on standard error: its reason, and its cause if it is known
 unfoldable pub solve_error_text : SolveError → List ℕ
-solve_error_text error = codes "ffosolve: " ++ (solve_error_reason error ++ 10 ∷ [])
+solve_error_text error =
+    error_line (codes "ffosolve") (solve_error_reason error)
+    ++ cause_line (codes "ffosolve") (solve_error_cause error)
 
 -- the exit status of `ffosolve` after an error
 abbrev pub solve_status_of : SolveError → ℕ
 solve_status_of (Program Memory) = 1
 solve_status_of (Program (BadInput fault)) = 1
 solve_status_of (Program BadWords) = 2
-solve_status_of (Program (CannotRead name)) = 3
-solve_status_of (Program (CannotWrite name)) = 3
+solve_status_of (Program (CannotRead name kind)) = 3
+solve_status_of (Program (CannotWrite name kind)) = 3
 solve_status_of Mixed = 1
 solve_status_of (BadBook fault) = 3
-solve_status_of (BadPlace name) = 3
+solve_status_of (BadPlace name kind) = 3
 solve_status_of (OverwritesFile name) = 3
 solve_status_of (OverwritesBookIn name) = 3
 
 -- the error comes before anything is printed; each does except `CannotWrite`
 abbrev pub IsSilent : SolveError → Type 0
-IsSilent (Program (CannotWrite name)) = ⊥
+IsSilent (Program (CannotWrite name kind)) = ⊥
 IsSilent _ = Unit {0}

@@ -83,7 +83,7 @@ fn check_found<'a>(found: Found, name: &'a str) -> Result<(), SolveError<'a>>
     match found {
         Found::NotRegular | Found::Empty | Found::Book => Ok(()),
         Found::Other => Err(SolveError::OverwritesFile(name)),
-        Found::List => Err(SolveError::BadPlace(name)),
+        Found::List => Err(SolveError::BadPlace(name, io::ErrorKind::ResourceBusy)),
         Found::BookIn => Err(SolveError::OverwritesBookIn(name)),
     }
 }

@@ -53,9 +53,12 @@ fn claims_in<R: Read>(alloc: Global, reader: &mut R) -> io::Result<Result<Claims
 }
 
 // Opens the file of a book, which has to be a regular file or a pipe, since a device may have no
-// end.
+// end. `InvalidInput` is the kind of the error for a device.
 fn open_book<T: Files>(rt: &T, name: &str) -> io::Result<T::File> {
     let found = fs::metadata(rt, name)?;
+    if found.is_dir() {
+        return Err(io::Error::from(io::ErrorKind::IsADirectory));
+    }
     if !found.is_file() && !found.file_type().is_fifo() {
         return Err(io::Error::from(io::ErrorKind::InvalidInput));
     }
@@ -133,6 +136,9 @@ pub fn write_book<'a, T: Files>(rt: &T, book: &Option<NewFile<'a>>) -> Result<()
     };
     match file.write(rt) {
         Ok(()) => Ok(()),
-        Err(_) => Err(SolveError::Program(ProgramError::CannotWrite(file.name))),
+        Err(fault) => {
+            let error = ProgramError::CannotWrite(file.name, fault.kind());
+            Err(SolveError::Program(error))
+        }
     }
 }

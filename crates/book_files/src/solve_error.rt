@@ -3,11 +3,12 @@
 ghost use Rattle.std.specs.Prelude.{◌≡◌, ◌⊎◌, OnOk, Some};
 ghost use Rattle.std.specs.IoError.{error_kind};
 ghost use Rattle.std.specs.Io.KnownBytes.{Appends};
-ghost use Rattle.book_files.specs.SolveError.{IsSilent, book_error, run_error, solve_error_reason, solve_error_text, solve_status_of};
+ghost use Rattle.book_files.specs.SolveError.{IsSilent, book_error, run_error};
+ghost use Rattle.book_files.specs.SolveError.{solve_error_cause, solve_error_reason, solve_error_text, solve_status_of};
 ghost use Rattle.program_parts.specs.declared.program_error.ProgramError.TheVariants.{BadInput, Memory};
 ghost use Rattle.book_files.specs.declared.solve_error.SolveError.TheVariants.{BadPlace, Program};
 
-use program_parts::ProgramError;
+use program_parts::{ProgramError, cause_text, print_cause};
 use program_settings::InputFault;
 use solved_book::BookFault;
 use std::alloc::AllocError;
@@ -24,8 +25,9 @@ pub enum SolveError<'a> {
     Mixed,
     /// The file of the book to be read is not a book. Out of memory is `Program(Memory)`.
     BadBook(BookFault),
-    /// A book can't be written under this name, as a test showed before anything was solved.
-    BadPlace(&'a str),
+    /// A book can't be written under this name, as a test showed before anything was solved. The kind
+    /// of the system's error says why.
+    BadPlace(&'a str, ErrorKind),
     /// The file of this name, where a book is to be written, is neither empty nor a book.
     OverwritesFile(&'a str),
     /// The file of this name, where a book is to be written, is the book that is read.
@@ -93,7 +95,7 @@ impl fmt::Display for SolveError<'_> {
             SolveError::Program(error) => write!(f, "{error}"),
             SolveError::Mixed => f.write_str("answers mixed"),
             SolveError::BadBook(fault) => write!(f, "{fault}"),
-            SolveError::BadPlace(name) => write!(f, "cannot write {name}"),
+            SolveError::BadPlace(name, _) => write!(f, "cannot write {name}"),
             SolveError::OverwritesFile(name) => write!(
                 f,
                 "{name} is not a book and would be overwritten"
@@ -107,29 +109,40 @@ impl fmt::Display for SolveError<'_> {
 }
 
 // The error for a failed test of a book's place: `Program(Memory)` if memory was refused,
-// otherwise `BadPlace` with the name.
+// otherwise `BadPlace` with the name and the kind.
 pub(crate) fn place_error<'a>(fault: &io::Error, name: &'a str) -> SolveError<'a>
     ensures memory { error_kind fault.now ≡ ErrorKind.OutOfMemory → result ≡ Program Memory }
     ensures name { (error_kind fault.now ≡ ErrorKind.OutOfMemory → ⊥)
-        → result ≡ BadPlace name.entry }
+        → result ≡ BadPlace name.entry (error_kind fault.now) }
     ensures status { (solve_status_of result ≡ 1) ⊎ (solve_status_of result ≡ 3) }
     ensures silent { IsSilent result }
 {
     match fault.kind() {
         ErrorKind::OutOfMemory => SolveError::Program(ProgramError::Memory),
-        _ => SolveError::BadPlace(name),
+        kind => SolveError::BadPlace(name, kind),
     }
 }
 
 impl SolveError<'_> {
-    /// Writes the error as one line: `ffosolve: `, the reason, and LF. The error of the call is
-    /// that of the writer.
-    #[tactic(auto, unfolding(crate::specs::SolveError::solve_error_text))]
+    // Why a file can't be read or written; empty if nothing is known of it.
+    fn cause(&self) -> &'static str
+        ensures { result.now ≡ solve_error_cause self.now }
+    {
+        match self {
+            SolveError::Program(error) => error.cause(),
+            SolveError::BadPlace(_, kind) => cause_text(*kind),
+            _ => "",
+        }
+    }
+
+    /// Writes the error as one line: `ffosolve: `, the reason, and LF. A second line has the cause, if
+    /// it is known. The error of the call is that of the writer.
     pub fn print<E: Write>(&self, errors: &mut E) -> io::Result<()>
         ensures { OnOk result (Appends
             (E.contents errors.old) (E.contents errors.new) (solve_error_text self.now)) }
     {
-        let error = self;
-        write!(errors, "ffosolve: {error}\n")
+        let (program, error) = ("ffosolve", self);
+        write!(errors, "{program}: {error}\n")?;
+        print_cause(program, self.cause(), errors)
     }
 }

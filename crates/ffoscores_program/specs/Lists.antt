@@ -69,7 +69,7 @@ pub record EndsFfoscores (words : List (List ℕ)) (given old new : Option (List
 -- the error of the program for a fault of printing
 abbrev pub IsListError : ListFault → ProgramError → Type 0
 IsListError list.Memory error = error ≡ Memory
-IsListError list.CannotWrite (CannotWrite name) = name.now ≡ codes "standard output"
+IsListError list.CannotWrite (CannotWrite name kind) = name.now ≡ codes "standard output"
 IsListError list.CannotWrite error = ⊥
 
 -- the exit status of `ffoscores` after an error

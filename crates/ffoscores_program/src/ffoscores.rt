@@ -16,7 +16,7 @@ use list_printer::{ListFault, write_lists};
 use program_parts::{OptionFault, ProgramError, end_without_options, read_files};
 use program_settings::{Settings, check_files};
 use std::alloc::Global;
-use std::io::{Read, Write};
+use std::io::{ErrorKind, Read, Write};
 use std::rt::Files;
 use std::sync::Wait;
 use std::thread::Threads;
@@ -29,7 +29,7 @@ fn list_error(fault: ListFault) -> ProgramError<'static>
 {
     match fault {
         ListFault::Memory => ProgramError::Memory,
-        ListFault::CannotWrite => ProgramError::CannotWrite("standard output"),
+        ListFault::CannotWrite => { ProgramError::CannotWrite("standard output", ErrorKind::Other) }
     }
 }
 

@@ -1,4 +1,5 @@
 pub mod Inputs
 pub mod CommandLine
+pub mod Cause
 pub mod ProgramError
 pub mod Endings

@@ -1,6 +1,7 @@
 -- The errors that end either program early, their reasons and their lines.
-use Rattle.std.specs.Prelude.{ℕ, List, [], ◌∷◌, ◌++◌, codes}
+use Rattle.std.specs.Prelude.{ℕ, List, [], ◌++◌, codes}
 use Rattle.program_settings.specs.InputFault.{input_fault_text}
+use Rattle.program_parts.specs.Cause.{cause_line, cause_text, error_line}
 use Rattle.program_parts.specs.declared.program_error.ProgramError.{ProgramError}
 use Rattle.program_parts.specs.declared.program_error.ProgramError.TheVariants.{Memory, BadInput, BadWords, CannotRead, CannotWrite}
 
@@ -9,15 +10,22 @@ unfoldable pub error_reason : ProgramError → List ℕ
 error_reason Memory = codes "out of memory"
 error_reason (BadInput fault) = input_fault_text fault
 error_reason BadWords = codes "cannot read the command line"
-error_reason (CannotRead name) = codes "cannot read " ++ name.now
-error_reason (CannotWrite name) = codes "cannot write " ++ name.now
+error_reason (CannotRead name kind) = codes "cannot read " ++ name.now
+error_reason (CannotWrite name kind) = codes "cannot write " ++ name.now
 
--- the line of an error on standard error, which begins with the name of the program
+-- why a file can't be read or written
+abbrev pub error_cause : ProgramError → List ℕ
+error_cause (CannotRead name kind) = cause_text kind
+error_cause (CannotWrite name kind) = cause_text kind
+error_cause _ = []
+
+-- the lines of an error on standard error: its reason, and its cause if it is known
 unfoldable pub error_text : List ℕ → ProgramError → List ℕ
-error_text program error = program ++ (codes ": " ++ (error_reason error ++ 10 ∷ []))
+error_text program error =
+    error_line program (error_reason error) ++ cause_line program (error_cause error)
 
 -- the error is one of reading a file or a stream
 abbrev pub IsReadError : ProgramError → Type 0
 IsReadError Memory = Unit {0}
-IsReadError (CannotRead name) = Unit {0}
+IsReadError (CannotRead name kind) = Unit {0}
 IsReadError _ = ⊥

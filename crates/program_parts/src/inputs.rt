@@ -41,7 +41,10 @@ fn read_input<R: Read>(alloc: Global, input: &mut R) -> Result<Vec<Vec<u8>>, Pro
             files.push(text)?;
             Ok(files)
         }
-        Err(fault) => Err(read_error(&fault, "standard input")),
+        Err(fault) => match fault.kind() {
+            io::ErrorKind::OutOfMemory => Err(ProgramError::Memory),
+            _ => Err(ProgramError::CannotRead("standard input", io::ErrorKind::Other)),
+        },
     }
 }
 

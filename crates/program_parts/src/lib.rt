@@ -9,6 +9,7 @@
 //! ```
 #![tactic(auto)]
 
+mod cause;
 mod inputs;
 mod option_fault;
 mod program_error;
@@ -16,6 +17,7 @@ pub mod settings_args;
 mod streams;
 mod words;
 
+pub use cause::{cause_text, print_cause};
 pub use inputs::read_files;
 pub use option_fault::OptionFault;
 pub use program_error::{ProgramError, read_error, words_error};

@@ -3,9 +3,10 @@
 ghost use Rattle.std.specs.Prelude.{◌≡◌, ◌⊎◌, OnOk, Some};
 ghost use Rattle.std.specs.IoError.{error_kind};
 ghost use Rattle.std.specs.Io.KnownBytes.{Appends};
-ghost use Rattle.program_parts.specs.ProgramError.{IsReadError, error_reason, error_text};
+ghost use Rattle.program_parts.specs.ProgramError.{IsReadError, error_cause, error_reason, error_text};
 ghost use Rattle.program_parts.specs.declared.program_error.ProgramError.TheVariants.{BadInput, BadWords, CannotRead, Memory};
 
+use crate::cause::{cause_text, print_cause};
 use program_settings::InputFault;
 use std::alloc::{AllocError, AllocFailed};
 use std::io::{ErrorKind, Write};
@@ -21,10 +22,11 @@ pub enum ProgramError<'a> {
     BadInput(InputFault),
     /// A word of the command line is not text.
     BadWords,
-    /// The file or the stream of this name can't be read.
-    CannotRead(&'a str),
-    /// The file or the stream of this name can't be written.
-    CannotWrite(&'a str),
+    /// The file or the stream of this name can't be read. The kind of the system's error says why;
+    /// it is `Other` for a stream.
+    CannotRead(&'a str, ErrorKind),
+    /// The file or the stream of this name can't be written, with the kind of the error as before.
+    CannotWrite(&'a str, ErrorKind),
 }
 
 impl From<InputFault> for ProgramError<'_> {
@@ -60,23 +62,23 @@ impl fmt::Display for ProgramError<'_> {
             ProgramError::Memory => f.write_str("out of memory"),
             ProgramError::BadInput(fault) => write!(f, "{fault}"),
             ProgramError::BadWords => f.write_str("cannot read the command line"),
-            ProgramError::CannotRead(name) => write!(f, "cannot read {name}"),
-            ProgramError::CannotWrite(name) => write!(f, "cannot write {name}"),
+            ProgramError::CannotRead(name, _) => write!(f, "cannot read {name}"),
+            ProgramError::CannotWrite(name, _) => write!(f, "cannot write {name}"),
         }
     }
 }
 
-/// The error for a failed read of the file or stream of this name: `Memory` if memory was
-/// refused, otherwise `CannotRead` with the name.
+/// Makes the error for a failed read of the file of this name: `Memory` if memory was refused,
+/// otherwise `CannotRead` with the name and the kind.
 pub fn read_error<'a>(fault: &io::Error, name: &'a str) -> ProgramError<'a>
     ensures memory { error_kind fault.now ≡ ErrorKind.OutOfMemory → result ≡ Memory }
     ensures name { (error_kind fault.now ≡ ErrorKind.OutOfMemory → ⊥)
-        → result ≡ CannotRead name.entry }
+        → result ≡ CannotRead name.entry (error_kind fault.now) }
     ensures kind { IsReadError result }
 {
     match fault.kind() {
         ErrorKind::OutOfMemory => ProgramError::Memory,
-        _ => ProgramError::CannotRead(name),
+        kind => ProgramError::CannotRead(name, kind),
     }
 }
 
@@ -92,14 +94,27 @@ pub fn words_error(fault: &io::Error) -> ProgramError<'static>
 }
 
 impl ProgramError<'_> {
-    /// Writes the error as one line: the name of the program, `: `, the reason, and LF. The error
-    /// of the call is that of the writer.
-    #[tactic(auto, unfolding(crate::specs::ProgramError::error_text))]
+    /// Says why a file can't be read or written; empty if nothing is known of it.
+    pub fn cause(&self) -> &'static str
+        ensures { result.now ≡ error_cause self.now }
+    {
+        match self {
+            ProgramError::CannotRead(_, kind) | ProgramError::CannotWrite(_, kind) => {
+                cause_text(*kind)
+            }
+            _ => "",
+        }
+    }
+
+    /// Writes the error as one line: the name of the program, `: `, the reason, and LF. A second line
+    /// has the cause, if it is known. The error of the call is that of the writer.
+    #[tactic(auto, unfolding(crate::specs::ProgramError::error_text, crate::specs::Cause::error_line))]
     pub fn print<E: Write>(&self, program: &str, errors: &mut E) -> io::Result<()>
         ensures { OnOk result (Appends
             (E.contents errors.old) (E.contents errors.new) (error_text program.now self.now)) }
     {
         let error = self;
-        write!(errors, "{program}: {error}\n")
+        write!(errors, "{program}: {error}\n")?;
+        print_cause(program, self.cause(), errors)
     }
 }

@@ -65,7 +65,8 @@ pub fn end_without_options<W: Write, E: Write>(
         Ok(true) => 0,
         Ok(false) => 2,
         Err(_) => {
-            let _ = ProgramError::CannotWrite("standard output").print(program, errors);
+            let error = ProgramError::CannotWrite("standard output", io::ErrorKind::Other);
+            let _ = error.print(program, errors);
             3
         }
     }

@@ -42,9 +42,9 @@ fn error_status(error: &SolveError<'_>) -> u8
         SolveError::Program(ProgramError::Memory | ProgramError::BadInput(_)) | SolveError::Mixed =>
             1,
         SolveError::Program(ProgramError::BadWords) => 2,
-        SolveError::Program(ProgramError::CannotRead(_) | ProgramError::CannotWrite(_))
+        SolveError::Program(ProgramError::CannotRead(_, _) | ProgramError::CannotWrite(_, _))
         | SolveError::BadBook(_)
-        | SolveError::BadPlace(_)
+        | SolveError::BadPlace(_, _)
         | SolveError::OverwritesFile(_)
         | SolveError::OverwritesBookIn(_) => 3,
     }

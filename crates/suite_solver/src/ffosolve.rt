@@ -76,7 +76,10 @@ fn solve_and_print<'a, T: Files + Clock + Threads + Wait + Sync, W: Write, E: Wr
     let reports = solved.reports(alloc)?;
     match write_reports(output, &reports) {
         Ok(()) => Ok(book),
-        Err(_) => Err(SolveError::Program(ProgramError::CannotWrite("standard output"))),
+        Err(_) => {
+            let error = ProgramError::CannotWrite("standard output", io::ErrorKind::Other);
+            Err(SolveError::Program(error))
+        }
     }
 }
 

@@ -1,0 +1,29 @@
+-- Why a file can't be read or written, in words.
+use Rattle.std.specs.Prelude.{ℕ, List, [], ◌∷◌, ◌++◌, codes}
+use Rattle.std.specs.declared.io.ErrorKind.{ErrorKind}
+use Rattle.std.specs.declared.io.ErrorKind.TheVariants as kind
+
+-- the words for the kind of an error; none if there is no such file, or if it says nothing more
+abbrev pub cause_text : ErrorKind → List ℕ
+cause_text kind.PermissionDenied = codes "permission denied"
+cause_text kind.AlreadyExists = codes "another file is in the way"
+cause_text kind.NotADirectory = codes "a part of its name is not a folder"
+cause_text kind.IsADirectory = codes "it is a folder"
+cause_text kind.ReadOnlyFilesystem = codes "the file system is read-only"
+cause_text kind.FilesystemLoop = codes "too many links lead to it"
+cause_text kind.InvalidInput = codes "it is neither a file nor a pipe"
+cause_text kind.StorageFull = codes "no space left"
+cause_text kind.QuotaExceeded = codes "the quota is used up"
+cause_text kind.FileTooLarge = codes "the file would be too large"
+cause_text kind.ResourceBusy = codes "it is in use"
+cause_text kind.InvalidFilename = codes "its name is too long"
+cause_text _ = []
+
+-- a line of a program on standard error
+unfoldable pub error_line : List ℕ → List ℕ → List ℕ
+error_line program reason = program ++ (codes ": " ++ (reason ++ 10 ∷ []))
+
+-- the line of a cause; none if nothing is known of it
+unfoldable pub cause_line : List ℕ → List ℕ → List ℕ
+cause_line program [] = []
+cause_line program (c ∷ cause) = error_line program (c ∷ cause)

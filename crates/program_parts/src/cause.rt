@@ -1,0 +1,43 @@
+//! Why a file can't be read or written, in words.
+
+ghost use Rattle.std.specs.Prelude.{◌≡◌, OnOk};
+ghost use Rattle.std.specs.Io.KnownBytes.{Appends};
+ghost use Rattle.program_parts.specs.Cause.{cause_line, cause_text};
+
+use std::io;
+use std::io::{ErrorKind, Write};
+
+/// Says in words why a file can't be read or written, by the kind of the error. The text is empty if
+/// there is no such file, or if the kind says nothing more.
+pub fn cause_text(kind: ErrorKind) -> &'static str
+    ensures { result.now ≡ cause_text kind }
+{
+    match kind {
+        ErrorKind::PermissionDenied => "permission denied",
+        ErrorKind::AlreadyExists => "another file is in the way",
+        ErrorKind::NotADirectory => "a part of its name is not a folder",
+        ErrorKind::IsADirectory => "it is a folder",
+        ErrorKind::ReadOnlyFilesystem => "the file system is read-only",
+        ErrorKind::FilesystemLoop => "too many links lead to it",
+        ErrorKind::InvalidInput => "it is neither a file nor a pipe",
+        ErrorKind::StorageFull => "no space left",
+        ErrorKind::QuotaExceeded => "the quota is used up",
+        ErrorKind::FileTooLarge => "the file would be too large",
+        ErrorKind::ResourceBusy => "it is in use",
+        ErrorKind::InvalidFilename => "its name is too long",
+        _ => "",
+    }
+}
+
+/// Writes the line of a cause: the name of the program, `: `, the cause and LF. Writes nothing if the
+/// cause is empty. The error is that of the writer.
+#[tactic(auto, unfolding(crate::specs::Cause::cause_line, crate::specs::Cause::error_line))]
+pub fn print_cause<E: Write>(program: &str, cause: &str, errors: &mut E) -> io::Result<()>
+    ensures { OnOk result (Appends
+        (E.contents errors.old) (E.contents errors.new) (cause_line program.now cause.now)) }
+{
+    if cause.is_empty() {
+        return Ok(());
+    }
+    write!(errors, "{program}: {cause}\n")
+}
