@@ -112,7 +112,8 @@ pub fn find_place<'a, T: Files>(
     ensures free { IfOk result (λ place. IsFree place.found) }
     ensures refused { IfOk found (λ f. (IsFree f → ⊥) → IfErr result (IsRefusalOf f name.entry)) }
     ensures silent { IfErr result IsSilent }
-    ensures status { IfErr result (λ error. (solve_status_of error ≡ 1) ⊎ (solve_status_of error ≡ 3)) }
+    ensures status { IfErr result
+        (λ error. (solve_status_of error ≡ 1) ⊎ (solve_status_of error ≡ 3)) }
 {
     let found = match found {
         Ok(found) => found,

@@ -81,7 +81,8 @@ pub fn read_claims<'a, T: Files>(
     name: &'a Option<String>,
 ) -> Result<Option<Claims>, SolveError<'a>>
     ensures silent { IfErr result IsSilent }
-    ensures status { IfErr result (λ error. (solve_status_of error ≡ 1) ⊎ (solve_status_of error ≡ 3)) }
+    ensures status { IfErr result
+        (λ error. (solve_status_of error ≡ 1) ⊎ (solve_status_of error ≡ 3)) }
 {
     let Some(name) = name else {
         return Ok(None);

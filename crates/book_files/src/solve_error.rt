@@ -25,8 +25,8 @@ pub enum SolveError<'a> {
     Mixed,
     /// The file of the book to be read is not a book. Out of memory is `Program(Memory)`.
     BadBook(BookFault),
-    /// A book can't be written under this name, as a test showed before anything was solved. The kind
-    /// of the system's error says why.
+    /// A book can't be written under this name, as a test showed before anything was solved. The
+    /// kind of the system's error says why.
     BadPlace(&'a str, ErrorKind),
     /// The file of this name, where a book is to be written, is neither empty nor a book.
     OverwritesFile(&'a str),
@@ -135,8 +135,8 @@ impl SolveError<'_> {
         }
     }
 
-    /// Writes the error as one line: `ffosolve: `, the reason, and LF. A second line has the cause, if
-    /// it is known. The error of the call is that of the writer.
+    /// Writes the error as one line: `ffosolve: `, the reason, and LF. A second line has the cause,
+    /// if it is known. The error of the call is that of the writer.
     pub fn print<E: Write>(&self, errors: &mut E) -> io::Result<()>
         ensures { OnOk result (Appends
             (E.contents errors.old) (E.contents errors.new) (solve_error_text self.now)) }

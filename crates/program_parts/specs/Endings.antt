@@ -4,8 +4,8 @@ use Rattle.program_parts.specs.CommandLine.{AsksForText, IsFaultless, IsTakenBy,
 
 -- A call of a program over these words ended with this status. Standard output held `old` before
 -- and holds `new` now; `Done` is what 0 says, if the words ask for neither help nor the version.
--- With a status other than 2, clap finds no fault in the words, or they ask for help or the version,
--- or the status is `memory`, since memory may be refused before clap has taken them.
+-- With a status other than 2, clap finds no fault in the words, or they ask for help or the
+-- version, or the status is `memory`, since memory may be refused before clap has taken them.
 pub record EndsProgram (program : Program) (memory : ℕ) (words : List (List ℕ))
     (old new : Option (List ℕ)) (status : ℕ) (Done : Type 0) : Type 0 where
   pub in_range : status ≤ 3

@@ -7,8 +7,8 @@ ghost use Rattle.program_parts.specs.Cause.{cause_line, cause_text};
 use std::io;
 use std::io::{ErrorKind, Write};
 
-/// Says in words why a file can't be read or written, by the kind of the error. The text is empty if
-/// there is no such file, or if the kind says nothing more.
+/// Says in words why a file can't be read or written, by the kind of the error. The text is empty
+/// if there is no such file, or if the kind says nothing more.
 pub fn cause_text(kind: ErrorKind) -> &'static str
     ensures { result.now ≡ cause_text kind }
 {
@@ -29,8 +29,8 @@ pub fn cause_text(kind: ErrorKind) -> &'static str
     }
 }
 
-/// Writes the line of a cause: the name of the program, `: `, the cause and LF. Writes nothing if the
-/// cause is empty. The error is that of the writer.
+/// Writes the line of a cause: the name of the program, `: `, the cause and LF. Writes nothing if
+/// the cause is empty. The error is that of the writer.
 #[tactic(auto, unfolding(crate::specs::Cause::cause_line, crate::specs::Cause::error_line))]
 pub fn print_cause<E: Write>(program: &str, cause: &str, errors: &mut E) -> io::Result<()>
     ensures { OnOk result (Appends

@@ -106,8 +106,8 @@ impl ProgramError<'_> {
         }
     }
 
-    /// Writes the error as one line: the name of the program, `: `, the reason, and LF. A second line
-    /// has the cause, if it is known. The error of the call is that of the writer.
+    /// Writes the error as one line: the name of the program, `: `, the reason, and LF. A second
+    /// line has the cause, if it is known. The error of the call is that of the writer.
     #[tactic(auto, unfolding(crate::specs::ProgramError::error_text, crate::specs::Cause::error_line))]
     pub fn print<E: Write>(&self, program: &str, errors: &mut E) -> io::Result<()>
         ensures { OnOk result (Appends

@@ -19,8 +19,8 @@ pub record PrintsReports (c : SettingsView) (texts : List (List ℕ)) (old new :
   pub written : Appends old new (concat (reports c.scoring (criteria_of c) texts))
 
 -- the reports of the files of these names, or of standard input, were printed
-pub record PrintsReportsOf (c : SettingsView) (names : List (List ℕ)) (given old new : Option (List ℕ))
-    : Type 0 where
+pub record PrintsReportsOf (c : SettingsView) (names : List (List ℕ))
+    (given old new : Option (List ℕ)) : Type 0 where
   pub texts : List (List ℕ)
   pub read : AreTextsOf names given texts
   pub printed : PrintsReports c texts old new

@@ -50,7 +50,7 @@ fn error_status(error: &SolveError<'_>) -> u8
     }
 }
 
-/// PrintsReportsOf the error that ends the program, and gives the exit status. A failure of standard error
+/// Prints the error that ends the program, and gives the exit status. A failure of standard error
 /// changes nothing.
 pub(crate) fn print_error<E: Write>(error: &SolveError<'_>, errors: &mut E) -> u8
     ensures { result ≡ solve_status_of error.now }

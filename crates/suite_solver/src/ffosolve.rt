@@ -61,7 +61,8 @@ fn solve_and_print<'a, T: Files + Clock + Threads + Wait + Sync, W: Write, E: Wr
         (λ error. IsSilent error → W.contents output.new ≡ W.contents output.old) }
     ensures unwritten { IfErr result
         (λ error. solve_status_of error ≡ 1 → W.contents output.new ≡ W.contents output.old) }
-    ensures status { IfErr result (λ error. (solve_status_of error ≡ 1) ⊎ (solve_status_of error ≡ 3)) }
+    ensures status { IfErr result
+        (λ error. (solve_status_of error ≡ 1) ⊎ (solve_status_of error ≡ 3)) }
 {
     let solved = solve_with_progress(
         rt,
@@ -97,7 +98,8 @@ fn place_of_run<'a, T: Files>(
     ensures files { (fault : InputFault) → refusal_of (texts_of texts.now) ≡ Some fault
         → IsErrOf result (Program (BadInput fault)) }
     ensures silent { IfErr result IsSilent }
-    ensures status { IfErr result (λ error. (solve_status_of error ≡ 1) ⊎ (solve_status_of error ≡ 3)) }
+    ensures status { IfErr result
+        (λ error. (solve_status_of error ≡ 1) ⊎ (solve_status_of error ≡ 3)) }
 {
     check_files(texts)?;
     let Some(name) = &asked.book_out else {
@@ -124,7 +126,8 @@ fn carry_out<'a, T: Files + Clock + Threads + Wait + Sync, R: Read, W: Write, E:
         (λ error. IsSilent error → W.contents output.new ≡ W.contents output.old) }
     ensures unwritten { IfErr result
         (λ error. solve_status_of error ≡ 1 → W.contents output.new ≡ W.contents output.old) }
-    ensures status { IfErr result (λ error. (solve_status_of error ≡ 1) ⊎ (solve_status_of error ≡ 3)) }
+    ensures status { IfErr result
+        (λ error. (solve_status_of error ≡ 1) ⊎ (solve_status_of error ≡ 3)) }
 {
     let claims = read_claims(rt, alloc, &asked.book_in)?;
     let texts = read_files(rt, alloc, &asked.files, input)?;
