@@ -120,7 +120,8 @@ fn carry_out<'a, T: Files + Clock + Threads + Wait + Sync, R: Read, W: Write, E:
     output: &mut W,
     errors: &mut E,
 ) -> Result<(), SolveError<'a>>
-    ensures reported { OnOk result (PrintsReportsOf asked.now.settings (names_of asked.now.files.items)
+    ensures reported { OnOk result (PrintsReportsOf asked.now.settings
+        (names_of asked.now.files.items)
         (R.remaining input.old) (W.contents output.old) (W.contents output.new)) }
     ensures silent { IfErr result
         (λ error. IsSilent error → W.contents output.new ≡ W.contents output.old) }
