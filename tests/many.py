@@ -79,7 +79,7 @@ class Case(InFolder):
         return ran.stdout
 
     def many(self, *words, by=None, places={}, **how):
-        """Runs the command, with places in its environment."""
+        """Runs the command with these variables in its environment."""
         return run(by or MANY, *words, env={**os.environ, **places}, **how)
 
     def ends(self, status, output, message, *words, **how):

@@ -91,14 +91,14 @@ class Case(InFolder):
         self.assertEqual(self.builds(), builds or self.builds())
 
     def refused(self, ran, words, lines=None):
-        """Asserts that a run ended with status 4 and one line, after those about the build."""
+        """Asserts that a run ended with status 4 and printed one line after those about the build."""
         last = ran.stderr.splitlines()[-1]
         self.assertEqual((ran.returncode, ran.stdout), (4, ""), ran)
         self.assertTrue(last.startswith("ffosolve: not built: ") and words in last, ran.stderr)
         self.assertEqual(ran.stderr.count("\n"), lines or ran.stderr.count("\n"), ran.stderr)
 
     def nothing_is_left(self):
-        """Waits until no process is in the checkout, where rt would wait for 45 seconds."""
+        """Waits until no process is left in the checkout; the fake rt would stay for 45 seconds."""
         wait_until(lambda: not processes_in(self.root), 30)
 
 
@@ -268,7 +268,7 @@ class Failures(Case):
         self.ran(self.use(), 1, builds=4)
 
     def test_a_full_disk_is_reported_and_the_next_run_builds(self):
-        """The disk of out/ is full from the start, or gets full by the program."""
+        """The disk of out/ is full from the start, or the program fills it."""
         small = 'mount -t tmpfs -o size=40k none out && head -c "$1" /dev/zero >out/filled; shift; exec "$@"'
         (self.root / "out").mkdir()
         space = ["unshare", "-m"] if os.getuid() == 0 else ["unshare", "-r", "-m"]
@@ -320,7 +320,7 @@ class Signals(Case):
         self.ran(self.use(), 1, builds=5)
 
     def on_a_terminal(self, keys, shown, go=False, columns=80):
-        """Returns the output on a terminal, and the status. The keys are typed after this text was shown."""
+        """Returns the output on a terminal, on which the keys are typed once this text is shown, and the status."""
         words = ["script", "-qec", f"stty cols {columns}; exec '{self.script}' w", "/dev/null"]
         ran = self.start(*words, stdin=subprocess.PIPE, **{**self.how(WAITS="yes"), "text": False})
         output, end = b"", time.monotonic() + SECONDS
@@ -348,7 +348,7 @@ class Targets(Case):
         return run("make", "-s", "-C", self.root, *words, **self.how())
 
     def test_each_level_is_proved_once_and_a_new_version_only_links_the_library_again(self):
-        """A link that fails is reported: a tool fails, or a call is undefined."""
+        """A failed link is reported: a tool fails, or a call is undefined."""
         for tool, package in (("cc", "gcc"), ("ar", "binutils"), ("objcopy", "binutils"), ("readelf", "binutils")):
             need(tool, package)
         (self.kit / "c").mkdir()

@@ -31,7 +31,7 @@ def make(target, folder, *before, **places):
 
 
 def made(target, file, *where, **places):
-    """Makes a target, which prints nothing but the name of this file."""
+    """Makes a target, and asserts that it prints only the name of its file."""
     ran = make(target, *where, **places)
     if (ran.returncode, ran.stdout, ran.stderr) != (0, f"made: {file}\n", ""):
         raise AssertionError(ran)

@@ -112,7 +112,7 @@ class Fix(Case):
         self.assertEqual(os.listdir("new"), ["one.wtb"])
 
     def test_several_files_are_written_all_or_none(self):
-        """The second of them is not that of the list, or does not fit on the disk."""
+        """The second one is not the file of the list, or does not fit on the disk."""
         write("other/two.wtb", self.whole)
         os.mkdir("new")
         self.write_list("it.wtb", "other/two.wtb")
@@ -153,7 +153,7 @@ class Fix(Case):
         self.fix(3, "cannot write '': No such file or directory", place="")
 
     def test_a_file_system_without_hard_links_gets_the_file(self):
-        """It is on the disk before it has its name."""
+        """The file is on the disk before it gets its name."""
         from ffosolve._fix_wthor import write_new
 
         def sync(file):

@@ -41,7 +41,7 @@ class Case(InFolder):
         return {str(path.relative_to(self.root)) for path in self.root.rglob("*") if path.is_symlink() or not path.is_dir()}
 
     def refused(self, ran, words):
-        """Asserts that a target failed with one line, after which make has its own."""
+        """Asserts that a target failed with one line, which may be followed by one of make."""
         self.assertEqual((ran.returncode, ran.stdout), (2, ""), ran)
         self.assertIn(words, ran.stderr.splitlines()[0])
         self.assertLessEqual(ran.stderr.count("\n"), 2, ran.stderr)
@@ -302,7 +302,7 @@ def plain(text):
 
 
 class Texts(Case):
-    """Manual pages and completions. A TAB after the bin/ffosolve of a checkout that is not built starts nothing."""
+    """Manual pages and completions. A TAB after bin/ffosolve in a checkout starts no build."""
 
     def setUp(self):
         super().setUp()

@@ -106,7 +106,7 @@ class Lists(unittest.TestCase):
         self.assertLessEqual(len(calls), 4)
 
     def test_few_positions_are_read_ahead_of_one_that_takes_long(self):
-        """Another thread is free meanwhile, and solves those after it."""
+        """Meanwhile another thread solves those after it."""
         begun, taken, solver = itertools.count(), itertools.count(), Solver()
 
         def solve_all(*words):

@@ -18,25 +18,25 @@ PACKAGE_VERSION = os.environ.get("FFOSOLVE_WHEEL_VERSION")  # with the commit, i
 
 
 def settings(name):
-    """The texts of a setting of pyproject.toml, of which the standard library reads such files from Python 3.11 on."""
+    """Returns the texts of a setting of pyproject.toml; the standard library reads TOML only from Python 3.11 on."""
     project = next(texts("pyproject.toml"))
     return re.findall('"(.*?)"', re.search(rf"^{name} = (\[[^]]*\]|.*)", project, re.MULTILINE).group(1))
 
 
 def texts(*places):
-    """The texts of those of these files that are there."""
+    """Yields the texts of these files, without those that are missing."""
     for place in filter(os.path.exists, (os.path.join(FOLDER, place) for place in places)):
         with open(place, encoding="utf-8") as text:
             yield text.read()
 
 
 def version():
-    """The file VERSION of the package, where this is a source archive, else that of the repository."""
+    """Returns the version: of a source archive, or else of the repository."""
     return next(texts("src/ffosolve/VERSION", "../VERSION")).strip()
 
 
 def licences(name):
-    """LICENSE of a source archive or of the repository, or as a package for Debian calls it, if it is there."""
+    """Yields LICENSE, of a source archive or the repository or under its name in Debian, if it is there."""
     for text in list(texts("LICENSE", "../LICENSE", "../copyright"))[:1]:
         yield name, text.encode()
 
@@ -60,17 +60,17 @@ def metadata():
         *(("Requires-Dist", f'{it}; extra == "many"') for it in settings("many")),
         ("Description-Content-Type", "text/markdown"),
     ]
-    told = ast.get_docstring(ast.parse(next(texts("src/ffosolve/__init__.py"))))
-    return "".join(f"{name}: {text}\n" for name, text in fields) + f"\n{told}\n"
+    text = ast.get_docstring(ast.parse(next(texts("src/ffosolve/__init__.py"))))
+    return "".join(f"{name}: {text}\n" for name, text in fields) + f"\n{text}\n"
 
 
 def tag():
-    """`make wheel` puts the shared library into the wheel, which needs glibc 2.34."""
+    """Returns the platform of the wheel: with the shared library, which `make wheel` adds, it needs glibc 2.34."""
     return "py3-none-manylinux_2_34_x86_64" if LIBRARIES else "py3-none-any"
 
 
 def libraries():
-    """The shared library for each level of processors, from the folder in which make has built them."""
+    """Yields the shared library for each level of processors, from the folder LIBRARIES."""
     for level in ("x86-64-v2", "x86-64-v3") if LIBRARIES else ():
         with open(os.path.join(LIBRARIES, level, "libffosolve.so"), "rb") as library:
             yield f"ffosolve/{level}/libffosolve.so.1", library.read()

@@ -21,7 +21,7 @@ class Fixed:
         self._games = self._changed = self._real_changed = self._real_unknown = 0
 
     def summary(self) -> str:
-        """How many scores were changed and how many were not looked at, after all bytes were read."""
+        """Says how many scores were changed and how many not compared; call it after all bytes were read."""
         others = self._games - len(self._compared)
         real = f"; real scores changed {self._real_changed}, not checked {self._real_unknown}" if self._with_real else ""
         return f"theoretical scores changed {self._changed} of {self._games}, not compared {others}{real}"
@@ -120,7 +120,7 @@ def unnamed(path: str, pieces: Iterable[bytes]) -> Iterator[str]:
 
 
 def move(old: str, new: str) -> None:
-    """Gives a file a name that no file has. Raises FileExistsError."""
+    """Renames a file, but never over another one: raises FileExistsError."""
     try:
         os.link(old, new)
     except FileExistsError:

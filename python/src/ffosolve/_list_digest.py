@@ -1,4 +1,4 @@
-"""The digest at the end of a list of games, which each report of the list has, too."""
+"""The digest at the end of a list of games, which each report of the list repeats."""
 import hashlib
 import re
 from typing import List

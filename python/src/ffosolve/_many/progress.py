@@ -34,7 +34,7 @@ class Progress:
         self.left_weight = sum(self.weights)
 
     def update(self, at_work):
-        """Takes the machines of the parts that are now at work. A moment without any is the one between two parts."""
+        """Takes the machine of each part that is now being solved; between two parts there may be none for a moment."""
         now = time.monotonic()
         if at_work or now > self.worked + 2:
             self.running = {number: (machine, self.running.get(number, (None, now))[1]) for number, machine in at_work.items()}
