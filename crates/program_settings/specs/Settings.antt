@@ -8,7 +8,7 @@ use Rattle.program_settings.specs.declared.criteria.Criteria.{Criteria}
 use Rattle.program_settings.specs.Limits.{default_empties, default_entries, default_workers, most_workers}
 
 -- the most empty squares that are solved, the number of workers, of table entries, the scoring, and
--- whether a line that lists moves has to list every best one
+-- whether a line that lists any move must list all best ones
 pub record SettingsView : Type 0 where
   pub max_empties : ℕ
   pub workers : ℕ

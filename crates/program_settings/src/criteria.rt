@@ -5,6 +5,6 @@
 pub struct Criteria {
     /// The most empty squares of a position that is solved. One with more is refused.
     pub limit: u8,
-    /// Whether a line that lists moves has to list every best one.
+    /// Whether a line that lists any move must list all best ones.
     pub complete: bool,
 }

@@ -13,7 +13,7 @@ use othello_rules::Scoring;
 use std::marker::Model;
 
 /// The settings of a run: three numbers, none above its limit, the scoring, and whether a line that
-/// lists moves has to list every best one.
+/// lists any move must list all best ones.
 #[derive(Clone, Copy, PartialEq, Eq, Debug)]
 pub struct Settings {
     max_empties: u8,
