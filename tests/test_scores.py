@@ -107,7 +107,7 @@ class Streams(Scores):
         self.ends((3, b"", b"ffoscores: cannot read standard input\n"), stdin=folder)
 
     def test_each_refused_request_for_memory_is_reported_or_not_needed(self):
-        """A run that reports it has printed the beginning of the output, any other all; nine of ten report it."""
+        """A run that reports it has printed only the beginning of the output; any other prints all. Nine of ten report it."""
         reported = 0
         for number, ran, met in Refusals(".").runs(built("ffoscores"), "--table", "100", input=KINDS):
             found = ran.returncode, ran.stderr

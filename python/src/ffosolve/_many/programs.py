@@ -37,8 +37,8 @@ class Program:
         return ran.returncode, ran.stderr.decode(errors="replace").strip().removeprefix("ffosolve: ")
 
     def check(self, options):
-        """Builds it if it isn't built, and has it refuse wrong options and a wrong book. Returns the greatest number of empty
-        squares that it solves."""
+        """Builds the program if needed, and lets it refuse wrong options and a wrong book. Returns the most empty squares that it
+        solves."""
         if not shutil.which("setpriv"):
             raise Refusal(UNBUILT, "setpriv is not on the path: apt-get install util-linux")
         ran = subprocess.run(guarded([self.start, *options, "/dev/stdin"]), input=NO_DISCS, stdout=subprocess.PIPE)
