@@ -1,7 +1,7 @@
 """The command line of ffosolve-games."""
 import argparse
 import re
-from typing import List, Optional
+from typing import List
 
 from . import __version__
 from ._library import MOST_EMPTIES
@@ -80,31 +80,17 @@ def options_of(words: List[str]) -> argparse.Namespace:
                              "must not exist yet; or, if PLACE is a folder, all WTHOR files of LIST into it")
     parser.add_argument("--real", action="store_true", help="with --fix: also write the real scores that the moves have")
     parser.add_argument("--version", "-V", action="version", version=f"{NAME} {__version__}")
-    is_comparison = words[:1] == ["compare"]
-    options = parser.parse_intermixed_args(words[is_comparison:])
-    options.is_comparison = is_comparison
-    why = comparison_fault(options) if is_comparison else fault(options)
-    if why is not None:
-        parser.error(why)
-    return options
-
-
-def fault(options: argparse.Namespace) -> Optional[str]:
-    """Why options without `compare` are refused."""
-    if options.fix is not None or options.real:
-        return "--fix and --real go with compare, which has to be the first word"
-    return None
-
-
-def comparison_fault(options: argparse.Namespace) -> Optional[str]:
-    """Why options of `compare` are refused."""
+    compares = words[:1] == ["compare"]
+    options = parser.parse_intermixed_args(words[compares:], argparse.Namespace(compares=compares))
+    fixes, count = options.fix is not None, len(options.files)
     for is_wrong, why in (
-        (len(options.files) != 2, f"compare takes two files, LIST and REPORT, not {len(options.files)}"),
-        (options.files == ["-", "-"], "LIST and REPORT can't both be standard input"),
-        (options.empties is not None, "--empties does not go with compare"),
+        (not compares and (fixes or options.real), "--fix and --real go with compare, which has to be the first word"),
+        (compares and count != 2, f"compare takes two files, LIST and REPORT, not {count}"),
+        (compares and options.files == ["-", "-"], "LIST and REPORT can't both be standard input"),
+        (compares and options.empties is not None, "--empties does not go with compare"),
+        (options.real and not fixes, "--real goes with --fix"),
         (options.fix == "-", "--fix takes a file or a folder, not standard output"),
-        (options.real and options.fix is None, "--real goes with --fix"),
     ):
         if is_wrong:
-            return why
-    return None
+            parser.error(why)
+    return options

@@ -63,7 +63,7 @@ def main(find: Callable[[], Optional[str]] = lambda: None) -> int:
     try:
         with Output() as output:
             options = options_of(sys.argv[1:])
-            return (compare if options.is_comparison else print_games)(options, find, output)
+            return (compare if options.compares else print_games)(options, find, output)
     except LibraryNotFound as why:
         return report(why, NO_LIBRARY)
     except Stop as why:
@@ -232,13 +232,8 @@ def shown(name: str) -> str:
     """A file's name in a message: in bash's quotes if it has control characters or is not UTF-8."""
     if name.isprintable():
         return name or "''"
-    return "$'" + "".join(map(escaped, name)) + "'"
-
-
-def escaped(letter: str) -> str:
-    if letter.isprintable() and letter not in "\\'":
-        return letter
-    return "".join(f"\\x{byte:02x}" for byte in os.fsencode(letter))
+    quoted = repr(os.fsencode(name) + b'"')  # in single quotes, since it has a double one
+    return f"${quoted[1:-2]}'"
 
 
 def would_be_lost(name: str) -> Stop:
