@@ -3,7 +3,7 @@ import signal
 import sys
 import unittest
 
-from .support import ROOT, as_at_a_login, run
+from .support import ROOT, as_at_a_login, refuse_threads, run
 from .positions import need_modules
 
 # Each call would take years. A signal comes while it runs; then the next call runs beside those that were left.
@@ -56,3 +56,8 @@ class Interrupted(unittest.TestCase):
         code += "Solver(max_empties=60).solve(Position.start())"
         ran = run(sys.executable, "-c", code, cwd=ROOT / "python/src", preexec_fn=as_at_a_login)
         self.assertEqual((ran.returncode, ran.stderr.splitlines()[-1]), (-signal.SIGINT, b"KeyboardInterrupt"))
+
+    def test_a_call_is_made_without_a_thread_if_none_can_be_started(self):
+        code = "import sys; from ffosolve import Position, Solver; print(Solver().solve_all([Position.from_obf(sys.argv[1])] * 4097)[-1])"
+        ran = run(sys.executable, "-c", code, BOARD, cwd=ROOT / "python/src", preexec_fn=refuse_threads)
+        self.assertEqual((ran.returncode, ran.stdout, ran.stderr), (0, b"+62 H1\n", b""))
