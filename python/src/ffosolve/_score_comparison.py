@@ -58,9 +58,11 @@ def compare_scores(listed: Source, scored: Source) -> ScoreComparison:
         lines, exact = lines + 1, dict(answer.listed)
         for piece in filter(None, (it.strip(b" \t") for it in fields_of(text))):
             match = SCORE.fullmatch(piece)
-            move = MOVES[match[1].upper()] if match else ""
-            unread, illegal = unread + (match is None), illegal + (match is not None and move not in exact)
-            if match is not None and move in exact:
+            if match is None:
+                unread += 1
+            elif (move := MOVES[match[1].upper()]) not in exact:
+                illegal += 1
+            else:
                 moves += 1
                 it = WrongScore(number, move, float(match[2]) if b"." in match[2] else int(match[2]), exact[move])
                 wrong += [it] * (it.error != 0)
