@@ -64,6 +64,11 @@ class Results(Case):
         self.same(*self.WORDS, "--max-empties=3", message=", 3 of them solved before")
         self.refused(2, "work was begun with --max-empties 3: use another folder", *self.WORDS)
 
+    def test_a_program_may_be_late_to_read_a_large_part(self):
+        write("list.obf", many.SMALL * 17)
+        self.one = self.solve("list.obf")
+        self.same("list.obf", by=install("late", '#!/bin/sh\nsleep 1\nexec "@real@" "$@"\n'))
+
     def test_lines_of_each_kind_and_none_at_all_are_solved(self):
         kinds, blank = stored("examples/kinds.obf"), b"\r\n \t\n\t % X\n% no end of the last line\n\r\r\n \r\n"
         whole, best = kinds + blank + kinds.rstrip(b"\n"), stored("tests/rows/best.obf")
@@ -339,7 +344,6 @@ class Progress(InFolder):
     TOOK = (0.010, 0.278, 0.010, 0.223, 0.028, 0.331, 0.060, 0.105, 0.138, 1.174, 0.240, 0.010, 0.173, 0.014, 0.264,
             0.031, 0.364, 0.055, 0.342, 0.058, 0.181, 0.220, 0.007, 0.177, 0.009, 0.164, 0.016, 0.148, 0.026, 0.172,
             0.156, 0.481, 0.305, 0.008, 0.222, 0.007, 0.472, 0.008, 0.220, 0.029, 0.158, 0.201, 0.105, 0.263)
-    RECORD = b"run-0123456789ab 0000000 0 1 0 %.3f " + b"0" * 64 + b"\n"
 
     def setUp(self):
         super().setUp()
@@ -364,7 +368,7 @@ class Progress(InFolder):
             one.update(dict.fromkeys(running, "here"))
             self.now, number = min((since + self.TOOK[number], number) for number, since in running.items())
             del running[number]
-            one.end(number, self.RECORD % self.TOOK[number])
+            one.end(number, self.TOOK[number])
             one.update(dict.fromkeys(running, "here"))
             if one.weight < whole / 10:
                 self.assertNotIn("left", one.text())
@@ -379,8 +383,8 @@ class Progress(InFolder):
         one = self.progress(4, weights=[1, 1, 10, 1])
         one.update({0: "h1", 2: "h2"})
         self.now = 30.0
-        one.end(0, self.RECORD % 30)
-        one.end(3, self.RECORD % 30)
+        one.end(0, 30)
+        one.end(3, 30)
         one.update({1: "h1", 2: "h2"})
         self.assertEqual(one.left(), 270)  # and not 150, as for work that can be shared
 
@@ -388,7 +392,7 @@ class Progress(InFolder):
         one = self.progress(4)
         one.update({0: "h1", 1: "h2"})
         self.now = 100.0
-        one.end(0, self.RECORD % 100)
+        one.end(0, 100)
         one.update({1: "h2", 2: "h1"})
         self.assertEqual(one.left(), 100)
         self.now = 190.0
@@ -416,7 +420,7 @@ class Progress(InFolder):
         one.update({659: "h1"})
         self.now = 55.4
         for number in range(659):
-            one.end(number, self.RECORD % 55.4)
+            one.end(number, 55.4)
         whole = "54%, 8 h 19 min left, 1 machine at work, parts 659 of 1200"
         self.assertEqual(one.text(), whole)
         for columns, line in ((80, whole), (50, "54%, 8 h 19 min left"), (200, whole)):

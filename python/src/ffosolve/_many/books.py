@@ -65,7 +65,7 @@ def merged(books):
 
 def book_of(run, folder):
     """The lines of the book of all parts, merged in batches by way of files in a folder."""
-    paths, books = [], (io.BytesIO(book) for _, _, book in run.solved())
+    paths, books = [], (io.BytesIO(book) for _, _, book, _ in run.solved())
     while batch := list(itertools.islice(books, BATCH)):
         paths.append(Path(folder, f"{len(paths)}.book"))
         with paths[-1].open("wb") as file:

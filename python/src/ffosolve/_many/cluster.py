@@ -94,13 +94,13 @@ class Cluster:
     def __init__(self, address, run):
         logging.disable()
         warnings.simplefilter("ignore")
-        for module in ("solve", "cluster"):  # workers do not have these
+        for module in ("solve", "cluster"):  # which workers do not have
             cloudpickle.register_pickle_by_value(sys.modules[f"{__package__}.{module}"])
-        files = {path.name: path.read_bytes() for path in run.place.glob("*") if path.name in ("book-in",) or
-                 path.name.startswith("program-")}
+        files = {path.name: path.read_bytes() for path in run.place.glob("*-*") if path.is_file()}  # programs and book
         self.address, self.run, self.name = address, run, f"ffosolve-{run.task['run']}-{os.urandom(3).hex()}"
-        self.plugin, self.fault, self.ready, self.count = Program(self.name, run.task, files), None, {}, 0
-        self.flying, self.stray, self.fails, self.told, self.running = {}, {}, collections.Counter(), set(), {}
+        self.plugin, self.fault, self.count = Program(self.name, run.task, files), None, 0
+        self.ready, self.running, self.flying, self.seen, self.told = {}, {}, {}, {}, set()
+        self.fails = collections.Counter()
         try:
             self.connect()
         except Exception as why:
@@ -114,51 +114,52 @@ class Cluster:
         register = getattr(self.client, "register_plugin", None) or self.client.register_worker_plugin
         aside(register, self.plugin, name=self.name)
         self.pool = self.client.get_executor(pure=False, resources={self.name: 1})
+
+    def workers(self):
+        """What the scheduler says of each worker, by address."""
         every = {"n_workers": -1} if "n_workers" in inspect.signature(self.client.scheduler_info).parameters else {}
-        self.workers = lambda: self.client.scheduler_info(**every)["workers"]
+        return self.client.scheduler_info(**every)["workers"]
 
     def watch(self):
-        """Follows what the scheduler says of its workers, and connects again if it is lost."""
+        """Looks at the workers once a second, and connects again if the scheduler is lost."""
         lost = None
         while not self.fault:
-            time.sleep(0.5 if not self.ready else 1)
+            time.sleep(1 if self.ready else 0.3)
             try:
                 if lost is not None:
                     self.connect()
                     lost = say(f"the scheduler {self.address} is back")
-                if self.client.status != "running":
-                    raise OSError
                 self.look()
-            except Exception:
-                self.ready, now = {}, time.monotonic()
                 if self.client.status == "running":
                     continue
-                if lost is None:
-                    lost = now
-                    say(f"the scheduler {self.address} is lost; it is waited for, {LOST_SECONDS} seconds at most")
-                    aside(self.client.close)
-                elif now > lost + LOST_SECONDS:
-                    self.fault = Refusal(UNREADABLE, f"the scheduler {self.address} is lost; the same command goes on with "
-                                                     "what is solved")
+            except Exception:
+                if self.client.status == "running":
+                    continue
+            self.ready = {}
+            if lost is None:
+                lost = time.monotonic()
+                say(f"the scheduler {self.address} is lost; it is waited for, {LOST_SECONDS} seconds at most")
+                aside(self.client.close)
+            elif time.monotonic() > lost + LOST_SECONDS:
+                self.fault = Refusal(UNREADABLE, f"the scheduler {self.address} is lost; the same command goes on with what is "
+                                                 "solved")
 
     def look(self):
         """Updates which workers have the program, and which parts they have."""
         workers, processing, now = self.workers(), self.client.processing(), time.monotonic()
-        for address, worker in workers.items():
-            for text in worker["resources"]:
-                if text.startswith(f"{self.name}: ") and (address, text) not in self.told:
-                    self.told.add((address, text))
-                    say(f"{address} is left out{text.removeprefix(self.name)}")
+        for address in workers.keys() - self.told:
+            for text in filter(lambda text: text.startswith(f"{self.name}: "), workers[address]["resources"]):
+                say(f"{address} is left out{text.removeprefix(self.name)}")
+                self.told.add(address)
         self.ready = {address: worker for address, worker in workers.items() if worker["resources"].get(self.name)}
-        flying, self.running = dict(self.flying), {}
-        for address, keys in processing.items():
-            if address in self.ready:  # one that is left out keeps its parts, and does nothing
-                own = sorted(key for key in keys if key in flying)
-                self.stray.update(dict.fromkeys(own, now))
-                for key in own[:self.ready[address]["nthreads"]]:
-                    self.running[flying[key][0]] = self.ready[address]["host"]
+        flying, running = dict(self.flying), {}
+        for address, worker in self.ready.items():  # one that is left out keeps its parts, and does nothing
+            own = sorted(key for key in processing.get(address, ()) if key in flying)
+            self.seen.update(dict.fromkeys(own, now))
+            running.update((flying[key][0], worker["host"]) for key in own[:worker["nthreads"]])
+        self.running = running
         for key, (_, future) in flying.items() if self.ready else ():
-            if now > self.stray.setdefault(key, now) + STRAY_SECONDS:
+            if now > self.seen.setdefault(key, now) + STRAY_SECONDS:
                 future.cancel()
 
     def room(self):
@@ -173,14 +174,17 @@ class Cluster:
         key = f"{self.name}-{self.count:09d}"
         future = self.pool.submit(solver(self.name), f"{number:07d}", self.run.text(number), key=key)
         self.flying[key] = number, future
-        future.add_done_callback(lambda _: (self.flying.pop(key, None), self.stray.pop(key, None)))
+        future.add_done_callback(lambda _: (self.flying.pop(key, None), self.seen.pop(key, None)))
         return future
 
-    def result(self, future):
+    def result(self, future, number):
         try:
-            return future.result()
+            machine, record, why = future.result()
+            return machine, record and self.run.keep(number, record), why
         except concurrent.futures.CancelledError:
             return None, None, None
+        except Refusal:
+            raise
         except Exception as why:
             return self.address, None, "its workers ended" if "KilledWorker" in repr(why) else str(why) or repr(why)
 

@@ -34,20 +34,22 @@ class Threads:
         return 2 * self.jobs
 
     def submit(self, number):
-        """A future of a part's machine, its record, and why it has none."""
+        """A future of a part's results."""
         return self.pool.submit(self.solve, number, self.run.text(number))
 
     def solve(self, number, text):
         self.running[number] = HERE
         try:
-            return HERE, solve(self.run.task, self.run.place, self.program, f"{number:07d}", text), None
+            record = solve(self.run.task, self.run.place, self.program, f"{number:07d}", text)
+            return HERE, self.run.keep(number, record), None
         except Failed as why:
             return HERE, None, str(why)
         finally:
             del self.running[number]
 
-    def result(self, future):
-        """The result of a future; without a machine if the part has to be submitted again."""
+    def result(self, future, number):
+        """The machine of a part, the seconds it took if its results are complete and kept, and otherwise a reason; without
+        a machine if the part has to be submitted again."""
         return future.result()
 
     def at_work(self):
@@ -83,10 +85,10 @@ def solve_parts(run, engine, most, quiet):
         except queue.Empty:
             continue
         number = flying.pop(future)
-        machine, record, why = engine.result(future)
-        if record and run.keep(number, record):
+        machine, seconds, why = engine.result(future, number)
+        if seconds is not None:
             left -= 1
-            progress.end(number, record)
+            progress.end(number, seconds)
             engine.judge(machine, True)
         elif not machine:
             again.append(number)

@@ -4,17 +4,17 @@ import time
 
 from .messages import counted
 from .parts import asked_lines
-from .solve import HEAD
 
 LONG_SECONDS = 600  # after which a part is named
 GROWTH = 2.5  # of the work, with each empty square
+POWERS = [GROWTH ** count for count in range(65)]
 
 
 def weight_of(text, most):
     """The work of lines with at most `most` empty squares, in units of a line without any."""
     fronts = [line.lstrip()[:64] for line in asked_lines(text).values()]
     empties = [front.count(b"-") + front.count(b".") for front in fronts]
-    return sum(GROWTH ** count if count <= most else 1 for count in empties)
+    return sum(POWERS[count] if count <= most else 1 for count in empties)
 
 
 def span_of(seconds):
@@ -40,9 +40,9 @@ class Progress:
             self.running = {number: (machine, self.running.get(number, (None, now))[1]) for number, machine in at_work.items()}
         self.worked = now if at_work else self.worked
 
-    def end(self, number, record):
-        """Counts a solved part."""
-        self.seconds += float(HEAD.match(record)[7])
+    def end(self, number, seconds):
+        """Counts a solved part, and the seconds it took."""
+        self.seconds += seconds
         self.weight, self.left_weight = self.weight + self.weights[number], self.left_weight - self.weights[number]
         self.parts, self.lines, self.weights[number] = self.parts - 1, self.lines - self.run.size(number), 0
 

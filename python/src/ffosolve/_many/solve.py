@@ -40,19 +40,22 @@ def solve(task, place, program, part, text, is_wanted=lambda: True):
     that is read lies in the folder `place`. Kills the program once `is_wanted` returns false. Raises Failed.
     """
     # The book comes through the pipe of standard error, so it needs no room on a disk.
-    words, begun, given = [*task["words"], *["--book-out=/dev/stderr"] * task["has_book"]], time.monotonic(), text
-    pipes = dict.fromkeys(("stdin", "stdout", "stderr"), subprocess.PIPE)
-    try:
-        process = subprocess.Popen(guarded([program, *words]), cwd=place, start_new_session=True, **pipes)
+    command = guarded([program, *task["words"], *["--book-out=/dev/stderr"] * task["has_book"]])
+    begun = time.monotonic()
+    try:  # `communicate` loses what it has not written when its time ends, so the list is a file in memory
+        with open(os.memfd_create("part"), "w+b") as file:
+            file.write(text)
+            file.seek(0)
+            process = subprocess.Popen(command, cwd=place, start_new_session=True, stdin=file, stdout=subprocess.PIPE,
+                                       stderr=subprocess.PIPE)
     except OSError as why:
-        raise Failed(f"{why.filename or 'pipe'}: {why.strerror}") from None
+        raise Failed(f"{why.filename or 'part'}: {why.strerror}") from None
     with process:
         while True:
             try:
-                output, errors = process.communicate(given, timeout=0.5)
+                output, errors = process.communicate(timeout=0.5)
                 break
             except subprocess.TimeoutExpired:
-                given = None
                 if not is_wanted():
                     process.kill()
     status = process.returncode
