@@ -3,7 +3,7 @@ import ctypes
 import functools
 import os
 import sys
-from typing import List, Optional, Union
+from typing import List, Union
 
 NAME = "libffosolve.so.1"
 MAJOR = 1
