@@ -48,8 +48,8 @@ class Threads:
             del self.running[number]
 
     def result(self, future, number):
-        """The machine of a part, the seconds it took if its results are complete and kept, and otherwise a reason; without
-        a machine if the part has to be submitted again."""
+        """Returns (machine, seconds, reason) of a part: without seconds its results are not complete, for this reason if it is
+        known; without a machine the part has to be submitted again."""
         return future.result()
 
     def at_work(self):

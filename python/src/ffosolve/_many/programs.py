@@ -14,7 +14,7 @@ LIMITS = {"ffosolve": rb"\[1\]\n1 refused: 64 empties, limit (\d+)\nsolved 0 ref
 
 
 class Program:
-    """A program of a folder: `start` runs it, and in a checkout builds it; `files` work elsewhere, too."""
+    """A program in a folder: `start` runs it, and in a checkout builds it first; `files` are for other machines, too."""
 
     def __init__(self, folder, name):
         self.start, root = Path(folder, name), Path(folder).parent
