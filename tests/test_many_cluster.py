@@ -5,10 +5,8 @@ import shutil
 import signal
 import subprocess
 import sys
-import threading
 import time
 import types
-import unittest
 from pathlib import Path
 from unittest import mock
 
@@ -31,6 +29,38 @@ def setUpModule():
         change_many(HASTY, "cluster", f"{name} = {old}", f"{name} = {new}")
     change_many(HASTY, "solve", "KNOWN_SECONDS = 30", "KNOWN_SECONDS = 2")
     change_many(HASTY, "engine", "(1 if is_terminal else 60)", "1")
+
+
+class Interfaces(InFolder):
+    def test_the_calls_of_later_versions_of_dask_are_used(self):
+        class Client:
+            status, calls = "running", []
+
+            def __init__(self, **words):
+                self.calls.append(words)
+
+            def register_plugin(self, plugin, name):
+                self.calls.append((plugin.name, name))
+
+            def scheduler_info(self, n_workers=5):
+                name, count = self.calls[-1][1], 7 if n_workers == -1 else n_workers
+                return {"workers": {f"w{n}": {"resources": {name: 2}, "nthreads": 2, "host": "h"} for n in range(count)}}
+
+            def processing(self):
+                return {}
+
+            get_executor = unregister_worker_plugin = lambda *_, **__: None
+        fakes = {"distributed": types.SimpleNamespace(Client=Client, WorkerPlugin=object),
+                 "cloudpickle": types.SimpleNamespace(register_pickle_by_value=lambda module: None)}
+        with mock.patch.dict(sys.modules, fakes):
+            sys.modules.pop("ffosolve._many.cluster", None)
+            from ffosolve._many import cluster
+            with mock.patch.multiple("logging", disable=mock.DEFAULT), mock.patch.multiple("warnings", simplefilter=mock.DEFAULT):
+                one = cluster.Cluster("h1:8786", types.SimpleNamespace(task={"run": "run-1"}, place=self.folder))
+            sys.modules.pop("ffosolve._many.cluster")
+        wait_until(lambda: one.room() == 2 * 14 + 2)
+        self.assertEqual(Client.calls, [{"address": "h1:8786", "timeout": 10, "set_as_default": False}, (one.name, one.name)])
+        one.close()
 
 
 class Cluster(Case):

@@ -5,18 +5,17 @@ import os
 import random
 import shutil
 import signal
-import stat
 import threading
 import time
 from pathlib import Path
 from unittest import mock
 
 from tests import many
-from tests.many import ACTING, Case, install, set_up_module as setUpModule
+from tests.many import Case, install, set_up_module as setUpModule
 from tests.support import (MOST_BYTES, SECONDS, InFolder, as_at_a_login, change_many, limited, processes_in, run, wait_until,
                            write)
 
-from ffosolve._many import command, files, folder, messages, parts, solve
+from ffosolve._many import command, folder, parts, solve
 
 KILLS = int(os.environ.get("KILLS", 10))  # runs that are killed at random moments
 
@@ -51,17 +50,13 @@ class Functions(InFolder):
             self.assertEqual(one.is_whole(b"1\n2\n3\n", text, b""), is_whole)
 
     def test_a_file_is_on_the_disk_before_it_has_its_name(self):
-        Path("results").mkdir()
-        for make, path in ((lambda: files.write_whole(Path("it"), [b"text"]), Path("it")),
-                           (lambda: solve.keep(Path(), "0000000", b"text"), Path("results/0000000"))):
-            synced = []
-            with mock.patch.object(os, "fsync", lambda file: synced.append((stat.S_ISREG(os.fstat(file).st_mode), path.exists()))):
-                make()
-            self.assertEqual(synced, [(True, False), (False, True)][:len(synced)])  # and then its folder
-            with mock.patch.object(os, "fsync", side_effect=OSError), self.assertRaises(OSError):
-                make()
-            self.assertEqual((path.read_bytes(), os.listdir(path.parent).count(path.name)), (b"text", 1))
-        self.assertEqual((sorted(os.listdir()), os.listdir("results")), (["it", "results"], ["0000000"]))
+        synced = []
+        with mock.patch.object(os, "fsync", lambda file: synced.append((os.fstat(file).st_size, os.path.exists("it")))):
+            solve.write_whole(Path("it"), [b"te", b"xt"])
+        self.assertEqual(synced, [(4, False)])
+        with mock.patch.object(os, "fsync", side_effect=OSError), self.assertRaises(OSError):
+            solve.write_whole(Path("it"), [b"other"])
+        self.assertEqual((os.listdir(), Path("it").read_bytes()), (["it"], b"text"))
 
     def test_the_lock_of_a_run_that_ends_is_waited_for(self):
         folder.lock_folder(Path("work"))
@@ -202,8 +197,8 @@ class Resuming(Case):
 
     def test_a_full_disk_ends_the_run_and_it_goes_on_when_there_is_room(self):
         by = install("full")
-        change_many(by, "solve", "file.write(record)", "file.write(record) if 'ROOM' in os.environ or part < '0000005' else "
-                                 "open('/dev/full', 'wb', 0).write(b'?')")
+        change_many(by, "solve", "file.writelines(pieces)", "file.writelines(pieces) if 'ROOM' in os.environ or "
+                    "not '0000005' <= path.name < '1' else open('/dev/full', 'wb', 0).write(b'?')")
         words = ("--jobs=1", "--lines=5", *self.WORDS[1:])
         ran = self.ends(3, b"", ": No space left on device\n", *words, by=by)
         self.assertIn(b"cannot write work/run-", ran.stderr)

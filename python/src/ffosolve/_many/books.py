@@ -10,10 +10,11 @@ from pathlib import Path
 
 from .._positions import BLACK, WHITE, NoPosition, Position
 from .._squares import NAMES
-from .files import is_same, regular, write_whole
+from .files import is_same, regular
 from .messages import DONE, NAME, REFUSED, UNBUILT, UNREADABLE, Refusal, cannot, misused, shown, standard_output
 from .parts import HEADER
 from .programs import Program
+from .solve import write_whole
 
 READ = 4096  # bytes, or a line more, that are read of a book at once
 BATCH = 256  # parts whose books are merged in memory
@@ -112,6 +113,8 @@ def place_book(name, lines):
         else:
             path, mode = try_place(name)
             write_whole(path, lines, mode)
+            with contextlib.suppress(OSError):  # not every file system can do that for a folder
+                os.fsync(os.open(path.parent, os.O_RDONLY))
     except OSError as why:
         raise cannot("write", name, why) from why
 

@@ -63,22 +63,3 @@ def digest_of(path, size=sys.maxsize):
             digest.update(block)
             size -= len(block)
     return digest.hexdigest()
-
-
-def write_whole(path, pieces, mode=None):
-    """Writes a file beside the path, and renames it to the path when all of it is on the disk."""
-    beside = path.with_name(f"{path.name}.{os.urandom(4).hex()}.new")
-    try:
-        with beside.open("xb") as file:
-            file.writelines(pieces)
-            file.flush()
-            if mode is not None:
-                os.fchmod(file.fileno(), mode)
-            os.fsync(file.fileno())
-        beside.replace(path)
-    finally:
-        beside.unlink(missing_ok=True)
-    with contextlib.suppress(OSError):  # not every file system can do that for a folder
-        folder = os.open(path.parent, os.O_RDONLY)
-        os.fsync(folder)
-        os.close(folder)

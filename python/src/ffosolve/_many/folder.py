@@ -5,16 +5,15 @@ import itertools
 import json
 import os
 import re
-import shutil
 import time
 from pathlib import Path
 
 from . import solve
-from .files import digest_of, read_or_nothing, write_whole
+from .files import digest_of
 from .messages import NAME, REFUSED, UNBUILT, UNREADABLE, Refusal, say, shown
 from .parts import Run, cut_list
 from .programs import run_options
-from .solve import Failed, fit_program
+from .solve import Failed, fit_program, write_whole
 
 MARK = "the work of ffosolve-many, form 2"
 LOCK, ASKED = "lock", "asked.json"
@@ -80,7 +79,7 @@ def write(path, content, mode=None):
         write_whole(path, [content], mode)
 
 
-def lay_files(place, source, listed, starts, program, book_in, digests):
+def write_files(place, source, listed, starts, program, book_in, digests):
     """Writes the files that solving needs; returns the digests of the programs, which stay those of the first time."""
     (place / "results").mkdir(parents=True, exist_ok=True)
     if not (place / "list").is_file() or digest_of(place / "list") != listed["digest"]:
@@ -105,16 +104,16 @@ def prepare(command, source, program, book_in):
                "--scores": command.scores, "--complete": command.complete,
                "--book-in": digest_of(book_in) if book_in else "", "--book-out": command.book_out is not None}
     before = read_asked(command.folder)
-    asked = before or {"mark": MARK, "run": f"run-{os.urandom(6).hex()}", "options": options, "programs": []}
+    asked = dict(before) if before else {"mark": MARK, "run": f"run-{os.urandom(6).hex()}", "options": options, "programs": []}
     place = command.folder / asked["run"]
     if before:
         check_asked(before, options, listed, source, command)
         if not place.is_dir():
             say(f"{shown(place)} is gone: all parts are solved again")
-    for name in ("list", "programs"):  # in the order in which they are known
-        asked = {**asked, "list": listed} if name == "list" else {
-            **asked, name: lay_files(place, source, listed, starts, program, book_in, asked["programs"])}
-        write(command.folder / ASKED, json.dumps(asked, indent=1).encode() + b"\n")
+    asked["list"] = listed
+    write(command.folder / ASKED, json.dumps(asked, indent=1).encode())
+    asked["programs"] = write_files(place, source, listed, starts, program, book_in, asked["programs"])
+    write(command.folder / ASKED, json.dumps(asked, indent=1).encode())
     if digest_of(place / "list") != listed["digest"]:
         raise Refusal(UNREADABLE, f"{shown(command.list)} changes while it is read")
     task = {"run": asked["run"], "words": run_options(command) + ["--book-in=book-in"] * bool(book_in),

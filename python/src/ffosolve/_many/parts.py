@@ -7,7 +7,7 @@ import re
 from .._text import MARKS, MOST_BYTES
 from .files import digest_of as digest_of_file, read_or_nothing
 from .messages import REFUSED, UNREADABLE, UNSOLVED, Refusal, cannot
-from .solve import HEAD, digest_of, keep
+from .solve import HEAD, digest_of, write_whole
 
 LARGE = f"has more than {MOST_BYTES} bytes"
 SKIPPED = re.compile(rb"[ \t]*(?:%.*|\r?)", re.DOTALL)
@@ -123,7 +123,7 @@ class Run:
         if not (found := self.read(number, record)):
             return None
         try:
-            keep(self.place, f"{number:07d}", record)
+            write_whole(self.place / f"results/{number:07d}", [record])
         except OSError as why:
             raise cannot("write", self.place, why) from why
         self.statuses[number] = found[0]

@@ -85,17 +85,19 @@ def fit_program(task, place):
     raise Failed(f"the program {why}")
 
 
-def keep(place, part, record):
-    """Writes a record into the folder of results. It has its name once all of it is on the disk."""
-    new = place / f"results/{part}.{os.urandom(4).hex()}.new"
+def write_whole(path, pieces, mode=None):
+    """Writes a file beside the path, and renames it to the path when all of it is on the disk."""
+    beside = path.with_name(f"{path.name}.{os.urandom(4).hex()}.new")
     try:
-        with new.open("xb") as file:
-            file.write(record)
+        with beside.open("xb") as file:
+            file.writelines(pieces)
             file.flush()
+            if mode is not None:
+                os.fchmod(file.fileno(), mode)
             os.fsync(file.fileno())
-        new.replace(new.with_name(part))
+        beside.replace(path)
     finally:
-        new.unlink(missing_ok=True)
+        beside.unlink(missing_ok=True)
 
 
 def main(place, part):
@@ -107,7 +109,7 @@ def main(place, part):
     with (place / "list").open("rb") as file:
         file.seek(starts[int(part)])
         text = file.read(starts[int(part) + 1] - starts[int(part)])
-    keep(place, part, solve(task, place, fit_program(task, place)[0], part, text))
+    write_whole(place / "results" / part, [solve(task, place, fit_program(task, place)[0], part, text)])
 
 
 if __name__ == "__main__":
