@@ -126,9 +126,9 @@ lib = "$(DESTDIR)$(LIBDIR)
 share = "$(DESTDIR)$(PREFIX)/share
 doc = $(share)/doc/ffosolve
 documents = README.md LICENSE CHANGELOG.md VERSION \
-    $(shell find docs examples python rust crates/*/specs \( -name __pycache__ -o -name target -o -name Cargo.lock \) -prune -o -type f -print)
+    $(shell find docs examples python rust crates/*/specs \( -name __pycache__ -o -name '.*' -o -name target -o -name Cargo.lock \) -prune -o -type f -print)
 # The package that the scripts run. The documents have it too, but some systems leave documents out.
-modules = VERSION $(shell find python/src -name __pycache__ -prune -o -type f -print)
+modules = VERSION $(shell find python/src \( -name __pycache__ -o -name '.*' \) -prune -o -type f -print)
 absolute = case "$(PREFIX)" in /*) ;; *) echo "PREFIX is $(PREFIX), but has to begin with a slash" >&2; exit 1 ;; esac
 
 # Completions read the --help of the installed program, so a TAB after bin/ffosolve in a checkout builds nothing.
