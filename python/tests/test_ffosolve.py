@@ -319,5 +319,5 @@ class Obf(unittest.TestCase):
         sizes = [ffosolve.table_entries(empties) for empties in range(ffosolve.MOST_EMPTIES + 1)]
         self.assertEqual(sizes, sorted(sizes))
         self.assertLessEqual(max(sizes), ffosolve.MOST_ENTRIES)
-        at = [sizes[empties] for empties in (0, 10, 11, 14, 15, 19, 20, 60)]  # as ffosolve.h says
+        at = [sizes[empties] for empties in (0, 10, 11, 14, 15, 22, 23, 60)]  # as ffosolve.h says
         self.assertEqual(at, [0, 0, 4096, 4096, 65536, 65536, 1000000, 1000000])

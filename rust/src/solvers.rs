@@ -38,7 +38,7 @@ pub const fn table_entries(empties: usize) -> usize {
     match empties {
         0..=10 => 0,
         11..=14 => 4_096,
-        15..=19 => 65_536,
+        15..=22 => 65_536,
         _ => 1_000_000,
     }
 }

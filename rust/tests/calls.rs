@@ -150,7 +150,7 @@ fn versions_sizes_and_limits_are_those_of_the_header() {
     assert_eq!(parts.fold(0, |number, part| 100 * number + part), library_version());
     let sizes: Vec<usize> = (0..=ffosolve::MOST_EMPTIES).map(table_entries).collect();
     assert!(sizes.windows(2).all(|pair| pair[0] <= pair[1]) && sizes[ffosolve::MOST_EMPTIES] <= ffosolve::MOST_ENTRIES);
-    let at = [0, 10, 11, 14, 15, 19, 20, 60].map(|empties| sizes[empties]); // as ffosolve.h says
+    let at = [0, 10, 11, 14, 15, 22, 23, 60].map(|empties| sizes[empties]); // as ffosolve.h says
     assert_eq!(at, [0, 0, 4096, 4096, 65536, 65536, 1000000, 1000000]);
     // SAFETY: the call takes a number.
     let limits = [0, 1, 2].map(|number| unsafe { raw::ffosolve_limit(number) });

@@ -29,7 +29,7 @@ ANSWER, MOVE_SCORES = struct.Struct("iiQ"), struct.Struct("64bQ")  # CAnswer and
 def table_entries(empties: int) -> int:
     """A suitable number of table entries, of 32 bytes each, for positions with this many empty squares. It changes how long
     an answer takes, never the answer."""
-    for most, entries in ((10, 0), (14, 4_096), (19, 65_536)):
+    for most, entries in ((10, 0), (14, 4_096), (22, 65_536)):
         if empties <= most:
             return entries
     return 1_000_000
