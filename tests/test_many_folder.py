@@ -1,4 +1,4 @@
-"""bin/ffosolve-many: interrupted at any moment it goes on, and results that are not complete are not taken."""
+"""bin/ffosolve-many: it continues after any interruption, and takes only complete results."""
 import contextlib
 import json
 import os
@@ -21,7 +21,7 @@ KILLS = int(os.environ.get("KILLS", 10))  # runs that are killed at random momen
 
 
 class Functions(InFolder):
-    """What no output shows: faults of programs and disks, and the order in which files are written."""
+    """Tests of what no output shows: faults of programs and disks, and the order in which files are written."""
 
     def test_signals_after_the_first_are_ignored(self):
         with mock.patch.object(signal, "signal") as handled, self.assertRaises(KeyboardInterrupt):
@@ -67,14 +67,14 @@ class Functions(InFolder):
 
 
 class Resuming(Case):
-    """Nothing is lost, and nothing is taken that is not complete."""
+    """Nothing is lost, and only complete results are taken."""
 
     def begin(self, *words):
         self.same(*self.WORDS, *words)
         Path("joined.book").unlink()
 
     def again(self, solved, *words, **how):
-        """Solves the other parts alone, and prints what one run does."""
+        """Asserts that the same command solves only the other parts, and prints what one run does."""
         self.same(*self.WORDS, *words, message=f"in 3 parts, {solved} of them solved before;", **how)
         self.same_book()
         Path("joined.book").unlink()
@@ -207,7 +207,7 @@ class Resuming(Case):
 
 
 class Files(Case):
-    """What is read, also from a pipe, and which folders are used."""
+    """Lists that are read, also from a pipe, and folders that are used."""
 
     def test_a_list_on_standard_input(self):
         self.same("--lines=20", "work", "-", message="-: 60 lines in 3 parts", input=many.SMALL)
@@ -293,25 +293,25 @@ class Signals(Case):
         return self.start(*program, *self.WORDS, start_new_session=True, preexec_fn=as_at_a_login, env=places, **how)
 
     def at_work(self, done):
-        """A run of twelve parts, once so many are solved, and two others are at work."""
+        """Starts a run of twelve parts, and returns it once `done` are solved and two others are at work."""
         ran = self.open(many.ACTS, last=done)
         wait_until(lambda: self.done() >= done and len(self.programs()) == 2)
         self.assertIsNone(ran.poll(), "it ended too early")
         return ran
 
     def done(self):
-        """How many parts are solved."""
+        """Returns the number of solved parts."""
         return len(list(Path("work").glob("run-*/results/" + "[0-9]" * 7)))
 
     def workers(self):
-        """The command lines, by their numbers, of processes that work in the test's folder."""
+        """Returns {number: command line} of the processes in the test's folder."""
         return processes_in(str(self.folder))
 
     def programs(self):
         return [number for number, words in self.workers().items() if "program-0" in words]
 
     def whole_at_last(self, message=""):
-        """The command prints what one run does; then the folder is removed."""
+        """Asserts that the command prints what one run does, and removes the folder."""
         self.same(*self.WORDS, by=many.ACTS, message=message)
         self.same_book()
         shutil.rmtree("work")
@@ -363,7 +363,7 @@ class Signals(Case):
         self.assertEqual((ran.communicate(timeout=SECONDS)[0], ran.returncode), (self.one, 0))
 
     def test_kills_at_random_moments_lose_nothing(self):
-        """Of the program, of its group, or of one process that works for it."""
+        """Kills the program, its group, or one process that works for it."""
         rng = random.Random(1)
         for _ in range(KILLS):
             ran = self.open(many.ACTS)

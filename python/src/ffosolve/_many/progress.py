@@ -56,7 +56,7 @@ class Progress:
         return max(rests + [(waiting * rate + sum(rests)) / max(1, len(rests))])
 
     def text(self):
-        """A line about it, the most important first. A part that has run for ten minutes is named."""
+        """The line that is shown, with what matters most first. A part that has run for ten minutes is named."""
         machines, all_lines = len({machine for machine, _ in self.running.values()}), max(1, self.run.all_lines)
         left = self.left() if machines else None
         text = (f"{100 * (self.run.all_lines - self.lines) // all_lines}%, " + (f"{span_of(left)} left, " if left is not None else "")

@@ -68,8 +68,8 @@ def solve(task, place, program, part, text, is_wanted=lambda: True):
 
 
 def fit_program(task, place):
-    """The first program in a folder that solves a known line, and the results, which have to be those that `task` has as
-    `known`, if it has. Raises Failed."""
+    """The first program in a folder that solves a known line, and its results. If `task` has `known`, they have to equal it.
+    Raises Failed."""
     why = "is missing"
     for program in sorted(place.absolute().glob("program-?")):
         end = time.monotonic() + KNOWN_SECONDS
