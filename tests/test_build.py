@@ -173,7 +173,7 @@ class Builds(Case):
         self.ran(self.use(), 1, builds=9)
 
     def test_a_change_within_the_same_second_builds_again(self):
-        """The times of files can be less than a second late."""
+        """A file's time may lag behind by less than a second."""
         write(self.tools / "date", '#!/bin/sh\necho $(($(/usr/bin/date "$@") + 1))\n')
         self.use()
         write(self.source, "2\n")

@@ -30,8 +30,8 @@ MOST_FAILS = 3  # of a worker, one after the other
 
 
 class Program(distributed.WorkerPlugin):
-    """Puts the program of a run on each worker, including those that join later. A worker on which it works gets a resource
-    with the run's name, which every part needs; another one gets a resource whose name says why not."""
+    """Puts the program of a run on each worker, including those that join later. If it works there, the worker gets a resource
+    with the run's name, which every part needs; otherwise a resource whose name says why not."""
 
     def __init__(self, name, task, files):
         self.name, self.task, self.files, self.is_over = name, task, files, False
