@@ -119,7 +119,7 @@ class Case(InFolder):
     maxDiff = 2000
 
     def games(self, *words, status=0, out=None, err=None, **how):
-        """Runs ffosolve-games and returns its output and messages. `out` is compared after `with_digest`."""
+        """Runs ffosolve-games, compares what it prints with `out` and its digest, and returns output and messages."""
         ran = run(sys.executable, PROGRAM, *words, **how)
         self.assertNotIn(b"Traceback", ran.stderr)
         if err is not None:
