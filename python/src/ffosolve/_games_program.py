@@ -127,7 +127,7 @@ def print_file(name: str, file: io.BufferedReader, wanted: Optional[int], player
 
 
 def wrong_scores(game: Game, played: Played) -> Iterator[str]:
-    """Yields what its moves show to be wrong with the scores of a game of a WTHOR file."""
+    """Yields the faults in the scores of a WTHOR game that its moves show."""
     for kind, score in (("theoretical", game.score), ("real", game.real)):
         if score is not None and score > MOST_DISCS:
             yield f"its {kind} score is {score}, more than {MOST_DISCS} discs"
