@@ -119,7 +119,7 @@ class Run:
         return self.read(number, read_or_nothing(self.place / f"results/{number:07d}"))
 
     def keep(self, number, record):
-        """Keeps a record if it is complete, and returns the seconds that it tells; None if it is not."""
+        """Keeps a record if it is complete, and returns the seconds in it; otherwise None."""
         if not (found := self.read(number, record)):
             return None
         try:
