@@ -4,8 +4,8 @@ from pathlib import Path
 
 from tests.support import ROOT, SECONDS, InFolder, built, run, stored, write
 
-HEAD = "position\tempties\tscore\tmoves\tseconds\tprogram\tprocessor\n"
-KEPT = "41\t22\t+00\tH4\t2.00\tffosolve 1.0.0\tsome processor\n"
+HEAD = "position\tempties\tscore\tmoves\tseconds\tprogram\tprocessor\tentries\n"
+KEPT = "41\t22\t+00\tH4\t2.00\tffosolve 1.0.0\tsome processor\t4000000\n"
 LONGEST = 5 * SECONDS  # for a position with 20 empty squares on a busy machine
 
 
@@ -20,7 +20,8 @@ class Results(InFolder):
     def test_position_40_is_solved_as_published_and_only_once(self):
         ran, kept = self.ffo("solve", 40)
         self.assertEqual((ran.returncode, ran.stderr), (0, ""))
-        self.assertRegex(kept, rf"\A{re.escape(HEAD + KEPT)}40\t20\t\+38\tA2\t\d+\.\d\d\tffosolve [\d.]+\t[^\t\n]+\n\Z")
+        found = "".join(rf"40\t20\t\+38\tA2\t\d+\.\d\d\tffosolve [\d.]+\t[^\t\n]+\t{entries}\n" for entries in (65536, 4000000))
+        self.assertRegex(kept, rf"\A{re.escape(HEAD + KEPT)}{found}\Z")
         ran, again = self.ffo("solve", 40, kept=kept)
         self.assertEqual((ran.returncode, ran.stdout, again), (0, "", kept))
 
@@ -37,7 +38,7 @@ class Results(InFolder):
     def test_the_last_result_agrees_if_it_has_the_score_and_every_published_move(self):
         for score, moves, word in (("-12", "G3,C7", "yes"), ("-12", "A1,G3,C7", "yes"),
                                    ("-12", "G3", "no"), ("+12", "G3,C7", "no")):
-            row = f"43\t23\t{score}\t{moves}\t1234.50\tffosolve 9.9.9\tsome processor\n"
+            row = f"43\t23\t{score}\t{moves}\t1234.50\tffosolve 9.9.9\tsome processor\t65536\n"
             ran, _ = self.ffo("table", kept=HEAD + row.replace(score, "+64") + row)
-            self.assertIn(f"| 43 | 23 | {score} | {moves.replace(',', ', ')} | -12 G3, C7 | {word} | 1,234.5 |\n", ran.stdout)
+            self.assertIn(f"| 43 | 23 | {score} | {moves.replace(',', ', ')} | -12 G3, C7 | {word} | 1,234.5 |  |\n", ran.stdout)
             self.assertIn("| 41 | 22 | not solved |", ran.stdout)
