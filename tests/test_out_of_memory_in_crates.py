@@ -25,15 +25,20 @@ ENDED = {
 }
 
 
-def setUpModule():
-    """Builds the tests' program, which takes minutes, unless it is newer than the sources."""
+def is_built():
+    """Returns whether the tests' program is newer than all sources."""
     sources = [path.stat().st_mtime for path in ROOT.glob("crates/*/src/**/*.rt")]
-    if PROGRAM.exists() and PROGRAM.stat().st_mtime >= max(sources):
+    return PROGRAM.exists() and PROGRAM.stat().st_mtime >= max(sources)
+
+
+def setUpModule():
+    """Builds the tests' program by proving it, which takes minutes, unless `rt ci` or `rt test` has left it."""
+    if is_built():
         return
     if shutil.which("rt") is None:
         lack("rt (of a Rattle kit)")
-    ran = run("rt", "test", cwd=CRATE, text=True, timeout=2700)
-    if ran.returncode != 0:
+    ran = run("rt", "test", "--", TESTS[0], cwd=CRATE, text=True, timeout=2700)
+    if not is_built():
         raise AssertionError(f"rt test ended with status {ran.returncode}: {ran.stdout[-2000:]}{ran.stderr[-2000:]}")
 
 
