@@ -25,7 +25,7 @@ def setUpModule():
         lack("distributed (Debian: python3-distributed)")
     many.set_up_module()
     HASTY = install("hasty", ACTING)
-    for name, old, new in (("LOST_SECONDS", 600, 5), ("STRAY_SECONDS", 10, 3)):
+    for name, old, new in (("LOST_SECONDS", 600, 20), ("STRAY_SECONDS", 10, 3)):
         change_many(HASTY, "cluster", f"{name} = {old}", f"{name} = {new}")
     change_many(HASTY, "solve", "KNOWN_SECONDS = 30", "KNOWN_SECONDS = 2")
     change_many(HASTY, "engine", "(1 if is_terminal else 60)", "1")
@@ -74,9 +74,11 @@ class Cluster(Case):
     def daemon(self, name, *words, **places):
         """Starts a process of the cluster in a session of its own, and ends it with the test."""
         settings = {"DASK_DISTRIBUTED__SCHEDULER__WORKER_TTL": f"{TTL}s", "DASK_DISTRIBUTED__COMM__TIMEOUTS__CONNECT": "3s"}
+        command = [PYTHON, "-m", f"distributed.cli.dask_{name.rstrip('123')}", *words, "--no-dashboard"]
+        if name != "scheduler":  # a worker that was given up ends
+            command = ["sh", "-c", 'while :; do "$@"; sleep 0.1; done', "sh", *command]
         with open(f"{name}.log", "ab") as log:
-            ran = subprocess.Popen([PYTHON, "-m", f"distributed.cli.dask_{name.rstrip('123')}", *words, "--no-dashboard"],
-                                   stdin=subprocess.DEVNULL, stdout=log, stderr=log, start_new_session=True,
+            ran = subprocess.Popen(command, stdin=subprocess.DEVNULL, stdout=log, stderr=log, start_new_session=True,
                                    env={**os.environ, **settings, **places})
         self.addCleanup(lambda: ran.poll() is None and (os.killpg(ran.pid, signal.SIGKILL), ran.wait()))
         return ran
@@ -84,7 +86,7 @@ class Cluster(Case):
     def start_scheduler(self):
         Path("scheduler.json").unlink(missing_ok=True)
         self.scheduler = self.daemon("scheduler", "--host=127.0.0.1", f"--port={self.port}", "--scheduler-file=scheduler.json")
-        wait_until(Path("scheduler.json").exists)
+        wait_until(lambda: Path("scheduler.json").exists() and "tcp://" in Path("scheduler.json").read_text())
         self.port = Path("scheduler.json").read_text().partition("tcp://127.0.0.1:")[2].partition('"')[0]
 
     def start_workers(self, *names, **places):
@@ -195,7 +197,7 @@ class Cluster(Case):
             self.signal(signal.SIGKILL, *self.workers)
             self.scheduler.kill()
             self.scheduler.wait()
-            wait_until(lambda: " is lost; it is waited for, 5 seconds at most\n" in self.messages())
+            wait_until(lambda: " is lost; it is waited for, 20 seconds at most\n" in self.messages())
             if is_back:
                 self.start_scheduler()
                 self.start_workers("worker1")

@@ -129,8 +129,8 @@ class Cluster:
                 if lost is not None:
                     self.connect()
                     lost = say(f"the scheduler {self.address} is back")
-                self.look()
                 if self.client.status == "running":
+                    self.look()
                     continue
             except Exception:
                 if self.client.status == "running":
