@@ -32,7 +32,7 @@ def setUpModule():
 
 
 class Interfaces(InFolder):
-    def test_the_calls_of_later_versions_of_dask_are_used(self):
+    def test_the_calls_of_later_versions_of_dask_are_used_and_one_that_fails_is_made_again(self):
         class Client:
             status, calls = "running", []
 
@@ -49,18 +49,24 @@ class Interfaces(InFolder):
             def processing(self):
                 return {}
 
-            get_executor = unregister_worker_plugin = lambda *_, **__: None
+            def get_executor(self, **words):
+                return types.SimpleNamespace(submit=mock.Mock(side_effect=Exception("closed")))
+
+            unregister_worker_plugin = None
         fakes = {"distributed": types.SimpleNamespace(Client=Client, WorkerPlugin=object),
                  "cloudpickle": types.SimpleNamespace(register_pickle_by_value=lambda module: None)}
         with mock.patch.dict(sys.modules, fakes):
             sys.modules.pop("ffosolve._many.cluster", None)
             from ffosolve._many import cluster
             with mock.patch.multiple("logging", disable=mock.DEFAULT), mock.patch.multiple("warnings", simplefilter=mock.DEFAULT):
-                one = cluster.Cluster("h1:8786", types.SimpleNamespace(task={"run": "run-1"}, place=self.folder))
+                a_run = types.SimpleNamespace(task={"run": "run-1"}, place=self.folder, text=str)
+                one = cluster.Cluster("h1:8786", a_run)
             sys.modules.pop("ffosolve._many.cluster")
         wait_until(lambda: one.room() == 2 * 14 + 2)
         self.assertEqual(Client.calls, [{"address": "h1:8786", "timeout": 10, "set_as_default": False}, (one.name, one.name)])
         one.close()
+        future = one.submit(0)  # to a scheduler that was just lost
+        self.assertEqual((one.result(future, 0), one.ready), ((None, None, None), {}))
 
 
 class Cluster(Case):

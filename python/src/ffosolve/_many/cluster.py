@@ -172,7 +172,11 @@ class Cluster:
     def submit(self, number):
         self.count += 1
         key = f"{self.name}-{self.count:09d}"
-        future = self.pool.submit(solver(self.name), f"{number:07d}", self.run.text(number), key=key)
+        try:
+            future = self.pool.submit(solver(self.name), f"{number:07d}", self.run.text(number), key=key)
+        except Exception:  # the scheduler was just lost
+            self.ready, future = {}, concurrent.futures.Future()
+            future.cancel()
         self.flying[key] = number, future
         future.add_done_callback(lambda _: (self.flying.pop(key, None), self.seen.pop(key, None)))
         return future
