@@ -27,7 +27,7 @@ class Results(InFolder):
 
     def test_a_refused_and_an_unknown_position_leave_the_results_unchanged(self):
         write("ffosolve", "#!/bin/sh\n[ x$1 = x--version ] && echo ffosolve 1 || printf '[1]\\n1 refused: limit 19\\n'\n")
-        for number, status, why in ((40, 1, "limit 19"), (39, 2, "40 to 46")):
+        for number, status, why in ((40, 1, "limit 19"), (39, 2, "bench/ffo solve")):
             ran, kept = self.ffo("solve", number, programs=self.folder)
             self.assertEqual((ran.returncode, kept), (status, HEAD + KEPT))
             self.assertIn(why, ran.stderr)
