@@ -1,4 +1,5 @@
 """bin/ffosolve-many on a Dask cluster of this machine: whatever happens there, it prints what one run of ffosolve does."""
+import gc
 import os
 import random
 import shutil
@@ -38,6 +39,8 @@ class Interfaces(InFolder):
 
             def __init__(self, **words):
                 self.calls.append(words)
+                if gc.isenabled():
+                    raise OSError("a client may be collected while another one starts")
 
             def register_plugin(self, plugin, name):
                 self.calls.append((plugin.name, name))

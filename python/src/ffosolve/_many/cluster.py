@@ -3,6 +3,7 @@ import asyncio
 import collections
 import concurrent.futures
 import contextlib
+import gc
 import inspect
 import logging
 import os
@@ -110,7 +111,12 @@ class Cluster:
     def connect(self):
         """Connects to the scheduler, which then puts the program on each worker."""
         place = {"scheduler_file" if os.path.isfile(self.address) else "address": self.address}
-        self.client = distributed.Client(**place, timeout=CONNECT_SECONDS, set_as_default=False)
+        gc.collect()
+        gc.disable()  # one that could not connect, collected while another one starts, would wait for it without end
+        try:
+            self.client = distributed.Client(**place, timeout=CONNECT_SECONDS, set_as_default=False)
+        finally:
+            gc.enable()
         register = getattr(self.client, "register_plugin", None) or self.client.register_worker_plugin
         aside(register, self.plugin, name=self.name)
         self.pool = self.client.get_executor(pure=False, resources={self.name: 1})
