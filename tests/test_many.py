@@ -205,7 +205,7 @@ class Words(Case):
                 (3, "kept is not a book and would be overwritten", "--merge-books", "one.book", "--book-out", "kept"),
                 (3, read, "list.obf", "--book-in=one.book", "--book-out=one.book"),
                 (3, "cannot read none.obf: No such file or directory", "none.obf"),
-                (3, r"cannot read $'a\xff\x0a\x27': No such file or directory", b"a\xff\n'"),
+                (3, r"cannot read $'a\xff\n\'': No such file or directory", b"a\xff\n'"),
                 (3, "cannot read .: Is a directory", "work", "."),
                 (3, "cannot read none.book: No such file or directory", "list.obf", "--book-in", "none.book"),
                 (2, "--merge-books needs the name of a book", "--merge-books"),

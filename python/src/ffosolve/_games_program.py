@@ -14,7 +14,7 @@ from ._games_arguments import NAME, options_of
 from ._library import LibraryNotFound, load
 from ._list_digest import ListDigest
 from ._published import BadList, Compared, Comparison, Unfit
-from ._text import NotText, text_lines
+from ._text import NotText, shown, text_lines
 
 DONE, REMARKED, MISUSED, UNREADABLE, NO_LIBRARY, INTERRUPTED = 0, 1, 2, 3, 4, 130
 
@@ -226,14 +226,6 @@ def opened(name: str) -> Iterator[io.BufferedReader]:
 def listed_name(name: str) -> str:
     """A file's name in a list: as it is, since `compare --fix` opens it, unless it would break the line."""
     return shown(name) if any(letter < " " for letter in name) else name
-
-
-def shown(name: str) -> str:
-    """A file's name in a message: in bash's quotes if it has control characters or is not UTF-8."""
-    if name.isprintable():
-        return name or "''"
-    quoted = repr(os.fsencode(name) + b'"')  # in single quotes, since it has a double one
-    return f"${quoted[1:-2]}'"
 
 
 def would_be_lost(name: str) -> Stop:

@@ -1,5 +1,6 @@
-"""Reads the lines of texts."""
-from typing import BinaryIO, Iterator
+"""Reads the lines of texts, and shows the names of files."""
+import os
+from typing import BinaryIO, Iterator, Union
 
 MOST_BYTES = 1_048_576  # of a line with its end, as of a whole list of ffosolve
 MARKS = (b"\xef\xbb\xbf", b"\xff\xfe", b"\xfe\xff")  # of UTF-8 and UTF-16
@@ -23,3 +24,12 @@ def text_lines(file: BinaryIO, name: str) -> Iterator[bytes]:
             raise NotText(f"cannot read {name}: its line {number} has a NUL byte, so it is not a text")
         yield line
         number, line = number + 1, file.readline(MOST_BYTES + 1)
+
+
+def shown(name: Union[str, "os.PathLike[str]"]) -> str:
+    """A file's name in a message: in bash's quotes if it has control characters or is not UTF-8."""
+    name = os.fspath(name)
+    if name.isprintable():
+        return name or "''"
+    quoted = repr(os.fsencode(name) + b'"')  # in single quotes, since it has a double one
+    return f"${quoted[1:-2]}'"

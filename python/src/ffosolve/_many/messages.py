@@ -5,6 +5,8 @@ import signal
 import sys
 import threading
 
+from .._text import shown
+
 NAME = "ffosolve-many"
 DONE, UNSOLVED, REFUSED, UNREADABLE, UNBUILT = range(5)
 PRINTING = threading.RLock()
@@ -21,13 +23,6 @@ def misused(text):
 def cannot(verb, name, why):
     """The refusal of a file that can't be read or written, with the system's reason."""
     return Refusal(UNREADABLE, f"cannot {verb} {shown(name)}: {why.strerror or why}")
-
-
-def shown(name):
-    """A file's name in a form that can be typed: as it is, or as $'..' if it has control characters or is not UTF-8."""
-    name = os.fspath(name)
-    letters = (chr(byte) if 32 <= byte < 127 and byte not in b"\\'" else f"\\x{byte:02x}" for byte in os.fsencode(name))
-    return name if name.isprintable() else f"$'{''.join(letters)}'"
 
 
 def counted(count, name):
