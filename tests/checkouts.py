@@ -1,7 +1,6 @@
 """Built copies of the checkout, for tests that install from one, and search paths that lack a tool."""
 import os
 import shutil
-import subprocess
 from pathlib import Path
 
 from tests.support import ROOT, run, stored
@@ -13,21 +12,16 @@ LEVELS = ["x86-64-v2", "x86-64-v3"]
 WITHOUT_GIT = {name: text for name, text in os.environ.items() if not name.startswith("GIT_")}  # which a git hook sets
 
 
-def make_all(*words):
-    """Builds these targets of make in the checkout."""
-    if subprocess.run(["make", "-s", "-C", ROOT, *words], stdin=subprocess.DEVNULL, stdout=subprocess.DEVNULL).returncode:
-        raise AssertionError(f"make {' '.join(words)} failed")
-
-
 def names_of_files():
     """Returns the names of the checkout's files, new ones too, but not of those that git ignores."""
-    ran = run("git", "-c", f"safe.directory={ROOT}", "-C", ROOT, "ls-files", "-zco", "--exclude-standard", env=WITHOUT_GIT, check=True)
-    return [name for name in ran.stdout.decode().split("\0") if name and os.path.lexists(ROOT / name)]
+    words = ("git", "-c", f"safe.directory={ROOT}", "-C", ROOT, "ls-files", "-zco", "--exclude-standard")
+    names = run(*words, env=WITHOUT_GIT, check=True, text=True).stdout.split("\0")
+    return [name for name in names if name and os.path.lexists(ROOT / name)]
 
 
 def copied_checkout(folder):
-    """Copies the checkout and its programs, with the times of the files, readable by everybody; returns the folder."""
-    folder = Path(folder)
+    """Builds the programs, and copies them and the checkout, with the times of the files, readable by everybody."""
+    run("make", "-s", "-C", ROOT, "levels", stderr=None, timeout=None, check=True)
     for name in names_of_files():
         (folder / name).parent.mkdir(parents=True, exist_ok=True)
         shutil.copy2(ROOT / name, folder / name)

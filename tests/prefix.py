@@ -3,6 +3,7 @@
 TEST_PREFIX in the environment names the prefix; without it, `make install` makes one.
 """
 import functools
+import importlib.util
 import os
 import re
 import shutil
@@ -15,7 +16,6 @@ TESTS = ROOT / "tests"
 STRICT = ["-Wall", "-Wextra", "-Wpedantic", "-Wshadow", "-Wconversion", "-Werror"]
 C = ["cc", "-std=c11", *STRICT, "-O1"]
 CXX = ["c++", "-std=c++11", *STRICT, "-O1", "-x", "c++"]
-PACKAGES = {"cc": "gcc", "c++": "g++", "clang++": "clang", "nm": "binutils", "readelf": "binutils"}
 PIP = [sys.executable, "-m", "pip", "--disable-pip-version-check", "install", "--quiet", "--no-index"]
 LONGEST = 300  # seconds of a command, since on a busy machine compilers and solvers take a while
 
@@ -29,13 +29,9 @@ def installed_prefix():
     return Prefix(folder, work)
 
 
-def need_tool(name):
-    need(name, PACKAGES.get(name, name))
-
-
-def need_module(name, package):
-    if run(sys.executable, "-c", f"import {name}").returncode != 0:
-        lack(f"{name} for {sys.executable} (Debian: {package})")
+def need_module(name):
+    if importlib.util.find_spec(name) is None:
+        lack(f"the module {name}")
 
 
 class Prefix:
@@ -71,7 +67,7 @@ class Prefix:
 
     def compile(self, compiler, name, sources, *words):
         """The path of a program in C or C++ that is linked with the archive."""
-        need_tool(compiler[0])
+        need(compiler[0])
         libraries = words or ("-I", self.header.parent, "-x", "none", self.archive)
         self.make(*compiler, "-o", self.work / name, *sources, *libraries)
         return self.work / name
@@ -83,7 +79,7 @@ class Prefix:
     @functools.cached_property
     def site(self):
         """The folder into which pip installs the package for Python, without a network."""
-        need_module("pip", "python3-pip")
+        need_module("pip")
         shutil.copytree(self.shipped / "python", self.work / "python", dirs_exist_ok=True)
         for name in ("VERSION", "LICENSE"):
             shutil.copy2(self.shipped / name, self.work)
@@ -94,7 +90,7 @@ class Prefix:
     def crate(self):
         """The folder of the crate for Rust, with the examples beside it."""
         shutil.copy2(self.shipped / "VERSION", self.work)
-        need_tool("cargo")
+        need("cargo")
         for name in ("rust", "examples"):
             shutil.copytree(self.shipped / name, self.work / name, dirs_exist_ok=True)
         return self.work / "rust"
@@ -104,11 +100,10 @@ class Prefix:
 
     def rust_client(self, name, source, **places):
         """The path of a program that depends on the crate, built with these environment variables."""
-        needs = f'[dependencies]\nffosolve = {{ path = "{self.crate}" }}\n'
-        manifest = f'[package]\nname = "{name}"\nversion = "1.0.0"\nedition = "2021"\n{needs}[workspace]\n'
         self.write(f"{name}/src/main.rs", source)
-        manifest = self.write(f"{name}/Cargo.toml", manifest)
-        self.make("cargo", "build", "--quiet", "--manifest-path", manifest, env={**self.environment, **places})
+        needs = f'[dependencies]\nffosolve = {{ path = "{self.crate}" }}\n[workspace]\n'
+        self.write(f"{name}/Cargo.toml", f'[package]\nname = "{name}"\nversion = "1.0.0"\nedition = "2021"\n{needs}')
+        self.cargo("build", self.work / name, "--quiet", env={**self.environment, **places})
         return self.work / "target/debug" / name
 
     def called(self, calls, **how):

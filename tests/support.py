@@ -1,7 +1,6 @@
 """What the tests share: files of the checkout, the built programs, commands with a time limit, and processes."""
 import contextlib
 import functools
-import itertools
 import os
 import resource
 import shutil
@@ -27,10 +26,11 @@ def lack(what):
     raise unittest.SkipTest(f"{what} is missing")
 
 
-def need(tool, package):
-    """Skips or fails the test, as `lack` does, unless a tool of a Debian package is installed."""
-    if shutil.which(tool) is None:
-        lack(f"{tool} (Debian: {package})")
+def need(*tools):
+    """Skips or fails the test, as `lack` does, unless these tools are installed."""
+    for tool in tools:
+        if shutil.which(tool) is None:
+            lack(tool)
 
 
 def stored(*path):
@@ -38,11 +38,23 @@ def stored(*path):
     return ROOT.joinpath(*path).read_bytes()
 
 
+def worked(name):
+    """Returns the lines of a table in tests/rows, and its other columns as {head: cells}.
+
+    In a cell, `~` stands for the line's board and side."""
+    heads, *rows = stored("tests/rows", f"{name}.tsv").removesuffix(b"\n").split(b"\n")
+    *heads, _ = heads.decode().split("\t")
+    *columns, lines = zip(*(row.split(b"\t", len(heads)) for row in rows))
+    boards = [line.removesuffix(b"\r")[:66] for line in lines]
+    filled = ([cell.replace(b"~", board) for cell, board in zip(column, boards)] for column in columns)
+    return lines, dict(zip(heads, filled))
+
+
 def run(*words, **how):
     """Runs a command and captures its output as bytes; its standard input is empty unless `input` or `stdin` is given."""
     if how.get("input") is None:
         how.setdefault("stdin", subprocess.DEVNULL)
-    how = {"capture_output": True, "timeout": SECONDS, **how}
+    how = {"stdout": subprocess.PIPE, "stderr": subprocess.PIPE, "timeout": SECONDS, **how}
     return subprocess.run([word if isinstance(word, bytes) else str(word) for word in words], **how)
 
 
@@ -89,9 +101,7 @@ def built(name="ffosolve"):
     """Returns the path of a program, from the folder TEST_PROGRAMS if that is set; otherwise bin/ builds it if needed."""
     if "TEST_PROGRAMS" in os.environ:
         return Path(os.environ["TEST_PROGRAMS"], name)
-    ran = subprocess.run([ROOT / "bin" / name, "/dev/null"], stdin=subprocess.DEVNULL, stdout=subprocess.DEVNULL)
-    if ran.returncode != 0:
-        raise AssertionError(f"bin/{name} ended with status {ran.returncode} on an empty file")
+    run(ROOT / "bin" / name, "/dev/null", stderr=None, timeout=None, check=True)
     return ROOT / "out" / name
 
 
@@ -123,8 +133,8 @@ class InFolder(unittest.TestCase):
         self.enterContext(contextlib.chdir(self.folder))
 
     def ends(self, wanted, *words, **how):
-        """Asserts a command's status, standard output and standard error."""
-        ran = run(*words, **how)
+        """Asserts a command's status, standard output and standard error, as text or as bytes."""
+        ran = run(*words, **{"text": isinstance(wanted[1], str), **how})
         self.assertEqual((ran.returncode, ran.stdout, ran.stderr), wanted, words)
 
     def start(self, *words, **how):
@@ -142,7 +152,7 @@ class InFolder(unittest.TestCase):
             self.assertEqual((ran.returncode, ran.stderr.decode()), (3, error), words)
         reading, writing = os.pipe()
         os.close(reading)
-        ran = run(*words, capture_output=False, stdout=writing, stderr=subprocess.PIPE)
+        ran = run(*words, stdout=writing)
         os.close(writing)
         self.assertEqual((ran.returncode, ran.stderr), (-signal.SIGPIPE, b""), words)
 
@@ -179,26 +189,22 @@ def processes_in(place):
     return found
 
 
-def preload(name, folder):
-    """Compiles tests/NAME.c to a library for LD_PRELOAD, and returns its path."""
-    need("cc", "gcc")
-    library = Path(folder, f"{name}.so").resolve()
-    run("cc", "-shared", "-fPIC", "-O1", "-o", library, ROOT / f"tests/{name}.c", "-ldl", check=True)
-    return library
+@functools.cache
+def preload(folder):
+    """Compiles tests/preload.c to a library for LD_PRELOAD in a folder, and returns its path."""
+    need("cc")
+    run("cc", "-shared", "-fPIC", "-O1", "-o", folder / "preload.so", ROOT / "tests/preload.c", "-ldl", check=True)
+    return str(folder / "preload.so")
 
 
-class Refusals:
-    """Runs a program again and again; in run n the nth request for memory is refused (tests/refuse.c)."""
+def refusals(folder, *words, **how):
+    """Runs a program until no request for memory is refused; in run n, its nth request is.
 
-    def __init__(self, folder):
-        self.library, self.mark = preload("refuse", folder), Path(folder, "refused").resolve()
-
-    def runs(self, *words, **how):
-        """Yields (n, the run, whether a request was refused), up to the first run without a refusal."""
-        for number in itertools.count(1):
-            places = {"LD_PRELOAD": str(self.library), "REFUSED": str(number), "REFUSED_FILE": str(self.mark)}
-            ran, met = run(*words, env={**os.environ, **places}, **how), self.mark.exists()
-            self.mark.unlink(missing_ok=True)
-            yield number, ran, met
-            if not met:
-                return
+    Yields (n, the run, whether a request was refused)."""
+    number, met, mark = 0, True, folder / "refused"
+    while met:
+        number += 1
+        places = {"LD_PRELOAD": preload(folder), "REFUSED": str(number), "REFUSED_FILE": str(mark)}
+        ran, met = run(*words, env={**os.environ, **places}, **how), mark.exists()
+        mark.unlink(missing_ok=True)
+        yield number, ran, met

@@ -40,7 +40,7 @@ class Boards(unittest.TestCase):
     def picture(self, svg):
         """A call that returns the picture's colour at a place, in pixels from the left and from the top."""
         need_modules()
-        need("rsvg-convert", "librsvg2-bin")
+        need("rsvg-convert")
         xml.etree.ElementTree.fromstring(svg)
         png = run("rsvg-convert", input=svg.encode(), check=True).stdout
         picture = PIL.Image.open(io.BytesIO(png)).convert("RGB")

@@ -96,9 +96,9 @@ class Files(Books):
                 self.left({place: OLD, "it.book": OLD})
 
     def watched(self, **more):
-        """Returns an environment in which tests/watch.c records syncs and renames in the file WATCHED."""
+        """Returns an environment in which syncs and renames are recorded in the file WATCHED (tests/preload.c)."""
         place = Path(PROGRAM).parent
-        return {**os.environ, "LD_PRELOAD": str(preload("watch", place)), "WATCHED": str(place / "watched"), **more}
+        return {**os.environ, "LD_PRELOAD": preload(place), "WATCHED": str(place / "watched"), **more}
 
     def test_a_full_or_broken_disk_keeps_the_old_book(self):
         for how, cause in (({"preexec_fn": lambda: shorter_than(100)}, "the file would be too large"),
@@ -224,7 +224,7 @@ class Lists(Books):
     def test_files_with_one_inode_number_on_two_file_systems_are_two(self):
         if os.geteuid() != 0:
             self.skipTest("only root mounts file systems")
-        need("unshare", "util-linux")
+        need("unshare")
         write("list", TEXT)
         script = """mkdir one two; mount -t tmpfs none one; mount -t tmpfs none two; cp list one; : >two/it.book
             [ $(stat -c %i one/list) = $(stat -c %i two/it.book) ]

@@ -1,11 +1,11 @@
 """What `bin/ffosolve` and make build and when, and what they report, in a small checkout with a fake kit."""
 import os
 import re
-import shutil
 import signal
 import subprocess
 import time
 from pathlib import Path
+from unittest import mock
 
 from tests.checkouts import path_without
 from tests.support import (NOBODY, ROOT, SECONDS, InFolder, as_at_a_login, is_v3, lack, need, processes_in, run,
@@ -41,11 +41,11 @@ END
 LINK = '#!/bin/sh\nwhile [ "$1" != -o ]; do shift; done\ncp "$3" "$2" && chmod +x "$2"\n'
 ASSEMBLE = '#!/bin/sh\nwhile [ "$1" != -o ]; do shift; done\n: >"$2"\n'
 LEVEL = "x86-64-v3" if is_v3() else "x86-64-v2"
+HOW = {"text": True, "preexec_fn": as_at_a_login, "cwd": "/"}
 
 
 def setUpModule():
-    for tool, package in (("make", "make"), ("setpriv", "util-linux"), ("flock", "util-linux")):
-        need(tool, package)
+    need("make", "setpriv", "flock")
 
 
 class Case(InFolder):
@@ -59,31 +59,25 @@ class Case(InFolder):
         self.source = self.root / "crates/ffosolve/src/main.rt"
         write(self.root / "crates.txt", "# low first\nothello_rules: std\nother: othello_rules\nffosolve: othello_rules\n"
               "ffoscores: othello_rules\nffosolve_c staticlib: othello_rules\n")
-        for name in ("bin", "packaging", "include", "scripts"):
-            shutil.copytree(ROOT / name, self.root / name)
-        for name in ("Makefile", "VERSION"):
-            shutil.copy(ROOT / name, self.root)
-        self.rt, self.link = self.tools / "rt", self.kit / "bin/rattle-link"
-        for path, text in ((self.rt, RT), (self.link, LINK), (self.kit / "toolchain/bin/clang", ASSEMBLE)):
-            write(path, text)
-        self.starts = self.folder / "starts"
-        self.script = self.root / "bin/ffosolve"
-        self.log = self.root / "out" / LEVEL / "ffosolve.o.log"
+        files = ("bin", "packaging", "include", "scripts", "Makefile", "VERSION")
+        run("cp", "-r", *(ROOT / name for name in files), self.root, check=True)
+        self.rt, self.link = write(self.tools / "rt", RT), write(self.kit / "bin/rattle-link", LINK)
+        write(self.kit / "toolchain/bin/clang", ASSEMBLE)
+        self.starts = write(self.folder / "starts", "")
+        self.script, self.log = self.root / "bin/ffosolve", self.root / "out" / LEVEL / "ffosolve.o.log"
+        places = {"PATH": f"{self.tools}:/usr/bin:/bin", "STARTS": str(self.starts), "KIT_FOLDER": str(self.kit)}
+        self.enterContext(mock.patch.dict(os.environ, places, clear=True))
 
-    def how(self, path=None, **environment):
-        places = {"PATH": str(path or f"{self.tools}:/usr/bin:/bin"), "STARTS": str(self.starts), "KIT_FOLDER": str(self.kit)}
-        return {"env": {**places, **environment}, "text": True, "preexec_fn": as_at_a_login, "cwd": "/"}
-
-    def use(self, *words, path=None, who={}, **environment):
+    def use(self, *words, who={}, **environment):
         """Runs the program to its end."""
-        return run(self.script, *(words or ("w",)), input="read\n", **self.how(path, **environment), **who)
+        return run(self.script, *(words or ("w",)), input="read\n", env={**os.environ, **environment}, **HOW, **who)
 
     def begin(self, **environment):
         """Starts the program. With WAITS, rt waits for the file STARTS.go."""
-        return self.start(self.script, "w", **self.how(**environment))
+        return self.start(self.script, "w", env={**os.environ, **environment}, **HOW)
 
     def builds(self):
-        return self.starts.read_text().count("start") if self.starts.exists() else 0
+        return self.starts.read_text().count("start")
 
     def ran(self, ran, text, words="<w>", builds=None):
         """Asserts that the program ran: it printed what it was made of, its words, its folder and its input."""
@@ -119,7 +113,7 @@ class Builds(Case):
             ran = self.use()
             self.ran(ran, text, builds=builds)
         self.assertEqual(self.use().stderr, "")
-        ran = run("sh", "ffosolve", "w", **{**self.how(), "cwd": self.root / "bin"})
+        ran = run("sh", "ffosolve", "w", **{**HOW, "cwd": self.root / "bin"})
         self.assertEqual(ran.stdout, f"made of 1\n<w>{self.root}/bin\n", ran)
 
     def test_rt_gets_no_input_and_no_lock_and_the_program_replaces_the_caller(self):
@@ -133,7 +127,7 @@ class Builds(Case):
         self.assertEqual(re.findall(r" (\d) -> ", to_program), ["0", "1", "2"])
         self.assertIn(f"process {ran.pid}\n", to_program)
         write(self.source, "2\n")
-        run("make", "-C", self.root, f"out/{LEVEL}/ffosolve.o", input="read\n", **self.how())
+        run("make", "-C", self.root, f"out/{LEVEL}/ffosolve.o", input="read\n", **HOW)
         self.assertEqual((self.builds(), Path(f"{self.starts}.read").read_text()), (2, ""))
 
     def test_each_change_of_a_source_builds_again_and_a_new_time_does_not(self):
@@ -213,8 +207,9 @@ class Builds(Case):
 
 class Failures(Case):
     def test_a_missing_tool_is_reported_and_so_is_another_kit_which_is_tried(self):
-        self.refused(self.use(path="/usr/bin:/bin"), "rt (rattle-kit-13b or rattle-kit-13f) is not on the path", lines=1)
-        ran = self.use(path=f"{self.tools}:{path_without('make', self.folder)}")
+        ran = self.use(PATH="/usr/bin:/bin")
+        self.refused(ran, "rt (rattle-kit-13b or rattle-kit-13f) is not on the path", lines=1)
+        ran = self.use(PATH=f"{self.tools}:{path_without('make', self.folder)}")
         self.assertEqual((ran.returncode, ran.stdout, ran.stderr.count("\n")), (4, "", 1), ran)
         self.assertIn("make", ran.stderr)
         for builds, kit in enumerate(("rattle-kit-13b", "rattle-kit-13f", "rattle-kit-14a", "rattle-kit-13"), 1):
@@ -277,7 +272,7 @@ class Failures(Case):
         write(self.rt, RT + 'head -c 30000 /dev/zero >>out/${PWD##*/}.o\n')
         for filled in (40960, 20000):
             words = [*space, "sh", "-c", small, "sh", filled, self.script]
-            self.refused(run(*words, **{**self.how(), "cwd": self.root}), "written")
+            self.refused(run(*words, **{**HOW, "cwd": self.root}), "written")
         self.ran(self.use(), 1)
 
     def test_in_a_checkout_of_another_user_a_built_program_runs_and_no_other_is_built(self):
@@ -322,7 +317,7 @@ class Signals(Case):
     def on_a_terminal(self, keys, shown, go=False, columns=80):
         """Returns the output on a terminal, on which the keys are typed once this text is shown, and the status."""
         words = ["script", "-qec", f"stty cols {columns}; exec '{self.script}' w", "/dev/null"]
-        ran = self.start(*words, stdin=subprocess.PIPE, **{**self.how(WAITS="yes"), "text": False})
+        ran = self.start(*words, stdin=subprocess.PIPE, env={**os.environ, "WAITS": "yes"}, **{**HOW, "text": False})
         output, end = b"", time.monotonic() + SECONDS
         while shown not in output and time.monotonic() < end:
             output += os.read(ran.stdout.fileno(), 4096)
@@ -345,12 +340,11 @@ class Signals(Case):
 
 class Targets(Case):
     def make(self, *words):
-        return run("make", "-s", "-C", self.root, *words, **self.how())
+        return run("make", "-s", "-C", self.root, *words, **HOW)
 
     def test_each_level_is_proved_once_and_a_new_version_only_links_the_library_again(self):
         """A failed link is reported: a tool fails, or a call is undefined."""
-        for tool, package in (("cc", "gcc"), ("ar", "binutils"), ("objcopy", "binutils"), ("readelf", "binutils")):
-            need(tool, package)
+        need("cc", "ar", "objcopy", "readelf")
         (self.kit / "c").mkdir()
         crate = "extern int heap_call(void);\nint ffosolve_moves(void) { return heap_call(); }\n"
         for name, text in (("libffosolve_c.a", crate), ("c/liblibc_c.a", "int heap_call(void) { return 3; }\n")):

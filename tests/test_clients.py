@@ -7,8 +7,8 @@ import sys
 import unittest
 
 from .checkouts import VERSION
-from .prefix import CXX, PIP, C, installed_prefix, need_tool
-from .support import ROOT, built, lack, run
+from .prefix import CXX, PIP, C, installed_prefix
+from .support import ROOT, built, lack, need, run
 
 SMALL, LARGE = 9, 10  # positions of examples/masks.txt, without the one of 20 empty squares and with it
 CMAKE = """cmake_minimum_required(VERSION 3.16)
@@ -46,7 +46,7 @@ class Examples(unittest.TestCase):
         self.assertIn("position 2: the masks share a square", ran.stderr)
 
     def test_those_in_c_and_cxx_are_built_by_pkg_config(self):
-        need_tool("pkg-config")
+        need("pkg-config")
         self.assertEqual(PREFIX.make("pkg-config", "--modversion", "ffosolve").stdout.strip(), VERSION)
         flags = shlex.split(PREFIX.make("pkg-config", "--cflags", "--libs", "ffosolve").stdout)
         source = PREFIX.shipped / "examples/c/answers.c"
@@ -57,7 +57,7 @@ class Examples(unittest.TestCase):
 
     def test_those_in_c_and_cxx_are_built_by_cmake(self):
         """Takes the CMakeLists.txt of docs/library.md, with either library. A newer version is not found."""
-        need_tool("cmake")
+        need("cmake")
         (first, second, _), (block, _) = VERSION.split("."), shown("cmake")
         for name in ("answers.c", "answers.cpp"):
             PREFIX.write(f"cmake/{name}", (PREFIX.shipped / "examples/c/answers.c").read_text())
@@ -98,7 +98,7 @@ class PythonPackage(unittest.TestCase):
             self.assertRegex(PREFIX.make(self.site / "bin/ffosolve-games", *words, text="f5").stdout, rf"\A{wanted}\Z")
 
     def test_a_library_of_another_version_or_without_a_call_is_refused(self):
-        need_tool("cc")
+        need("cc")
         older, lacking = "has version 20000, not 1.x.y", "is not this package's library"
         whole = len(PREFIX.calls)
         for calls, number, why in ((whole, 10203, ""), (whole, 20000, older), (whole - 1, 10203, lacking)):
@@ -131,7 +131,7 @@ class RustCrate(unittest.TestCase):
         self.assertEqual(sorted(declared), sorted(PREFIX.calls))
 
     def test_its_own_tests_pass_with_either_library(self):
-        need_tool("readelf")
+        need("readelf")
         for features in ((), ("--features", "shared")):
             with self.subTest(features=features):
                 ran = PREFIX.cargo("test", self.crate, "--no-run", *features)

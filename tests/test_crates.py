@@ -1,16 +1,14 @@
 """The tests of the crates, unproved, with all runtime checks of `rt try`. The gate proves them."""
 import os
 import re
-import shutil
 import unittest
 
-from tests.support import ROOT, lack, run
+from tests.support import ROOT, need, run
 
 
 class Crates(unittest.TestCase):
     def test_all_are_in_one_crate_and_pass(self):
-        if shutil.which("rt") is None:
-            lack("rt (of a Rattle kit)")
+        need("rt")
         sources = {path: path.read_text().count("#[test]") for path in ROOT.glob("crates/*/src/**/*.rt")}
         crate = ROOT / "crates/crate_tests"
         self.assertEqual([path for path, count in sources.items() if count and crate not in path.parents], [])
@@ -20,8 +18,7 @@ class Crates(unittest.TestCase):
         self.assertEqual(len(re.findall(r"^test \S+ \.\.\. ok$", printed, re.M)), sum(sources.values()), printed)
 
     def test_the_search_in_plain_rust_has_the_counts_that_they_expect(self):
-        if shutil.which("rustc") is None:
-            lack("rustc")
+        need("rustc")
         expected = ROOT / "crates/crate_tests/src/tests/searches/counts.rt"
         self.assertIn(run(ROOT / "bench/run", "counts", text=True, check=True).stdout, expected.read_text())
 

@@ -4,7 +4,6 @@ In a fenced block `console`, a command follows `$ `, its further lines `> `, and
 output and standard error. The commands of a document run in one folder with links to the checkout's files. A block `sh`
 isn't run: it is for another machine, or takes long. Git has to ignore every file that the commands of either leave.
 """
-import difflib
 import os
 import re
 import subprocess
@@ -22,17 +21,10 @@ def blocks_of(text, language):
     return re.findall(rf"^```{language}\n(.*?)^```$", text, re.M | re.S)
 
 
-def commands_in(block):
-    """Returns [command, text shown below it] for each command of a block."""
-    found = []
-    for line in block.splitlines():
-        if line.startswith("$ "):
-            found.append([line[2:], ""])
-        elif line.startswith("> ") and not found[-1][1]:
-            found[-1][0] += "\n" + line[2:]
-        else:
-            found[-1][1] += line + "\n"
-    return found
+def commands_in(text):
+    """Returns (command, lines shown below it) for each command of the blocks `console`."""
+    found = re.findall(r"^\$ (.*\n(?:> .*\n)*)((?:(?!\$ ).*\n)*)", "".join(blocks_of(text, "console")), re.M)
+    return [(command.replace("\n> ", "\n"), stripped(shown)) for command, shown in found]
 
 
 def stripped(text):
@@ -56,11 +48,10 @@ def is_ignored(name):
 
 def printed_by(commands):
     """Returns what each command prints, run by one shell with an empty standard input."""
-    one = "{{ {}\n}} </dev/null; status=$?; echo; echo '" + END + "'; (exit $status)\n"
-    script = "".join(one.format(command) for command in commands)
-    words = ("timeout", LONGEST, "bash", "-c", script)
-    ran = run(*words, timeout=LONGEST + 60, capture_output=False, stdout=subprocess.PIPE, stderr=subprocess.STDOUT)
-    return ran.stdout.decode(errors="replace").split(f"\n{END}\n")
+    end = f"}} </dev/null; status=$?; echo; echo '{END}'; (exit $status)\n"
+    words = ("timeout", LONGEST, "bash", "-c", "".join(f"{{ {command}{end}" for command in commands))
+    ran = run(*words, timeout=LONGEST + 60, stderr=subprocess.STDOUT, text=True, errors="replace")
+    return ran.stdout.split(f"\n{END}\n")
 
 
 class Commands(InFolder):
@@ -77,14 +68,12 @@ class Commands(InFolder):
                 self.shows(TEXTS[name])
 
     def shows(self, text):
-        commands = [one for block in blocks_of(text, "console") for one in commands_in(block)]
+        commands = commands_in(text)
         printed = printed_by([command for command, _ in commands])
         self.assertEqual(len(printed), len(commands) + 1, f"no end after: {commands[len(printed) - 1:][:1]}")
-        wrong = []
-        for (command, shown), text in zip(commands, printed):
-            if stripped(shown) != stripped(text):
-                wrong += [command, *difflib.unified_diff(stripped(shown), stripped(text), "shown", "printed", lineterm="")]
-        self.assertFalse(wrong, "\n".join(wrong))
+        for (command, shown), output in zip(commands, printed):
+            with self.subTest(command=command):
+                self.assertEqual(stripped(output), shown)
         left = [name for name in os.listdir() if not os.path.islink(name)] + made_by_blocks(text)
         if (ROOT / ".git").exists():
             self.assertEqual([name for name in left if not is_ignored(name)], [])

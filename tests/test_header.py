@@ -5,7 +5,8 @@ import sys
 import unittest
 
 from .checkouts import VERSION
-from .prefix import STRICT, installed_prefix, need_module, need_tool
+from .prefix import STRICT, installed_prefix, need_module
+from .support import need
 
 C_STANDARDS = ("c90", "c99", "c11", "c17", "c2x")
 CXX_STANDARDS = ("c++11", "c++14", "c++17", "c++20")
@@ -28,7 +29,7 @@ def setUpModule():
 
 class Library(unittest.TestCase):
     def test_it_exports_exactly_the_calls_of_the_header(self):
-        need_tool("nm")
+        need("nm")
         for words in (["-D", PREFIX.shared], ["-g", PREFIX.archive]):
             printed = PREFIX.make("nm", "--defined-only", *words).stdout
             exported = {line.split()[2].split("@")[0] for line in printed.splitlines() if " T " in line}
@@ -36,7 +37,7 @@ class Library(unittest.TestCase):
             self.assertIn("ffosolve_solve", exported)
 
     def test_the_shared_object_has_its_names_and_needs_only_the_c_library(self):
-        need_tool("readelf")
+        need("readelf")
         major = VERSION.split(".")[0]
         for end in ("", f".{major}"):
             link = PREFIX.libraries / f"libffosolve.so{end}"
@@ -55,13 +56,13 @@ class Header(unittest.TestCase):
             source, program = PREFIX.write(f"header.{end}", PROGRAM), PREFIX.work / "header"
             for standard in standards:
                 with self.subTest(compiler=compiler, standard=standard):
-                    need_tool(compiler)
+                    need(compiler)
                     include = ("-I", PREFIX.header.parent)
                     PREFIX.make(compiler, f"-std={standard}", *STRICT, *include, "-o", program, source, PREFIX.archive)
                     PREFIX.make(program)
 
     def test_swig_wraps_it(self):
-        need_tool("swig")
+        need("swig")
         PREFIX.write("wrap.i", '%module wrap\n%{\n#include "ffosolve.h"\n%}\n%include "stdint.i"\n%include "ffosolve.h"\n')
         PREFIX.make("swig", "-Wall", "-Werror", "-python", f"-I{PREFIX.header.parent}", "wrap.i")
         made = (PREFIX.work / "wrap.py").read_text()
@@ -69,7 +70,7 @@ class Header(unittest.TestCase):
             self.assertIn(name, made)
 
     def test_cffi_reads_its_declarations(self):
-        need_module("cffi", "python3-cffi")
+        need_module("cffi")
         head, end = 'extern "C" {\n#endif\n', "/* end of the declarations */"
         declarations = PREFIX.text.split(head)[1].split(end)[0].replace("FFOSOLVE_MUST_USE", "")
         ran = PREFIX.make(sys.executable, "-c", CFFI, PREFIX.write("declarations.h", declarations), PREFIX.shared)
@@ -87,7 +88,7 @@ class Header(unittest.TestCase):
         standards = (("cc", "c11"), ("clang", "c11"), ("c++", "c++11"), ("c++", "c++17"), ("clang++", "c++17"))
         for compiler, standard in standards:
             with self.subTest(compiler=compiler, standard=standard):
-                need_tool(compiler)
+                need(compiler)
                 file = PREFIX.write("unused.cpp" if "+" in standard else "unused.c", source)
                 command = (compiler, f"-std={standard}", "-c", "-o", os.devnull, "-I", PREFIX.header.parent, file)
                 self.assertEqual(PREFIX.run(*command, "-Wno-unused-result").returncode, 0)

@@ -5,8 +5,9 @@ import re
 import shutil
 import stat
 from pathlib import Path
+from unittest import mock
 
-from tests.checkouts import FIRST, LEVELS, NUMBER, VERSION, copied_checkout, make_all, names_of_files, path_without
+from tests.checkouts import FIRST, LEVELS, NUMBER, VERSION, copied_checkout, names_of_files, path_without
 from tests.support import NOBODY, ROOT, InFolder, is_v3, lack, module_folder, need, run, stored, write
 
 PREFIX = "/opt/a prefix"
@@ -15,10 +16,13 @@ COMMANDS = ["ffosolve", "ffoscores", "ffosolve-many", "ffosolve-games"]
 
 def setUpModule():
     global CHECKOUT
-    for tool in ("make", "git"):
-        need(tool, tool)
-    make_all("levels")
+    need("make", "git")
     CHECKOUT = copied_checkout(module_folder() / "a checkout")
+
+
+def times(paths):
+    """Returns the time of each file that is no checksum of sources."""
+    return {path: path.lstat().st_mtime_ns for path in paths if not path.is_dir() and path.suffix != ".sum"}
 
 
 class Case(InFolder):
@@ -26,11 +30,12 @@ class Case(InFolder):
         super().setUp()
         self.stage = self.folder / "stage"
         self.root = Path(f"{self.stage}{PREFIX}")
-        self.places = {"PATH": os.environ["PATH"], "HOME": str(self.folder), "TMPDIR": str(self.folder)}
+        places = {"PATH": os.environ["PATH"], "HOME": str(self.folder), "TMPDIR": str(self.folder)}
+        self.enterContext(mock.patch.dict(os.environ, places, clear=True))
 
     def make(self, target, *words, prefix=PREFIX, **how):
         words = ["make", "-s", "-C", CHECKOUT, target, f"PREFIX={prefix}", f"DESTDIR={self.stage}", *words]
-        return run(*words, text=True, **{"env": self.places, **how})
+        return run(*words, text=True, **how)
 
     def install(self, *words, **how):
         ran = self.make("install", *words, **how)
@@ -45,12 +50,6 @@ class Case(InFolder):
         self.assertEqual((ran.returncode, ran.stdout), (2, ""), ran)
         self.assertIn(words, ran.stderr.splitlines()[0])
         self.assertLessEqual(ran.stderr.count("\n"), 2, ran.stderr)
-
-    def help_of(self, name):
-        return run(self.root / "bin" / name, "--help", text=True, check=True, env={**self.places, "COLUMNS": "200"}).stdout
-
-    def options_of(self, name):
-        return sorted(set(re.findall(r"^ +(?:-\w, )?(--[a-z-]+)", self.help_of(name), re.M)))
 
 
 class Install(Case):
@@ -74,21 +73,22 @@ class Install(Case):
 
     def test_in_other_folders_everything_is_found(self):
         """The scripts find their package, and pkg-config and CMake header and library."""
-        need("pkg-config", "pkg-config")
+        need("pkg-config")
         self.install("BINDIR=/b", "LIBDIR=/usr/lib/x86_64-linux-gnu", "INCLUDEDIR=/usr/include", "MANDIR=/m", prefix="/usr")
         for name in ("b/ffosolve", "usr/lib/x86_64-linux-gnu/libffosolve.a", "usr/include/ffosolve.h", "m/man1/ffosolve.1"):
             self.assertTrue((self.stage / name).is_file(), name)
         for name in ("ffosolve-many", "ffosolve-games"):
             self.assertEqual(run(self.stage / "b" / name, "--help").returncode, 0, name)
         libraries = self.stage / "usr/lib/x86_64-linux-gnu"
-        ran = run("pkg-config", "--cflags", "ffosolve", text=True, env={**self.places, "PKG_CONFIG_PATH": str(libraries / "pkgconfig")})
+        os.environ["PKG_CONFIG_PATH"] = f"{libraries}/pkgconfig"
+        ran = run("pkg-config", "--cflags", "ffosolve", text=True)
         self.assertTrue(os.path.samefile(ran.stdout.strip()[2:], self.stage / "usr/include"), ran)
         self.assertIn('_libraries}/../../include"', (libraries / "cmake/ffosolve/ffosolve-config.cmake").read_text())
 
     def test_ffosolve_games_finds_the_library_in_each_folder(self):
         for place, *words in (("bin",), ("bin", f"LIBDIR={PREFIX}/lib64"), ("b/b", f"BINDIR={PREFIX}/b/b", f"LIBDIR={PREFIX}/lib/here")):
             self.install(*words)
-            ran = run(self.root / place / "ffosolve-games", "--empties=59", input=b"f5", env=self.places)
+            ran = run(self.root / place / "ffosolve-games", "--empties=59", input=b"f5")
             self.assertEqual((ran.returncode, ran.stdout[64:]), (0, b" O; % -, game 1\n"), ran)
             self.make("uninstall", *words)
 
@@ -117,32 +117,26 @@ class Install(Case):
 
     def test_the_default_is_usr_local_whose_folders_stay(self):
         words = ["make", "-s", "-C", CHECKOUT, f"DESTDIR={self.stage}"]
-        ran = run(*words, "install", text=True, env=self.places)
-        self.assertEqual((ran.stdout, ran.stderr), (f"installed under {self.stage}/usr/local\n", ""))
+        self.ends((0, f"installed under {self.stage}/usr/local\n", ""), *words, "install")
         self.assertEqual((os.listdir(self.stage), os.listdir(self.stage / "usr")), (["usr"], ["local"]))
-        run(*words, "uninstall", env=self.places)
+        run(*words, "uninstall")
         self.assertTrue((self.stage / "usr/local/bin").is_dir())
         self.assertEqual([path for path in self.stage.rglob("*") if not path.is_dir()], [])
 
     def test_nothing_is_written_elsewhere(self):
-        def times():
-            files = (path for path in CHECKOUT.rglob("*") if not path.is_dir() and path.suffix != ".sum")
-            return {path: path.lstat().st_mtime_ns for path in files}
-
-        before = times()
+        before = times(CHECKOUT.rglob("*"))
         self.assertGreater(len(before), 500)
         self.install()
         self.make("uninstall")
         self.assertEqual(os.listdir(self.folder), ["stage"])
-        self.assertEqual(times(), before)
+        self.assertEqual(times(CHECKOUT.rglob("*")), before)
 
     def test_make_library_replaces_no_file_that_is_the_same(self):
-        def times():
+        found = []
+        for _ in range(2):
             self.assertEqual(self.make("library").stderr, "")
-            return {path.name: path.stat().st_mtime_ns for path in Path(CHECKOUT, "out/library").glob("libffosolve.*")}
-
-        before = times()
-        self.assertEqual((len(before), times()), (3, before))
+            found.append(times((CHECKOUT / "out/library").glob("libffosolve.*")))
+        self.assertEqual((len(found[0]), found[0]), (3, found[1]))
 
     def test_a_missing_library_of_either_level_is_linked_again(self):
         for level, other in (LEVELS, LEVELS[::-1]):
@@ -152,19 +146,16 @@ class Install(Case):
             self.assertTrue((self.root / "lib/libffosolve-x86-64-v3.a").is_file())
 
     def test_a_user_without_rt_who_may_not_write_the_checkout_can_install(self):
-        folders = [CHECKOUT, *(path for path in CHECKOUT.rglob("*") if path.is_dir())]
         self.folder.chmod(0o777)
-        try:
-            for path in folders:
-                path.chmod(0o555)
-            self.install(env={**self.places, "PATH": path_without("rt", self.folder)}, **NOBODY)
-        finally:
-            for path in folders:
-                path.chmod(0o755)
-        self.assertEqual(run(self.root / "bin/ffosolve", ROOT / "examples/first.obf", text=True).stdout, FIRST)
+        run("chmod", "-R", "a-w", CHECKOUT, check=True)
+        self.addCleanup(run, "chmod", "-R", "u+w", CHECKOUT, check=True)
+        os.environ["PATH"] = path_without("rt", self.folder)
+        self.install(**NOBODY)
+        self.ends((0, FIRST, ""), self.root / "bin/ffosolve", ROOT / "examples/first.obf")
 
     def test_without_python_two_manual_pages_have_no_options_and_that_is_reported(self):
-        ran = self.make("install", env={**self.places, "PATH": path_without("python3", self.folder)})
+        os.environ["PATH"] = path_without("python3", self.folder)
+        ran = self.make("install")
         self.assertEqual((ran.returncode, ran.stdout), (0, f"installed under {self.root}\n"))
         names = re.findall("^(.*): its manual page has no options, since --help can't be run$", ran.stderr, re.M)
         self.assertEqual(names, ["ffosolve-many", "ffosolve-games"])
@@ -176,7 +167,7 @@ class Install(Case):
         for prefix in ("relative", "", "~/a"):
             for target in ("install", "uninstall"):
                 self.refused(self.make(target, prefix=prefix), f"PREFIX is {prefix}, but has to begin with a slash")
-        self.refused(run("make", "-s", "-C", CHECKOUT, "instal", text=True), "No rule to make target 'instal'")
+        self.refused(self.make("instal"), "No rule to make target 'instal'")
         self.root.mkdir(parents=True)
         (self.root / "bin").touch()
         self.refused(self.make("install"), f"{self.root}/bin")
@@ -185,33 +176,30 @@ class Install(Case):
     def test_without_programs_and_rt_nothing_is_installed(self):
         checkout = self.folder / "checkout"
         shutil.copytree(CHECKOUT, checkout, ignore=shutil.ignore_patterns("out"))
-        ran = run("make", "-s", "-C", checkout, "install", f"DESTDIR={self.stage}", text=True,
-                  env={**self.places, "PATH": path_without("rt", self.folder)})
-        self.refused(ran, "ffosolve: not built: rt (rattle-kit-13b or rattle-kit-13f) is not on the path")
+        os.environ["PATH"] = path_without("rt", self.folder)
+        error = "ffosolve: not built: rt (rattle-kit-13b or rattle-kit-13f) is not on the path"
+        self.refused(self.make("install", "-C", checkout), error)
         self.assertFalse(self.stage.exists())
 
 
 class Installed(Case):
     def test_programs_run_on_their_level_and_the_loader_reports_a_lower_one(self):
-        need("qemu-x86_64", "qemu-user")
-        need("readelf", "binutils")
-        for level, lesser in zip(LEVELS, ("core2duo", "Nehalem")):
+        need("qemu-x86_64", "readelf")
+        for level, lesser in zip(LEVELS, ("core2duo,+cx16,+lahf-lm", "Nehalem")):
             self.install(f"CPU={level}")
             for name in ("ffosolve", "ffoscores"):
                 program = self.root / "bin" / name
                 self.assertEqual(program.read_bytes()[:4], b"\x7fELF")
                 self.assertIn(f"x86 ISA needed: {level}", run("readelf", "-n", program, text=True).stdout)
-                ran = run("qemu-x86_64", "-cpu", f"{lesser},+cx16,+lahf-lm" if lesser == "core2duo" else lesser, program, text=True)
-                self.assertEqual((ran.returncode, ran.stdout), (127, ""), ran)
-                self.assertEqual(ran.stderr, f"{program}: CPU ISA level is lower than required\n")
-            ran = run(self.root / "bin/ffosolve", "examples/first.obf", cwd=self.root / "share/doc/ffosolve", env={}, text=True)
-            self.assertEqual((ran.returncode, ran.stdout, ran.stderr), (0, FIRST, ""))
-        ran = run("qemu-x86_64", "-cpu", "Nehalem", CHECKOUT / "out/x86-64-v2/ffosolve", ROOT / "examples/first.obf", text=True)
-        self.assertEqual((ran.returncode, ran.stdout), (0, FIRST), ran)
+                error = f"{program}: CPU ISA level is lower than required\n"
+                self.ends((127, "", error), "qemu-x86_64", "-cpu", lesser, program)
+            documents = self.root / "share/doc/ffosolve"
+            self.ends((0, FIRST, ""), self.root / "bin/ffosolve", "examples/first.obf", cwd=documents, env={})
+        program = CHECKOUT / "out/x86-64-v2/ffosolve"
+        self.ends((0, FIRST, ""), "qemu-x86_64", "-cpu", "Nehalem", program, ROOT / "examples/first.obf")
 
     def test_libffosolve_a_is_for_the_lower_level(self):
-        need("qemu-x86_64", "qemu-user")
-        need("cc", "gcc")
+        need("qemu-x86_64", "cc")
         masks, wanted = ((ROOT / f"examples/{name}.txt").read_text().splitlines()[:4] for name in ("masks", "answers"))
         for level in LEVELS:
             self.install(f"CPU={level}")
@@ -222,33 +210,29 @@ class Installed(Case):
                 self.assertEqual((ran.returncode == 0, ran.stdout.splitlines()[:4] == wanted), (is_for, is_for), ran)
 
     def test_the_loader_picks_the_library_of_the_best_level(self):
-        need("qemu-x86_64", "qemu-user")
-        need("readelf", "binutils")
+        need("qemu-x86_64", "readelf")
         self.install()
         for level, place in zip(LEVELS, ("lib", "lib/glibc-hwcaps/x86-64-v3")):
             self.assertRegex(run("readelf", "-n", self.root / place / "libffosolve.so", text=True).stdout, rf"ISA needed: .*{level}\n")
         say = "import ctypes, re; ctypes.CDLL('libffosolve.so.1'); print(re.findall(r'/lib/(.*/)?libffosolve', open('/proc/self/maps').read())[0])"
-        places = {**self.places, "LD_LIBRARY_PATH": str(self.root / "lib")}
-        best = "glibc-hwcaps/x86-64-v3/" if is_v3() else ""
-        self.assertEqual(run("/usr/bin/python3", "-c", say, env=places, text=True).stdout, f"{best}\n")
-        ran = run("qemu-x86_64", "-cpu", "Nehalem", "/lib64/ld-linux-x86-64.so.2", "--preload", "libffosolve.so.1", "--list",
-                  "/usr/bin/true", env=places, text=True)
+        os.environ["LD_LIBRARY_PATH"] = str(self.root / "lib")
+        self.ends((0, "glibc-hwcaps/x86-64-v3/\n" if is_v3() else "\n", ""), "/usr/bin/python3", "-c", say)
+        words = ("/lib64/ld-linux-x86-64.so.2", "--preload", "libffosolve.so.1", "--list", "/usr/bin/true")
+        ran = run("qemu-x86_64", "-cpu", "Nehalem", *words, text=True)
         self.assertIn(f"libffosolve.so.1 => {self.root}/lib/libffosolve.so.1 ", ran.stdout, ran)
 
     def test_ffosolve_many_runs_without_the_documents(self):
         self.install()
         shutil.rmtree(self.root / "share/doc")
-        places = {**self.places, "PATH": f"{self.root}/bin:/usr/bin:/bin"}
-        ran = run("ffosolve-many", self.folder / "work", "first.obf", cwd=ROOT / "examples", env=places, text=True)
-        self.assertEqual((ran.returncode, ran.stdout), (0, FIRST), ran)
+        os.environ["PATH"] = f"{self.root}/bin:/usr/bin:/bin"
+        self.ends((0, FIRST, ""), "ffosolve-many", "--quiet", "work", ROOT / "examples/first.obf")
 
     def test_programs_pages_library_and_texts_have_the_version_of_the_file_version(self):
         self.install()
         self.assertRegex(VERSION, r"\A\d+\.\d+\.\d+\Z")
         self.assertEqual(ctypes.CDLL(self.root / "lib/libffosolve.so").ffosolve_version(), NUMBER)
         for name in COMMANDS:
-            ran = run(self.root / "bin" / name, "--version", env=self.places, text=True)
-            self.assertEqual((ran.returncode, ran.stdout), (0, f"{name} {VERSION}\n"), ran)
+            self.ends((0, f"{name} {VERSION}\n", ""), self.root / "bin" / name, "--version")
         for place, text in (
             *((self.root / f"share/man/man1/{name}.1", f'"ffosolve {VERSION}"') for name in COMMANDS),
             (self.root / "include/ffosolve.h", f'#define FFOSOLVE_VERSION_TEXT "{VERSION}"\n#define FFOSOLVE_VERSION {NUMBER}\n'),
@@ -308,17 +292,24 @@ class Texts(Case):
         super().setUp()
         self.root = self.folder / "a prefix"
         self.install("DESTDIR=", prefix=self.root)
+        os.environ.update(MANWIDTH="2000", SHARE=f"{self.root}/share")
         shutil.copytree(ROOT / "examples", "examples")
         write("examples/bin/ffosolve", "#!/bin/sh\n: >begun\n")
 
     def tearDown(self):
         self.assertFalse(Path("examples/begun").exists())
 
+    def help_of(self, name):
+        return run("env", "COLUMNS=200", self.root / "bin" / name, "--help", text=True, check=True).stdout
+
+    def options_of(self, name):
+        return sorted(set(re.findall(r"^ +(?:-\w, )?(--[a-z-]+)", self.help_of(name), re.M)))
+
     def test_manual_pages_show_each_option_without_a_warning(self):
-        need("man", "man-db")
+        need("man")
         for name in COMMANDS:
             page = self.root / f"share/man/man1/{name}.1"
-            shown = run("man", "--warnings", "-E", "ascii", "-l", page, text=True, env={**self.places, "MANWIDTH": "2000"})
+            shown = run("man", "--warnings", "-E", "ascii", "-l", page, text=True)
             self.assertEqual((shown.returncode, shown.stderr), (0, ""))
             text = plain(shown.stdout)
             whole_lines = re.sub(r"\n {5,}(?=[^\s-])", " ", self.help_of(name))
@@ -335,8 +326,8 @@ class Texts(Case):
 
     def offered(self, shell, script, name, *words):
         """Returns the first words of the lines that a shell offers."""
-        need(shell, shell)
-        ran = run(shell, *script, name, *words, cwd="examples", text=True, env={**self.places, "SHARE": str(self.root / "share")})
+        need(shell)
+        ran = run(shell, *script, name, *words, cwd="examples", text=True)
         self.assertEqual((ran.returncode, ran.stderr), (0, ""))
         return sorted({line.split("\t")[0] for line in ran.stdout.splitlines()} - {""})
 
@@ -367,7 +358,7 @@ class Texts(Case):
 
     def test_zsh_completes_options_values_and_files(self):
         """Its own line editor completes each line on a terminal."""
-        need("zsh", "zsh")
+        need("zsh")
         lines = {"ffosolve --sco": "ffosolve --scoring", "ffosolve --scoring=d": "ffosolve --scoring=discs",
                  "ffoscores --scoring w": "ffoscores --scoring winner", "bin/ffosolve --sco": "bin/ffosolve --scoring",
                  "ffosolve --book-in fir": "ffosolve --book-in first.", "ffosolve kinds.o": "ffosolve kinds.obf",
@@ -375,5 +366,5 @@ class Texts(Case):
         Path("examples/asked").write_text("\n".join(lines))
         Path(".zshrc").write_text(ZSHRC)
         run("script", "-qec", "zsh -i", "/dev/null", cwd="examples", check=True,
-            env={"PATH": "/usr/bin:/bin", "ZDOTDIR": str(self.folder), "TERM": "dumb", "SHARE": str(self.root / "share")})
+            env={"PATH": "/usr/bin:/bin", "ZDOTDIR": str(self.folder), "TERM": "dumb", "SHARE": os.environ["SHARE"]})
         self.assertEqual([line.strip() for line in Path("examples/completed").read_text().splitlines()], list(lines.values()))

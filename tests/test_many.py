@@ -11,7 +11,7 @@ from unittest import mock
 
 from tests import many
 from tests.many import ACTING, BOARD, Case, install, set_up_module as setUpModule
-from tests.support import NOBODY, ROOT, SECONDS, InFolder, change_many, limited, positions, run, stored, write
+from tests.support import NOBODY, ROOT, SECONDS, InFolder, change_many, limited, positions, run, stored, worked, write
 
 from ffosolve._many import books, messages, parts, programs, progress
 
@@ -71,7 +71,7 @@ class Results(Case):
 
     def test_lines_of_each_kind_and_none_at_all_are_solved(self):
         kinds, blank = stored("examples/kinds.obf"), b"\r\n \t\n\t % X\n% no end of the last line\n\r\r\n \r\n"
-        whole, best = kinds + blank + kinds.rstrip(b"\n"), stored("tests/rows/best.obf")
+        whole, best = kinds + blank + kinds.rstrip(b"\n"), b"\n".join(worked("ffosolve/best")[0])
         for text, lines, *words in (whole, 4), (whole, 1000), (b"", 4), (best, 4, "--complete"):
             write("list.obf", text)
             self.one = self.solve(*words, "list.obf")

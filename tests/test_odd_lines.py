@@ -4,8 +4,8 @@ import random
 import re
 import unittest
 
-from .prefix import TESTS, installed_prefix
-from .support import built, stored
+from .prefix import installed_prefix
+from .support import built, stored, worked
 import ffosolve
 from ffosolve._refusals import refusal_of
 
@@ -59,14 +59,13 @@ def read_in_c(text):
 class OddLines(unittest.TestCase):
     @classmethod
     def setUpClass(cls):
-        chance, cls.worked = random.Random(5), stored("tests", "rows", "lines.obf")
-        cls.text = b"\n".join(odd_line(chance, cls.worked.split(b"\n")) for _ in range(LINES))
+        chance, (cls.lines, cls.columns) = random.Random(5), worked("ffosolve/lines")
+        cls.text = b"\n".join(odd_line(chance, cls.lines) for _ in range(LINES))
         cls.rows = read(cls.text)
 
     def test_python_and_c_read_worked_and_odd_lines_alike(self):
-        """What tests/rows/lines.read says of the worked lines follows from the grammar; no program printed it."""
-        worked = self.worked, (TESTS / "rows/lines.read").read_text().splitlines()
-        for text, wanted in (worked, (self.text, self.rows)):
+        rows = [f"{number} {cell.decode()}" for number, cell in enumerate(self.columns["read"], 1) if cell]
+        for text, wanted in ((b"\n".join(self.lines), rows), (self.text, self.rows)):
             self.assertEqual(read(text), wanted)
             self.assertEqual(read(line + b"\n" for line in text.split(b"\n")), wanted)
             self.assertEqual(list(read_in_c(text)), wanted)

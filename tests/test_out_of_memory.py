@@ -6,7 +6,7 @@ without refusals, if a thread could not start for lack of memory.
 import os
 from pathlib import Path
 
-from tests.support import ROOT, InFolder, Refusals, built, refuse_threads, run, stored
+from tests.support import ROOT, InFolder, built, refusals, refuse_threads, run, stored
 
 TEXT, PRINTED = stored("crates", "ffosolve", "stdin"), stored("crates", "ffosolve", "stdout")
 FILES = [str(ROOT / "examples" / name) for name in ("first.obf", "kinds.obf")]
@@ -15,16 +15,10 @@ OUT_OF_MEMORY = (1, b"", b"ffosolve: out of memory\n")
 
 
 class OutOfMemory(InFolder):
-    def setUp(self):
-        super().setUp()
-        self.refusals = Refusals(self.folder)
-        os.mkdir("work")
-        os.chdir("work")
-
     def ended(self, ran):
         """Returns how a run ended and the book that it left, which is removed."""
         book = Path("it.book").read_bytes() if os.path.exists("it.book") else None
-        self.assertLessEqual(set(os.listdir()), {"it.book"})
+        self.assertLessEqual(set(os.listdir()), {"it.book", "preload.so"})
         Path("it.book").unlink(missing_ok=True)
         return (ran.returncode, ran.stdout, ran.stderr), book
 
@@ -35,7 +29,7 @@ class OutOfMemory(InFolder):
         if printed is not None:
             self.assertEqual(done, ((0, printed, b""), None))
         goes_on = []
-        for number, ran, met in self.refusals.runs(built(), *words, input=TEXT, preexec_fn=prepare):
+        for number, ran, met in refusals(self.folder, built(), *words, input=TEXT, preexec_fn=prepare):
             ended = self.ended(ran)
             self.assertIn(ended, (done, (OUT_OF_MEMORY, None)) if met else (done,), f"with request {number} refused")
             goes_on += [number] * (met and ended == done)

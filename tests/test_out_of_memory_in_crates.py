@@ -3,10 +3,9 @@
 Each run has to pass or to report out of memory. Another error, a crash, a run without an end or a wrong answer fails.
 """
 import re
-import shutil
 from pathlib import Path
 
-from tests.support import ROOT, InFolder, Refusals, lack, run
+from tests.support import ROOT, InFolder, need, refusals, run
 
 NAMED = ("AllocError", "AllocFailed { .. }", "Kind(OutOfMemory)", "Memory")
 CRATE = ROOT / "crates/crate_tests"
@@ -35,8 +34,7 @@ def setUpModule():
     """Builds the tests' program by proving it, which takes minutes, unless `rt ci` or `rt test` has left it."""
     if is_built():
         return
-    if shutil.which("rt") is None:
-        lack("rt (of a Rattle kit)")
+    need("rt")
     ran = run("rt", "test", "--", TESTS[0], cwd=CRATE, text=True, timeout=2700)
     if not is_built():
         raise AssertionError(f"rt test ended with status {ran.returncode}: {ran.stdout[-2000:]}{ran.stderr[-2000:]}")
@@ -44,7 +42,6 @@ def setUpModule():
 
 class OutOfMemoryInCrates(InFolder):
     def test_each_refused_request_ends_a_test_or_changes_nothing(self):
-        refusals = Refusals(self.folder)
         listed = run(PROGRAM, "--list", check=True, text=True).stdout
         names = re.findall(r"^tests::(\S+): test$", listed, re.M)
         self.assertEqual([part for part in TESTS if not any(part in name for name in names)], [])
@@ -52,14 +49,14 @@ class OutOfMemoryInCrates(InFolder):
         requests = 0
         for test in tests:
             with self.subTest(test=test):
-                requests += self.requests_of(test, refusals)
+                requests += self.requests_of(test)
         self.assertGreater(requests, 0)
 
-    def requests_of(self, test, refusals):
+    def requests_of(self, test):
         """Refuses each request of a test in turn, and returns their number."""
         ended, room = 0, Path("room")
         room.mkdir(exist_ok=True)
-        for number, ran, met in refusals.runs(PROGRAM, test, text=True, cwd=room):
+        for number, ran, met in refusals(self.folder, PROGRAM, test, text=True, cwd=room):
             errors = re.findall(r"^\w+: (.*)$", ran.stderr, re.M)
             is_named = len(errors) == 1 and errors[0] in NAMED
             self.assertTrue(ran.returncode == 0 or is_named and met, f"with request {number} refused: {ran}")

@@ -1,74 +1,83 @@
 """Worked rows, books that are read or refused, and streams that end or fail.
 
-For a list NAME.obf, tests/rows has NAME.SCORING.report of ffosolve, NAME.SCORING.complete with --complete,
-NAME.SCORING.scores of ffoscores, and NAME.SCORING.remarks with --complete: worked out from the rules, not printed.
+A table in tests/rows/PROGRAM has, before each line, what the program prints for it with the options at the head of the
+column, if anything. That is worked out from the rules; no program printed it.
 """
 import os
-import subprocess
 from pathlib import Path
 
-from tests.support import MOST_BYTES, ROOT, InFolder, built, limited, run, shorter_than, stored
+from tests.support import MOST_BYTES, ROOT, InFolder, built, limited, run, shorter_than, worked
 
-ROWS = ROOT / "tests/rows"
-LIST = stored("tests", "rows", "positions.obf")
+LINES = worked("ffosolve/positions")[0]
+LIST = b"\n".join(LINES)
 PROGRAMS = ("ffosolve", "ffoscores")
 NOTHING = b"[1]\nsolved 0 refused 0\n"
 HEADER = b"% ffobook 2 winner\n"
 SEVEN = b"X" * 56
 LEFT, LAST, EQUAL = SEVEN + b"XOOOOO-- X; G8:+64;\n", SEVEN + b"XOOOOOO- X; H8:+64;\n", SEVEN + b"-OOXXOO- X; A8:+64; H8:+64;\n"
-# Texts of books, and the errors about them, if any.
-BOOKS = (
-    *((text, "") for text in (
-        b"", HEADER, b"% ffobook 2 discs\r\n", b"% ffobook 2 sign", b" % ffobook 2 sign", b"% ffobook", b"%ffobook 2 sign",
-        b"\n% ffobook 2 sign\n", b"% ffobook 2 sign\n% ffobook 3 x\n", LEFT + LAST + EQUAL)),
-    *((text, "book line 1: unknown header") for text in (
-        b"% ffobook 3 winner\n", b"% ffobook 2 winner \n?", b"% ffobook 2 win", b"% ffobook ")),
-    *((text, "book line 1: bad square at column 1") for text in (b"\xef", b"\0", b"?\n" + SEVEN + b"XOOOOO-- X;\n?")),
-    (LAST + LEFT + EQUAL, "book line 2: not in order"),
-    (HEADER + LAST + LEFT + EQUAL, "book line 3: not in order"),
-    (LAST + LAST, "book line 2: not in order"),
-    (b"-OXXXXX-XXXXXXXO" + b"X" * 19 + b"O" + b"X" * 28 + b" X; H1:+62;", "book line 1: not canonical"),
-    (SEVEN + b"XOOOOO-- O; G8:+64;\n", "book line 1: not canonical"),
-    (SEVEN + b"XOOOOO-- X;\n?", "book line 1: no moves"),
-    (b"\n% x\n" + SEVEN + b"XOOOOO-- X; G9:+64;", "book line 3: no moves"),
-    # Beginnings of a book.
-    *((LEFT[:size], f"book line 1: {error}") for size, error in (
-        (1, "board has 1 of 64 squares"), (63, "board has 63 of 64 squares"), (64, "bad side at column 65"),
-        (65, "bad side at column 66"), *((size, "no moves") for size in range(66, 73)))),
-    *((LEFT[:size], "") for size in range(73, 77)),
-    (LEFT + b"X", "book line 2: board has 1 of 64 squares"),
-    *(((LEFT + LAST + EQUAL)[:size], "") for size in (233, 236)),
-)
+# Texts of books, by the error about them.
+BOOKS = {
+    "": (b"", HEADER, b"% ffobook 2 discs\r\n", b"% ffobook 2 sign", b" % ffobook 2 sign", b"% ffobook",
+         b"%ffobook 2 sign", b"\n% ffobook 2 sign\n", b"% ffobook 2 sign\n% ffobook 3 x\n", LEFT + LAST + EQUAL,
+         *(LEFT[:size] for size in range(73, 77)), *((LEFT + LAST + EQUAL)[:size] for size in (233, 236))),
+    "1: unknown header": (b"% ffobook 3 winner\n", b"% ffobook 2 winner \n?", b"% ffobook 2 win", b"% ffobook "),
+    "1: bad square at column 1": (b"\xef", b"\0", b"?\n" + SEVEN + b"XOOOOO-- X;\n?"),
+    "2: not in order": (LAST + LEFT + EQUAL, LAST + LAST),
+    "3: not in order": (HEADER + LAST + LEFT + EQUAL,),
+    "1: not canonical": (b"-OXXXXX-XXXXXXXO" + b"X" * 19 + b"O" + b"X" * 28 + b" X; H1:+62;",
+                         SEVEN + b"XOOOOO-- O; G8:+64;\n"),
+    "1: no moves": (SEVEN + b"XOOOOO-- X;\n?", *(LEFT[:size] for size in range(66, 73))),
+    "3: no moves": (b"\n% x\n" + SEVEN + b"XOOOOO-- X; G9:+64;",),
+    "1: board has 1 of 64 squares": (LEFT[:1],),
+    "1: board has 63 of 64 squares": (LEFT[:63],),
+    "1: bad side at column 65": (LEFT[:64],),
+    "1: bad side at column 66": (LEFT[:65],),
+    "2: board has 1 of 64 squares": (LEFT + b"X",),
+}
+
+
+def whole_lines(lines):
+    return b"".join(line + b"\n" for line in lines)
+
+
+def report(cells):
+    """Returns the report of ffosolve that has these cells; an empty one has no row."""
+    rows = [b"%d %s" % row for row in enumerate(cells, 1) if row[1]]
+    refused = sum(b" refused: " in row for row in rows)
+    return whole_lines([b"[1]", *rows, b"solved %d refused %d" % (len(rows) - refused, refused)])
 
 
 class Rows(InFolder):
     def test_programs_print_the_worked_rows(self):
-        for name, kind, status, words in (("ffosolve", "report", 0, ()), ("ffosolve", "complete", 0, ("--complete",)),
-                                          ("ffoscores", "scores", 1, ()), ("ffoscores", "remarks", 1, ("--complete",))):
-            paths = sorted(ROWS.glob(f"*.{kind}"))
-            self.assertTrue(paths)
-            for path in paths:
-                with self.subTest(path=path.name):
-                    rows, scoring = path.stem.split(".")
-                    wanted = (status, path.read_bytes(), b"")
-                    self.ends(wanted, built(name), *words, "--max-empties", "20", "--scoring", scoring, ROWS / f"{rows}.obf")
+        for name, status in zip(PROGRAMS, (0, 1)):
+            tables = [f"{name}/{path.stem}" for path in ROOT.glob(f"tests/rows/{name}/*.tsv")]
+            self.assertTrue(tables)
+            for table in tables:
+                lines, columns = worked(table)
+                for words in columns.keys() - {"read"}:
+                    printed = (report if name == "ffosolve" else whole_lines)(columns[words])
+                    for end in (b"", b"\n"):
+                        with self.subTest(table=table, words=words, end=end):
+                            how = {"input": b"\n".join(lines) + end}
+                            self.ends((status, printed, b""), built(name), "--max-empties", "20", *words.split(), **how)
 
     def reads(self, text, error):
         """Asserts that a text is read as a book, or refused with an error."""
         Path("it.book").write_bytes(text)
-        wanted = (3, b"", f"ffosolve: {error}\n".encode()) if error else (0, NOTHING, b"")
+        wanted = (3, b"", f"ffosolve: book line {error}\n".encode()) if error else (0, NOTHING, b"")
         with self.subTest(text=text[-100:]):
             self.ends(wanted, built(), "--book-in", "it.book")
 
     def test_a_book_is_read_or_its_first_fault_is_reported(self):
-        for text, error in BOOKS:
-            self.reads(text, error)
+        for error, texts in BOOKS.items():
+            for text in texts:
+                self.reads(text, error)
 
     def test_a_line_across_the_first_65536_bytes_is_judged_as_a_whole(self):
         for line, error in ((LEFT, ""), (LEFT[:63], "board has 63 of 64 squares"), (LEFT[:64], "bad side at column 65"),
                            (LEFT[:66] + b"\n", "no moves"), (LEFT[:66] + b"; G8:+6x", "no moves"), (b"%" + LEFT, "")):
             for size in range(1, len(line) + 1):
-                self.reads(b"%" * (65_536 - size - 1) + b"\n" + line, error and f"book line 2: {error}")
+                self.reads(b"%" * (65_536 - size - 1) + b"\n" + line, error and f"2: {error}")
 
     def test_a_terminal_and_the_first_fault_of_an_endless_pipe_are_refused(self):
         for number in os.openpty():
@@ -83,8 +92,8 @@ class Rows(InFolder):
                 self.ends((3, b"", f"ffosolve: book line {error}\n".encode()), "sh", "-c", words, timeout=20)
 
     def test_ffoscores_prints_its_own_output_unchanged_and_without_remarks(self):
-        for path in ROWS.glob("*.scores"):
-            printed = path.read_bytes().replace(b"\r\n", b"\n")
+        for table in ("ffoscores/unlisted", "ffoscores/remarks"):
+            printed = whole_lines(cell.removesuffix(b"\r") for cell in worked(table)[1]["--scoring winner"])
             ran = run(built("ffoscores"), input=printed)
             self.assertEqual((ran.returncode, ran.stdout), (0, printed))
 
@@ -96,7 +105,7 @@ class Rows(InFolder):
             (["list.obf"], None, NOTHING),
             (["empty.obf"] * 64, None, many),
             ([], b"X" * MOST_BYTES, b"[1]\n1 +64 -- unlisted\nsolved 1 refused 0\n"),
-            (["--max-empties", "1"], LIST.splitlines()[8], b"[1]\n1 refused: 2 empties, limit 1\nsolved 0 refused 1\n"),
+            (["--max-empties", "1"], LINES[8], b"[1]\n1 refused: 2 empties, limit 1\nsolved 0 refused 1\n"),
         ):
             self.ends((0, printed, b""), built(), *words, input=text)
         self.ends((1, b"", b"ffosolve: more than 64 files\n"), built(), *["empty.obf"] * 65)
@@ -110,8 +119,7 @@ class Streams(InFolder):
                 Path("it.book").unlink(missing_ok=True)
                 for size in [*range(0, len(whole), 7), len(whole) - 1]:
                     with open("out", "wb") as out:
-                        how = {"stdout": out, "stderr": subprocess.PIPE, "capture_output": False}
-                        ran = run(built(name), *words, input=LIST, preexec_fn=lambda: shorter_than(size), **how)
+                        ran = run(built(name), *words, input=LIST, stdout=out, preexec_fn=lambda: shorter_than(size))
                     error = f"{name}: cannot write standard output\n".encode()
                     self.assertEqual((ran.returncode, ran.stderr), (3, error), size)
                     self.assertEqual(Path("out").read_bytes(), whole[:size])
@@ -120,8 +128,7 @@ class Streams(InFolder):
     def test_a_full_standard_error_changes_no_status(self):
         for name, status in zip(PROGRAMS, (1, 3)):
             with open("/dev/full", "wb") as full:
-                how = {"stdout": subprocess.PIPE, "stderr": full, "capture_output": False}
-                ran = run(built(name), input=b" " * (MOST_BYTES + 1), **how)
+                ran = run(built(name), input=b" " * (MOST_BYTES + 1), stderr=full)
             self.assertEqual((ran.returncode, ran.stdout), (status, b""))
 
     def test_too_large_a_file_is_read_only_up_to_the_limit(self):

@@ -3,7 +3,7 @@ import os
 import re
 from pathlib import Path
 
-from tests.support import MOST_BYTES, SECONDS, InFolder, Refusals, built, run, stored
+from tests.support import MOST_BYTES, SECONDS, InFolder, built, refusals, run, stored, worked
 from ffosolve import MOST_ENTRIES
 
 KINDS, SCORES = stored("examples", "kinds.obf"), stored("examples", "kinds.scores")
@@ -30,18 +30,20 @@ class Lines(Scores):
         self.ends((1, SCORES, b""), "/dev/stdin", input=KINDS)
 
     def test_each_line_gives_one_line_that_ends_with_lf(self):
-        rows = [stored("tests", "rows", f"unlisted.{name}") for name in ("obf", "winner.scores", "winner.remarks")]
-        for words, lines, scores in (((), KINDS, SCORES), ((), *rows[:2]), (("--complete",), *rows[::2])):
-            for line, printed in zip(lines.splitlines(keepends=True), scores.splitlines(keepends=True), strict=True):
-                is_wrong = re.search(rb"^% refused: |; % (not read: |best move |\S+ is )", printed) is not None
-                for end in (b"\n", b"\r\n", b""):
-                    text = line.rstrip(b"\r\n") + end
-                    with self.subTest(words=words, text=text):
-                        self.ends((int(is_wrong), printed if text else b"", b""), *words, input=text)
-        for name, text in (("rows.obf", rows[0]), ("kinds.obf", KINDS)):
-            Path(name).write_bytes(text)
+        unlisted, columns = worked("ffoscores/unlisted")
+        rows = [("", *row) for row in zip(KINDS.splitlines(), SCORES.splitlines(), strict=True)]
+        rows += [(words, *row) for words, cells in columns.items() for row in zip(unlisted, cells)]
+        for words, line, printed in rows:
+            is_wrong = re.search(rb"^% refused: |; % (not read: |best move |\S+ is )", printed) is not None
+            for end in (b"\n", b"\r\n", b""):
+                with self.subTest(words=words, line=line, end=end):
+                    wanted = (int(is_wrong), printed + b"\n" if line + end else b"", b"")
+                    self.ends(wanted, *words.split(), input=line + end)
+        Path("rows.obf").write_bytes(b"\n".join(unlisted))
+        Path("kinds.obf").write_bytes(KINDS)
+        rows = b"\n".join(columns["--scoring winner --complete"]) + b"\n"
         for words in ("--workers 0", "--workers=3", "--table 0"):
-            self.ends((1, rows[2] + SCORES + rows[2], b""), "--complete", *words.split(), "rows.obf", "kinds.obf", "rows.obf")
+            self.ends((1, rows + SCORES + rows, b""), "--complete", *words.split(), "rows.obf", "kinds.obf", "rows.obf")
 
     def test_its_own_output_is_unchanged_and_right_for_ffosolve(self):
         self.ends((0, SCORES, b""), input=SCORES)
@@ -109,7 +111,7 @@ class Streams(Scores):
     def test_each_refused_request_for_memory_is_reported_or_not_needed(self):
         """A run that reports it has printed only the beginning of the output; any other prints all. Nine of ten report it."""
         reported = 0
-        for number, ran, met in Refusals(".").runs(built("ffoscores"), "--table", "100", input=KINDS):
+        for number, ran, met in refusals(self.folder, built("ffoscores"), "--table", "100", input=KINDS):
             found = ran.returncode, ran.stderr
             is_reported = met and found == (3, b"ffoscores: out of memory\n") and SCORES.startswith(ran.stdout)
             self.assertTrue(is_reported or found == (1, b"") and ran.stdout == SCORES, f"request {number} is refused: {ran}")

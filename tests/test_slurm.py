@@ -41,8 +41,7 @@ class Slurm(InFolder):
         super().setUp()
         if os.geteuid() != 0:
             self.skipTest("Slurm's daemons are started by root alone")
-        for tool in ("slurmctld", "slurmd", "sbatch"):
-            need(tool, "slurm-wlm")
+        need("slurmctld", "slurmd", "sbatch")
         for name in ("state", "spool"):
             Path(name).mkdir()
         host = socket.gethostname().partition(".")[0]
@@ -70,7 +69,7 @@ class Slurm(InFolder):
         self.assertEqual(Path("joined.book").read_bytes(), Path("one.book").read_bytes())
 
     def test_the_job_of_the_document_solves_a_list_on_its_own_cluster(self):
-        need("dask", "python3-distributed")
+        need("dask")
         job = self.scripts[0].replace("--nodes=4", "--nodes=1").replace("--cpus-per-task=8", "--cpus-per-task=2")
         write("job.sh", job.replace("list.obf", "--lines=3 list.obf"))
         run("sbatch", "--wait", "--output=job.log", "job.sh", check=True, timeout=5 * SECONDS)

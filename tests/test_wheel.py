@@ -24,6 +24,6 @@ class Wheel(InFolder):
             self.assertTrue(fields[field], field)
         self.assertEqual((fields["Version"], fields["Description-Content-Type"]), (ffosolve.__version__, "text/markdown"))
         self.assertEqual(fields.get_payload(), inspect.getdoc(ffosolve) + "\n")
-        need("twine", "twine")
+        need("twine")
         ran = run("twine", "check", "--strict", *names)
         self.assertEqual((ran.returncode, ran.stdout.count(b"PASSED")), (0, 2), ran)

@@ -1,0 +1,42 @@
+// For LD_PRELOAD: a machine that fails. Request for memory number REFUSED is refused, and then the file REFUSED_FILE created.
+// Each sync and rename appends `sync ` or `rename ` to the file WATCHED. If NO_SYNC is set, a sync fails, as on a broken disk.
+#define _GNU_SOURCE
+#include <dlfcn.h>
+#include <errno.h>
+#include <fcntl.h>
+#include <stdatomic.h>
+#include <stdlib.h>
+#include <string.h>
+#include <unistd.h>
+
+#define NEXT(call) ((__typeof__(&call))dlsym(RTLD_NEXT, #call))
+
+static int refused(void) {
+    static atomic_long count;
+    const char *number = getenv("REFUSED");
+    if (!number || atomic_fetch_add(&count, 1) + 1 != atol(number)) return 0;
+    close(open(getenv("REFUSED_FILE"), O_CREAT | O_WRONLY, 0600));
+    errno = ENOMEM;
+    return 1;
+}
+
+void *malloc(size_t size) { return refused() ? NULL : NEXT(malloc)(size); }
+void *realloc(void *old, size_t size) { return refused() ? NULL : NEXT(realloc)(old, size); }
+void *aligned_alloc(size_t alignment, size_t size) { return refused() ? NULL : NEXT(aligned_alloc)(alignment, size); }
+int posix_memalign(void **out, size_t alignment, size_t size) {
+    return refused() ? ENOMEM : NEXT(posix_memalign)(out, alignment, size);
+}
+
+static int fails(const char *call) {
+    const char *name = getenv("WATCHED");
+    if (!name) return 0;
+    int file = open(name, O_CREAT | O_WRONLY | O_APPEND, 0600);
+    if (write(file, call, strlen(call)) < 0) abort();
+    close(file);
+    errno = EIO;
+    return call[0] == 's' && getenv("NO_SYNC");
+}
+
+int fsync(int file) { return fails("sync ") ? -1 : NEXT(fsync)(file); }
+int fdatasync(int file) { return fails("sync ") ? -1 : NEXT(fdatasync)(file); }
+int rename(const char *from, const char *to) { return fails("rename ") ? -1 : NEXT(rename)(from, to); }

@@ -1,0 +1,74 @@
+"""The memory and the time that a run or a call takes, with tables of some sizes and with a book, which change no answer."""
+import ctypes
+import resource
+
+from .prefix import installed_prefix
+from .support import InFolder, built, limited, run, stored
+from ffosolve import MOST_ENTRIES, Position
+from ffosolve._library import CAnswer, CMoveScores, load
+from ffosolve._masks import c_positions
+
+KINDS = stored("examples", "kinds.obf")
+HARD = b"-XXXXX----XOOX--XXXXOOOO-OXOOOO-OOXOOX--OOX-OOOOOXXXXXX-X----XXX O\n"  # 17 empty squares
+ADVISED = b"-XOOOO-X-XOOOOX--OOXOOXX-OOXXOXO-OXOXXO-OOOXOOX-OOXOOO--OX--O--- X\n"  # with a right book it takes a third of the time
+AGAIN = 8  # times that a position comes
+LIMIT = 64 << 20  # bytes of memory: enough for the default table, not for the greatest
+OUT_OF_MEMORY = {"ffosolve": (1, b"", b"ffosolve: out of memory\n"), "ffoscores": (3, b"", b"ffoscores: out of memory\n")}
+
+
+def setUpModule():
+    global PREFIX
+    PREFIX = installed_prefix()
+
+
+def spent():
+    """Returns the processor seconds of this process and its runs so far."""
+    return sum(sum(resource.getrusage(who)[:2]) for who in (resource.RUSAGE_SELF, resource.RUSAGE_CHILDREN))
+
+
+def seconds(call):
+    """Returns the processor seconds of a call, the least of three."""
+    at = [spent()]
+    for _ in range(3):
+        call()
+        at.append(spent())
+    return min(end - begun for begun, end in zip(at, at[1:]))
+
+
+class Runs(InFolder):
+    def test_the_greatest_table_takes_more_memory(self):
+        for name, refused in OUT_OF_MEMORY.items():
+            with self.subTest(name=name):
+                words, little = (built(name), "--workers", "0"), limited("RLIMIT_AS", LIMIT)
+                usual = run(*words, input=KINDS)
+                self.ends((usual.returncode, usual.stdout, b""), *words, input=KINDS, preexec_fn=little)
+                self.ends(refused, *words, "--table", MOST_ENTRIES, input=KINDS, preexec_fn=little)
+
+    def test_a_right_book_saves_time_with_workers_and_with_progress(self):
+        run(built(), "--book-out", "right.book", input=ADVISED, check=True)
+        for options, lines in (("--workers 0", 1), ("--workers 0 --progress", 1), ("--workers 8 --table 0", 8)):
+            with self.subTest(options=options):
+                words, how = (built(), *options.split()), {"input": ADVISED * lines, "check": True}
+                books = (), ("--book-in", "right.book")
+                usual, advised = (seconds(lambda: run(*words, *book, **how)) for book in books)
+                self.assertGreater(usual, 1.5 * advised)
+
+    def test_a_run_takes_a_quarter_of_the_time_without_a_table(self):
+        for name in OUT_OF_MEMORY:
+            for workers in (0, 3):
+                with self.subTest(name=name, workers=workers):
+                    words, how = (built(name), "--workers", workers), {"input": (HARD + ADVISED) * AGAIN, "check": True}
+                    without, usual = (seconds(lambda: run(*words, "--table", size, **how)) for size in (0, 65_536))
+                    self.assertLess(usual, without / 4)
+
+    def test_a_call_takes_a_quarter_of_the_time_of_a_call_for_each_position(self):
+        library, asked = load(str(PREFIX.shared)), c_positions([Position.from_obf(HARD.decode())] * AGAIN)
+
+        def solve(call, record, count):
+            self.assertEqual(call(asked, count, 0, 65_536, (record * count)(), count, ctypes.c_size_t()), 0)
+
+        for call, record in ((library.ffosolve_solve_all, CAnswer), (library.ffosolve_move_scores_all, CMoveScores)):
+            with self.subTest(call=call.__name__):
+                apart = seconds(lambda: [solve(call, record, 1) for _ in range(AGAIN)])
+                together = seconds(lambda: solve(call, record, AGAIN))
+                self.assertLess(together, apart / 4)
