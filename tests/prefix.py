@@ -20,25 +20,20 @@ PIP = [sys.executable, "-m", "pip", "--disable-pip-version-check", "install", "-
 LONGEST = 300  # seconds of a command, since on a busy machine compilers and solvers take a while
 
 
-def installed_prefix():
-    """The prefix for the tests of a module; for setUpModule."""
-    work = module_folder()
-    folder = Path(os.environ.get("TEST_PREFIX", work / "a prefix")).resolve()
-    if "TEST_PREFIX" not in os.environ:
-        run("make", "--silent", "-C", ROOT, "install", f"PREFIX={folder}", "DESTDIR=", timeout=None, check=True)
-    return Prefix(folder, work)
-
-
 def need_module(name):
     if importlib.util.find_spec(name) is None:
         lack(f"the module {name}")
 
 
 class Prefix:
-    """An installed prefix, and the folder in which programs over it are built."""
+    """An installed prefix, and the folder in which programs over it are built; both for the tests of one module."""
 
-    def __init__(self, folder, work):
-        self.folder, self.work = folder, work
+    def install(self):
+        vars(self).clear()
+        self.work = work = module_folder()
+        self.folder = folder = Path(os.environ.get("TEST_PREFIX", work / "a prefix")).resolve()
+        if "TEST_PREFIX" not in os.environ:
+            run("make", "--silent", "-C", ROOT, "install", f"PREFIX={folder}", "DESTDIR=", timeout=None, check=True)
         self.libraries, self.header = folder / "lib", folder / "include/ffosolve.h"
         self.archive, self.shared = self.libraries / "libffosolve.a", self.libraries / "libffosolve.so"
         self.shipped = folder / "share/doc/ffosolve"
@@ -110,3 +105,7 @@ class Prefix:
         """What tests/library_calls.c prints for each call."""
         program = self.compile(C, "calls", [TESTS / "library_calls.c"])
         return self.make(program, text="\n".join(calls), **how).stdout.splitlines()
+
+
+PREFIX = Prefix()
+setUpModule = PREFIX.install

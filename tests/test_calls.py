@@ -5,7 +5,7 @@ import unittest
 from concurrent.futures import ThreadPoolExecutor
 
 from .checkouts import NUMBER, VERSION
-from .prefix import CXX, TESTS, C, installed_prefix
+from .prefix import CXX, PREFIX, TESTS, C, setUpModule
 from .support import limited
 from .positions import random_positions
 import ffosolve
@@ -34,11 +34,6 @@ fn main() {
     }
 }
 """
-
-
-def setUpModule():
-    global PREFIX
-    PREFIX = installed_prefix()
 
 
 def named(text):

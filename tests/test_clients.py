@@ -7,7 +7,7 @@ import sys
 import unittest
 
 from .checkouts import VERSION
-from .prefix import CXX, PIP, C, installed_prefix
+from .prefix import CXX, PIP, PREFIX, C, setUpModule
 from .support import ROOT, built, lack, need, run
 
 SMALL, LARGE = 9, 10  # positions of examples/masks.txt, without the one of 20 empty squares and with it
@@ -19,11 +19,6 @@ add_executable(in_cxx answers.cpp)
 target_link_libraries(shared ffosolve::ffosolve)
 target_link_libraries(in_cxx ffosolve::ffosolve)
 """
-
-
-def setUpModule():
-    global PREFIX
-    PREFIX = installed_prefix()
 
 
 def shown(language, *names):

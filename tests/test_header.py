@@ -5,7 +5,7 @@ import sys
 import unittest
 
 from .checkouts import VERSION
-from .prefix import STRICT, installed_prefix, need_module
+from .prefix import PREFIX, STRICT, need_module, setUpModule
 from .support import need
 
 C_STANDARDS = ("c90", "c99", "c11", "c17", "c2x")
@@ -20,11 +20,6 @@ solver.cdef(open(sys.argv[1]).read())
 library = solver.dlopen(sys.argv[2])
 print(library.ffosolve_limit(library.FFOSOLVE_LIMIT_ENTRIES) == library.FFOSOLVE_MOST_ENTRIES)
 """
-
-
-def setUpModule():
-    global PREFIX
-    PREFIX = installed_prefix()
 
 
 class Library(unittest.TestCase):

@@ -9,17 +9,12 @@ from concurrent.futures import ProcessPoolExecutor, ThreadPoolExecutor
 
 from bench import player
 
-from .prefix import installed_prefix
+from .prefix import PREFIX, setUpModule
 from .support import built
 from .positions import random_positions
 import ffosolve
 
 POSITIONS, MOST, DEEP = int(os.environ.get("POSITIONS", 2000)), int(os.environ.get("MOST", 6)), 40
-
-
-def setUpModule():
-    global PREFIX
-    PREFIX = installed_prefix()
 
 
 def solved(position):

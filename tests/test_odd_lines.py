@@ -4,7 +4,7 @@ import random
 import re
 import unittest
 
-from .prefix import installed_prefix
+from .prefix import PREFIX, setUpModule
 from .support import built, stored, worked
 import ffosolve
 from ffosolve._refusals import refusal_of
@@ -12,11 +12,6 @@ from ffosolve._refusals import refusal_of
 LINES = 10_000
 PIECES = b"| w|ps:-4;|--:0;|I1:+1|h8:64 ;|B2:+65;| |\t|%|;|:|?|-|X|O|b|\r|\0|\x80|\xff".split(b"|")
 RIGHT, WRONG, NONE = (stored("examples/kinds.report").split(b"\n")[row].split()[-1].decode() for row in (1, 2, 4))
-
-
-def setUpModule():
-    global PREFIX
-    PREFIX = installed_prefix()
 
 
 def odd_line(chance, lines):

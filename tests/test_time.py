@@ -2,7 +2,7 @@
 import ctypes
 import resource
 
-from .prefix import installed_prefix
+from .prefix import PREFIX, setUpModule
 from .support import InFolder, built, limited, run, stored
 from ffosolve import MOST_ENTRIES, Position
 from ffosolve._library import CAnswer, CMoveScores, load
@@ -14,11 +14,6 @@ ADVISED = b"-XOOOO-X-XOOOOX--OOXOOXX-OOXXOXO-OXOXXO-OOOXOOX-OOXOOO--OX--O--- X\n
 AGAIN = 8  # times that a position comes
 LIMIT = 64 << 20  # bytes of memory: enough for the default table, not for the greatest
 OUT_OF_MEMORY = {"ffosolve": (1, b"", b"ffosolve: out of memory\n"), "ffoscores": (3, b"", b"ffoscores: out of memory\n")}
-
-
-def setUpModule():
-    global PREFIX
-    PREFIX = installed_prefix()
 
 
 def spent():
