@@ -129,7 +129,7 @@ pub fn ready_book<'a, T: Files>(
 
 /// Writes the book, if one is to be written. The error is `CannotWrite` with the book's name.
 pub fn write_book<'a, T: Files>(rt: &T, book: &Option<NewFile<'a>>) -> Result<(), SolveError<'a>>
-    ensures told { IfErr result (λ error. IsSilent error → ⊥) }
+    ensures late { IfErr result (λ error. IsSilent error → ⊥) }
     ensures status { IfErr result (λ error. solve_status_of error ≡ 3) }
 {
     let Some(file) = book else {

@@ -2,7 +2,7 @@
 //!
 //! Each call loads the slot's word and tries once to get a turn. A turn to read ends with a leave,
 //! and a turn to write with a put. If another thread was first, the turn is lost: its claim is
-//! done, nothing is tried again, and nobody waits.
+//! done, nothing is tried again, and no thread waits.
 
 ghost use Rattle.std.specs.Prelude.{◌≡◌, ◌<◌, ◌+◌, ◌^◌, IfSome, IsTrue};
 ghost use Rattle.std.specs.Option.{SomeIff};

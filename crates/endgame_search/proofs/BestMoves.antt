@@ -88,7 +88,7 @@ all_held g p items best e held =
         (subst (λ l. Contains l q) (sym e) (square_listed (moves_of p) q (IsMove-on_board p q m) m))
 
 -- the square of a mask that a loop over its squares is at
-pub listed_square : (m : ℕ) (items : List ℕ) (i x : ℕ) → items ≡ squares_of m → i < length items → x ≡ get_or items i x → in_mask m x ≡ true
+pub listed_in_mask : (m : ℕ) (items : List ℕ) (i x : ℕ) → items ≡ squares_of m → i < length items → x ≡ get_or items i x → in_mask m x ≡ true
 unfolding squares_of
-listed_square m items i x e h is =
+listed_in_mask m items i x e h is =
     passes_in_filter (in_mask m) squares x (subst (λ l. Contains l x) e (i, h, sym is))

@@ -5,7 +5,7 @@ use Rattle.std.specs.Int.{int_max}
 use Rattle.std.proofs.lemmas.Int.{ints, clamps}
 use Rattle.othello_rules.specs.Answer.{IsScore}
 use Rattle.endgame_search.specs.Windows.{IsBound, IsWindow, IsFailSoft, IsNullWindowScore}
-use Rattle.endgame_search.proofs.Windows.{shown, shown_same, recast, recast_window}
+use Rattle.endgame_search.proofs.WindowLemmas.{shown, shown_same, recast, recast_window}
 
 -- the bound as code shows it, its upper end, and the bound that the other side sees
 module _ (b : ℤ) (bound : IsBound b) where

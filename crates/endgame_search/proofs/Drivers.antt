@@ -7,7 +7,7 @@ use Rattle.std.proofs.lemmas.Int.{ints, clamps}
 use Rattle.othello_rules.specs.Answer.{IsScore}
 use Rattle.bound_table.specs.Range.{RangeView, IsRange}
 use Rattle.endgame_search.specs.Windows.{IsBound, IsWindow, IsFailSoft, IsNullWindowScore}
-use Rattle.endgame_search.proofs.Windows.{shown, shown_same, score_same}
+use Rattle.endgame_search.proofs.WindowLemmas.{shown, shown_same, score_same}
 
 -- the value v is no less than lower where that is above the lower end of the window, and no more than upper where that
 -- is below the upper end

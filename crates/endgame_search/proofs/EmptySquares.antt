@@ -11,7 +11,7 @@ use Rattle.othello_bits.specs.Pos.{PosView, moves_of, empties_of}
 use Rattle.othello_bits.proofs.CountMeaning.{count-empty}
 use Rattle.othello_bits.proofs.GameLaws.{value_reached, empties_positive}
 use Rattle.othello_bits.proofs.Numbers.{count_below, is_number, ones_number}
-use Rattle.endgame_search.proofs.LastSquare.{moves_to_empty, empty_mask}
+use Rattle.endgame_search.proofs.LastSquareLemmas.{moves_to_empty, empty_mask}
 
 more_below : (n : ℕ) (f g : ℕ → Bool) → ((i : ℕ) → f i ≡ true → g i ≡ true) → count_below n f ≤ count_below n g
 unfolding count_below

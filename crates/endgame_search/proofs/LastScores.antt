@@ -32,7 +32,7 @@ use Rattle.othello_bits.proofs.CellLaws.{AreApart, length-cells_of, get_or-cells
 use Rattle.othello_bits.proofs.CountMeaning.{final-meaning}
 use Rattle.othello_bits.proofs.MaskMeaning.{is_move-from_IsMove, IsMove-from, IsMove-on_board}
 use Rattle.endgame_search.specs.LastSquare.{IsFullExcept}
-use Rattle.endgame_search.proofs.LastSquare.{moves_to_empty, empty_mask, last_worth, full_after}
+use Rattle.endgame_search.proofs.LastSquareLemmas.{moves_to_empty, empty_mask, last_worth, full_after}
 
 -- counts of sets of squares
 none_below : (n : ℕ) (f : ℕ → Bool) → ((i : ℕ) → i < n → f i ≡ false) → count_below n f ≡ 0

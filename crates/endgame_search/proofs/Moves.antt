@@ -10,7 +10,7 @@ use Rattle.othello_bits.specs.Pos.{PosView, moves_of, play_of, pass_of, empties_
 use Rattle.othello_bits.proofs.GameLaws.{value_above, value_reached, value-pass, empties_positive, empties-play, empties-pass}
 use Rattle.endgame_search.specs.declared.move_order.Child.{Child}
 use Rattle.endgame_search.specs.declared.move_order.NextChild.{NextChild}
-use Rattle.endgame_search.specs.Children.{IsChildOf, AreChildrenOf, UnlistedAreAtMost, AreSplitAt, squares_of}
+use Rattle.endgame_search.specs.Children.{IsChildOf, AreChildrenOf, UnlistedAreAtMost, AreSplitAt, child_squares}
 
 -- what the move to a child is worth, and how many squares are empty there
 pub child_worth : (g : Scoring) (p : PosView) (c : Child) → IsChildOf p c → neg_ℤ (value_of g c.position) ≤ℤ value_of g p
@@ -55,7 +55,7 @@ value_at_most g p items searched best some unlisted more all =
     let reached : neg_ℤ (value_of g (play_of p r.0)) ≤ℤ best =
     elim (unlisted.every r.0 r.1) [
       | inl l ↦
-          All-contains (λ q. neg_ℤ (value_of g (play_of p q)) ≤ℤ best) (squares_of items) r.0
+          All-contains (λ q. neg_ℤ (value_of g (play_of p q)) ≤ℤ best) (child_squares items) r.0
           (All-map (λ q. neg_ℤ (value_of g (play_of p q)) ≤ℤ best) (λ (c : Child). c.square) items by_square) l
       | inr w ↦ let k : neg_ℤ (value_of g (play_of p r.0)) ≤ℤ searched = w in omega (arith, ints)
     ] in
@@ -65,8 +65,8 @@ pub none_unlisted : (g : Scoring) (p : PosView) (items : List Child) (best : ℤ
 none_unlisted g p items best children = record { each = children.each; every = λ q m. inl (children.every q m) }
 
 -- what a sort of the list leaves
-listed_sorted : (items sorted : List Child) (q : ℕ) → IsPermutation items sorted → Contains (squares_of items) q → Contains (squares_of sorted) q
-listed_sorted items sorted q permuted l = Contains-permutation (squares_of items) (squares_of sorted) q (IsPermutation-map (λ (c : Child). c.square) items sorted permuted) l
+listed_sorted : (items sorted : List Child) (q : ℕ) → IsPermutation items sorted → Contains (child_squares items) q → Contains (child_squares sorted) q
+listed_sorted items sorted q permuted l = Contains-permutation (child_squares items) (child_squares sorted) q (IsPermutation-map (λ (c : Child). c.square) items sorted permuted) l
 
 pub unlisted_sorted : (g : Scoring) (p : PosView) (best : ℤ) (items sorted : List Child) → IsPermutation items sorted → UnlistedAreAtMost g p best items → UnlistedAreAtMost g p best sorted
 unlisted_sorted g p best items sorted permuted unlisted =
@@ -77,7 +77,7 @@ unlisted_sorted g p best items sorted permuted unlisted =
 
 -- the children after one without replies that was searched
 pub unlisted_after_first : (g : Scoring) (p : PosView) (s : NextChild) (items more : List Child) (best : ℤ) → AreSplitAt p s items → neg_ℤ (value_of g s.child.position) ≤ℤ best
-    → All (IsChildOf p) more → ((q : ℕ) → (in_mask s.rest q ≡ true) ⊎ Contains (squares_of items) q → Contains (squares_of more) q)
+    → All (IsChildOf p) more → ((q : ℕ) → (in_mask s.rest q ≡ true) ⊎ Contains (child_squares items) q → Contains (child_squares more) q)
     → UnlistedAreAtMost g p best more
 unlisted_after_first g p s items more best split worth each every =
     record {

@@ -5,7 +5,7 @@ use Rattle.std.proofs.lemmas.Int.{ints, clamps, by_lt_z}
 use Rattle.othello_rules.specs.Answer.{IsScore}
 use Rattle.bound_table.specs.Range.{RangeView, range_view, IsRange}
 use Rattle.endgame_search.specs.Windows.{IsFailSoft, IsWithin}
-use Rattle.endgame_search.proofs.Windows.{shown}
+use Rattle.endgame_search.proofs.WindowLemmas.{shown}
 
 within : (v a b : ℤ) (i : RangeView) → i ≡ range_view a b → a ≤ℤ v → v ≤ℤ b → (i.low ≤ℤ v) × (v ≤ℤ i.high)
 within v a b i e l m = subst (λ (j : RangeView). (j.low ≤ℤ v) × (v ≤ℤ j.high)) (sym e) (l, m)

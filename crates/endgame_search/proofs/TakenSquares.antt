@@ -10,7 +10,7 @@ use Rattle.othello_bits.proofs.Bits.{in_mask-above, none_from_zero}
 use Rattle.othello_bits.proofs.Numbers.{count_below, is_number, ones_number}
 use Rattle.endgame_search.specs.declared.move_order.Child.{Child}
 use Rattle.endgame_search.specs.declared.move_order.NextChild.{NextChild}
-use Rattle.endgame_search.specs.Children.{squares_of, IsNextChild}
+use Rattle.endgame_search.specs.Children.{child_squares, IsNextChild}
 
 module _ (f h : ℕ → Bool) (r : ℕ) (taken : (i : ℕ) → h i ≡ (f i && not (nat_eq r i))) where
   pub other : (i : ℕ) → i ≢ r → h i ≡ f i
@@ -69,17 +69,17 @@ pub each_more : (P : Child → Type 0) (items grown : List Child) (x : Child) �
 each_more P items grown x e all one = All-same P grown (items ++ x ∷ []) e (All-push P items x all one)
 
 pub listed_more : (items grown : List Child) (x : Child) → grown ≡ items ++ x ∷ []
-    → (q : ℕ) → Contains (squares_of items) q ⊎ (q ≡ x.square) → Contains (squares_of grown) q
+    → (q : ℕ) → Contains (child_squares items) q ⊎ (q ≡ x.square) → Contains (child_squares grown) q
 listed_more items grown x e q h =
-    let s : squares_of grown ≡ squares_of items ++ x.square ∷ [] = ap squares_of e ∙ map-append (λ (c : Child). c.square) items (x ∷ []) in
+    let s : child_squares grown ≡ child_squares items ++ x.square ∷ [] = ap child_squares e ∙ map-append (λ (c : Child). c.square) items (x ∷ []) in
     subst (λ l. Contains l q) (sym s) (elim h [
-      | inl c ↦ Contains-append_left (squares_of items) (x.square ∷ []) q c
-      | inr i ↦ subst (λ y. Contains (squares_of items ++ x.square ∷ []) y) (sym i) (Contains-push (squares_of items) x.square)
+      | inl c ↦ Contains-append_left (child_squares items) (x.square ∷ []) q c
+      | inr i ↦ subst (λ y. Contains (child_squares items ++ x.square ∷ []) y) (sym i) (Contains-push (child_squares items) x.square)
     ])
 
 -- a square of the mask or of the list, where the next child is taken out of the mask and put into the list
 pub still_held : (p : PosView) (moves : ℕ) (n : NextChild) → IsNextChild p moves n → (items grown : List Child) → grown ≡ items ++ n.child ∷ []
-    → (q : ℕ) → (in_mask moves q ≡ true) ⊎ Contains (squares_of items) q → (in_mask n.rest q ≡ true) ⊎ Contains (squares_of grown) q
+    → (q : ℕ) → (in_mask moves q ≡ true) ⊎ Contains (child_squares items) q → (in_mask n.rest q ≡ true) ⊎ Contains (child_squares grown) q
 still_held p moves n next items grown e q h =
     elim h [
       | inl b ↦ elim (next.every q b) [
@@ -109,6 +109,6 @@ only_one m t q fits one x y =
 
 -- the list where no square is left in the mask
 pub all_listed : (items : List Child) (rest : ℕ) → rest ≡ 0
-    → (q : ℕ) → (in_mask rest q ≡ true) ⊎ Contains (squares_of items) q → Contains (squares_of items) q
+    → (q : ℕ) → (in_mask rest q ≡ true) ⊎ Contains (child_squares items) q → Contains (child_squares items) q
 all_listed items rest none q h =
     elim h [ inl b ↦ absurd (both_ways (in_mask rest q) (none_from_zero rest none q) b) | inr l ↦ l ]

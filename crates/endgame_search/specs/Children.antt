@@ -7,8 +7,8 @@ use Rattle.endgame_search.specs.declared.move_order.Child.{Child}
 use Rattle.endgame_search.specs.declared.move_order.NextChild.{NextChild}
 
 -- the squares of the moves that lead to the children
-abbrev pub squares_of : List Child → List ℕ
-squares_of cs = map (λ (c : Child). c.square) cs
+abbrev pub child_squares : List Child → List ℕ
+child_squares cs = map (λ (c : Child). c.square) cs
 
 -- c holds a move of p, the position after it and the mask of the moves there
 pub record IsChildOf (p : PosView) (c : Child) : Type 0 where
@@ -26,7 +26,7 @@ pub record IsNextChild (p : PosView) (moves : ℕ) (n : NextChild) : Type 0 wher
 -- the list holds a child for each move of p, and nothing else
 pub record AreChildrenOf (p : PosView) (cs : List Child) : Type 0 where
   pub each : All (IsChildOf p) cs
-  pub every : (q : ℕ) → IsMove p q → Contains (squares_of cs) q
+  pub every : (q : ℕ) → IsMove p q → Contains (child_squares cs) q
 
 -- the moves of p are split at a child without replies, s.child: each other move is that of a listed
 -- child, or in the mask s.rest
@@ -36,10 +36,10 @@ pub record AreSplitAt (p : PosView) (s : NextChild) (cs : List Child) : Type 0 w
   pub rest : (q : ℕ) → in_mask s.rest q ≡ true → IsMove p q
   pub each : All (IsChildOf p) cs
   pub every : (q : ℕ) → IsMove p q
-      → (q ≡ s.child.square) ⊎ ((in_mask s.rest q ≡ true) ⊎ Contains (squares_of cs) q)
+      → (q ≡ s.child.square) ⊎ ((in_mask s.rest q ≡ true) ⊎ Contains (child_squares cs) q)
 
 -- the list holds children of p, and a move of p that leads to none of them is worth at most best
 pub record UnlistedAreAtMost (g : Scoring) (p : PosView) (best : ℤ) (cs : List Child) : Type 0 where
   pub each : All (IsChildOf p) cs
   pub every : (q : ℕ) → IsMove p q
-      → Contains (squares_of cs) q ⊎ (neg_ℤ (value_of g (play_of p q)) ≤ℤ best)
+      → Contains (child_squares cs) q ⊎ (neg_ℤ (value_of g (play_of p q)) ≤ℤ best)

@@ -22,7 +22,7 @@ lists_read names given texts fronts few small = record { read = whole_texts name
 pub printed : (r : Result Bool ProgramError) (q : ListRequest) (given old new : Option (List ℕ)) (texts : List (List ℕ))
     → AreLists q.files given texts → OnOk r (Appends old new (lists_text q.settings.scoring (criteria_of q.settings) texts))
     → IfOk r (λ right. right ≡ lists_right q.settings.scoring (criteria_of q.settings) texts) → IfOk r (PrintsLists q given old new)
-printed (Ok right) q given old new texts lists written e = record { texts = texts; lists = lists; written = written; told = e }
+printed (Ok right) q given old new texts lists written e = record { texts = texts; lists = lists; written = written; verdict = e }
 printed (Err error) q given old new texts lists written e = tt
 
 pub stopped : (r : Result Bool ProgramError) (q : ListRequest) (given old new : Option (List ℕ)) (texts : List (List ℕ))

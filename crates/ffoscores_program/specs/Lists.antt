@@ -31,7 +31,7 @@ pub record PrintsLists (r : ListRequest) (given old new : Option (List ℕ)) (ri
   pub texts : List (List ℕ)
   pub lists : AreLists r.files given texts
   pub written : Appends old new (lists_text r.settings.scoring (criteria_of r.settings) texts)
-  pub told : right ≡ lists_right r.settings.scoring (criteria_of r.settings) texts
+  pub verdict : right ≡ lists_right r.settings.scoring (criteria_of r.settings) texts
 
 -- a front of the lists was printed with every move's score
 pub record PrintsListsFront (r : ListRequest) (given old new : Option (List ℕ)) : Type 0 where

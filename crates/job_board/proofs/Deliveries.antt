@@ -42,14 +42,14 @@ InOrder-append tasks first [] es h more = let P : ℕ → Type 0 = λ n. InOrder
 InOrder-append tasks first (d ∷ ds) es h more = (h.0, h.1, InOrder-append tasks (first + 1) ds es h.2 (let P : ℕ → Type 0 = λ n. InOrder tasks n es in subst P (omega arith) more))
 
 -- from any view of a board on, the answers that are delivered to a sender are in order
-pub in_order : (c : BoardView) (s : ℕ) (state : SenderView) (ss : List Step) (rs : List Reply) → slice_get c s ≡ Some state → IsSender state → AreLawful c ss rs
+pub rest_in_order : (c : BoardView) (s : ℕ) (state : SenderView) (ss : List Step) (rs : List Reply) → slice_get c s ≡ Some state → IsSender state → AreLawful c ss rs
     → InOrder (state.tasks ++ accepted_tasks s ss rs) state.handed (deliveries_to s ss rs)
-in_order c s state [] [] at h law = tt
-in_order c s state [] (r ∷ rs) at h law = absurd law
-in_order c s state (st ∷ ss) [] at h law = absurd law
-in_order c s state (st ∷ ss) (r ∷ rs) at h law =
+rest_in_order c s state [] [] at h law = tt
+rest_in_order c s state [] (r ∷ rs) at h law = absurd law
+rest_in_order c s state (st ∷ ss) [] at h law = absurd law
+rest_in_order c s state (st ∷ ss) (r ∷ rs) at h law =
     let new : SenderView = state_step s state st r in
-    let rest : InOrder (new.tasks ++ accepted_tasks s ss rs) new.handed (deliveries_to s ss rs) = in_order (after c st r) s new ss rs (state_after c s state st r at) (state_kept c s state st r at h law.0) law.1 in
+    let rest : InOrder (new.tasks ++ accepted_tasks s ss rs) new.handed (deliveries_to s ss rs) = rest_in_order (after c st r) s new ss rs (state_after c s state st r at) (state_kept c s state st r at h law.0) law.1 in
     let tasks : new.tasks ++ accepted_tasks s ss rs ≡ state.tasks ++ (tasks_by s st r ++ accepted_tasks s ss rs) = ap (λ l. l ++ accepted_tasks s ss rs) (tasks_step s state st r) ∙ append_assoc state.tasks (tasks_by s st r) (accepted_tasks s ss rs) in
     let P : List TaskView → Type 0 = λ l. InOrder l new.handed (deliveries_to s ss rs) in
     let Q : ℕ → Type 0 = λ n. InOrder (state.tasks ++ (tasks_by s st r ++ accepted_tasks s ss rs)) n (deliveries_to s ss rs) in
@@ -59,7 +59,7 @@ in_order c s state (st ∷ ss) (r ∷ rs) at h law =
 
 -- in a history, the answers that are delivered to a sender are in order
 pub all_in_order : (n s : ℕ) (ss : List Step) (rs : List Reply) → s < n → AreLawful (empty_content n) ss rs → InOrder (accepted_tasks s ss rs) 0 (deliveries_to s ss rs)
-all_in_order n s ss rs lt law = in_order (empty_content n) s empty_state ss rs (slice_get-replicate n s empty_state lt) empty_is_state law
+all_in_order n s ss rs lt law = rest_in_order (empty_content n) s empty_state ss rs (slice_get-replicate n s empty_state lt) empty_is_state law
 
 abbrev pub state_all : ℕ → SenderView → List Step → List Reply → SenderView
 state_all s state (st ∷ ss) (r ∷ rs) = state_all s (state_step s state st r) ss rs

@@ -22,7 +22,7 @@ use Rattle.job_board.specs.Queues.{is_id_of}
 use Rattle.job_board.specs.Histories.{accepted_tasks, deliveries_to, is_closed_by, is_closed, stage_by, stage_after, IsStateOf, InOrder}
 use Rattle.job_board.proofs.BoardFacts.{slice_get-set_same, slice_get-set_other, finish_ok, finish_from, give_back_ok}
 use Rattle.job_board.proofs.StateSteps.{state_step, state_after, state_kept, cond_same, slice_get-replicate, empty_is_state}
-use Rattle.job_board.proofs.Deliveries.{state_all, state_after_all, tasks_all, handed_all, in_order, accepted_closed, drained_stage}
+use Rattle.job_board.proofs.Deliveries.{state_all, state_after_all, tasks_all, handed_all, rest_in_order, accepted_closed, drained_stage}
 
 put_length : (c : BoardView) (s : ℕ) (f : SenderView → SenderView) (o : Option SenderView) → length (content_by c s f o) ≡ length c
 put_length c s f None = refl
@@ -217,7 +217,7 @@ drained_stays n s ss ss' rs rs' lt law e more =
     let facts = drained_stage state (slice_get state.stages state.handed) (e ∙ ap deliver_reply_in at) in
     let none : accepted_tasks s ss' rs' ≡ [] = accepted_closed c s state ss' rs' at facts.0 more in
     let P : ℕ → Type 0 = λ first. InOrder (state.tasks ++ accepted_tasks s ss' rs') first (deliveries_to s ss' rs') in
-    (none, no_more state.tasks (accepted_tasks s ss' rs') (deliveries_to s ss' rs') none (subst P (eqb-true state.handed (length state.tasks) facts.1) (in_order c s state ss' rs' at h more)))
+    (none, no_more state.tasks (accepted_tasks s ss' rs') (deliveries_to s ss' rs') none (subst P (eqb-true state.handed (length state.tasks) facts.1) (rest_in_order c s state ss' rs' at h more)))
 
 -- no task of a sender is accepted after its close
 pub closed_stays : (n s : ℕ) (ss ss' : List Step) (rs rs' : List Reply) → s < n → AreLawful (empty_content n) ss rs → is_closed s ss rs ≡ true

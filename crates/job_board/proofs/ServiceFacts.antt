@@ -9,7 +9,7 @@ use Rattle.job_board.specs.declared.client.Turn.TheVariants.{Next, Work, Drained
 use Rattle.job_board.specs.Histories.{InOrder}
 use Rattle.job_board.specs.Client.{ClientView, new_client, with_sent}
 use Rattle.job_board.specs.Turns.{IsServed}
-use Rattle.job_board.specs.Services.{Event, Sent, Told, Leads, sent_tasks, received_answers}
+use Rattle.job_board.specs.Services.{Event, Sent, Returned, Leads, sent_tasks, received_answers}
 use Rattle.job_board.proofs.Deliveries.{slice_get-append}
 use Rattle.job_board.proofs.TraceFacts.{slice_get-mid}
 
@@ -19,17 +19,17 @@ in_order_from old [] new leads = tt
 in_order_from old (Sent t ∷ es) new leads =
     let P : List TaskView → Type 0 = λ tasks. InOrder tasks old.received (received_answers es) in
     subst P (append_assoc old.sent (t ∷ []) (sent_tasks es)) (in_order_from (with_sent t old) es new leads)
-in_order_from old (Told (Next d) ∷ es) new leads =
+in_order_from old (Returned (Next d) ∷ es) new leads =
     let gives = leads.1 in
     let P : ClientView → Type 0 = λ me. InOrder (me.sent ++ sent_tasks es) me.received (received_answers es) in (
       gives.0.0,
       slice_get-append old.sent (sent_tasks es) old.received d.solved gives.0.1,
       subst P gives.1 (in_order_from leads.0 es new leads.2),
     )
-in_order_from old (Told (Work job) ∷ es) new leads =
+in_order_from old (Returned (Work job) ∷ es) new leads =
     let P : ClientView → Type 0 = λ me. InOrder (me.sent ++ sent_tasks es) me.received (received_answers es) in
     subst P leads.1 (in_order_from leads.0 es new leads.2)
-in_order_from old (Told Drained ∷ es) new leads =
+in_order_from old (Returned Drained ∷ es) new leads =
     let P : ClientView → Type 0 = λ me. InOrder (me.sent ++ sent_tasks es) me.received (received_answers es) in
     subst P leads.1.0 (in_order_from leads.0 es new leads.2)
 
@@ -48,17 +48,17 @@ known_from old [] new leads = leads ∙ same_state old.sender old.sent (old.sent
 known_from old (Sent t ∷ es) new leads =
     known_from (with_sent t old) es new leads
     ∙ same_state old.sender ((old.sent ++ t ∷ []) ++ sent_tasks es) (old.sent ++ t ∷ sent_tasks es) _ _ (append_assoc old.sent (t ∷ []) (sent_tasks es)) refl
-known_from old (Told (Next d) ∷ es) new leads =
+known_from old (Returned (Next d) ∷ es) new leads =
     known_from leads.0 es new leads.2 ∙ (ap (λ me. known_after me es) leads.1.1 ∙ same_state old.sender _ _ (old.received + 1 + length (received_answers es)) (old.received + length (d ∷ received_answers es)) refl (omega arith))
-known_from old (Told (Work job) ∷ es) new leads = known_from leads.0 es new leads.2 ∙ ap (λ me. known_after me es) leads.1
-known_from old (Told Drained ∷ es) new leads = known_from leads.0 es new leads.2 ∙ ap (λ me. known_after me es) leads.1.0
+known_from old (Returned (Work job) ∷ es) new leads = known_from leads.0 es new leads.2 ∙ ap (λ me. known_after me es) leads.1
+known_from old (Returned Drained ∷ es) new leads = known_from leads.0 es new leads.2 ∙ ap (λ me. known_after me es) leads.1.0
 
 -- the view of the client before the last of the events
-last_from : (old : ClientView) (es : List Event) (turn : Turn) (new : ClientView) → Leads old (es ++ Told turn ∷ []) new
-    → (me : ClientView) × Leads old es me × Leads me (Told turn ∷ []) new
+last_from : (old : ClientView) (es : List Event) (turn : Turn) (new : ClientView) → Leads old (es ++ Returned turn ∷ []) new
+    → (me : ClientView) × Leads old es me × Leads me (Returned turn ∷ []) new
 last_from old [] turn new leads = (old, refl, leads)
 last_from old (Sent t ∷ es) turn new leads = last_from (with_sent t old) es turn new leads
-last_from old (Told told ∷ es) turn new leads =
+last_from old (Returned reply ∷ es) turn new leads =
     let rest = last_from leads.0 es turn new leads.2 in
     (rest.0, (leads.0, leads.1, rest.1), rest.2)
 
@@ -82,7 +82,7 @@ known s es me leads =
     let e = known_from (new_client s) es me leads in
     (ap (λ (x : ClientView). x.sent) e, ap (λ (x : ClientView). x.received) e ∙ omega arith)
 
-pub drained_received : (s : ℕ) (es : List Event) (me : ClientView) → Leads (new_client s) (es ++ Told Drained ∷ []) me
+pub drained_received : (s : ℕ) (es : List Event) (me : ClientView) → Leads (new_client s) (es ++ Returned Drained ∷ []) me
     → map (λ (d : Delivery). d.solved) (received_answers es) ≡ sent_tasks es
 drained_received s es me leads =
     let last = last_from (new_client s) es Drained me leads in

@@ -51,8 +51,8 @@ state_after c s state (step.Close s') (reply.Closed r) at = change_state c s' s 
 state_after c s state _ _ at = at
 
 -- the facts of a sender hold of its view after a step, whether or not the step is of this sender
-both : (s' s : ℕ) (state new : SenderView) → IsSender state → (s' ≡ s → IsSender new) → IsSender (cond (s' == s) new state)
-both s' s state new h here =
+sender_kept : (s' s : ℕ) (state new : SenderView) → IsSender state → (s' ≡ s → IsSender new) → IsSender (cond (s' == s) new state)
+sender_kept s' s state new h here =
     let P : SenderView → Type 0 = IsSender in
     elim (cases_eq s' s) [
       | inl e ↦ subst P (ap (λ b. cond b new state) (sym (eq-eqb s' s e))) (here e)
@@ -72,23 +72,23 @@ submit_few state n c s t at h =
 
 -- a lawful step keeps the facts of a sender
 pub state_kept : (c : BoardView) (s : ℕ) (state : SenderView) (st : Step) (r : Reply) → slice_get c s ≡ Some state → IsSender state → IsLawful c st r → IsSender (state_step s state st r)
-state_kept c s state (step.Submit s' t) (reply.Submitted (Ok n)) at h law = both s' s state (with_task t state) h (λ e. state_with_task state t h (submit_few state n c s' t (ap (slice_get c) e ∙ at) law))
+state_kept c s state (step.Submit s' t) (reply.Submitted (Ok n)) at h law = sender_kept s' s state (with_task t state) h (λ e. state_with_task state t h (submit_few state n c s' t (ap (slice_get c) e ∙ at) law))
 state_kept c s state step.Take (reply.Took (Some job)) at h law =
-    both job.id.sender s state (with_stage job.id.number Taken state) h
+    sender_kept job.id.sender s state (with_stage job.id.number Taken state) h
     (λ e. state_restaged state job.id.number Waiting Taken h (sym (ap (stage_of_job job.id.number) (ap (slice_get c) e ∙ at)) ∙ law.0) refl (λ a e. cc))
 state_kept c s state (step.Finish id a) (reply.Finished (Ok u)) at h law =
-    both id.sender s state (with_stage id.number (Finished a) state) h
+    sender_kept id.sender s state (with_stage id.number (Finished a) state) h
     (λ e.
     let ok = finish_ok (slice_get state.stages id.number) (slice_get state.tasks id.number) a u (finish_from c id a (Ok u) state (ap (slice_get c) e ∙ at) law) in
     state_restaged state id.number Taken (Finished a) h ok.0 refl (λ a' e'. ok.1 ∙ ap Some (same_finished a a' e')))
 state_kept c s state (step.GiveBack id) (reply.GaveBack (Ok u)) at h law =
-    both id.sender s state (with_stage id.number Waiting state) h
+    sender_kept id.sender s state (with_stage id.number Waiting state) h
     (λ e. state_restaged state id.number Taken Waiting h (give_back_ok (slice_get state.stages id.number) u (law ∙ ap (λ o. give_back_reply_at (stage_of_job id.number o)) (ap (slice_get c) e ∙ at))) refl (λ a e. cc))
 state_kept c s state (step.Deliver s') (reply.Handed (handed.Next d)) at h law =
-    both s' s state (with_one_handed state) h
+    sender_kept s' s state (with_one_handed state) h
     (λ e. state_handed state d h (law ∙ ap deliver_reply_in (ap (slice_get c) e ∙ at)))
 state_kept c s state (step.Close s') (reply.Closed r) at h law =
-    both s' s state (closed_state state) h (λ e. record { stages = h.stages; most = h.most; handed = h.handed; finished = h.finished; solved = h.solved })
+    sender_kept s' s state (closed_state state) h (λ e. record { stages = h.stages; most = h.most; handed = h.handed; finished = h.finished; solved = h.solved })
 state_kept c s state _ _ at h law = h
 
 pub cond_same : {A : Type 0} (f : SenderView → A) (b : Bool) (x y : SenderView) → f x ≡ f y → f (cond b x y) ≡ f y

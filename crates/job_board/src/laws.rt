@@ -26,7 +26,7 @@ ghost use Rattle.job_board.specs.Steps.{AreLawful, after_all, IsLegal, IsDrained
 ghost use Rattle.job_board.specs.Steps.{Continues};
 ghost use Rattle.job_board.specs.Histories.{HaveEnded, InOrder, IsStateOf};
 ghost use Rattle.job_board.specs.Histories.{accepted_tasks, deliveries_to, is_closed};
-ghost use Rattle.job_board.specs.Services.{Event, Told, Leads, sent_tasks, received_answers};
+ghost use Rattle.job_board.specs.Services.{Event, Returned, Leads, sent_tasks, received_answers};
 ghost use Rattle.job_board.specs.Traces.{trace_steps, trace_replies};
 
 use crate::board::Board;
@@ -62,7 +62,7 @@ pub fn clients_receive_in_order()
         → Leads (new_client s) es me
         → InOrder (sent_tasks es) 0 (received_answers es) }
     ensures drained { (s : ℕ) (es : List Event) (me : ClientView)
-        → Leads (new_client s) (es ++ Told Drained ∷ []) me
+        → Leads (new_client s) (es ++ Returned Drained ∷ []) me
         → map (λ d. d.solved) (received_answers es) ≡ sent_tasks es }
     ensures known { (s : ℕ) (es : List Event) (me : ClientView)
         → Leads (new_client s) es me

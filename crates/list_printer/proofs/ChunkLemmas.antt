@@ -67,9 +67,9 @@ whole text end all =
     ∙ ap (λ l. lines_of text ++ lines_of l) (sym rest)
     ∙ ap (λ l. lines_of l ++ lines_of (drop end text)) (sym front)
 
-inside : (text : List ℕ) (end : ℕ) → end ≤ length text → 0 < end → get_or text (end - 1) 0 ≡ 10
+line_ended : (text : List ℕ) (end : ℕ) → end ≤ length text → 0 < end → get_or text (end - 1) 0 ≡ 10
     → lines_of text ≡ lines_of (take end text) ++ lines_of (drop end text)
-inside text end within some at =
+line_ended text end within some at =
     let to : suc (end - 1) ≡ end = omega arith in
     let less : end - 1 < length text = omega arith in
     let front : take end text ≡ take (end - 1) text ++ 10 ∷ [] =
@@ -84,4 +84,4 @@ inside text end within some at =
 pub ends_lines : (text : List ℕ) (end : ℕ) → EndsLine text end
     → lines_of text ≡ lines_of (take end text) ++ lines_of (drop end text)
 ends_lines text end h =
-    elim h.ended [ inl all ↦ whole text end all | inr at ↦ inside text end h.within at.0 at.1 ]
+    elim h.ended [ inl all ↦ whole text end all | inr at ↦ line_ended text end h.within at.0 at.1 ]

@@ -48,14 +48,14 @@ all_snoc (y ∷ xs) x =
 
 -- nothing is printed
 pub printed_start : (old : Option (List ℕ)) (output : Output) → PrintsPart old old output output
-printed_start old output = record { written = prints_start old output.text; told = refl }
+printed_start old output = record { written = prints_start old output.text; verdict = refl }
 
 -- what was left is printed in its turn
 pub printed_then : (old now next : Option (List ℕ)) (all left after : Output)
     → PrintsPart old now all left → PrintsPart now next left after → PrintsPart old next all after
 printed_then old now next all left after h k = record {
   written = prints_both old now next left.text after.text all.text h.written k.written;
-  told = k.told ∙ h.told;
+  verdict = k.verdict ∙ h.verdict;
 }
 
 -- of what was left, a front is printed
@@ -69,7 +69,7 @@ part : (old now : Option (List ℕ)) (before after more : Output)
     → PrintsPart old now before after → PrintsPart old now (both before more) (both after more)
 part old now before after more h = record {
   written = prints_part old now before.text after.text more.text h.written;
-  told = ap (λ r. r && more.right) h.told;
+  verdict = ap (λ r. r && more.right) h.verdict;
 }
 
 -- the front chunk is printed
@@ -85,7 +85,7 @@ front_printed old now front chunks after right next cut w to =
         whole = ap (λ (output : Output). output.text) is;
         written = w;
       };
-      told = ap (λ b. b && (chunks_output after).right) to
+      verdict = ap (λ b. b && (chunks_output after).right) to
           ∙ and_assoc right front.right (chunks_output after).right
           ∙ ap (λ (output : Output). right && output.right) (sym is);
     }
@@ -203,4 +203,4 @@ all_printed old now all right h =
     let printed : Output = record { text = []; right = right } in
     let done =
     subst (PrintsPart old now all) (ap (both printed) all_none ∙ both_nothing printed) h in
-    (prints_end old now all.text done.written, done.told)
+    (prints_end old now all.text done.written, done.verdict)

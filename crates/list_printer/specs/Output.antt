@@ -70,4 +70,4 @@ pub record AppendsFront (old new : Option (List ℕ)) (bytes : List ℕ) : Type 
 -- Of the output `before`, a front is printed, and `after` is left to print.
 pub record PrintsPart (old new : Option (List ℕ)) (before after : Output) : Type 0 where
   pub written : WritesBefore old new after.text before.text
-  pub told : after.right ≡ before.right
+  pub verdict : after.right ≡ before.right

@@ -5,4 +5,4 @@ pub mod ScoreLaws
 pub mod EitherSide
 pub mod Orders
 pub mod GreatestScores
-pub mod Ranks
+pub mod RankLemmas

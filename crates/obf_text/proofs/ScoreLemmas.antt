@@ -69,20 +69,20 @@ signed_from sign digits (Some n) f z e s h =
     let read = size_from digits n e in
     record { sign = sign; digits = digits; size = n; whole = refl; number = read.0; within = read.1; signed = subst (λ y. IsSigned sign n y) (same_Some (f n) z h) (s n) }
 
-score_at : (sign : ℕ) (digits : List ℕ) (z : ℤ) (plus minus : Bool) → (sign == 43) ≡ plus → (sign == 45) ≡ minus
+score_from_parts : (sign : ℕ) (digits : List ℕ) (z : ℤ) (plus minus : Bool) → (sign == 43) ≡ plus → (sign == 45) ≡ minus
     → cond plus (option_map pos (magnitude_of digits)) (cond minus (option_map (λ n. neg_ℤ (pos n)) (magnitude_of digits)) (option_map pos (magnitude_of (sign ∷ digits)))) ≡ Some z
     → IsScoreText (sign ∷ digits) z
-score_at sign digits z true minus p m h =
+score_from_parts sign digits z true minus p m h =
     let is : sign ≡ 43 = eqb-true sign 43 p in
     signed_from (sign ∷ []) digits (magnitude_of digits) pos z refl (λ n. inr (inl (ap (λ b. b ∷ []) is), refl)) h
-score_at sign digits z false true p m h =
+score_from_parts sign digits z false true p m h =
     let is : sign ≡ 45 = eqb-true sign 45 m in
     signed_from (sign ∷ []) digits (magnitude_of digits) (λ n. neg_ℤ (pos n)) z refl (λ n. inl (ap (λ b. b ∷ []) is, refl)) h
-score_at sign digits z false false p m h = signed_from [] (sign ∷ digits) (magnitude_of (sign ∷ digits)) pos z refl (λ n. inr (inr refl, refl)) h
+score_from_parts sign digits z false false p m h = signed_from [] (sign ∷ digits) (magnitude_of (sign ∷ digits)) pos z refl (λ n. inr (inr refl, refl)) h
 
 pub score_from : (text : List ℕ) (z : ℤ) → score_of_text text ≡ Some z → IsScoreText text z
 score_from [] z e = absurd (none-some z e)
-score_from (sign ∷ digits) z e = score_at sign digits z (sign == 43) (sign == 45) refl refl e
+score_from (sign ∷ digits) z e = score_from_parts sign digits z (sign == 43) (sign == 45) refl refl e
 
 digit_content : (b d : ℕ) → IsDigit b d → is_blank b ≡ false
 digit_content b d h = let e : b ≡ 48 + d = h.0 in grind (arith, nat_tests)

@@ -28,8 +28,8 @@ pair_order p q hp hq = (
   λ c. elim c [ inl a ↦ omega arith | inr (same, b) ↦ omega arith ],
 )
 
-same_discs : (p q : PosView) → p.opp < 2 ^ 64 → q.opp < 2 ^ 64 → pair_of p ≡ pair_of q → p ≡ q
-same_discs p q hp hq e =
+same_by_pair : (p q : PosView) → p.opp < 2 ^ 64 → q.opp < 2 ^ 64 → pair_of p ≡ pair_of q → p ≡ q
+same_by_pair p q hp hq e =
     let parts = pairs_apart p.own p.opp q.own q.opp hp hq e in
     λ k. discs (parts.0 k) (parts.1 k)
 
@@ -44,7 +44,7 @@ own_fits P = where_lt (rules.has P (rules.own P))
 same_from_pair : (P Q : GridView) → length P.cells ≡ 64 → length Q.cells ≡ 64 → P.mover ≡ Q.mover → pair_of (discs_of P) ≡ pair_of (discs_of Q) → P ≡ Q
 same_from_pair P Q full_p full_q m e =
     sym (position_of-discs_of P full_p)
-    ∙ (λ k. position_of (m k) (same_discs (discs_of P) (discs_of Q) (opp_fits P) (opp_fits Q) e k))
+    ∙ (λ k. position_of (m k) (same_by_pair (discs_of P) (discs_of Q) (opp_fits P) (opp_fits Q) e k))
     ∙ position_of-discs_of Q full_q
 
 -- what the definition says: no image has a lesser pair, and each earlier one has a greater

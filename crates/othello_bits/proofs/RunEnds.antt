@@ -85,10 +85,10 @@ module _ (before : ℕ → ℕ → Bool) (one_way : IsOneWay before) (own opp : 
             beyond s ss l (h s l (or_left (eqb s s) (mem s ss) (eq-eqb s s refl))) (ends ss p.2 later (λ i l m. h i l (or_right (eqb s i) (mem i ss) m)))
       ]
 
-opposing : (r o : Bool) → (r && not o) ≡ false → r ≡ true → o ≡ true
-opposing r true e h = refl
-opposing false false e h = absurd (false≢true h)
-opposing true false e h = absurd (false≢true (sym e))
+opposing_from_rest : (r o : Bool) → (r && not o) ≡ false → r ≡ true → o ≡ true
+opposing_from_rest r true e h = refl
+opposing_from_rest false false e h = absurd (false≢true h)
+opposing_from_rest true false e h = absurd (false≢true (sym e))
 
 pub below_top : (m i : ℕ) → m < 2 ^ 64 → in_mask m i ≡ true → i < 64
 below_top m i h b = elim (cases_lt i 64) [ inl l ↦ l | inr g ↦ absurd (false≢true (sym (in_mask-above m i h g) ∙ b)) ]
@@ -116,7 +116,7 @@ module _ (before : ℕ → ℕ → Bool) (one_way : IsOneWay before) (own opp ra
             rw none
 
     met_opposing : (i : ℕ) → in_mask (rest opp ray) i ≡ false → mem i met ≡ true → in_mask opp i ≡ true
-    met_opposing i n m = opposing (in_mask ray i) (in_mask opp i) (sym (is_rest i) ∙ n) (is_ray i ∙ m)
+    met_opposing i n m = opposing_from_rest (in_mask ray i) (in_mask opp i) (sym (is_rest i) ∙ n) (is_ray i ∙ m)
 
     -- with no such square nothing is turned
     pub none_turned : ((i : ℕ) → in_mask (rest opp ray) i ≡ false) → (i : ℕ) → turns own opp met i ≡ false

@@ -14,43 +14,43 @@ unfolding others
 images_of_h1 = refl
 
 -- row 1 is -OOOOOOX, all other squares are X, and X is to move
-last_corner : PosView
-last_corner = discs 0xffffffffffffff80 0x7e
+last_corner_discs : PosView
+last_corner_discs = discs 0xffffffffffffff80 0x7e
 
-first-last_corner : first_symmetry (position_of Black last_corner) ≡ HalfTurn
-unfolding last_corner first_symmetry others discs_of cells_of moved_cells squares in_mask mask_of
-first-last_corner = refl
+first-last_corner_discs : first_symmetry (position_of Black last_corner_discs) ≡ HalfTurn
+unfolding last_corner_discs first_symmetry others discs_of cells_of moved_cells squares in_mask mask_of
+first-last_corner_discs = refl
 
-canonical-last_corner : canonical_of last_corner ≡ discs 0x01ffffffffffffff 0x7e00000000000000
-unfolding last_corner canonical_of first_symmetry others discs_of cells_of moved_cells squares in_mask mask_of
-canonical-last_corner = refl
+canonical-last_corner_discs : canonical_of last_corner_discs ≡ discs 0x01ffffffffffffff 0x7e00000000000000
+unfolding last_corner_discs canonical_of first_symmetry others discs_of cells_of moved_cells squares in_mask mask_of
+canonical-last_corner_discs = refl
 
 -- row 1 is --OOOOOX
-corner_left_over : PosView
-corner_left_over = discs 0xffffffffffffff80 0x7c
+corner_left_over_discs : PosView
+corner_left_over_discs = discs 0xffffffffffffff80 0x7c
 
-canonical-corner_left_over :
-    canonical_of corner_left_over ≡ discs 0x01ffffffffffffff 0x3e00000000000000
-unfolding corner_left_over canonical_of first_symmetry others discs_of cells_of moved_cells squares in_mask mask_of
-canonical-corner_left_over = refl
+canonical-corner_left_over_discs :
+    canonical_of corner_left_over_discs ≡ discs 0x01ffffffffffffff 0x3e00000000000000
+unfolding corner_left_over_discs canonical_of first_symmetry others discs_of cells_of moved_cells squares in_mask mask_of
+canonical-corner_left_over_discs = refl
 
 -- row 1 is -OOXXOO-: two symmetries lead to the canonical position
-equal_corners : PosView
-equal_corners = discs 0xffffffffffffff18 0x66
+equal_corners_discs : PosView
+equal_corners_discs = discs 0xffffffffffffff18 0x66
 
-first-equal_corners : first_symmetry (position_of Black equal_corners) ≡ FlipRows
-unfolding equal_corners first_symmetry others discs_of cells_of moved_cells squares in_mask mask_of
-first-equal_corners = refl
+first-equal_corners_discs : first_symmetry (position_of Black equal_corners_discs) ≡ FlipRows
+unfolding equal_corners_discs first_symmetry others discs_of cells_of moved_cells squares in_mask mask_of
+first-equal_corners_discs = refl
 
-canonical-equal_corners : canonical_of equal_corners ≡ discs 0x18ffffffffffffff 0x6600000000000000
-unfolding equal_corners canonical_of first_symmetry others discs_of cells_of moved_cells squares in_mask mask_of
-canonical-equal_corners = refl
+canonical-equal_corners_discs : canonical_of equal_corners_discs ≡ discs 0x18ffffffffffffff 0x6600000000000000
+unfolding equal_corners_discs canonical_of first_symmetry others discs_of cells_of moved_cells squares in_mask mask_of
+canonical-equal_corners_discs = refl
 
 -- row 1 is -OXXXXX-, row 2 XXXXXXXO, row 5 XXXOXXXX
-unequal_corners : PosView
-unequal_corners = discs 0xfffffff7ffff7f7c 0x800008002
+unequal_corners_discs : PosView
+unequal_corners_discs = discs 0xfffffff7ffff7f7c 0x800008002
 
-canonical-unequal_corners :
-    canonical_of unequal_corners ≡ discs 0x3efeffffefffffff 0x4001000010000000
-unfolding unequal_corners canonical_of first_symmetry others discs_of cells_of moved_cells squares in_mask mask_of
-canonical-unequal_corners = refl
+canonical-unequal_corners_discs :
+    canonical_of unequal_corners_discs ≡ discs 0x3efeffffefffffff 0x4001000010000000
+unfolding unequal_corners_discs canonical_of first_symmetry others discs_of cells_of moved_cells squares in_mask mask_of
+canonical-unequal_corners_discs = refl

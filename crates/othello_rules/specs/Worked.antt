@@ -67,61 +67,61 @@ abbrev answers : GridView → List AnswerView
 answers P = answer Winner P ∷ answer Discs P ∷ answer Sign P ∷ []
 
 -- the answer with score z, which b attains
-abbrev scored : ℤ → Best → AnswerView
-scored z b = record { score = z; best = b }
+abbrev answer_with : ℤ → Best → AnswerView
+answer_with z b = record { score = z; best = b }
 
 -- The squares of a mask: 1 is A1, 2 is B1, 128 is H1, 129 both corners.
 answers-black_board-white : answers (to_move side.White black_board)
-    ≡ scored (negsuc 63) Over ∷ scored (negsuc 63) Over ∷ scored (negsuc 0) Over ∷ []
+    ≡ answer_with (negsuc 63) Over ∷ answer_with (negsuc 63) Over ∷ answer_with (negsuc 0) Over ∷ []
 unfolding black_board moves flips turned run closes ray directions squares play painted_cells final greatest can_move
     best_worth value_at value best_moves mask_of best answer
 answers-black_board-white = refl
 
 answers-level_halves-black : answers (to_move side.Black level_halves)
-    ≡ scored (pos 0) Over ∷ scored (pos 0) Over ∷ scored (pos 0) Over ∷ []
+    ≡ answer_with (pos 0) Over ∷ answer_with (pos 0) Over ∷ answer_with (pos 0) Over ∷ []
 unfolding level_halves moves flips turned run closes ray directions squares play painted_cells final greatest can_move
     best_worth value_at value best_moves mask_of best answer
 answers-level_halves-black = refl
 
 answers-unequal_halves-black : answers (to_move side.Black unequal_halves)
-    ≡ scored (pos 32) Over ∷ scored (pos 16) Over ∷ scored (pos 1) Over ∷ []
+    ≡ answer_with (pos 32) Over ∷ answer_with (pos 16) Over ∷ answer_with (pos 1) Over ∷ []
 unfolding unequal_halves moves flips turned run closes ray directions squares play painted_cells final greatest can_move
     best_worth value_at value best_moves mask_of best answer
 answers-unequal_halves-black = refl
 
 answers-last_corner-black : answers (to_move side.Black last_corner)
-    ≡ scored (pos 64) (Moves 1) ∷ scored (pos 64) (Moves 1) ∷ scored (pos 1) (Moves 1) ∷ []
+    ≡ answer_with (pos 64) (Moves 1) ∷ answer_with (pos 64) (Moves 1) ∷ answer_with (pos 1) (Moves 1) ∷ []
 unfolding last_corner moves flips turned run closes ray directions squares play painted_cells final greatest can_move
     best_worth value_at value best_moves mask_of best answer
 answers-last_corner-black = refl
 
 answers-last_corner-white : answers (to_move side.White last_corner)
-    ≡ scored (negsuc 63) Pass ∷ scored (negsuc 63) Pass ∷ scored (negsuc 0) Pass ∷ []
+    ≡ answer_with (negsuc 63) Pass ∷ answer_with (negsuc 63) Pass ∷ answer_with (negsuc 0) Pass ∷ []
 unfolding last_corner moves flips turned run closes ray directions squares play painted_cells final greatest can_move
     best_worth value_at value best_moves mask_of best answer
 answers-last_corner-white = refl
 
 answers-corner_left_over-black : answers (to_move side.Black corner_left_over)
-    ≡ scored (pos 64) (Moves 2) ∷ scored (pos 63) (Moves 2) ∷ scored (pos 1) (Moves 2) ∷ []
+    ≡ answer_with (pos 64) (Moves 2) ∷ answer_with (pos 63) (Moves 2) ∷ answer_with (pos 1) (Moves 2) ∷ []
 unfolding corner_left_over moves flips turned run closes ray directions squares play painted_cells final greatest can_move
     best_worth value_at value best_moves mask_of best answer
 answers-corner_left_over-black = refl
 
 answers-equal_corners-black : answers (to_move side.Black equal_corners)
-    ≡ scored (pos 64) (Moves 129) ∷ scored (pos 64) (Moves 129) ∷ scored (pos 1) (Moves 129) ∷ []
+    ≡ answer_with (pos 64) (Moves 129) ∷ answer_with (pos 64) (Moves 129) ∷ answer_with (pos 1) (Moves 129) ∷ []
 unfolding equal_corners moves flips turned run closes ray directions squares play painted_cells final greatest can_move
     best_worth value_at value best_moves mask_of best answer
 answers-equal_corners-black = refl
 
 answers-unequal_corners-black : answers (to_move side.Black unequal_corners)
-    ≡ scored (pos 62) (Moves 128) ∷ scored (pos 62) (Moves 128) ∷ scored (pos 1) (Moves 129) ∷ []
+    ≡ answer_with (pos 62) (Moves 128) ∷ answer_with (pos 62) (Moves 128) ∷ answer_with (pos 1) (Moves 129) ∷ []
 unfolding unequal_corners moves flips turned run closes ray directions squares play painted_cells final greatest can_move
     best_worth value_at value best_moves mask_of best answer
 answers-unequal_corners-black = refl
 
 answers-unequal_corners-white : answers (to_move side.White unequal_corners)
-    ≡ scored (negsuc 39) (Moves 128) ∷ scored (negsuc 38) (Moves 128)
-    ∷ scored (negsuc 0) (Moves 128) ∷ []
+    ≡ answer_with (negsuc 39) (Moves 128) ∷ answer_with (negsuc 38) (Moves 128)
+    ∷ answer_with (negsuc 0) (Moves 128) ∷ []
 unfolding unequal_corners moves flips turned run closes ray directions squares play painted_cells final greatest can_move
     best_worth value_at value best_moves mask_of best answer
 answers-unequal_corners-white = refl

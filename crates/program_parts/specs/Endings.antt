@@ -18,5 +18,5 @@ pub record EndsProgram (program : Program) (memory : ℕ) (words : List (List �
 -- A call of a program ended without its words: with 2, since a word is not text, or with `memory`,
 -- for lack of memory. Nothing was printed.
 pub record EndsUnread (memory : ℕ) (old new : Option (List ℕ)) (status : ℕ) : Type 0 where
-  pub told : (status ≡ memory) ⊎ (status ≡ 2)
+  pub ends : (status ≡ memory) ⊎ (status ≡ 2)
   pub unwritten : new ≡ old

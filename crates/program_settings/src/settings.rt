@@ -86,7 +86,7 @@ impl Settings {
         })
     }
 
-    /// These settings, where a line that lists moves has to list every best one, or need not.
+    /// These settings, with or without the rule that a line with moves has to list every best one.
     pub fn with_complete(self, complete: bool) -> Settings
         ensures { result ≡ record self { complete = complete } }
     {

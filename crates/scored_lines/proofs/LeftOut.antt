@@ -200,17 +200,17 @@ remarked_only g P (l ∷ listed) r h =
     elim (cases_Bool (can_move P)) [
       | inl can ↦
           let at = is_move_in g P can from.0 from.1 in
-          let told =
+          let facts =
           parts (is_greatest scores (worth (value g) P at.0))
           (is_none (score_in (l ∷ listed) (At at.0))) (left_out_text (At at.0)) r
           (subst (λ f. left_out_remark scores (l ∷ listed) f ≡ Some r) (sym at.2) from.2) in (
             at.0,
             record {
               best =
-                  best_with_value g P at.0 at.1 (greatest_is_best g P can at.0 at.1 told.0);
-              unlisted = λ z. not_listed (l ∷ listed) at.0 z told.1;
+                  best_with_value g P at.0 at.1 (greatest_is_best g P can at.0 at.1 facts.0);
+              unlisted = λ z. not_listed (l ∷ listed) at.0 z facts.1;
             },
-            told.2,
+            facts.2,
           )
       | inr stuck ↦
           elim (cases_Bool (can_move (pass P))) [

@@ -16,7 +16,7 @@ use Rattle.obf_text.proofs.WrittenFields.{score_size}
 use Rattle.obf_text.specs.Written.{AreWritable, IsWritable}
 use Rattle.move_scores.specs.Scores.{move_scores, put_in, score_fields, scored}
 use Rattle.move_scores.proofs.EitherSide.{of_move, of_over, of_pass}
-use Rattle.move_scores.proofs.Ranks.{all_in}
+use Rattle.move_scores.proofs.RankLemmas.{all_in}
 use Rattle.move_scores.proofs.ScoreLaws.{negated}
 
 all_writable : (fields : List Field) → AllByRecursion IsWritable fields → AreWritable fields

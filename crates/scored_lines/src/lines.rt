@@ -145,7 +145,7 @@ fn write_refused<W: Write>(writer: &mut W, fault: LineFault, line: &[u8]) -> io:
     ensures written { OnOk result (Appends (W.contents writer.old)
         (W.contents writer.new) (refused_text (line_fault_text fault) line.now)) }
     ensures right { IfOk result (λ right. right ≡ false) }
-    ensures told { IsOk result → fault ≢ Memory }
+    ensures not_memory { IsOk result → fault ≢ Memory }
 {
     match fault {
         LineFault::Memory => Err(io::Error::from(io::ErrorKind::OutOfMemory)),

@@ -59,10 +59,10 @@ line_passes : (n : ℕ) (before : Option PosView) (m : Meaning) (given : Option 
 line_passes n before Skipped given h = tt
 line_passes n before (Faulty f) given h = cc
 line_passes n before (Holds entry) given h =
-    let told = checked_passes n (lists_nothing entry) (is_behind before (discs_of entry.position)) (is_canonical_entry entry.position) (discs_of entry.position, claim_of entry.listed) given h in
-    let parts = and_parts (is_black_side entry.position.mover) (same_discs (canonical_of (discs_of entry.position)) (discs_of entry.position)) told.1 in
+    let facts = checked_passes n (lists_nothing entry) (is_behind before (discs_of entry.position)) (is_canonical_entry entry.position) (discs_of entry.position, claim_of entry.listed) given h in
+    let parts = and_parts (is_black_side entry.position.mover) (same_discs (canonical_of (discs_of entry.position)) (discs_of entry.position)) facts.1 in
     record {
-      listed = some_from (length entry.listed) told.0;
+      listed = some_from (length entry.listed) facts.0;
       black = black_from entry.position.mover parts.0;
       canonical = same_from (canonical_of (discs_of entry.position)) (discs_of entry.position) parts.1;
     }
@@ -83,11 +83,11 @@ abbrev Follow : Option PosView → List PosView → Type 0
 Follow None ps = IsStrictlySortedBy by_masks ps
 Follow (Some q) ps = IsStrictlySortedBy by_masks (q ∷ ps)
 
-turned : (p q : PosView) → by_masks p q ≡ Greater → by_masks q p ≡ Less
-turned p q e = masks_total.antisymm (masks_at q) (masks_at p) ∙ ap ordering_reverse e
+less_turned : (p q : PosView) → by_masks p q ≡ Greater → by_masks q p ≡ Less
+less_turned p q e = masks_total.antisymm (masks_at q) (masks_at p) ∙ ap ordering_reverse e
 
-turned_back : (p q : PosView) → by_masks q p ≡ Less → by_masks p q ≡ Greater
-turned_back p q e = masks_total.antisymm (masks_at p) (masks_at q) ∙ ap ordering_reverse e
+greater_turned : (p q : PosView) → by_masks q p ≡ Less → by_masks p q ≡ Greater
+greater_turned p q e = masks_total.antisymm (masks_at p) (masks_at q) ∙ ap ordering_reverse e
 
 follow_nil : (before : Option PosView) → Follow before []
 unfolding IsStrictlySortedBy
@@ -98,13 +98,13 @@ follow_more : (before : Option PosView) (p : PosView) (ps : List PosView) → is
 unfolding IsStrictlySortedBy
 follow_more None p ps behind h = h
 follow_more (Some q) p ps behind h =
-    let less : by_masks q p ≡ Less = turned p q (gt_is (by_masks p q) behind) in
+    let less : by_masks q p ≡ Less = less_turned p q (gt_is (by_masks p q) behind) in
     ((less, all_weaker (λ r. by_masks p r ≡ Less) (λ r. by_masks q r ≡ Less) (λ r l. masks_total.trans (masks_at q) (masks_at p) (masks_at r) less l) ps h.0), h)
 
 follow_behind : (before : Option PosView) (p : PosView) (ps : List PosView) → Follow before (p ∷ ps) → is_behind before p ≡ true
 unfolding IsStrictlySortedBy
 follow_behind None p ps h = refl
-follow_behind (Some q) p ps h = ap is_gt (turned_back p q h.0.0)
+follow_behind (Some q) p ps h = ap is_gt (greater_turned p q h.0.0)
 
 follow_rest : (before : Option PosView) (p : PosView) (ps : List PosView) → Follow before (p ∷ ps) → Follow (Some p) ps
 unfolding IsStrictlySortedBy
@@ -169,12 +169,12 @@ scoring_under (Some g) lines a h = by (claims_from 1 None lines) h
 
 is_book_text : (text : List ℕ) (a : ClaimsView) → claims_of text ≡ Ok a → IsBookText text a
 is_book_text text a h =
-    let told = without_fault 1 None (lines_of text) a.claims (under_ok (scoring_of_lines (lines_of text)) (lines_of text) a h) in
+    let facts = without_fault 1 None (lines_of text) a.claims (under_ok (scoring_of_lines (lines_of text)) (lines_of text) a h) in
     record {
       scoring = scoring_under (scoring_of_lines (lines_of text)) (lines_of text) a h;
-      lines = All-from_recursion (λ line. Passes (item_of line)) (lines_of text) told.0;
+      lines = All-from_recursion (λ line. Passes (item_of line)) (lines_of text) facts.0;
       claims = entries_are text a h;
-      rising = told.1;
+      rising = facts.1;
     }
 
 book_text_is : (text : List ℕ) (a : ClaimsView) → IsBookText text a → claims_of text ≡ Ok a
@@ -185,8 +185,8 @@ book_text_is text a is =
     no_fault 1 None lines (recursion_from_All (λ line. Passes (item_of line)) lines is.lines) rises ∙ ap Ok (sym is.claims) in
     ap (λ o. advice_under o lines) is.scoring ∙ ap (advice a.scoring) given
 
-pub book_text : (text : List ℕ) (a : ClaimsView) → claims_of text ≡ Ok a ↔ IsBookText text a
-book_text text a = (is_book_text text a, book_text_is text a)
+pub claims_are_book_text : (text : List ℕ) (a : ClaimsView) → claims_of text ≡ Ok a ↔ IsBookText text a
+claims_are_book_text text a = (is_book_text text a, book_text_is text a)
 
 -- ---- each claim
 

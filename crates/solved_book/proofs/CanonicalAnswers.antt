@@ -13,7 +13,7 @@ use Rattle.othello_bits.proofs.GameLaws.{value_score}
 use Rattle.othello_bits.proofs.GridMeaning.{discs-apart}
 use Rattle.othello_bits.proofs.ImageLaws.{answer_of-image_of, canonical_of-image_of, canonical_of-is}
 use Rattle.endgame_search.proofs.BestOf.{best_of-IsBest}
-use Rattle.endgame_search.proofs.Windows.{shown}
+use Rattle.endgame_search.proofs.WindowLemmas.{shown}
 use Rattle.solved_book.specs.Order.{IsCanonical}
 
 pub canonical_apart : (p : PosView) → IsCanonical p → bit_and p.own p.opp ≡ 0

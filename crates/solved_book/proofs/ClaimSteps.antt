@@ -93,8 +93,8 @@ pub line_behind : (n : ℕ) (before : Option PosView) (m : Meaning) (c : Positio
 line_behind n before Skipped c h = cc
 line_behind n before (Faulty f) c h = cc
 line_behind n before (Holds entry) c h =
-    let told = checked_behind n (lists_nothing entry) (is_behind before (discs_of entry.position)) (is_canonical_entry entry.position) (discs_of entry.position, claim_of entry.listed) c h in
-    ap (λ (x : PositionClaim). is_behind before x.0) (sym told.1) ∙ told.0
+    let facts = checked_behind n (lists_nothing entry) (is_behind before (discs_of entry.position)) (is_canonical_entry entry.position) (discs_of entry.position, claim_of entry.listed) c h in
+    ap (λ (x : PositionClaim). is_behind before x.0) (sym facts.1) ∙ facts.0
 
 -- the claims of lines by those of the first line and of the lines behind it
 pub from_none : (n : ℕ) (before : Option PosView) (line : List ℕ) (lines : List (List ℕ)) → claim_in_line n before (item_of line) ≡ Ok None → claims_from n before (line ∷ lines) ≡ claims_from (n + 1) before lines

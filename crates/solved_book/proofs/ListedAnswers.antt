@@ -47,9 +47,9 @@ any_contained p (y ∷ ys) x h t =
       | inr k ↦ ap (λ b. p y || b) (any_contained p ys x k t) ∙ or_true (p y)
     ]
 
-square_in : (m q : ℕ) → q < 64 → list_any (λ s. s == q) (squares_of m) ≡ in_mask m q
+square_in_mask : (m q : ℕ) → q < 64 → list_any (λ s. s == q) (squares_of m) ≡ in_mask m q
 unfolding squares_of
-square_in m q h =
+square_in_mask m q h =
     any-filter_same (λ s. s == q) (in_mask m) (in_mask m q) (λ k t. ap (in_mask m) (eqb-true k q t)) squares
     ∙ ap (λ b. in_mask m q && b) (any_contained (λ s. s == q) squares q (Contains-squares q h) (eq-eqb q q refl))
     ∙ and-true (in_mask m q)
@@ -62,7 +62,7 @@ lists_same score q (s ∷ qs) =
 squares_back : (score : ℤ) (m : ℕ) → m < 2 ^ 64 → listed_squares score (map (at score) (squares_of m)) ≡ m
 unfolding listed_squares
 squares_back score m h =
-    sym (is_where m (λ q. list_any (field_lists_square score q) (map (at score) (squares_of m))) h (λ q l. sym (lists_same score q (squares_of m) ∙ square_in m q l)))
+    sym (is_where m (λ q. list_any (field_lists_square score q) (map (at score) (squares_of m))) h (λ q l. sym (lists_same score q (squares_of m) ∙ square_in_mask m q l)))
 
 -- ---- the score
 
@@ -102,7 +102,7 @@ moves_by score m some h =
 moves_back : (score : ℤ) (m : ℕ) (qs : List ℕ) → squares_of m ≡ qs → 0 < m → m < 2 ^ 64 → IsListed score (best.Moves m) (map (at score) (squares_of m))
 unfolding greatest
 moves_back score m [] e some h =
-    let none : m ≡ 0 = zero_from_none m h (λ q l. sym (square_in m q l) ∙ ap (list_any (λ s. s == q)) e) in
+    let none : m ≡ 0 = zero_from_none m h (λ q l. sym (square_in_mask m q l) ∙ ap (list_any (λ s. s == q)) e) in
     absurd (omega arith)
 moves_back score m (q ∷ qs) e some h = record {
   some = ap (λ t. nat_eq (length (map (at score) t)) 0) e ∙ ne_eqb (suc (length (map (at score) qs))) 0 (λ z. absurd (omega arith));

@@ -14,9 +14,9 @@ use Rattle.solved_book.proofs.KeptEntries.{masks_at, masks_total}
 abbrev AreAfter : PosView → List PosView → Type 0
 AreAfter p ps = AllByRecursion (λ q. by_masks p q ≡ Less) ps
 
-after : (p : PosView) (ps : List PosView) → AreAfter p ps → (q : PosView) → Contains ps q → by_masks p q ≡ Less
-after p [] h q c = absurd (Contains-nil q c)
-after p (r ∷ ps) h q c = elim (Contains-cons_cases r ps q c) [ inl e ↦ subst (λ t. by_masks p t ≡ Less) e h.0 | inr k ↦ after p ps h.1 q k ]
+less_than_each : (p : PosView) (ps : List PosView) → AreAfter p ps → (q : PosView) → Contains ps q → by_masks p q ≡ Less
+less_than_each p [] h q c = absurd (Contains-nil q c)
+less_than_each p (r ∷ ps) h q c = elim (Contains-cons_cases r ps q c) [ inl e ↦ subst (λ t. by_masks p t ≡ Less) e h.0 | inr k ↦ less_than_each p ps h.1 q k ]
 
 not_both : (p q : PosView) → by_masks p q ≡ Less → by_masks q p ≡ Less → ⊥
 not_both p q a b = let c = sym a ∙ masks_total.antisymm (masks_at p) (masks_at q) ∙ ap ordering_reverse b in cc
@@ -28,11 +28,11 @@ first_same : (p q : PosView) (ps qs : List PosView) → AreAfter p ps → AreAft
 first_same p q ps qs a b c d =
     elim (Contains-cons_cases q qs p c) [
       | inl e ↦ sym e
-      | inr k ↦ elim (Contains-cons_cases p ps q d) [ inl e ↦ e | inr l ↦ absurd (not_both p q (after p ps a q l) (after q qs b p k)) ]
+      | inr k ↦ elim (Contains-cons_cases p ps q d) [ inl e ↦ e | inr l ↦ absurd (not_both p q (less_than_each p ps a q l) (less_than_each q qs b p k)) ]
     ]
 
 in_tail : (p q : PosView) (ps qs : List PosView) → AreAfter p ps → Contains ps q → Contains (p ∷ qs) q → Contains qs q
-in_tail p q ps qs a c d = elim (Contains-cons_cases p qs q d) [ inl e ↦ absurd (not_itself p q (after p ps a q c) e) | inr k ↦ k ]
+in_tail p q ps qs a c d = elim (Contains-cons_cases p qs q d) [ inl e ↦ absurd (not_itself p q (less_than_each p ps a q c) e) | inr k ↦ k ]
 
 pub same_order : (ps qs : List PosView) → IsStrictlySortedBy by_masks ps → IsStrictlySortedBy by_masks qs → ((p : PosView) → Contains ps p ↔ Contains qs p) → ps ≡ qs
 unfolding IsStrictlySortedBy

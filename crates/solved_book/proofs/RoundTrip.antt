@@ -86,11 +86,11 @@ line_back g n before p own behind =
 -- ---- all lines
 
 -- the first of some positions is greater than the one before them
-abbrev IsNext : Option PosView → List PosView → Type 0
-IsNext before [] = Unit {0}
-IsNext before (p ∷ ps) = is_behind before p ≡ true
+abbrev IsFirstAfter : Option PosView → List PosView → Type 0
+IsFirstAfter before [] = Unit {0}
+IsFirstAfter before (p ∷ ps) = is_behind before p ≡ true
 
-next_behind : (p : PosView) (ps : List PosView) → AllByRecursion (λ q. by_masks p q ≡ Less) ps → IsNext (Some p) ps
+next_behind : (p : PosView) (ps : List PosView) → AllByRecursion (λ q. by_masks p q ≡ Less) ps → IsFirstAfter (Some p) ps
 next_behind p [] h = tt
 next_behind p (q ∷ ps) h =
     let turned : masks_cmp (masks_at q) (masks_at p) ≡ Greater = masks_total.antisymm (masks_at q) (masks_at p) ∙ ap ordering_reverse h.0 in
@@ -100,7 +100,7 @@ entry_line : (g : Scoring) (p : PosView) (rest : List ℕ) → lines_of (book_li
 unfolding book_line
 entry_line g p rest = written_line (position_of Black p) (answer_of g p) rest (answer_score g p)
 
-lines_back : (g : Scoring) (n : ℕ) (before : Option PosView) (ps : List PosView) → IsStrictlySortedBy by_masks ps → AllByRecursion IsCanonical ps → IsNext before ps
+lines_back : (g : Scoring) (n : ℕ) (before : Option PosView) (ps : List PosView) → IsStrictlySortedBy by_masks ps → AllByRecursion IsCanonical ps → IsFirstAfter before ps
     → claims_from n before (lines_of (flat_map (book_line g) ps)) ≡ Ok (map (answer_claim g) ps)
 unfolding IsStrictlySortedBy
 lines_back g n before [] sorted own next = from_end n before
@@ -147,7 +147,7 @@ claims_back g ps h =
     ∙ ap (λ o. advice_under o (header g ∷ lines_of rest)) (header_scoring g)
     ∙ ap (advice g) (from_none 1 None (header g) (lines_of rest) skipped ∙ lines_back g 2 None ps h.rising (recursion_from_All IsCanonical ps h.canonical) (first ps))
   where
-    first : (ps : List PosView) → IsNext None ps
+    first : (ps : List PosView) → IsFirstAfter None ps
     first [] = tt
     first (p ∷ ps) = refl
 

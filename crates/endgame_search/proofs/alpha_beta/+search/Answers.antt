@@ -11,7 +11,7 @@ use Rattle.endgame_search.specs.Children.{IsChildOf, UnlistedAreAtMost}
 use Rattle.endgame_search.specs.Windows.{IsNullWindowScore}
 use Rattle.endgame_search.proofs.Bounds.{bound_same, shown_bound, other_bound, stored_window, stored_fail_soft, same_fail_soft, turned_above, cut_above, score_open, score_covers, best_grows, best_covers, best_open, best_least, none_above, before_first, after_first}
 use Rattle.endgame_search.proofs.Moves.{child_worth, child_empties, passed_worth, passed_empties, at_index, searched_more, value_at_most, unlisted_after_first, unlisted_sorted, none_unlisted}
-use Rattle.endgame_search.proofs.Windows.{shown, shown_same, exact, at_least_as, unshown}
+use Rattle.endgame_search.proofs.WindowLemmas.{shown, shown_same, exact, at_least_as, unshown}
 use Rattle.endgame_search.proofs.alpha_beta.+search.Goals as goal
 
 pub search-search_moves-requires : goal.search-search_moves-requires

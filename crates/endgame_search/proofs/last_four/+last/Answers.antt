@@ -6,10 +6,10 @@ use Rattle.othello_bits.specs.Pos.{pass_of, empties_of, moves_of, final_of, valu
 use Rattle.othello_bits.proofs.GameLaws.{empties_positive, empties-play, value-over, value_score, value_above}
 use Rattle.endgame_search.specs.Windows.{IsNullWindowScore}
 use Rattle.endgame_search.proofs.Bounds.{other_bound, shown_bound, turned_above, cut_above, best_grows, best_covers, best_open, best_least, none_above, before_first}
-use Rattle.endgame_search.proofs.LastSquare.{moves_to_empty, no_moves_from, last_some}
+use Rattle.endgame_search.proofs.LastSquareLemmas.{moves_to_empty, no_moves_from, last_some}
 use Rattle.endgame_search.proofs.Moves.{passed_empties, passed_worth}
-use Rattle.endgame_search.proofs.MovesInOrder.{none_tried, next_tried, all_tried, passing, passing_most, passing_none, passing_some}
-use Rattle.endgame_search.proofs.Windows.{shown, exact}
+use Rattle.endgame_search.proofs.MovesInOrderLemmas.{none_tried, next_tried, all_tried, passing, passing_most, passing_none, passing_some}
+use Rattle.endgame_search.proofs.WindowLemmas.{shown, exact}
 use Rattle.endgame_search.proofs.last_four.+last.Goals as goal
 
 pub search_after-search_in_order-requires : goal.search_after-search_in_order-requires

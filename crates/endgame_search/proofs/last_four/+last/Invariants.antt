@@ -1,6 +1,6 @@
 use Rattle.std.proofs.Common.{◌*◌, ◌+◌, negsuc, ◌≤ℤ◌, count_ones}
 use Rattle.othello_bits.specs.Pos.{empties_of, moves_of}
-use Rattle.endgame_search.proofs.MovesInOrder.{IsTriedUpTo, passing}
+use Rattle.endgame_search.proofs.MovesInOrderLemmas.{IsTriedUpTo, passing}
 use Rattle.endgame_search.proofs.last_four.+last.Given as goal
 
 abbrev pub decreases-search_after : goal.decreases-search_after

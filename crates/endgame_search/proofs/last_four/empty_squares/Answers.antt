@@ -5,7 +5,7 @@ use Rattle.othello_rules.specs.Masks.{in_mask}
 use Rattle.othello_bits.specs.Pos.{discs, empties_of}
 use Rattle.othello_bits.proofs.Bits.{in_mask-or, in_mask-not}
 use Rattle.othello_bits.proofs.CountMeaning.{free-meaning}
-use Rattle.endgame_search.proofs.LastSquare.{empty_mask, empty_below}
+use Rattle.endgame_search.proofs.LastSquareLemmas.{empty_mask, empty_below}
 use Rattle.endgame_search.proofs.last_four.empty_squares.Goals as goal
 
 pub returns-clause-squares : goal.returns-clause-squares

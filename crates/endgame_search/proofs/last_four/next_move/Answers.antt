@@ -1,7 +1,7 @@
 use Rattle.std.proofs.Common.{refl, arith}
 use Rattle.std.proofs.lemmas.Bool.{false≢true}
 use Rattle.endgame_search.proofs.TakenSquares.{on_board, one_less}
-use Rattle.endgame_search.proofs.MovesInOrder.{none_among, no_move_taken, move_taken}
+use Rattle.endgame_search.proofs.MovesInOrderLemmas.{none_among, no_move_taken, move_taken}
 use Rattle.endgame_search.proofs.last_four.next_move.Goals as goal
 
 pub returns-in-Some-clause-some : goal.returns-in-Some-clause-some

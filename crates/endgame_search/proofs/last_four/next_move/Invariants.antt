@@ -1,5 +1,5 @@
 use Rattle.std.proofs.Common.{◌<◌, ◌≤◌, ◌^◌, count_ones}
-use Rattle.endgame_search.proofs.MovesInOrder.{AreAmong}
+use Rattle.endgame_search.proofs.MovesInOrderLemmas.{AreAmong}
 use Rattle.endgame_search.proofs.last_four.next_move.Given as goal
 
 abbrev pub invariant-loop-rest : goal.invariant-loop-rest

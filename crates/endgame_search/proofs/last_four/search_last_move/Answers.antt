@@ -4,7 +4,7 @@ use Rattle.std.proofs.lemmas.Int.{ints}
 use Rattle.othello_bits.specs.Pos.{value_of}
 use Rattle.othello_bits.proofs.GameLaws.{value_score}
 use Rattle.endgame_search.proofs.Bounds.{shown_bound, same_fail_soft}
-use Rattle.endgame_search.proofs.Windows.{shown, exact}
+use Rattle.endgame_search.proofs.WindowLemmas.{shown, exact}
 use Rattle.endgame_search.proofs.last_four.search_last_move.Goals as goal
 
 pub probe_cutoff-requires : goal.probe_cutoff-requires

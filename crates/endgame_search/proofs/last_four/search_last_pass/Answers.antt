@@ -8,9 +8,9 @@ use Rattle.endgame_search.specs.LastSquare.{IsLastSquare}
 use Rattle.endgame_search.specs.Windows.{IsNullWindowScore}
 use Rattle.endgame_search.specs.declared.last_four.LastSquare.{LastSquare}
 use Rattle.endgame_search.proofs.Bounds.{turned_above, other_bound, shown_bound, same_fail_soft}
-use Rattle.endgame_search.proofs.LastSquare.{last_moves, last_pass, last_some}
+use Rattle.endgame_search.proofs.LastSquareLemmas.{last_moves, last_pass, last_some}
 use Rattle.endgame_search.proofs.Moves.{passed_worth, above_zero}
-use Rattle.endgame_search.proofs.Windows.{shown, exact}
+use Rattle.endgame_search.proofs.WindowLemmas.{shown, exact}
 use Rattle.endgame_search.proofs.last_four.search_last_pass.Goals as goal
 
 no_move : (e : LastSquare) → IsLastSquare e → e.turned ≡ 0 → HasNoMove e.position

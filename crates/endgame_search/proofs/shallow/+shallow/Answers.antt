@@ -11,7 +11,7 @@ use Rattle.endgame_search.proofs.EmptySquares.{few_moves, some_empty}
 use Rattle.endgame_search.proofs.Moves.{child_worth, child_empties, passed_worth, passed_empties, value_at_most, unlisted_after_first, none_unlisted}
 use Rattle.endgame_search.proofs.SearchedChildren.{at_left, none_searched, one_searched, all_searched_of}
 use Rattle.endgame_search.proofs.TakenSquares.{was_there, on_board, one_less}
-use Rattle.endgame_search.proofs.Windows.{shown, shown_same, exact, at_least_as, unshown}
+use Rattle.endgame_search.proofs.WindowLemmas.{shown, shown_same, exact, at_least_as, unshown}
 use Rattle.endgame_search.proofs.shallow.+shallow.Goals as goal
 
 pub search_shallow-search_shallow_moves-requires : goal.search_shallow-search_shallow_moves-requires

@@ -3,8 +3,8 @@ use Rattle.std.proofs.lemmas.Int.{ints}
 use Rattle.std.proofs.lemmas.Bool.{both_ways}
 use Rattle.othello_rules.specs.Masks.{squares_of, in_mask}
 use Rattle.othello_bits.proofs.GameLaws.{value_score}
-use Rattle.endgame_search.proofs.Windows.{shown}
-use Rattle.endgame_search.proofs.BestMoves.{HoldsBest, holds_moves, best_kept, worse_taken, worth_best, worse, all_held, listed_square}
+use Rattle.endgame_search.proofs.WindowLemmas.{shown}
+use Rattle.endgame_search.proofs.BestMoves.{HoldsBest, holds_moves, best_kept, worse_taken, worth_best, worse, all_held, listed_in_mask}
 use Rattle.endgame_search.proofs.solved.best_moves.Goals.{then-not-attains, else-not-attains}
 use Rattle.endgame_search.proofs.solved.best_moves.Goals as goal
 
@@ -14,7 +14,7 @@ loop-square-init g c = holds_moves (g.T.Bounds.scoring c.args.table.now) c.args.
 pub attains-requires-clause-legal : goal.attains-requires-clause-legal
 attains-requires-clause-legal g c =
     subst (λ m. in_mask m c.square-item.result ≡ true) c.requires.moves
-    (listed_square c.args.moves c.deref-square-items.result.now c.loop-square.square-index c.square-item.result (c.deref-square-items.ensures.0 ∙ c.squares_in-squares.ensures) c.loop-square-test.true c.square-item.is)
+    (listed_in_mask c.args.moves c.deref-square-items.result.now c.loop-square.square-index c.square-item.result (c.deref-square-items.ensures.0 ∙ c.squares_in-squares.ensures) c.loop-square-test.true c.square-item.is)
 
 pub attains-requires-clause-in_range : goal.attains-requires-clause-in_range
 attains-requires-clause-in_range g c =
@@ -31,7 +31,7 @@ loop-square-preserved g c =
     let items = c.deref-square-items.result.now in
     let s : shown c.args.score ≡ c.args.score = omega (arith, ints) in
     let move = subst (λ m. in_mask m q ≡ true) c.requires.moves
-    (listed_square c.args.moves items c.loop-square.square-index q (c.deref-square-items.ensures.0 ∙ c.squares_in-squares.ensures) c.loop-square-test.true c.square-item.is) in
+    (listed_in_mask c.args.moves items c.loop-square.square-index q (c.deref-square-items.ensures.0 ∙ c.squares_in-squares.ensures) c.loop-square-test.true c.square-item.is) in
     let held = HoldsBest r c.args.position (take (c.loop-square.square-index + 1) items) in
     elim c.if-not-attains.branch [
       | then-not-attains w ↦

@@ -3,7 +3,7 @@ use Rattle.std.proofs.lemmas.Int.{ints}
 use Rattle.othello_rules.specs.Answer.{IsBest}
 use Rattle.othello_bits.specs.Pos.{value_of, best_answer}
 use Rattle.othello_bits.proofs.GameLaws.{value_score}
-use Rattle.endgame_search.proofs.Windows.{shown}
+use Rattle.endgame_search.proofs.WindowLemmas.{shown}
 use Rattle.endgame_search.proofs.BestOf.{best_of-IsBest, answer_told}
 use Rattle.endgame_search.proofs.solved.solved_at.Goals as goal
 

@@ -1,6 +1,6 @@
 use Rattle.std.proofs.Common.{negsuc, ap, ◌∙◌}
 use Rattle.bound_table.specs.Range.{range_view}
-use Rattle.endgame_search.proofs.Windows.{score_same}
+use Rattle.endgame_search.proofs.WindowLemmas.{score_same}
 use Rattle.endgame_search.proofs.table_cutoff.proved_range.Goals as goal
 
 pub returns-then-score-low-clause-at_most : goal.returns-then-score-low-clause-at_most

@@ -2,7 +2,7 @@ use Rattle.std.proofs.Common.{◌≡◌, arith}
 use Rattle.std.proofs.lemmas.Int.{ints}
 use Rattle.othello_bits.specs.Pos.{value_of}
 use Rattle.othello_bits.proofs.GameLaws.{value_score}
-use Rattle.endgame_search.proofs.Windows.{shown, recast}
+use Rattle.endgame_search.proofs.WindowLemmas.{shown, recast}
 use Rattle.endgame_search.proofs.ScoreRanges.{told_true}
 use Rattle.endgame_search.proofs.table_cutoff.store_always.Goals as goal
 

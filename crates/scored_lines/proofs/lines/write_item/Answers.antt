@@ -39,7 +39,7 @@ returns-in-Err-clause-written g c =
     (Appends old new (out_text s c.args.criteria line (item_of line)))
     (λ ok. subst (Appends old new)
     (out_fault s c.args.criteria line (item_of line) c.in-Err.fault
-    (said_fault c.in-Err.fault (item_of line) (c.write_refused.ensures.told ok)
+    (said_fault c.in-Err.fault (item_of line) (c.write_refused.ensures.not_memory ok)
     c.in-Err.ensures.exact)))
     c.write_refused.ensures.written
 
@@ -51,6 +51,6 @@ returns-in-Err-clause-right g c =
     (λ r. r ≡ is_right s c.args.criteria line (item_of line))
     (λ ok r. subst (λ b. r ≡ b)
     (right_fault s c.args.criteria line (item_of line) c.in-Err.fault
-    (said_fault c.in-Err.fault (item_of line) (c.write_refused.ensures.told ok)
+    (said_fault c.in-Err.fault (item_of line) (c.write_refused.ensures.not_memory ok)
     c.in-Err.ensures.exact)))
     c.write_refused.ensures.right

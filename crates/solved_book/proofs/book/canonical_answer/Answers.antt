@@ -1,7 +1,7 @@
 use Rattle.std.proofs.Common.{ap, sym, ◌∙◌, subst}
 use Rattle.othello_rules.specs.Answer.{AnswerView, IsBest, IsScore}
 use Rattle.othello_bits.specs.Symmetries.{best_image, canonical_of}
-use Rattle.endgame_search.proofs.Windows.{shown}
+use Rattle.endgame_search.proofs.WindowLemmas.{shown}
 use Rattle.solved_book.proofs.CanonicalAnswers.{answer_best, canonical_answer_is, score_shown}
 use Rattle.solved_book.proofs.book.canonical_answer.Goals as goal
 

@@ -1,6 +1,6 @@
 use Rattle.std.proofs.Common.{◌≡◌, ◌∙◌, ap, arith}
 use Rattle.std.proofs.lemmas.Int.{ints}
-use Rattle.endgame_search.proofs.Windows.{shown}
+use Rattle.endgame_search.proofs.WindowLemmas.{shown}
 use Rattle.solved_book.specs.Listing.{listed_squares}
 use Rattle.solved_book.proofs.MaskSteps.{lists_all, lists_more, lists_none}
 use Rattle.solved_book.proofs.listing.listed_squares.Goals as goal

@@ -5,7 +5,7 @@ use Rattle.othello_bits.specs.Pos.{flips_of, value_of, IsMove}
 use Rattle.endgame_search.specs.LastSquare.{IsLastSquare}
 use Rattle.endgame_search.specs.declared.last_four.LastSquare.{LastSquare}
 use Rattle.endgame_search.proofs.LastScores.{last_count, last_score}
-use Rattle.endgame_search.proofs.Windows.{shown}
+use Rattle.endgame_search.proofs.WindowLemmas.{shown}
 use Rattle.endgame_search.proofs.last_four.LastSquare.score.Goals as goal
 
 -- the mover's discs, those turned and one more are no more than all

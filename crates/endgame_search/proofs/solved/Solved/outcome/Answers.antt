@@ -7,7 +7,7 @@ use Rattle.othello_bits.specs.Pos.{value_of}
 use Rattle.othello_bits.proofs.AnswerLaws.{answer-is}
 use Rattle.othello_bits.proofs.GameLaws.{value_score}
 use Rattle.endgame_search.proofs.BestOf.{sign_told}
-use Rattle.endgame_search.proofs.Windows.{shown}
+use Rattle.endgame_search.proofs.WindowLemmas.{shown}
 use Rattle.endgame_search.proofs.solved.Solved.outcome.Goals as goal
 
 pub returns : goal.returns
