@@ -10,10 +10,10 @@ pub on_ok : (r : Result (Unit {0}) SolveError) (P : Type 0) → P → OnOk r P
 on_ok (Ok nothing) P p = p
 on_ok (Err error) P p = tt
 
--- an error behind the reports is none that comes before anything was printed
-pub told_late : (r : Result (Unit {0}) SolveError) (P : Type 0) → IfErr r (λ error. IsSilent error → ⊥) → IfErr r (λ error. IsSilent error → P)
-told_late (Ok nothing) P h = tt
-told_late (Err error) P h = λ silent. absurd (h silent)
+-- an error after the reports does not come before them
+pub error_late : (r : Result (Unit {0}) SolveError) (P : Type 0) → IfErr r (λ error. IsSilent error → ⊥) → IfErr r (λ error. IsSilent error → P)
+error_late (Ok nothing) P h = tt
+error_late (Err error) P h = λ silent. absurd (h silent)
 
 three_not_one : (error : SolveError) → solve_status_of error ≡ 3 → solve_status_of error ≡ 1 → ⊥
 three_not_one error three one = let e = sym three ∙ one in omega (arith, e)

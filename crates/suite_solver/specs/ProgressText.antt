@@ -1,5 +1,5 @@
 -- The lines that report the progress of a run, and when one is due.
-use Rattle.std.specs.Prelude.{◌≡◌, ◌≢◌, ◌+◌, ◌/◌, ◌≤◌, ℕ, List, [], ◌∷◌, ◌++◌, Option, Some, None, codes}
+use Rattle.std.specs.Prelude.{◌≢◌, ◌+◌, ◌/◌, ◌≤◌, ℕ, List, [], ◌∷◌, ◌++◌, Option, Some, None, codes}
 use Rattle.std.specs.Duration.{as_nanos}
 use Rattle.std.specs.Fmt.{decimal}
 use Rattle.suite_solver.specs.declared.progress.Progress.{Progress}

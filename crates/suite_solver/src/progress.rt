@@ -63,7 +63,18 @@ struct Lines<'a, E: Write> {
     last: Duration,
 }
 
-impl<E: Write> Lines<'_, E> {
+impl<'a, E: Write> Lines<'a, E> {
+    // The lines of a run that begins: none is written, and the first is due after five seconds.
+    fn new(errors: &'a mut E) -> Lines<'a, E>
+        ensures none { E.contents result.errors.now ≡ E.contents errors.old }
+        ensures start { as_nanos result.last ≡ 0 }
+    {
+        Lines {
+            errors,
+            last: Duration::ZERO,
+        }
+    }
+
     // Writes the line of the progress if one is due, and keeps its time. The error is that of the
     // writer.
     fn report(&mut self, progress: Progress) -> io::Result<()>
@@ -107,10 +118,7 @@ impl<'a, C: Clock, E: Write> ProgressGate<'a, C, E> {
             unread: AtomicUsize::new(files),
             submitted: AtomicUsize::new(0),
             solved: AtomicUsize::new(0),
-            lines: Mutex::new(Lines {
-                errors,
-                last: Duration::from_secs(0),
-            }),
+            lines: Mutex::new(Lines::new(errors)),
         }
     }
 

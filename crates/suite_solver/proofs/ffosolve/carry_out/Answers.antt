@@ -2,7 +2,7 @@ use Rattle.std.proofs.Common.{◌≡◌}
 use Rattle.program_parts.specs.Inputs.{names_of}
 use Rattle.obf_text.specs.LineText.{texts_of}
 use Rattle.suite_solver.specs.Programs.{PrintsReportsOf}
-use Rattle.suite_solver.proofs.ProgramLemmas.{not_refused, on_ok, told_late}
+use Rattle.suite_solver.proofs.ProgramLemmas.{not_refused, on_ok, error_late}
 use Rattle.program_parts.proofs.EndingLemmas.{whole_texts}
 use Rattle.suite_solver.proofs.ffosolve.carry_out.Goals as goal
 
@@ -21,7 +21,7 @@ returns-clause-reported g c =
 
 pub returns-clause-silent : goal.returns-clause-silent
 returns-clause-silent g c =
-    told_late c.write_book.result (g.W.Write.contents c.solve_and_print.new.output ≡ g.W.Write.contents c.args.output.now) c.write_book.ensures.told
+    error_late c.write_book.result (g.W.Write.contents c.solve_and_print.new.output ≡ g.W.Write.contents c.args.output.now) c.write_book.ensures.late
 
 pub returns-clause-unwritten : goal.returns-clause-unwritten
 returns-clause-unwritten g c =

@@ -1,5 +1,4 @@
 use Rattle.std.proofs.Common.{◌∙◌, map}
-use Rattle.std.proofs.lemmas.List.{length-map}
 use Rattle.obf_text.specs.LineText.{texts_of}
 use Rattle.program_settings.specs.Settings.{criteria_of}
 use Rattle.suite_runs.proofs.PartLemmas.{outcome_reports}
