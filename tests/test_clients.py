@@ -1,14 +1,19 @@
 """Programs over the library, as their authors build them, and the packages for Python and Rust."""
+import email
+import inspect
 import os
 import re
 import shlex
 import shutil
 import sys
+import tarfile
 import unittest
+import zipfile
 
 from .checkouts import VERSION
 from .prefix import CXX, PIP, PREFIX, C, setUpModule
-from .support import ROOT, built, lack, need, run
+from .support import ROOT, built, lack, need, run, stored
+import ffosolve
 
 SMALL, LARGE = 9, 10  # positions of examples/masks.txt, without the one of 20 empty squares and with it
 CMAKE = """cmake_minimum_required(VERSION 3.16)
@@ -80,17 +85,14 @@ class Examples(unittest.TestCase):
 
 
 class PythonPackage(unittest.TestCase):
-    def setUp(self):
-        self.site = PREFIX.site
-
     def test_its_own_tests_pass(self):
-        self.assertTrue((self.site / "ffosolve/py.typed").exists())
+        self.assertTrue((PREFIX.site / "ffosolve/py.typed").exists())
         ran = PREFIX.make(sys.executable, "-m", "unittest", "discover", "-s", PREFIX.work / "python/tests")
         self.assertRegex(ran.stderr, r"Ran [1-9]\d* tests")
 
     def test_pip_installs_its_program(self):
         for words, wanted in ((["--version"], f"ffosolve-games {VERSION}\n"), (["--empties", "59"], r"\S{64} O; % -, game 1\n")):
-            self.assertRegex(PREFIX.make(self.site / "bin/ffosolve-games", *words, text="f5").stdout, rf"\A{wanted}\Z")
+            self.assertRegex(PREFIX.make(PREFIX.site / "bin/ffosolve-games", *words, text="f5").stdout, rf"\A{wanted}\Z")
 
     def test_a_library_of_another_version_or_without_a_call_is_refused(self):
         need("cc")
@@ -102,25 +104,41 @@ class PythonPackage(unittest.TestCase):
             other = PREFIX.work / f"other-{calls}-{number}.so"
             PREFIX.make("cc", "-shared", "-fPIC", "-o", other, source)
             env = {**PREFIX.environment, "FFOSOLVE_LIBRARY": str(other)}
-            ran = PREFIX.run(sys.executable, "-c", "import ffosolve; ffosolve.Solver()", env=env)
+            ran = PREFIX.run(PREFIX.site and sys.executable, "-c", "import ffosolve; ffosolve.Solver()", env=env)
             is_refused = why in ran.stderr and str(other) in ran.stderr
             self.assertTrue(is_refused if why else ran.returncode == 0, ran)
 
+    def built(self, source, *kinds):
+        """Returns the paths of what the hooks of a source folder build."""
+        hooks = "import sys, ffosolve_wheel as made; [print(getattr(made, f'build_{it}')(sys.argv[1])) for it in sys.argv[2:]]"
+        names = PREFIX.make(sys.executable, "-Bc", hooks, PREFIX.work, *kinds, cwd=source / "backend").stdout.split()
+        return [PREFIX.work / name for name in names]
+
     def test_pip_installs_its_source_archive_and_an_editable_wheel(self):
-        hooks = "import sys; sys.path.insert(0, 'backend'); import ffosolve_wheel as made; "
-        hooks += f"print(made.build_sdist({str(PREFIX.work)!r}), made.build_editable({str(PREFIX.work)!r}))"
-        archive, wheel = PREFIX.make(sys.executable, "-c", hooks, cwd=PREFIX.work / "python").stdout.split()
-        for name, place in ((archive, "of-archive"), (wheel, "editable")):
-            PREFIX.make(*PIP, "--target", PREFIX.work / place, PREFIX.work / name)
-        files, wanted = (sorted(os.listdir(place / "ffosolve")) for place in (PREFIX.work / "of-archive", self.site))
-        self.assertEqual(files, wanted)
+        wanted = sorted(os.listdir(PREFIX.site / "ffosolve"))
+        for path, place in zip(self.built(PREFIX.work / "python", "sdist", "editable"), ("of-archive", "editable")):
+            PREFIX.make(*PIP, "--target", PREFIX.work / place, path)
+        self.assertEqual(sorted(os.listdir(PREFIX.work / "of-archive/ffosolve")), wanted)
         self.assertEqual((PREFIX.work / "editable/ffosolve.pth").read_text(), f"{PREFIX.work / 'python/src'}\n")
+
+    def test_the_wheel_and_the_source_archive_are_fit_to_be_published(self):
+        paths = self.built(ROOT / "python", "wheel", "sdist")
+        self.assertEqual([path.name for path in paths], [f"ffosolve-{VERSION}-py3-none-any.whl", f"ffosolve-{VERSION}.tar.gz"])
+        with zipfile.ZipFile(paths[0]) as wheel, tarfile.open(paths[1]) as archive:
+            licence, metadata = (wheel.read(f"ffosolve-{VERSION}.dist-info/{name}") for name in ("LICENSE", "METADATA"))
+            of_archive = [archive.extractfile(f"ffosolve-{VERSION}/{name}").read() for name in ("LICENSE", "PKG-INFO")]
+        self.assertEqual((licence, of_archive), (stored("LICENSE"), [licence, metadata]))
+        fields = email.message_from_string(metadata.decode())
+        for field in ("Summary", "Home-page", "Author", "Author-email", "License", "Project-URL", "Requires-Python"):
+            self.assertTrue(fields[field], field)
+        self.assertEqual((fields["Version"], fields["Description-Content-Type"]), (ffosolve.__version__, "text/markdown"))
+        self.assertEqual(fields.get_payload(), inspect.getdoc(ffosolve) + "\n")
+        need("twine")
+        ran = run("twine", "check", "--strict", *paths)
+        self.assertEqual((ran.returncode, ran.stdout.count(b"PASSED")), (0, 2), ran)
 
 
 class RustCrate(unittest.TestCase):
-    def setUp(self):
-        self.crate = PREFIX.crate
-
     def test_declares_the_calls_of_the_header(self):
         declared = re.findall(r"pub fn (ffosolve_\w+)", (ROOT / "rust/src/raw.rs").read_text())
         self.assertEqual(sorted(declared), sorted(PREFIX.calls))
@@ -129,12 +147,12 @@ class RustCrate(unittest.TestCase):
         need("readelf")
         for features in ((), ("--features", "shared")):
             with self.subTest(features=features):
-                ran = PREFIX.cargo("test", self.crate, "--no-run", *features)
+                ran = PREFIX.cargo("test", PREFIX.crate, "--no-run", *features)
                 self.assertNotIn("warning", ran.stderr)
                 program = re.search(r"Executable tests/calls.rs \((.*)\)", ran.stderr)[1]
                 needed = PREFIX.make("readelf", "-d", PREFIX.work / program).stdout
                 self.assertEqual("[libffosolve.so.1]" in needed, bool(features), needed)
-                ran = PREFIX.cargo("test", self.crate, *features)
+                ran = PREFIX.cargo("test", PREFIX.crate, *features)
                 passed = re.findall(r"^test result: ok. (\d+) passed", ran.stdout, re.MULTILINE)
                 self.assertGreater(len(passed), 2, ran.stdout)
 
@@ -152,16 +170,15 @@ class RustCrate(unittest.TestCase):
     def test_ffosolve_lib_dir_names_the_folder_of_the_library(self):
         shutil.copytree(PREFIX.libraries, PREFIX.work / "libraries", symlinks=True)
         places = {**PREFIX.environment, "PKG_CONFIG_PATH": "", "FFOSOLVE_LIB_DIR": str(PREFIX.work / "libraries")}
-        PREFIX.cargo("test", self.crate, "--quiet", "--test", "calls", env=places)
+        PREFIX.cargo("test", PREFIX.crate, "--quiet", "--test", "calls", env=places)
         nowhere = {**PREFIX.environment, "FFOSOLVE_LIB_DIR": "/nowhere"}  # which goes before what pkg-config says
-        ran = PREFIX.run("cargo", "check", "--manifest-path", self.crate / "Cargo.toml", env=nowhere)
+        ran = PREFIX.run("cargo", "check", "--manifest-path", PREFIX.crate / "Cargo.toml", env=nowhere)
         self.assertNotEqual(ran.returncode, 0)
         why = "/nowhere/libffosolve.a is missing: install ffosolve, or set FFOSOLVE_LIB_DIR to the folder of it"
         self.assertIn(why, ran.stderr)
 
 
 class Documents(unittest.TestCase):
-
     def prints(self, wanted, *command):
         self.assertNotEqual(wanted, "")
         self.assertEqual(PREFIX.make(*command).stdout, wanted)
