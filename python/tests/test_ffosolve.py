@@ -26,14 +26,10 @@ ANSWER = Answer(62, Kind.MOVES, 0x80)
 SHARED, WIDE, AT_PASS = Position(3, 2), Position(1, 6), Position(0x7E, ~0x7F & 2**64 - 1)
 
 
-class Library:
-    """A stand-in for the library: each call returns a status, and its arguments are kept."""
-
-    def __init__(self, status):
-        self.status, self.asked = status, []
-
-    def __getattr__(self, name):
-        return lambda *asked: self.asked.append(asked) or self.status
+def library_that_returns(status):
+    """A stand-in for the library, which keeps the arguments of its calls."""
+    names = ("solve", "confirm", "solve_all", "move_scores_all", "moves", "play")
+    return mock.Mock(**{f"ffosolve_{name}.return_value": status for name in names})
 
 
 class Calls(unittest.TestCase):
@@ -100,11 +96,12 @@ class Calls(unittest.TestCase):
     def test_the_library_gets_the_scoring_the_size_of_the_table_and_the_claim(self):
         """Unless a size is given, the table is for the most empty squares of the list."""
         for settings, scoring, entries in (({}, 0, ffosolve.table_entries(52)), ({"scoring": 2, "entries": 7}, 2, 7)):
-            solver, library = Solver(max_empties=60, **settings), Library(0)
-            solver._library = library
+            solver = Solver(max_empties=60, **settings)
+            library = solver._library = library_that_returns(0)
             solver.solve_all([POSITION, Position(0xFFF, 0), POSITION])
             solver.confirm(Position(0xFF0, 0xF), Answer(-3, Kind.OVER, 4))
-            (_, _, *of_all), (position, *of_one, claim, _) = library.asked
+            _, _, *of_all = library.ffosolve_solve_all.call_args.args
+            position, *of_one, claim, _ = library.ffosolve_confirm.call_args.args
             self.assertEqual((of_all[:2], of_one), ([scoring, entries], [scoring, entries]))
             given = position.own, position.opp, claim.score, claim.kind, claim.best
             self.assertEqual(given, (0xFF0, 0xF, -3, Kind.OVER, 4))
@@ -187,7 +184,7 @@ class Refusals(unittest.TestCase):
         for status, refusal, reason in (
             (7, ffosolve.NoMemory, "out of memory"), (99, ffosolve.OtherRefusal, "refused with status 99"),
         ):
-            solver._library = Library(status)
+            solver._library = library_that_returns(status)
             for call in (solver.solve, lambda it: solver.confirm(it, ANSWER), solver.move_scores, solver.moves,
                          lambda it: solver.play(it, 0), lambda it: solver.solve_all([it])):
                 with self.assertRaisesRegex(refusal, f"^{reason}$") as refused:
@@ -298,10 +295,10 @@ class Obf(unittest.TestCase):
             for source in (path, str(path)):
                 self.assertEqual([(line, line.number) for line in read_lines(source)], [(POSITION, 2)])
             with self.assertRaises(FileNotFoundError):
-                next(read_lines(pathlib.Path(folder, "none.obf")))
+                read_lines(pathlib.Path(folder, "none.obf"))
         for it, what in ((CORNERS + "\n", "a text, which parse_lines reads"), (b"", "a text, .*"), (5, "5"), (None, "None")):
             with self.assertRaisesRegex(TypeError, f"^lines are read from a path or .*, not from {what}$"):
-                next(read_lines(it))
+                read_lines(it)
 
     def test_squares_have_names_and_numbers(self):
         names = [ffosolve.square_name(number) for number in range(64)]

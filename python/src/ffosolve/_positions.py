@@ -2,7 +2,7 @@
 import os
 import re
 import reprlib
-from typing import Any, Callable, Iterable, Iterator, List, Mapping, NamedTuple, Optional, Tuple, Union
+from typing import Any, BinaryIO, Callable, Iterable, Iterator, List, Mapping, NamedTuple, Optional, Tuple, Union
 
 from ._answers import Answer, Kind
 from ._boards import OTHER, Board, checked_side
@@ -17,7 +17,8 @@ from ._transcripts import PASSES, words_of
 LINE = re.compile(rb"([ \t]*)([Xx*BbOoWw.-]{0,64})([ \t]*)([Xx*BbOoWw]?)([^%]*)")
 MOVES = {name.encode(): name for name in (*NAMES, "PS", "--")}
 LISTED = re.compile(rb"(?:\A|;)[ \t]*([A-Ha-h][1-8]|[Pp][Ss]|--):([+-]?(?:[0-5]?[0-9]|6[0-4]))[ \t]*(?=;|\Z)")
-Source = Union[str, "os.PathLike[str]", Iterable[Union[str, bytes]]]
+Lines = Iterable[Union[str, bytes]]
+Source = Union[str, "os.PathLike[str]", Lines]
 BLACK, WHITE = (bytes.maketrans(b"Xx*BbOoWw-.", bits) for bits in (b"11111000000", b"00000111100"))
 STATES = {Kind.PASS: "has to pass: {:+}", Kind.OVER: "scores {:+}: the game is over"}
 
@@ -228,7 +229,18 @@ def read_lines(
 
     Raises OSError for a file that can't be read, and TypeError for another source. `parse_lines` reads a text.
     """
-    for number, text in enumerate(lines_of(source), 1):
+    return positions_in(lines_of(source), refused)
+
+
+def parse_lines(
+    text: Union[str, bytes], refused: Optional[Callable[[LineRefused], object]] = None
+) -> Iterator[Line]:
+    """The positions of the lines of a text, as `read_lines` reads those of a file."""
+    return positions_in(bytes_of(text).split(b"\n"), refused)
+
+
+def positions_in(lines: Lines, refused: Optional[Callable[[LineRefused], object]]) -> Iterator[Line]:
+    for number, text in enumerate(lines, 1):
         try:
             line = read_line(text, number)
         except NoPosition:
@@ -241,20 +253,15 @@ def read_lines(
             yield line
 
 
-def parse_lines(
-    text: Union[str, bytes], refused: Optional[Callable[[LineRefused], object]] = None
-) -> Iterator[Line]:
-    """The positions of the lines of a text, as `read_lines` reads those of a file."""
-    return read_lines(bytes_of(text).split(b"\n"), refused)
-
-
-def lines_of(source: Source) -> Iterator[Union[str, bytes]]:
+def lines_of(source: Source) -> Lines:
+    """The lines of a source. A file is opened at once, and closed after its last line."""
     is_text = isinstance(source, (bytes, bytearray)) or isinstance(source, str) and "\n" in source
     if is_text or not isinstance(source, (str, os.PathLike)) and not hasattr(source, "__iter__"):
         what = "a text, which parse_lines reads" if is_text else reprlib.repr(source)
         raise TypeError(f"lines are read from a path or an iterable of lines such as an open file, not from {what}")
-    if isinstance(source, (str, os.PathLike)):
-        with open(source, "rb") as file:
-            yield from file
-    else:
-        yield from source
+    return lines_in(open(source, "rb")) if isinstance(source, (str, os.PathLike)) else source
+
+
+def lines_in(file: BinaryIO) -> Iterator[bytes]:
+    with file:
+        yield from file
