@@ -38,10 +38,9 @@ import os
 from . import _refusals
 from ._answers import Answer, Kind
 from ._boards import Board
-from ._games import Game, GameRefused
+from ._games import Game, GameRefused, read_games
 from ._library import MOST_EMPTIES, MOST_ENTRIES, LibraryNotFound
 from ._positions import START, Line, Position, parse_lines, read_lines
-from ._read_games import read_games
 from ._refusals import *
 from ._score_comparison import ScoreComparison, WrongScore, compare_scores
 from ._scoring import Scoring

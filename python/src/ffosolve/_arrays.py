@@ -1,7 +1,7 @@
 """Many positions in arrays. Only this module needs NumPy; the calls with arrays import it."""
 import ctypes
 from collections import deque
-from typing import TYPE_CHECKING, Any, List, NamedTuple
+from typing import TYPE_CHECKING, Any, List, NamedTuple, Tuple
 
 import numpy
 
@@ -13,8 +13,6 @@ from ._rules import accept
 if TYPE_CHECKING:
     from ._solvers import Solver
 
-ANSWER = numpy.dtype([("score", numpy.int32), ("kind", numpy.int32), ("best", numpy.uint64)])
-SCORES = numpy.dtype([("scores", numpy.int8, 64), ("moves", numpy.uint64)])
 SIZES = numpy.array([bin(byte).count("1") for byte in range(256)], numpy.uint8)
 
 
@@ -24,14 +22,6 @@ class Answers(NamedTuple):
     score: Any
     kind: Any
     best: Any
-
-
-class Run(NamedTuple):
-    """The positions of one call of the library."""
-
-    start: int  # the index of the first
-    end: int  # and the one after the last
-    empties: int  # the most empty squares of one of them
 
 
 def masks_of(own: Any, opp: Any) -> Any:
@@ -44,8 +34,9 @@ def masks_of(own: Any, opp: Any) -> Any:
     return numpy.stack((own, opp), axis=1)
 
 
-def runs_of(solver: "Solver", masks: Any, threads: int) -> List[Run]:
-    """Cuts positions into parts for a number of threads. Raises the refusal of the first refused position."""
+def runs_of(solver: "Solver", masks: Any, threads: int) -> List[Tuple[int, int, int]]:
+    """Cuts positions into parts for a number of threads: the indices of each first position and of the one after the last, and
+    the most empty squares. Raises the refusal of the first refused position."""
     own, opp = masks[:, 0], masks[:, 1]
     empties = 64 - SIZES[(own | opp).view(numpy.uint8)].reshape(-1, 8).sum(axis=1, dtype=numpy.int64)
     for index in numpy.flatnonzero((own & opp != 0) | (empties > solver.max_empties)).tolist():
@@ -53,29 +44,30 @@ def runs_of(solver: "Solver", masks: Any, threads: int) -> List[Run]:
     weights = numpy.left_shift(1, numpy.clip(empties - LIGHTEST, 0, None)) * (threads > 1)
     ends = numpy.flatnonzero(numpy.diff(weights.cumsum() // MOST_WEIGHT)) + 1
     bounds = [0, *ends.tolist(), len(masks)]
-    return [Run(start, end, int(empties[start:end].max())) for start, end in zip(bounds, bounds[1:]) if start < end]
+    return [(start, end, int(empties[start:end].max())) for start, end in zip(bounds, bounds[1:]) if start < end]
 
 
-def found_by(solver: "Solver", call: Any, record: Any, kind: Any, masks: Any, threads: int) -> Any:
-    """What a call writes for each position: an array whose elements have the type `kind`, the library's `record`."""
-    found: Any = numpy.empty(len(masks), kind)
+def found_by(solver: "Solver", call: Any, record: Any, masks: Any, threads: int) -> Any:
+    """What a call writes for each position: an array of the library's `record`."""
+    found: Any = numpy.empty(len(masks), record)
 
-    def call_for(run: Run) -> None:
-        count, entries = run.end - run.start, solver._entries_for(run.empties)
-        asked = (CPosition * count).from_buffer(masks, run.start * ctypes.sizeof(CPosition))
-        to = (record * count).from_buffer(found, run.start * ctypes.sizeof(record))
-        more = asked, count, int(solver.scoring), entries, to, count, ctypes.c_size_t()
-        accept(interruptible(call, count, run.empties, *more))
+    def call_for(run: Tuple[int, int, int]) -> None:
+        start, end, empties = run
+        count = end - start
+        asked = (CPosition * count).from_buffer(masks, start * ctypes.sizeof(CPosition))
+        to = (record * count).from_buffer(found, start * ctypes.sizeof(record))
+        more = asked, count, solver.scoring, solver._entries_for(empties), to, count, ctypes.c_size_t()
+        accept(interruptible(call, count, empties, *more))
 
     deque(in_order(call_for, runs_of(solver, masks, threads), threads), 0)
     return found
 
 
 def solve(solver: "Solver", own: Any, opp: Any, threads: int) -> Answers:
-    answers = found_by(solver, solver._library.ffosolve_solve_all, CAnswer, ANSWER, masks_of(own, opp), threads)
+    answers = found_by(solver, solver._library.ffosolve_solve_all, CAnswer, masks_of(own, opp), threads)
     return Answers(*(numpy.ascontiguousarray(answers[name]) for name in Answers._fields))
 
 
 def move_scores(solver: "Solver", own: Any, opp: Any, threads: int) -> Any:
-    call = solver._library.ffosolve_move_scores_all
-    return numpy.ascontiguousarray(found_by(solver, call, CMoveScores, SCORES, masks_of(own, opp), threads)["scores"])
+    found = found_by(solver, solver._library.ffosolve_move_scores_all, CMoveScores, masks_of(own, opp), threads)
+    return numpy.ascontiguousarray(found["scores"])

@@ -1,7 +1,7 @@
 """Pictures of boards."""
 import numbers
 import reprlib
-from typing import Dict, Iterator, Mapping, Optional, Tuple
+from typing import Dict, Iterator, Mapping, Optional
 
 from ._squares import NAMES, square_name, square_number
 
@@ -46,10 +46,9 @@ class Board:
 
     def __str__(self) -> str:
         width = 4 if self.scores else 1
-        rows = ["  " + " ".join(f"{column:>{width}}" for column in "ABCDEFGH")]
-        for row in range(8):
-            rows.append(f"{row + 1} " + " ".join(f"{self._text(8 * row + column):>{width}}" for column in range(8)))
-        return "\n".join([*rows, f"{self.side} {self.state}"])
+        rows = [[self._text(8 * row + column) for column in range(8)] for row in range(8)]
+        lines = [" ".join(f"{text:>{width}}" for text in row) for row in ["ABCDEFGH", *rows]]
+        return "\n".join([*map("{} {}".format, " 12345678", lines), f"{self.side} {self.state}"])
 
     __repr__ = __str__
 
@@ -69,37 +68,32 @@ class Board:
             f'<rect width="{width}" height="{height}" fill="#ffffff"/>',
             f'<rect x="{MARGIN}" y="{MARGIN}" width="{BOARD}" height="{BOARD}" fill="{GREEN}"/>',
             *(part for at in range(64) for part in self._square(at)),
-            *self._lines(),
+            *(line for at in range(9) for line in lines(at)),
             disc(self.side, MARGIN + 10, height - FOOT // 2, 9),
             f'<text x="{MARGIN + 26}" y="{height - FOOT // 2 + 5}" text-anchor="start" fill="{INK}">{state}</text>',
             "</svg>",
         ])
 
     def _square(self, at: int) -> Iterator[str]:
-        x, y = centre(at)
+        left, top = MARGIN + at % 8 * SQUARE, MARGIN + at // 8 * SQUARE
+        x, y = left + SQUARE // 2, top + SQUARE // 2
         if self.letters[at] != "-":
             yield disc(self.letters[at], x, y, SQUARE * 2 // 5)
         elif at in self.scores:
             is_best = self.scores[at] == self.best
             if is_best:
-                yield f'<rect x="{x - SQUARE // 2}" y="{y - SQUARE // 2}" width="{SQUARE}" height="{SQUARE}" fill="{MARK}"/>'
+                yield f'<rect x="{left}" y="{top}" width="{SQUARE}" height="{SQUARE}" fill="{MARK}"/>'
             how = f'fill="{INK}" font-weight="bold"' if is_best else 'fill="#ffffff"'
             yield f'<text x="{x}" y="{y + 5}" {how}>{self.scores[at]:+}</text>'
 
-    def _lines(self) -> Iterator[str]:
-        """The lines between squares, and the names of columns and rows."""
-        for place in range(9):
-            at, end = MARGIN + place * SQUARE, MARGIN + BOARD
-            yield f'<path d="M{at} {MARGIN}V{end}M{MARGIN} {at}H{end}" stroke="{LINES}"/>'
-        for place in range(8):
-            (x, _), (_, y) = centre(place), centre(8 * place)
-            yield f'<text x="{x}" y="{MARGIN - 7}" fill="{INK}">{NAMES[place][0]}</text>'
-            yield f'<text x="{MARGIN // 2}" y="{y + 5}" fill="{INK}">{place + 1}</text>'
 
-
-def centre(at: int) -> Tuple[int, int]:
-    """The middle of a square, in pixels from the left and from the top."""
-    return MARGIN + at % 8 * SQUARE + SQUARE // 2, MARGIN + at // 8 * SQUARE + SQUARE // 2
+def lines(number: int) -> Iterator[str]:
+    """The two lines before a column and a row, and the names of these; after the last ones, only the lines."""
+    at, end = MARGIN + number * SQUARE, MARGIN + BOARD
+    yield f'<path d="M{at} {MARGIN}V{end}M{MARGIN} {at}H{end}" stroke="{LINES}"/>'
+    if number < 8:
+        yield f'<text x="{at + SQUARE // 2}" y="{MARGIN - 7}" fill="{INK}">{NAMES[number][0]}</text>'
+        yield f'<text x="{MARGIN // 2}" y="{at + SQUARE // 2 + 5}" fill="{INK}">{number + 1}</text>'
 
 
 def disc(side: str, x: int, y: int, radius: int) -> str:

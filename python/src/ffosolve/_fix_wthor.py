@@ -3,7 +3,8 @@ import contextlib
 import os
 from typing import BinaryIO, Dict, Iterable, Iterator, List, Mapping, Optional
 
-from ._games import EMPTIES_BYTE, HEADER, REAL, RECORD, SCORE, Game, GameRefused, NotGames, Player, game_of, read_header
+from ._games import EMPTIES_BYTE, HEADER, REAL, RECORD, SCORE
+from ._games import Game, GameRefused, NotGames, Played, Player, game_of, read_header
 from ._positions import START
 from ._published import Compared, Unfit
 
@@ -32,57 +33,52 @@ class Fixed:
         except NotGames as why:
             raise self._unfit(str(why)) from None
         self._file.seek(0)
-        yield self._exact_header(self._file.read(HEADER.size), empties)
+        yield self._exact_header(bytearray(self._file.read(HEADER.size)), empties)
         while self._games < count and len(record := self._file.read(RECORD)) == RECORD:
             self._games += 1
-            yield self._exact(record)
+            yield self._exact(bytearray(record))
         missing = [game for game in self._compared if not 0 < game <= self._games]
         if missing:
             raise self._unfit(f"it has no game {missing[0]}")
         self._file.seek(HEADER.size + RECORD * self._games)
         yield from iter(lambda: self._file.read(1 << 20), b"")
 
-    def _exact_header(self, header: bytes, empties: int) -> bytes:
+    def _exact_header(self, header: bytearray, empties: int) -> bytearray:
         """The header with the number of empty squares of all positions that were compared."""
         for it in self._compared.values():
-            if it.position.empties != (empties := empties or it.position.empties):
-                raise self._unfit(f"game {it.game} was compared with {it.position.empties} empty squares, and not {empties}")
-        return header[:EMPTIES_BYTE] + bytes([empties]) + header[EMPTIES_BYTE + 1 :]
+            compared = it.position.empties
+            if compared != (empties := empties or compared):
+                raise self._unfit(f"game {it.game} was compared with {compared} empty squares, and not {empties}")
+        header[EMPTIES_BYTE] = empties
+        return header
 
-    def _exact(self, record: bytes) -> bytes:
-        """The next game of the file with its exact scores."""
-        game, exact = game_of(self._games, record), bytearray(record)
-        it = self._compared.get(self._games)
+    def _exact(self, record: bytearray) -> bytearray:
+        """The next game of the file with its exact scores. Raises Unfit if it is not the one that was compared."""
+        game, it = game_of(self._games, bytes(record)), self._compared.get(self._games)
         if it is not None:
-            self._check(game, it)
+            played = self._played(game, it.position.empties)
+            position = played and (*played.position, played.position.side)
+            if position != (*it.position, it.position.side) or game.score != it.published:
+                raise self._unfit(f"its game {it.game} has another position or theoretical score")
             self._changed += it.exact != it.published
-            exact[SCORE] = it.exact
+            record[SCORE] = it.exact
         if self._with_real:
-            discs = self._real_score(game)
-            self._real_unknown += discs is None
-            self._real_changed += discs not in (None, game.real)
-            exact[REAL] = exact[REAL] if discs is None else discs
-        return bytes(exact)
+            played = self._played(game, START.empties)
+            if played is None or played.discs is None:
+                self._real_unknown += 1
+            else:
+                self._real_changed += played.discs != game.real
+                record[REAL] = played.discs
+        return record
 
-    def _check(self, game: Game, it: Compared) -> None:
-        """Raises Unfit if a game has another position or theoretical score than the one that was compared."""
+    def _played(self, game: Game, empties: int) -> Optional[Played]:
         try:
-            position = self._player.play(game, it.position.empties).position
-            is_same = (position, position.side) == (it.position, it.position.side)
+            return self._player.play(game, empties)
         except GameRefused:
-            is_same = False
-        if not is_same or game.score != it.published:
-            raise self._unfit(f"its game {it.game} has another position or theoretical score")
+            return None
 
     def _unfit(self, why: str) -> Unfit:
         return Unfit(f"{self._name} is not the WTHOR file of the list: {why}")
-
-    def _real_score(self, game: Game) -> Optional[int]:
-        """Black's discs at the end of a game, or None if a move is illegal or the moves stop before the end."""
-        try:
-            return self._player.play(game, START.empties).discs
-        except GameRefused:
-            return None
 
 
 def write_new(files: Mapping[str, Iterable[bytes]]) -> None:
@@ -90,40 +86,25 @@ def write_new(files: Mapping[str, Iterable[bytes]]) -> None:
 
     Raises FileExistsError if one is there, and OSError. The error's `filename` is the path.
     """
-    with contextlib.ExitStack() as stack:
-        written = {path: stack.enter_context(unnamed(path, pieces)) for path, pieces in files.items()}
-        for path, beside in written.items():
-            try:
-                move(beside, path)
-            except OSError as error:
-                error.filename = path
-                raise
-
-
-@contextlib.contextmanager
-def unnamed(path: str, pieces: Iterable[bytes]) -> Iterator[str]:
-    """A complete file next to a path. It is removed at the end, if it was not moved."""
-    beside = f"{path}.{os.urandom(4).hex()}.new"
+    complete: Dict[str, str] = {}  # a file next to each path
     try:
-        try:
-            with open(beside, "xb") as file:
+        for path, pieces in files.items():
+            complete[path] = f"{path}.{os.urandom(4).hex()}.new"
+            with open(complete[path], "xb") as file:
                 file.writelines(pieces)
                 file.flush()
                 os.fsync(file.fileno())
-        except OSError as error:
-            error.filename = path
-            raise
-        yield beside
-    finally:
-        with contextlib.suppress(OSError):
-            os.unlink(beside)
-
-
-def move(old: str, new: str) -> None:
-    """Renames a file, but never over another one: raises FileExistsError."""
-    try:
-        os.link(old, new)
-    except FileExistsError:
+        for path, written in complete.items():
+            try:
+                os.link(written, path)  # which never replaces another file
+            except FileExistsError:
+                raise
+            except OSError:  # a file system without hard links
+                os.rename(written, path)
+    except OSError as error:
+        error.filename = path
         raise
-    except OSError:  # a file system without hard links
-        os.rename(old, new)
+    finally:
+        for written in complete.values():
+            with contextlib.suppress(OSError):
+                os.unlink(written)

@@ -1,7 +1,10 @@
 """Games: reads transcripts and WTHOR files, and plays games by the library's rules."""
+import contextlib
 import ctypes
+import io
+import os
 import struct
-from typing import Any, BinaryIO, Iterator, List, NamedTuple, Optional, Sequence, Tuple, Type
+from typing import Any, BinaryIO, Callable, Iterator, List, NamedTuple, Optional, Sequence, Tuple, Type, Union
 
 from ._boards import OTHER
 from ._library import CPosition
@@ -17,9 +20,8 @@ HEADER = struct.Struct("<4x I H 2x B B B x")  # games, another number, size of t
 EMPTIES_BYTE = 14  # of the header: the empty squares
 RECORD, REAL, SCORE, FIRST_MOVE = 68, 6, 7, 8  # bytes of a game, and places in it
 MOST_DISCS = 64
-SQUARES = bytearray([NO_SQUARE] * 256)  # by the byte of a move in a WTHOR file: ten times the row, plus the column
-for square in range(64):
-    SQUARES[10 * (square // 8 + 1) + square % 8 + 1] = square
+# Squares by their bytes in a WTHOR file: ten times the row, plus the column.
+SQUARES = bytes(WORDS.get(f"{chr(96 + byte % 10)}{byte // 10}", NO_SQUARE) for byte in range(256))
 TEXT = bytes([*b"\t\n\v\f\r", *range(32, 256)])  # first bytes of a text; that of a WTHOR file, the century, is another
 
 
@@ -76,6 +78,44 @@ class Played(NamedTuple):
 
     position: Position  # the first one with the wanted number of empty squares
     discs: Optional[int]  # Black's at the end, with the empty squares to the winner; None if the moves stop before
+
+
+def read_games(
+    source: "Union[str, os.PathLike[str], io.BufferedIOBase, io.RawIOBase]",
+    refused: Optional[Callable[[GameRefused], object]] = None,
+) -> Iterator[Game]:
+    """The games of a file, in their order. `source` is its path, or the file itself, opened for bytes. It is a WTHOR file, or
+    a text with a game in each line, in any form that `Game.of_text` reads; lines without a move are skipped.
+
+    GameRefused is raised if a WTHOR file is cut off, or goes on after its last game. If `refused` is given, it is called
+    with the error instead. Illegal moves are refused by `Solver.positions`. Raises OSError, and ValueError for a file of
+    another kind. This prints the games with wrong theoretical scores:
+
+        solver = Solver(max_empties=24)
+        for game in read_games("WTH_2001.wtb"):
+            position = solver.positions(game)[60 - game.empties]
+            score = solver.solve(position).score
+            if 2 * game.score - 64 != (score if position.side == "X" else -score):
+                print(game.number, game.score)
+    """
+    with contextlib.ExitStack() as stack:
+        file: Any = source
+        if isinstance(source, (str, os.PathLike)):
+            file = stack.enter_context(open(source, "rb"))
+        elif isinstance(source, (io.BufferedIOBase, io.RawIOBase)) and not hasattr(source, "peek"):
+            file = io.BufferedReader(source)  # type: ignore[arg-type]
+            stack.callback(file.detach)  # the caller's file stays open
+        elif not hasattr(source, "peek"):
+            raise TypeError(f"games are read from a path or from a file opened for bytes, not from {type(source).__name__}")
+        name = getattr(file, "name", None)
+        for game in games_in(file, name if isinstance(name, str) else "the file")[0]:
+            if game.fault is None:
+                yield game
+                continue
+            error = GameRefused(game.fault, game.number)
+            if refused is None:
+                raise error
+            refused(error)
 
 
 def games_in(file: Any, name: str) -> Tuple[Iterator[Game], Optional[int]]:
@@ -157,51 +197,52 @@ class Player:
     def play(self, game: Game, empties: int) -> Played:
         """A game's first position with a number of empty squares, and how the game ends. It is played to its end, since an
         illegal move shows that an earlier one may be wrong. Raises GameRefused."""
-        found, last = self._played(game, range(empties, empties + 1))
-        if not found and not game.moves:
-            raise GameRefused("it has no moves", game.number)
-        if not found:
+        found = self._played(game)
+        last = position_of(*found[-1])
+        if last.empties > empties:
+            if not game.moves:
+                raise GameRefused("it has no moves", game.number)
             why = f"it ends here, with {last.empties} empty square{'s' * (last.empties > 1)}; {empties} are asked for"
-            raise GameRefused(why, game.number, START.empties - last.empties)
-        is_over = not any(self._has_move(CPosition(*it)) for it in (last, last.passed()))
+            raise GameRefused(why, game.number, len(found) - 1)
+        is_over = not self._has_move(CPosition(*last)) and not self._has_move(CPosition(last.opp, last.own))
         discs = discs_of_black(final_score(*last), last.side) if is_over else None
-        return Played(found[0], discs)
+        return Played(position_of(*found[START.empties - empties]), discs)
 
     def positions(self, game: Game) -> List[Position]:
         """The positions of a game: the start, and the one after each move. Raises GameRefused."""
-        return self._played(game, range(START.empties + 1))[0]
+        return [position_of(*it) for it in self._played(game)]
 
-    def _played(self, game: Game, wanted: range) -> Tuple[List[Position], Position]:
-        """The first position of a game with each wanted number of empty squares, and its last position."""
+    def _played(self, game: Game) -> List[Tuple[CPosition, str]]:
+        """The positions of a game, each with the side to move. Raises GameRefused."""
         if game.fault is not None:
             raise GameRefused(game.fault, game.number)
-        play, at, after, side, left = self._play, CPosition(*START), CPosition(), START.side, START.empties
-        found = [START] if left in wanted else []
+        play, at, side = self._play, CPosition(*START), START.side
+        found = [(at, side)]
         for index, square in enumerate(game.moves):
+            after = CPosition()
             if play(at, square, after):
                 other = CPosition(at.opp, at.own)
-                if self._has_move(at) or square != PASS and not self._has_move(other):
-                    raise self._refusal(Position(at.own, at.opp, side), game, index)
-                at, side = other, OTHER[side]
-                if square == PASS:
-                    continue
+                if not self._has_move(at) and (square == PASS or self._has_move(other)):
+                    at, side = other, OTHER[side]
+                    if square == PASS:
+                        continue
                 if play(at, square, after):
-                    raise self._refusal(Position(at.own, at.opp, side), game, index)
-            at, after, side, left = after, at, OTHER[side], left - 1
-            if left in wanted:
-                found.append(Position(at.own, at.opp, side))
-        return found, Position(at.own, at.opp, side)
+                    raise GameRefused(self._why_illegal(game, index, position_of(at, side)), game.number, len(found))
+            at, side = after, OTHER[side]
+            found.append((at, side))
+        return found
 
     def _has_move(self, at: CPosition) -> bool:
         moves = ctypes.c_uint64()
         self._moves(at, moves)
         return moves.value != 0
 
-    def _refusal(self, position: Position, game: Game, index: int) -> GameRefused:
-        """Why a move of a game is illegal."""
-        move = game.moves[index]
-        number = sum(it != PASS for it in game.moves[:index]) + 1
-        if move == NO_SQUARE:
-            return GameRefused(f"{game.words[index]!r} is not a square", game.number, number)
-        name = "a pass" if move == PASS else square_name(move)
-        return GameRefused(illegal_move(self._library, position, name).reason, game.number, number)
+    def _why_illegal(self, game: Game, index: int, position: Position) -> str:
+        square = game.moves[index]
+        if square == NO_SQUARE:
+            return f"{game.words[index]!r} is not a square"
+        return illegal_move(self._library, position, "a pass" if square == PASS else square_name(square)).reason
+
+
+def position_of(at: CPosition, side: str) -> Position:
+    return Position(at.own, at.opp, side)

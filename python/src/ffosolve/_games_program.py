@@ -1,6 +1,7 @@
 """The program ffosolve-games."""
 import argparse
 import contextlib
+import hashlib
 import io
 import os
 import signal
@@ -12,8 +13,8 @@ from ._fix_wthor import Fixed, write_new
 from ._games import MOST_DISCS, Game, GameRefused, NotGames, Played, Player, games_in
 from ._games_arguments import NAME, options_of
 from ._library import LibraryNotFound, load
-from ._list_digest import ListDigest
-from ._published import BadList, Compared, Comparison, Unfit
+from ._positions import Position
+from ._published import BadList, Compared, Comparison, Unfit, digest_of
 from ._text import NotText, shown, text_lines
 
 DONE, REMARKED, MISUSED, UNREADABLE, NO_LIBRARY, INTERRUPTED = 0, 1, 2, 3, 4, 130
@@ -32,12 +33,13 @@ class FileRefused(Stop):
 
 
 class Output:
-    """Standard output. Raises Stop if it can't be written."""
+    """Standard output, and the digest of the games that were printed. Raises Stop if it can't be written."""
 
     def __enter__(self) -> "Output":
         if sys.stdout is None:
             raise Stop("cannot write standard output: it is closed")
         sys.stdout = open(1, "w", closefd=False)  # that of PYTHONUNBUFFERED loses what a write on a full disk left over
+        self._games, self._has_scores = hashlib.sha256(), False
         return self
 
     def line(self, text: bytes) -> None:
@@ -45,6 +47,18 @@ class Output:
             sys.stdout.buffer.write(text + b"\n")
         except OSError as error:
             raise unwritable("standard output", error) from None
+
+    def game(self, name: str, game: Game, position: Position) -> None:
+        score = "" if game.score is None else f", theoretical score {game.score}"
+        line = os.fsencode(f"{position.to_obf()} % {listed_name(name)}, game {game.number}{score}")
+        self.line(line)
+        self._games.update(line + b"\n")
+        self._has_scores |= game.score is not None
+
+    def end(self) -> None:
+        """Prints the digest, if a line has a theoretical score."""
+        for line in digest_of(self._games) if self._has_scores else ():
+            self.line(line)
 
     def __exit__(self, *_: object) -> None:
         try:
@@ -72,37 +86,19 @@ def main(find: Callable[[], Optional[str]] = lambda: None) -> int:
         return INTERRUPTED
 
 
-class GameList:
-    """The list that is printed. After lines with theoretical scores it has their digest."""
-
-    def __init__(self, output: Output) -> None:
-        self._output, self._digest, self._has_scores = output, ListDigest(), False
-
-    def add(self, name: str, game: Game, played: Played) -> None:
-        score = "" if game.score is None else f", theoretical score {game.score}"
-        line = os.fsencode(f"{played.position.to_obf()} % {listed_name(name)}, game {game.number}{score}")
-        self._output.line(line)
-        self._digest.add(line)
-        self._has_scores |= game.score is not None
-
-    def end(self) -> None:
-        for line in self._digest.lines() if self._has_scores else ():
-            self._output.line(line)
-
-
 def print_games(options: argparse.Namespace, find: Callable[[], Optional[str]], output: Output) -> int:
-    player, listed, status = Player(load(find())), GameList(output), DONE
+    player, status = Player(load(find())), DONE
     for name in options.files or ["-"]:
         try:
             with opened(name) as file:
-                status = max(status, print_file(name, file, options.empties, player, listed))
+                status = max(status, print_file(name, file, options.empties, player, output))
         except FileRefused as why:
             status = max(status, report(why, why.status))
-    listed.end()
+    output.end()
     return status
 
 
-def print_file(name: str, file: io.BufferedReader, wanted: Optional[int], player: Player, listed: GameList) -> int:
+def print_file(name: str, file: io.BufferedReader, wanted: Optional[int], player: Player, output: Output) -> int:
     """Prints the line of each game of a file, and reports on standard error each game without one, and wrong scores."""
     status = DONE
     games, of_scores = games_in(file, shown(name))
@@ -120,7 +116,7 @@ def print_file(name: str, file: io.BufferedReader, wanted: Optional[int], player
             continue
         if game.empties not in (None, empties):
             game = game._replace(score=None)
-        listed.add(name, game, played)
+        output.game(name, game, played.position)
         for wrong in wrong_scores(game, played):
             status = report(f"{shown(name)}, game {game.number}: {wrong}", REMARKED)
     return status
@@ -131,11 +127,10 @@ def wrong_scores(game: Game, played: Played) -> Iterator[str]:
     for kind, score in (("theoretical", game.score), ("real", game.real)):
         if score is not None and score > MOST_DISCS:
             yield f"its {kind} score is {score}, more than {MOST_DISCS} discs"
-    if game.real is not None and game.real <= MOST_DISCS and played.discs != game.real:
-        if played.discs is None:
-            yield f"its moves stop before the end of the game, so its real score {game.real} is not checked"
-        else:
-            yield f"its real score is {game.real}, but its moves give {played.discs}"
+        elif kind == "real" and score is not None and played.discs is None:
+            yield f"its moves stop before the end of the game, so its real score {score} is not checked"
+        elif kind == "real" and score not in (None, played.discs):
+            yield f"its real score is {score}, but its moves give {played.discs}"
 
 
 def compare(options: argparse.Namespace, find: Callable[[], Optional[str]], output: Output) -> int:

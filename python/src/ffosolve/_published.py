@@ -1,16 +1,17 @@
 """Published scores: a list of ffosolve-games is compared with the report of its solved positions."""
+import hashlib
 import os
 import re
 from typing import Dict, Iterable, List, NamedTuple, Optional
 
 from ._games import discs_of_black, final_score
-from ._list_digest import ListDigest, is_digest
 from ._positions import Line, Position
 from ._refusals import LineRefused, NoPosition
 
 COMMENT = re.compile(r"[^%]*% (.+), game ([0-9]{1,10})(?:, theoretical score ([0-9]{1,3}))?")
 ROW = re.compile(r"([0-9]{1,18}) (?:([+-][0-9]{2}) (?:[A-H][1-8](?:,[A-H][1-8])*|PS|--) unlisted|refused: .+)")
 LAST = re.compile("solved ([0-9]{1,18}) refused ([0-9]{1,18})")
+DIGEST = re.compile(rb"[XO-]{64} X; % digest, line [1-4] of 4")
 
 
 class BadList(Exception):
@@ -54,7 +55,11 @@ class Comparison:
                 raise Unfit(f"line {number} of the list is not a position, but the report has a row for it")
             line, score = lines[number], rows[number]
             if not line.file:
-                check_digest(number, line.position, score)
+                exact = final_score(*line.position)
+                if score != exact:
+                    said = "is refused" if score is None else f"has {score:+03}"
+                    raise Unfit(f"line {number} of the list is part of its digest, {exact:+03}, but {said} in the report, "
+                                "which is of another list or scoring")
             elif line.score is None:
                 self.unscored += 1
             elif score is None:
@@ -65,6 +70,18 @@ class Comparison:
         self.differences = [it for it in self.compared if it.published != it.exact]
 
 
+def digest_of(lines: "hashlib._Hash") -> List[bytes]:
+    """Four finished games, as lines of OBF, for the SHA-256 of a list's lines, cut to 24 bits. Their rows in a report of the
+    list spell these bits.
+
+    A line stands for six bits: a number n from 0 to 63 is a game with n black squares, an empty one and 63 - n white ones.
+    Each n has another score. Because of the empty square the scores are even under the scoring `winner` only.
+    """
+    number = int.from_bytes(lines.digest()[:3], "big")
+    black = [number >> shift & 63 for shift in (18, 12, 6, 0)]
+    return [b"X" * n + b"-" + b"O" * (63 - n) + b" X; %% digest, line %d of 4" % at for at, n in enumerate(black, 1)]
+
+
 def read_list(lines: Iterable[bytes]) -> Dict[int, Listed]:
     """The positions of a list by the numbers of their lines.
 
@@ -72,7 +89,7 @@ def read_list(lines: Iterable[bytes]) -> Dict[int, Listed]:
     """
     found: Dict[int, Listed] = {}
     awaited: List[bytes] = []
-    digest, uncovered = ListDigest(), 0
+    covered, uncovered = hashlib.sha256(), 0
     for number, text in enumerate(lines, 1):
         text = text.rstrip(b"\r\n")
         try:
@@ -82,15 +99,15 @@ def read_list(lines: Iterable[bytes]) -> Dict[int, Listed]:
         except LineRefused as why:
             is_report = number == 1 and text == b"[1]"
             raise BadList("it is a report; LIST comes first" if is_report else f"its line {number} is refused: {why}") from None
-        if not awaited and not is_digest(text):
-            digest.add(text)
+        if not awaited and not DIGEST.fullmatch(text):
+            covered.update(text + b"\n")
             uncovered = number
             continue
-        awaited = awaited or digest.lines()
+        awaited = awaited or digest_of(covered)
         if text != awaited.pop(0):
             raise BadList(f"its line {number} is not the digest of the lines before it, so they were changed")
         if not awaited:
-            digest, uncovered = ListDigest(), 0
+            covered, uncovered = hashlib.sha256(), 0
     if all(it.score is None for it in found.values()):
         raise BadList("it has no theoretical score")
     if uncovered:
@@ -130,12 +147,3 @@ def read_report(lines: Iterable[bytes]) -> Dict[int, Optional[int]]:
     if (len(found) - refused, refused) != (int(last[1]), int(last[2])):
         raise Unfit(f"the report ends with `{texts[-1]}`, but has {len(found)} rows, {refused} of them refused")
     return found
-
-
-def check_digest(number: int, position: Position, score: Optional[int]) -> None:
-    """Raises Unfit if a report has another score for a line of the list's digest."""
-    exact = final_score(*position)
-    if score != exact:
-        said = "is refused" if score is None else f"has {score:+03}"
-        raise Unfit(f"line {number} of the list is part of its digest, {exact:+03}, but {said} in the report, "
-                    "which is of another list or scoring")

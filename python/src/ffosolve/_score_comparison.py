@@ -56,7 +56,9 @@ def compare_scores(listed: Source, scored: Source) -> ScoreComparison:
             refused += 1
             continue
         lines, exact = lines + 1, dict(answer.listed)
-        for piece in filter(None, (it.strip(b" \t") for it in fields_of(text))):
+        found: Any = LINE.match(without_end(text))
+        pieces: List[bytes] = found[5].split(b";")
+        for piece in filter(None, (it.strip(b" \t") for it in pieces)):
             match = SCORE.fullmatch(piece)
             if match is None:
                 unread += 1
@@ -90,10 +92,3 @@ def found_in(text: Union[str, bytes], number: int) -> Union[Line, LineRefused]:
         return read_line(text, number)
     except LineRefused as error:
         return error
-
-
-def fields_of(text: Union[str, bytes]) -> List[bytes]:
-    """The pieces of a line between semicolons."""
-    found: Any = LINE.match(without_end(text))
-    pieces: List[bytes] = found[5].split(b";")
-    return pieces
