@@ -23,12 +23,8 @@ impl TryFrom<u32> for Scoring {
     type Error = Error;
 
     fn try_from(number: u32) -> Result<Scoring, Error> {
-        match number {
-            0 => Ok(Scoring::Winner),
-            1 => Ok(Scoring::Discs),
-            2 => Ok(Scoring::Sign),
-            _ => Err(Error::UnknownScoring),
-        }
+        let known = [Scoring::Winner, Scoring::Discs, Scoring::Sign];
+        known.into_iter().find(|scoring| *scoring as u32 == number).ok_or(Error::UnknownScoring)
     }
 }
 
@@ -79,11 +75,10 @@ impl Solver {
     /// # Errors
     /// `TooManyEntries`, `TooManyEmpties` and `NoMemory`, tested in this order.
     pub fn solve(&self, position: Position) -> Result<Answer, Error> {
-        let (mut answer, entries) = (raw::Answer::default(), self.table(&[position]));
+        let (mut answer, scoring, entries) = (raw::Answer::default(), self.scoring as u32, self.table(&[position]));
         // SAFETY: the pointer is to an answer of this call's own.
-        let status = unsafe { raw::ffosolve_solve(position.raw(), self.scoring as u32, entries, &mut answer) };
-        Error::of_status(status, 0)?;
-        Ok(Answer::of_raw(answer))
+        let status = unsafe { raw::ffosolve_solve(position.raw(), scoring, entries, &mut answer) };
+        Error::of_status(status, 0).map(|()| Answer::of_raw(answer))
     }
 
     /// The answer for a position; a claimed answer is tested first. The claim may be wrong: it is right if the result equals
@@ -92,12 +87,10 @@ impl Solver {
     /// # Errors
     /// Those of `solve`.
     pub fn confirm(&self, position: Position, claim: Answer) -> Result<Answer, Error> {
-        let (mut answer, entries) = (raw::Answer::default(), self.table(&[position]));
-        let scoring = self.scoring as u32;
+        let (mut answer, scoring, entries) = (raw::Answer::default(), self.scoring as u32, self.table(&[position]));
         // SAFETY: the pointer is to an answer of this call's own.
         let status = unsafe { raw::ffosolve_confirm(position.raw(), scoring, entries, claim.raw(), &mut answer) };
-        Error::of_status(status, 0)?;
-        Ok(Answer::of_raw(answer))
+        Error::of_status(status, 0).map(|()| Answer::of_raw(answer))
     }
 
     /// The answers for positions, in their order, with one table.

@@ -56,17 +56,16 @@ fn plays() {
 fn refuses() {
     let wide = position(1, 6);
     assert_eq!(Position::new(3, 2), Err(Error::SharedSquare));
-    let solver = Solver::new();
-    assert_eq!(solver.solve(wide), Err(Error::TooManyEmpties { index: 0 }));
-    assert_eq!(solver.confirm(wide, ANSWER), Err(Error::TooManyEmpties { index: 0 }));
-    assert_eq!(solver.move_scores(wide), Err(Error::TooManyEmpties { index: 0 }));
+    let (solver, large) = (Solver::new(), Solver::new().entries(ffosolve::MOST_ENTRIES + 1));
+    let first = Error::TooManyEmpties { index: 0 };
+    for (by, of, error) in [(solver, wide, first), (large, corners(), Error::TooManyEntries)] {
+        assert_eq!(by.solve(of), Err(error));
+        assert_eq!(by.confirm(of, ANSWER), Err(error));
+        assert_eq!(by.move_scores(of), Err(error));
+    }
     assert_eq!(solver.solve_all(&[corners(), wide, wide]), Err(Error::TooManyEmpties { index: 1 }));
-    let large = Solver::new().entries(ffosolve::MOST_ENTRIES + 1);
-    assert_eq!(large.solve(corners()), Err(Error::TooManyEntries));
-    assert_eq!(large.confirm(corners(), ANSWER), Err(Error::TooManyEntries));
-    assert_eq!(large.move_scores(corners()), Err(Error::TooManyEntries));
     assert_eq!(large.solve_all(&[]), Err(Error::TooManyEntries));
-    assert_eq!(Solver::new().entries(ffosolve::MOST_ENTRIES).solve(corners()), Ok(ANSWER));
+    assert_eq!(solver.entries(ffosolve::MOST_ENTRIES).solve(corners()), Ok(ANSWER));
 }
 
 #[test]
