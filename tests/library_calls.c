@@ -1,5 +1,5 @@
 /* For each line of standard input, makes the call of ffosolve.h that it names, and prints the status and what was written:
-   a field that still is 99 was not. Compiled as C and as C++. Printed masks, and texts to read, are in hexadecimal.
+   what still has the bytes 99 was not. Compiled as C and as C++. Printed masks, and texts to read, are in hexadecimal.
 
        solve OWN OPP SCORING ENTRIES                  SCORE/KIND/BEST
        confirm OWN OPP SCORING ENTRIES SCORE KIND BEST    likewise
@@ -17,133 +17,95 @@
 #include <stdlib.h>
 #include <string.h>
 
-enum { UNSET = 99, ROOM = 4, WORDS = 16, LONGEST = 10000 };
+enum { ROOM = 4, WORDS = 16, LONGEST = 10000 };
 
 static uint64_t number[WORDS];
 static size_t numbers;
 
-static ffosolve_position position_at(size_t first) {
-    const ffosolve_position position = {number[first], number[first + 1]};
-    return position;
-}
-
-static ffosolve_answer answer_of(uint64_t score, uint64_t kind, uint64_t best) {
-    const ffosolve_answer answer = {(int32_t)score, (int32_t)kind, best};
-    return answer;
-}
-
-static void show_answer(ffosolve_answer answer) {
-    if (answer.score == UNSET && answer.kind == UNSET && answer.best == UNSET) return;
-    printf(" %" PRId32 "/%" PRId32 "/%" PRIx64, answer.score, answer.kind, answer.best);
-}
-
-static void show_scores(const int8_t scores[64], uint64_t moves) {
-    int others = 0;
-    if (moves != UNSET) printf(" %" PRIx64, moves);
-    for (int square = 0; square < 64; square++) {
-        others += scores[square] == FFOSOLVE_NO_SCORE;
-        if (scores[square] != UNSET && scores[square] != FFOSOLVE_NO_SCORE) printf(" %d:%d", square, scores[square]);
-    }
-    if (others > 0) printf(" +%d", others);
-}
-
-static void show_index(size_t at) {
-    if (at != UNSET) printf(" at %zu", at);
-}
-
-static void solve_one(const char *call) {
-    const ffosolve_position position = position_at(0);
-    const uint32_t scoring = (uint32_t)number[2];
-    const size_t entries = (size_t)number[3];
-    ffosolve_answer answer = answer_of(UNSET, UNSET, UNSET);
-    int8_t scores[64];
-    uint64_t moves = UNSET;
-    memset(scores, UNSET, sizeof scores);
-    if (strcmp(call, "solve") == 0) {
-        printf("%" PRId32, ffosolve_solve(position, scoring, entries, &answer));
-    } else if (strcmp(call, "confirm") == 0) {
-        const ffosolve_answer claim = answer_of(number[4], number[5], number[6]);
-        printf("%" PRId32, ffosolve_confirm(position, scoring, entries, claim, &answer));
-    } else {
-        printf("%" PRId32, ffosolve_move_scores(position, scoring, entries, scores, &moves));
-    }
-    show_answer(answer);
-    show_scores(scores, moves);
-}
-
-static void solve_list(const char *call) {
-    const uint32_t scoring = (uint32_t)number[0];
-    const size_t entries = (size_t)number[1], room = (size_t)number[2], count = (numbers - 3) / 2;
-    ffosolve_position positions[WORDS];
+static struct written {
+    size_t at;
+    ffosolve_position after;
     ffosolve_answer answers[ROOM];
     ffosolve_move_scores_of found[ROOM];
-    size_t at = UNSET;
-    for (size_t i = 0; i < count; i++) positions[i] = position_at(3 + 2 * i);
-    for (size_t i = 0; i < ROOM; i++) {
-        answers[i] = answer_of(UNSET, UNSET, UNSET);
-        memset(found[i].scores, UNSET, sizeof found[i].scores);
-        found[i].moves = UNSET;
-    }
-    printf("%" PRId32, strcmp(call, "solve_all") == 0
-                           ? ffosolve_solve_all(positions, count, scoring, entries, answers, room, &at)
-                           : ffosolve_move_scores_all(positions, count, scoring, entries, found, room, &at));
-    show_index(at);
-    for (size_t i = 0; i < ROOM; i++) {
-        if (answers[i].score == UNSET && found[i].moves == UNSET) continue;
-        printf(" %zu:", i);
-        show_answer(answers[i]);
-        show_scores(found[i].scores, found[i].moves);
-    }
-}
-
-static void moves_or_play(const char *call) {
-    ffosolve_position after = {UNSET, UNSET};
-    uint64_t moves = UNSET;
-    printf("%" PRId32, strcmp(call, "moves") == 0 ? ffosolve_moves(position_at(0), &moves)
-                                                  : ffosolve_play(position_at(0), (uint8_t)number[2], &after));
-    if (moves != UNSET) printf(" %" PRIx64, moves);
-    if (after.own != UNSET || after.opp != UNSET) printf(" %" PRIx64 " %" PRIx64, after.own, after.opp);
-}
-
-static void read_line(const char *text, size_t length, size_t room) {
-    ffosolve_line line = {{UNSET, UNSET}, UNSET, UNSET};
-    const ffosolve_listed unset = {UNSET, UNSET, UNSET};
+    ffosolve_line line;
     ffosolve_listed listed[2 * ROOM];
-    size_t at = UNSET;
-    for (size_t i = 0; i < 2 * ROOM; i++) listed[i] = unset;
-    printf("%" PRId32, ffosolve_read_line(text, length, &line, listed, room, &at));
-    show_index(at);
-    if (line.side != UNSET || line.listed != UNSET || line.position.own != UNSET) {
-        printf(" %" PRIx64 " %" PRIx64 " %" PRId32 " %zu", line.position.own, line.position.opp, line.side, line.listed);
+} now, unset;
+
+#define IS_SET(member) (memcmp(&now.member, &unset.member, sizeof now.member) != 0)
+#define CALL(name, ...) \
+    if (strcmp(call, #name) == 0) return ffosolve_##name(__VA_ARGS__)
+
+static int32_t status_of(const char *call, const char *text, size_t length) {
+    const ffosolve_position position = {number[0], number[1]};
+    const ffosolve_answer claim = {(int32_t)number[4], (int32_t)number[5], number[6]};
+    const uint32_t scoring = (uint32_t)number[2], of_all = (uint32_t)number[0];
+    const size_t count = numbers > 3 ? (numbers - 3) / 2 : 0;
+    ffosolve_position positions[WORDS];
+    for (size_t i = 0; i < count; i++) {
+        positions[i].own = number[3 + 2 * i];
+        positions[i].opp = number[4 + 2 * i];
+    }
+    CALL(solve, position, scoring, number[3], &now.answers[0]);
+    CALL(confirm, position, scoring, number[3], claim, &now.answers[0]);
+    CALL(solve_all, positions, count, of_all, number[1], now.answers, number[2], &now.at);
+    CALL(move_scores, position, scoring, number[3], now.found[0].scores, &now.found[0].moves);
+    CALL(move_scores_all, positions, count, of_all, number[1], now.found, number[2], &now.at);
+    CALL(moves, position, &now.found[0].moves);
+    CALL(play, position, (uint8_t)number[2], &now.after);
+    return ffosolve_read_line(text, length, &now.line, now.listed, number[0], &now.at);
+}
+
+static void make(const char *call, const char *text, size_t length) {
+    now = unset;
+    printf("%" PRId32, status_of(call, text, length));
+    if (IS_SET(at)) printf(" at %zu", now.at);
+    if (IS_SET(after)) printf(" %" PRIx64 " %" PRIx64, now.after.own, now.after.opp);
+    if (IS_SET(line)) {
+        printf(" %" PRIx64 " %" PRIx64, now.line.position.own, now.line.position.opp);
+        printf(" %" PRId32 " %zu", now.line.side, now.line.listed);
     }
     for (size_t i = 0; i < 2 * ROOM; i++) {
-        if (listed[i].score == UNSET && listed[i].kind == UNSET && listed[i].square == UNSET) continue;
-        printf(" %" PRId32 "/%d/%" PRId32, listed[i].kind, listed[i].square, listed[i].score);
+        const ffosolve_listed it = now.listed[i];
+        if (IS_SET(listed[i])) printf(" %" PRId32 "/%d/%" PRId32, it.kind, it.square, it.score);
+    }
+    for (size_t i = 0; i < ROOM; i++) {
+        const ffosolve_answer answer = now.answers[i];
+        int others = 0;
+        if (strstr(call, "_all") && (IS_SET(answers[i]) || IS_SET(found[i]))) printf(" %zu:", i);
+        if (IS_SET(answers[i])) printf(" %" PRId32 "/%" PRId32 "/%" PRIx64, answer.score, answer.kind, answer.best);
+        if (IS_SET(found[i].moves)) printf(" %" PRIx64, now.found[i].moves);
+        for (int square = 0; square < 64; square++) {
+            const int score = now.found[i].scores[square];
+            if (score == FFOSOLVE_NO_SCORE) others++;
+            else if (IS_SET(found[i].scores[square])) printf(" %d:%d", square, score);
+        }
+        if (others > 0) printf(" +%d", others);
     }
 }
 
-static void read_bytes(const char *hexadecimal) {
+static void make_read_line(const char *hexadecimal) {
     static char text[LONGEST];
     const size_t length = strlen(hexadecimal) / 2;
     for (size_t i = 0; i < length; i++) {
         const char byte[] = {hexadecimal[2 * i], hexadecimal[2 * i + 1], '\0'};
         text[i] = (char)strtol(byte, NULL, 16);
     }
-    read_line(text, length, (size_t)number[0]);
+    make("read_line", text, length);
 }
 
-static void long_line(void) {
+static void make_long_line(void) {
     const size_t fields = 8000000, length = 66 + 5 * fields;
     char *text = (char *)malloc(length);
     if (!text) exit(2);
     memset(text, '-', 64);
     memcpy(text + 64, "X;", 2);
     for (size_t i = 0; i < fields; i++) memcpy(text + 66 + 5 * i, "B1:1;", 5);
-    read_line(text, length, 1);
+    number[0] = 1;
+    make("read_line", text, length);
     free(text);
 }
 
-static void names(void) {
+static void show_names(void) {
     const int values[] = {
         FFOSOLVE_WINNER, FFOSOLVE_DISCS, FFOSOLVE_SIGN, FFOSOLVE_MOVES, FFOSOLVE_PASS, FFOSOLVE_OVER, FFOSOLVE_BLACK,
         FFOSOLVE_WHITE, FFOSOLVE_MOST_ENTRIES, FFOSOLVE_MOST_EMPTIES, FFOSOLVE_VERSION, (int)ffosolve_version(),
@@ -160,20 +122,17 @@ static void names(void) {
 
 int main(void) {
     static char line[2 * LONGEST];
+    memset(&unset, 99, sizeof unset);
     while (fgets(line, sizeof line, stdin)) {
-        char *call = strtok(line, " \n"), *word = NULL;
-        const int is_text = strcmp(call, "read_line") == 0;
-        for (numbers = 0; numbers < (is_text ? 1 : WORDS) && (word = strtok(NULL, " \n")); numbers++) {
+        const char *call = strtok(line, " \n"), *word = NULL, *last = "";
+        for (numbers = 0; numbers < WORDS && (word = strtok(NULL, " \n")); numbers++) {
             number[numbers] = strtoull(word, NULL, 0);
+            last = word;
         }
-        if (is_text) {
-            word = strtok(NULL, " \n");
-            read_bytes(word ? word : "");
-        } else if (strcmp(call, "long_line") == 0) long_line();
-        else if (strcmp(call, "names") == 0) names();
-        else if (strstr(call, "_all")) solve_list(call);
-        else if (strcmp(call, "moves") == 0 || strcmp(call, "play") == 0) moves_or_play(call);
-        else solve_one(call);
+        if (strcmp(call, "read_line") == 0) make_read_line(numbers == 2 ? last : "");
+        else if (strcmp(call, "long_line") == 0) make_long_line();
+        else if (strcmp(call, "names") == 0) show_names();
+        else make(call, NULL, 0);
         printf("\n");
     }
     return fflush(stdout) != 0;

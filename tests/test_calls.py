@@ -1,4 +1,5 @@
 """Calls of the library from C and C++: their arguments, what they write, and their statuses in each language."""
+import itertools
 import re
 import subprocess
 import unittest
@@ -43,18 +44,24 @@ def named(text):
 
 class Calls(unittest.TestCase):
     def setUp(self):
-        """Reads the rows of tests/library_calls.txt: each is a call and what the header says that it writes."""
-        rows = [row.rsplit(" = ", 1) for row in named((TESTS / "library_calls.txt").read_text()).splitlines()]
-        calls = [re.sub(r"(?<=^read_line . ).*", lambda text: text[0].encode().decode("unicode_escape").encode().hex(), call)
-                 for call, _ in rows]
-        self.calls, self.wanted = "\n".join(calls), "".join(f"{wanted}\n" for _, wanted in rows)
+        """Reads the rows of tests/library_calls.txt: each is a call, or several whose words are between bars, and what the header
+        says that it writes."""
+        self.calls, self.wanted = [], ""
+        for row in (TESTS / "library_calls.txt").read_text().splitlines():
+            call, wanted = row.rsplit(" = ", 1)
+            for words in itertools.product(*(word.split("|") for word in call.split(" "))):
+                call = named(" ".join(words))
+                if call.startswith("read_line"):
+                    call = call[:12] + call[12:].encode().decode("unicode_escape").encode().hex()
+                self.calls.append(call)
+                self.wanted += f"{named(wanted)}\n"
 
     def printed(self, compiler, header, folder):
         """Returns what programs compiled with this header, in a folder, print about the inline functions and the calls."""
         words = ("-I", header.parent), ("-I", header.parent, "-x", "none", PREFIX.archive)
         nulls, calls = (PREFIX.compile(compiler, folder / name, [TESTS / f"library_{name}.c"], *more)
                         for name, more in zip(("nulls", "calls"), words))
-        return PREFIX.make(nulls).stdout, PREFIX.make(calls, text=self.calls).stdout
+        return PREFIX.make(nulls).stdout, PREFIX.make(calls, text="\n".join(self.calls)).stdout
 
     def test_c_and_cxx_get_what_the_header_says(self):
         for compiler in (C, CXX):
