@@ -1,4 +1,7 @@
-"""Games for tests: positions by the plain player, transcripts, records of WTHOR files, and lists with their reports."""
+"""Games for tests: transcripts, records of WTHOR files, and lists with their reports.
+
+A position is one of the plain player: the discs of the mover and of the other side, and whether Black moves.
+"""
 import functools
 import hashlib
 import struct
@@ -12,9 +15,6 @@ PROGRAM = ROOT / "bin/ffosolve-games"
 UNREADABLE = "ffosolve-games: {}: {}\n"
 NAMES = [column + row for row in "12345678" for column in "ABCDEFGH"]
 SQUARE_BYTES = [10 * row + column for row in range(1, 9) for column in range(1, 9)]  # A1, B1, .. H8 in a WTHOR file
-
-
-# Positions of the plain player: the discs of the mover and of the other side, and whether Black moves.
 
 
 def passed(position):
@@ -61,9 +61,6 @@ def real_score(squares):
     return 40 if can_move(last) or can_move(passed(last)) else discs_of_black(last)
 
 
-# Games as they stand in files.
-
-
 def squares_of(game):
     return [square for square in game if square is not None]
 
@@ -84,9 +81,6 @@ def wthor(records, empties=22, count=None, board=8, kind=0, another=0):
     return struct.pack("<4BIHHBBBB", 20, 1, 12, 31, count, another, 2001, board, kind, empties, 0) + b"".join(records)
 
 
-# Lists and reports.
-
-
 def line_of(position, comment):
     return f"{player.line(*position)} % {comment}\n"
 
@@ -97,10 +91,8 @@ def with_digest(lines):
         return lines
     games = [line for line in lines.splitlines(True) if line.strip() and not line.startswith("%")]
     number = int(hashlib.sha256("".join(games).encode()).hexdigest()[:6], 16)
-    for at in range(4):
-        black = number // 64 ** (3 - at) % 64
-        lines += "X" * black + "-" + "O" * (63 - black) + f" X; % digest, line {at + 1} of 4\n"
-    return lines
+    black = [number // 64 ** (3 - at) % 64 for at in range(4)]
+    return lines + "".join(f"{'X' * n}-{'O' * (63 - n)} X; % digest, line {at} of 4\n" for at, n in enumerate(black, 1))
 
 
 def report_of(listed, refused=None):

@@ -21,6 +21,7 @@ class Compare(Case):
         f"{OVER} X; % c, game 1\n"
         f"{OVER} O; % c, game 2, theoretical score 48\n"
     )
+    EXACT = GAMES.replace("score 34", "score 1").replace("score 0", "score 64")
     ROWS = "2 +62 H1 unlisted\n3 +62 H1 unlisted\n4 -64 PS unlisted\n6 +32 -- unlisted\n7 -32 -- unlisted\n"
 
     def setUp(self):
@@ -55,14 +56,12 @@ class Compare(Case):
         self.compare(self.listed.replace("\n", "\r\n"), self.report, status=1, out=out, err="")
 
     def test_exact_scores_end_with_status_0(self):
-        games = self.GAMES.replace("score 34", "score 1").replace("score 0", "score 64")
-        self.compare(*self.complete(games, self.ROWS), out="compared 4 differ 0 refused 0 unscored 1\n", err="")
+        self.compare(*self.complete(self.EXACT, self.ROWS), out="compared 4 differ 0 refused 0 unscored 1\n", err="")
 
     def test_a_refused_position_is_not_compared(self):
-        games = self.GAMES.replace("score 34", "score 1").replace("score 0", "score 64")
         for line, old, why in ((2, "+62 H1 unlisted", "2 empties, limit 1"), (7, "-32 -- unlisted", "16 empties, limit 15")):
             rows = self.ROWS.replace(f"{line} {old}", f"{line} refused: {why}")
-            self.compare(*self.complete(games, rows), status=1, out="compared 3 differ 0 refused 1 unscored 1\n", err="")
+            self.compare(*self.complete(self.EXACT, rows), status=1, out="compared 3 differ 0 refused 1 unscored 1\n", err="")
 
     def test_a_changed_list_is_refused(self):
         lines = self.listed.splitlines(True)
@@ -86,10 +85,9 @@ class Compare(Case):
             self.bad(listed, "it has no theoretical score")
 
     def test_comments_and_other_lists_may_be_added_to_a_list(self):
-        games = self.GAMES.replace("score 34", "score 1").replace("score 0", "score 64")
         more, rows = "% more\n\n", "".join(f"{int(row[0]) + 13}{row[1:]}\n" for row in self.ROWS.splitlines())
-        listed, report = self.complete(games, self.ROWS)
-        listed, rest = listed + more + with_digest(games), report_of("\n" * 13 + with_digest(games))
+        listed, report = self.complete(self.EXACT, self.ROWS)
+        listed, rest = listed + more + with_digest(self.EXACT), report_of("\n" * 13 + with_digest(self.EXACT))
         rows = "".join(report.splitlines(True)[:-1] + [rows] + rest.splitlines(True)[-5:-1])
         self.compare(listed, f"{rows}solved 18 refused 0\n", out="compared 8 differ 0 refused 0 unscored 2\n", err="")
 

@@ -19,16 +19,21 @@ class Fix(Case):
     def setUp(self):
         super().setUp()
         rng = random.Random(7)
-        games = [squares_of(game) for game in (random_game(rng) for _ in range(12))]
+        games = [squares_of(random_game(rng)) for _ in range(12)]
         self.games_of_file = [game for game in games if 5 in positions_of(game)]
         self.exact = [discs_of_black(positions_of(game)[5]) for game in self.games_of_file]
         self.published = [it + {2: -2, 5: 7}.get(number, 0) for number, it in enumerate(self.exact)]
-        self.records = [record(*both) for both in zip(self.games_of_file, self.published)]
-        write("it.wtb", wthor(self.records, empties=5) + b"more")
-        self.write_list("it.wtb")
-        self.whole = Path("it.wtb").read_bytes()
-        self.wanted = wthor([record(*both) for both in zip(self.games_of_file, self.exact)], empties=5) + b"more"
+        self.records = list(map(record, self.games_of_file, self.published))
+        self.exact_records = list(map(record, self.games_of_file, self.exact))
+        self.write_source(wthor(self.records, empties=5) + b"more", "it.wtb")
+        self.wanted = wthor(self.exact_records, empties=5) + b"more"
         self.err = f"new.wtb: theoretical scores changed 2 of {len(self.exact)}, not compared 0"
+
+    def write_source(self, content, *words, skipped=()):
+        """Writes it.wtb, and the list and the report of the files that are named."""
+        self.whole = content
+        write("it.wtb", content)
+        self.write_list(*words, skipped=skipped)
 
     def write_list(self, *words, skipped=()):
         """Writes the list that ffosolve-games prints, and its report, in which the skipped lines are refused."""
@@ -37,11 +42,6 @@ class Fix(Case):
 
     def write_report(self, skipped=()):
         write("report", report_of(Path("list").read_text(), dict.fromkeys(skipped, "5 empties, limit 4")))
-
-    def change_list(self, old, new):
-        lines = Path("list").read_text().splitlines(True)
-        write("list", with_digest("".join(lines[:-4]).replace(old, new)))
-        self.write_report()
 
     def fix(self, status, err, *words, place="new.wtb", **how):
         """Runs the program, which may write the new file and no other, and leaves its source unchanged."""
@@ -66,17 +66,13 @@ class Fix(Case):
     def test_games_that_are_not_compared_stay_as_they_are(self):
         """One is refused in the report; one has an illegal move, and so is not in the list."""
         self.records[0] = self.records[0][:8] + b"\x63" + self.records[0][9:]
-        self.whole = wthor(self.records, empties=5)
-        write("it.wtb", self.whole)
-        self.write_list("it.wtb", skipped=[2])
+        self.write_source(wthor(self.records, empties=5), "it.wtb", skipped=[2])
         self.fix(1, f"new.wtb: theoretical scores changed 1 of {len(self.exact)}, not compared 2")
-        self.records[5] = record(self.games_of_file[5], self.exact[5])
+        self.records[5] = self.exact_records[5]
         self.assertEqual(Path("new.wtb").read_bytes(), wthor(self.records, empties=5))
 
     def test_a_header_without_a_number_of_empty_squares_gets_that_of_the_list(self):
-        self.whole = wthor(self.records, empties=0)
-        write("it.wtb", self.whole)
-        self.write_list("--empties=5", "it.wtb")
+        self.write_source(wthor(self.records, empties=0), "--empties=5", "it.wtb")
         self.fix(1, self.err)
         self.assertEqual(Path("new.wtb").read_bytes(), self.wanted.removesuffix(b"more"))
 
@@ -85,11 +81,9 @@ class Fix(Case):
         self.records[0] = record(self.games_of_file[0], self.published[0], real=70)
         self.records[1] = record(self.games_of_file[1][:-1], self.published[1], real=1)
         self.records[2] = self.records[2][:6] + b"\1" + self.records[2][7:67] + b"\x63"
-        self.whole = wthor(self.records, empties=5) + self.records[0]
-        write("it.wtb", self.whole)
-        self.write_list("it.wtb")
+        self.write_source(wthor(self.records, empties=5) + self.records[0], "it.wtb")
         self.fix(1, f"new.wtb: theoretical scores changed 1 of {len(self.exact)}, not compared 1")
-        self.records[5] = record(self.games_of_file[5], self.exact[5])
+        self.records[5] = self.exact_records[5]
         self.assertEqual(Path("new.wtb").read_bytes(), wthor(self.records, empties=5) + self.records[0])
         self.fix(1, f"real.wtb: theoretical scores changed 1 of {len(self.exact)}, not compared 1; real scores changed 1, "
                  "not checked 2", "--real", place="real.wtb")
@@ -105,8 +99,7 @@ class Fix(Case):
         self.fix(1, err, place="new")
         self.assertEqual(sorted(os.listdir("new")), ["it.wtb", "one.wtb"])
         self.assertEqual(Path("new/it.wtb").read_bytes(), self.wanted)
-        records = [record(*both) for both in zip(self.games_of_file[:3], self.exact)]
-        self.assertEqual(Path("new/one.wtb").read_bytes(), wthor(records, empties=5))
+        self.assertEqual(Path("new/one.wtb").read_bytes(), wthor(self.exact_records[:3], empties=5))
         os.remove("new/it.wtb")
         self.fix(3, "new/one.wtb already exists and would be overwritten", place="new")
         self.assertEqual(os.listdir("new"), ["one.wtb"])
@@ -137,9 +130,9 @@ class Fix(Case):
         os.symlink("nowhere", "broken.wtb")
         write("folder/it.wtb", "another")
         write("other.wtb", "other")
-        for name in ("it.wtb", "./it.wtb", "link.wtb", "twin.wtb", "broken.wtb", "other.wtb", "list", "report"):
-            self.fix(3, f"{name} already exists and would be overwritten", place=name)
-        self.fix(3, "folder/it.wtb already exists and would be overwritten", place="folder")
+        for place in ("it.wtb", "./it.wtb", "link.wtb", "twin.wtb", "broken.wtb", "other.wtb", "list", "report", "folder"):
+            name = "folder/it.wtb" if place == "folder" else place
+            self.fix(3, f"{name} already exists and would be overwritten", place=place)
         self.assertEqual(Path("folder/it.wtb").read_bytes(), b"another")
         self.assertEqual(Path("other.wtb").read_bytes(), b"other")
         self.assertEqual(os.readlink("broken.wtb"), "nowhere")
@@ -171,7 +164,9 @@ class Fix(Case):
     def test_a_file_that_is_not_that_of_the_list_is_refused(self):
         why = "it.wtb is not the WTHOR file of the list: "
         another = record(self.games_of_file[0], self.records[3][7])
-        self.change_list(", game 1,", ", game 0,")
+        games = "".join(Path("list").read_text().splitlines(True)[:-4])
+        write("list", with_digest(games.replace(", game 1,", ", game 0,")))
+        self.write_report()
         self.fix(3, why + "it has no game 0")
         self.write_list("it.wtb")
         fourth = another, record([], self.records[3][7]), record(self.games_of_file[3], self.exact[3] + 1)
@@ -187,8 +182,8 @@ class Fix(Case):
         os.remove("it.wtb")
         self.fix(3, "cannot read it.wtb, which the list names: No such file or directory")
         os.mkfifo("it.wtb")
-        self.assertEqual(self.games("compare", "list", "report", "--fix", "new.wtb", status=3)[1],
-                         "ffosolve-games: it.wtb, which the list names, is not a regular file\n")
+        err = "ffosolve-games: it.wtb, which the list names, is not a regular file\n"
+        self.games("compare", "list", "report", "--fix", "new.wtb", status=3, err=err)
 
     def test_a_list_without_a_file_to_fix_is_refused(self):
         self.write_list("it.wtb", skipped=range(1, len(self.exact) + 1))
