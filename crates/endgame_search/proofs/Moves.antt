@@ -68,6 +68,13 @@ none_unlisted g p items best children = record { each = children.each; every = �
 listed_sorted : (items sorted : List Child) (q : ℕ) → IsPermutation items sorted → Contains (child_squares items) q → Contains (child_squares sorted) q
 listed_sorted items sorted q permuted l = Contains-permutation (child_squares items) (child_squares sorted) q (IsPermutation-map (λ (c : Child). c.square) items sorted permuted) l
 
+pub children_sorted : (p : PosView) (items sorted : List Child) → IsPermutation items sorted → AreChildrenOf p items → AreChildrenOf p sorted
+children_sorted p items sorted permuted children =
+    record {
+      each = All-permutation (IsChildOf p) items sorted permuted children.each;
+      every = λ q m. listed_sorted items sorted q permuted (children.every q m);
+    }
+
 pub unlisted_sorted : (g : Scoring) (p : PosView) (best : ℤ) (items sorted : List Child) → IsPermutation items sorted → UnlistedAreAtMost g p best items → UnlistedAreAtMost g p best sorted
 unlisted_sorted g p best items sorted permuted unlisted =
     record {

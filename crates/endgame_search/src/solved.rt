@@ -1,20 +1,22 @@
 //! Positions with their answers.
 
-ghost use Rattle.std.specs.Prelude.{◌≡◌, ◌↔◌, ◌≤ℤ◌, ◌<ℤ◌, neg_ℤ, IsTrue};
+ghost use Rattle.std.specs.Prelude.{◌≡◌, ◌≢◌, ◌≤ℤ◌, ◌<ℤ◌, neg_ℤ};
 ghost use Rattle.othello_rules.specs.declared.scoring.Scoring.TheVariants.{Sign};
 ghost use Rattle.othello_rules.specs.Answer.{IsScore};
 ghost use Rattle.std.proofs.Common.{sym};
 ghost use Rattle.endgame_search.specs.Task.{TaskView};
-ghost use Rattle.endgame_search.specs.Windows.{IsBound};
-ghost use Rattle.othello_bits.specs.Pos.{moves_of, play_of, value_of, answer_of, best_answer};
-ghost use Rattle.othello_bits.specs.Pos.{is_best_move, mask_where, IsMove};
+ghost use Rattle.endgame_search.specs.Children.{AreChildrenOf};
+ghost use Rattle.endgame_search.specs.BestMoves.{AreBestFrom};
+ghost use Rattle.othello_bits.specs.Pos.{moves_of, value_of, answer_of, best_answer, HasNoMove};
 
 use crate::alpha_beta::search_window;
-use crate::table_cutoff::{ABOVE_ALL_SCORES, BELOW_ALL_SCORES, store_if_deep};
+use crate::move_order::{Child, add_children, sort_children};
+use crate::table_cutoff::{ABOVE_ALL_SCORES, BELOW_ALL_SCORES, possible_scores, store_if_deep};
 use crate::task::Task;
+use arrayvec::ArrayVec;
 use bound_table::Bounds;
-use othello_bits::{Pos, without};
-use othello_rules::{Answer, Best, GREATEST_SCORE, Scoring, Square, squares_in};
+use othello_bits::{Pos, including};
+use othello_rules::{Answer, Best, GREATEST_SCORE, Scoring};
 use std::marker::Model;
 
 /// A position with its answer under a scoring. Only `solve` and `confirm` make one. Its answer is
@@ -104,49 +106,66 @@ pub fn solve<T: Bounds>(table: &T, task: Task) -> Solved
     requires { task.scoring ≡ T.scoring table.now }
     ensures { result ≡ task }
 {
-    let score = exact_value(table, task.pos());
-    solved_at(table, task, score)
+    let position = task.pos();
+    if position.moves() == 0 {
+        return solved_without_moves(table, task, 0);
+    }
+    let possible = possible_scores(table, position);
+    // Null windows up to 0 find a value up to 0, or a lower bound of a greater one.
+    let low = search_window(table, position, 0, BELOW_ALL_SCORES, 1);
+    let high = if low > 0 { possible.high() } else { low };
+    let best = best_moves(table, position, low, high);
+    solved_task(table, task, best.score, Best::Moves(best.squares))
 }
 
 /// Solves a task by testing a claim. The result is that of `solve` whatever the claim is, and comes
-/// sooner if the claimed score is right. Two null windows test it. If it is the value, one null
-/// window for each move finds the best moves, whatever is claimed of them. Otherwise `solve` finds
-/// the answer. The table must have the scoring of the task.
+/// sooner if the claimed score is right: then each move is only searched for whether it is worth
+/// that much, whatever is claimed of the moves. A claimed score below the value saves less, and one
+/// above it nothing. The table must have the scoring of the task.
 pub fn confirm<T: Bounds>(table: &T, task: Task, claim: Claim) -> Solved
     requires { task.scoring ≡ T.scoring table.now }
     ensures { result ≡ task }
 {
-    if is_value(table, task.pos(), claim.score) {
-        return solved_at(table, task, claim.score);
+    let position = task.pos();
+    if position.moves() == 0 {
+        return solved_without_moves(table, task, claim.score);
     }
-    solve(table, task)
-}
-
-// Whether a number is the value of the position, by two null windows.
-fn is_value<T: Bounds>(table: &T, position: Pos, score: i8) -> bool
-    ensures { IsTrue result ↔ (score ≡ value_of (T.scoring table.now) position) }
-{
-    if score < -GREATEST_SCORE || score > GREATEST_SCORE {
-        return false;
+    if claim.score < -GREATEST_SCORE || claim.score > GREATEST_SCORE {
+        return solve(table, task);
     }
-    is_above(table, position, score - 1) && !is_above(table, position, score)
+    let found = best_moves(table, position, claim.score, GREATEST_SCORE);
+    if found.squares == 0 {
+        return solve(table, task);
+    }
+    solved_task(table, task, found.score, Best::Moves(found.squares))
 }
 
-// Whether the value of the position is above the bound, by a null window.
-fn is_above<T: Bounds>(table: &T, position: Pos, bound: i8) -> bool
-    requires { IsBound bound }
-    ensures { IsTrue result ↔ (bound <ℤ value_of (T.scoring table.now) position) }
-{
-    search_window(table, position, bound, bound, bound + 1) > bound
-}
-
-// The solved position of a task whose value is known: null windows find what attains it.
-fn solved_at<T: Bounds>(table: &T, task: Task, score: i8) -> Solved
+// Solves a task whose position is a pass, or the end of the game. The search is shortest if the
+// guess is the value.
+fn solved_without_moves<T: Bounds>(table: &T, task: Task, guess: i8) -> Solved
     requires scoring { task.scoring ≡ T.scoring table.now }
-    requires value { score ≡ value_of task.scoring task.position }
+    requires none { HasNoMove task.position }
     ensures { result ≡ task }
 {
-    let best = best_from(table, task.pos(), score);
+    let position = task.pos();
+    let score = search_window(table, position, guess, BELOW_ALL_SCORES, ABOVE_ALL_SCORES);
+    let best = if position.is_over() {
+        Best::Over
+    } else {
+        Best::Pass
+    };
+    solved_task(table, task, score, best)
+}
+
+// The solved position of a task, from its value and what attains it. The table is offered the
+// value.
+fn solved_task<T: Bounds>(table: &T, task: Task, score: i8, best: Best) -> Solved
+    requires scoring { task.scoring ≡ T.scoring table.now }
+    requires value { score ≡ value_of task.scoring task.position }
+    requires best { best ≡ best_answer task.scoring task.position }
+    ensures { result ≡ task }
+{
+    store_if_deep(table, task.pos(), BELOW_ALL_SCORES, ABOVE_ALL_SCORES, score);
     Solved {
         position: task.pos(),
         scoring: task.scoring(),
@@ -154,46 +173,72 @@ fn solved_at<T: Bounds>(table: &T, task: Task, score: i8) -> Solved
     }
 }
 
-// What attains the value `score` of the position: its best moves, a pass, or the end of the game.
-fn best_from<T: Bounds>(table: &T, position: Pos, score: i8) -> Best
-    requires { score ≡ value_of (T.scoring table.now) position }
-    ensures { result ≡ best_answer (T.scoring table.now) position }
-{
-    let moves = position.moves();
-    if moves != 0 {
-        return Best::Moves(best_moves(table, position, moves, score));
-    }
-    if position.is_over() {
-        Best::Over
-    } else {
-        Best::Pass
-    }
+// The mask of the best moves, and what they are worth.
+#[derive(Clone, Copy)]
+struct BestMoves {
+    score: i8,
+    squares: u64,
 }
 
-// The mask of the moves that attain the value `score` of the position, by one null window for each
-// move.
-fn best_moves<T: Bounds>(table: &T, position: Pos, moves: u64, score: i8) -> u64
-    requires moves { moves ≡ moves_of position }
-    requires value { score ≡ value_of (T.scoring table.now) position }
-    ensures { result ≡ mask_where (is_best_move (T.scoring table.now) position) }
+// The best moves of a position whose value is at most `high`, if it is at least `low`; otherwise
+// none. Each move is searched for whether it is worth as much as the best one before it, or at
+// first `low`; how much more, is only searched for if it is.
+fn best_moves<T: Bounds>(table: &T, position: Pos, low: i8, high: i8) -> BestMoves
+    requires some { moves_of position ≢ 0 }
+    requires low { IsScore low }
+    requires high { IsScore high }
+    requires ordered { low ≤ℤ high }
+    requires most { value_of (T.scoring table.now) position ≤ℤ high }
+    ensures { AreBestFrom (T.scoring table.now) position low result }
 {
-    let mut best = moves;
-    let squares = squares_in(moves);
-    for square in squares.iter() {
-        if !attains(table, position, *square, score) {
-            best = without(best, *square);
+    let mut children = ArrayVec::<Child, 64>::new();
+    add_children(position, position.moves(), &mut children);
+    sort_children(&mut children);
+    best_children(table, position, &children, low, high)
+}
+
+// The same, by the children of the position.
+fn best_children<T: Bounds>(
+    table: &T,
+    position: Pos,
+    children: &[Child],
+    low: i8,
+    high: i8,
+) -> BestMoves
+    requires some { moves_of position ≢ 0 }
+    requires children { AreChildrenOf position children.now }
+    requires low { IsScore low }
+    requires high { IsScore high }
+    requires ordered { low ≤ℤ high }
+    requires most { value_of (T.scoring table.now) position ≤ℤ high }
+    ensures { AreBestFrom (T.scoring table.now) position low result }
+{
+    let mut score = low;
+    let mut squares = 0;
+    for child in children {
+        let worth = worth_from(table, child.position, score, high);
+        if worth > score {
+            score = worth;
+            squares = including(0, child.square);
+        } else if worth == score {
+            squares = including(squares, child.square);
         }
     }
-    best
+    BestMoves { score, squares }
 }
 
-// Whether a move is worth at least the score, by a null window.
-fn attains<T: Bounds>(table: &T, position: Pos, square: Square, score: i8) -> bool
-    requires legal { IsMove position square }
-    requires in_range { IsScore score }
-    ensures { IsTrue result
-        ↔ (score ≤ℤ neg_ℤ (value_of (T.scoring table.now) (play_of position square))) }
+// What a move to a position is worth, if that is at least `low`; otherwise a score below `low`. It
+// is at most `high`. The table is offered what this proves of the position.
+fn worth_from<T: Bounds>(table: &T, after: Pos, low: i8, high: i8) -> i8
+    requires low { IsScore low }
+    requires high { IsScore high }
+    requires ordered { low ≤ℤ high }
+    requires most { neg_ℤ (value_of (T.scoring table.now) after) ≤ℤ high }
+    ensures exact { low ≤ℤ result → result ≡ neg_ℤ (value_of (T.scoring table.now) after) }
+    ensures less { result <ℤ low → neg_ℤ (value_of (T.scoring table.now) after) <ℤ low }
+    ensures in_range { IsScore result }
 {
-    let after = position.after(square, position.flips(square));
-    !is_above(table, after, -score)
+    let score = search_window(table, after, -low, -high, 1 - low);
+    store_if_deep(table, after, -high, 1 - low, score);
+    -score
 }

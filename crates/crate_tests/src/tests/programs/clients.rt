@@ -201,7 +201,7 @@ fn an_unread_text_closes_the_sender(rt: HostRuntime) -> Result<(), Fail> {
 // A position with 60 empty squares. The move to E1 turns all white discs, and ends the game.
 const SIXTY_EMPTY: &[u8] = b"XOOO------------------------------------------------------------ X\n";
 
-// A book that claims another score of it.
+// A book that claims a lower score of it.
 const WRONG_BOOK: &[u8] =
     b"XOOO------------------------------------------------------------ X; E1:-10;\n";
 
@@ -228,12 +228,12 @@ fn count_part_probes<R: Wait + Abort>(
     Ok(counter.probes.get())
 }
 
-// A claim that is wrong is tested before the position is solved, which takes more probes.
+// A claim that is too low is tested, and saves the search for a lower bound.
 #[test]
 fn claims_of_wide_positions_are_tested(rt: HostRuntime) -> Result<(), Fail> {
     let claims = Claims::read(rt.alloc(), WRONG_BOOK)?;
     let without = count_part_probes(&rt, rt.alloc(), None)?;
     let with_claims = count_part_probes(&rt, rt.alloc(), Some(&claims))?;
-    assert!(rt; 0 < without && without < with_claims);
+    assert!(rt; 0 < with_claims && with_claims < without);
     Ok(())
 }

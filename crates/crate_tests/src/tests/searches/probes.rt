@@ -35,16 +35,16 @@ fn is_62_at_h1(counter: &ProbeCounter, task: Task) -> bool
         && counter.probes.get() > 4
 }
 
-fn is_stored_value_told(rt: &impl Abort, alloc: Global, position: Pos) -> bool {
+fn is_stored_value_returned(rt: &impl Abort, alloc: Global, position: Pos) -> bool {
     let counter = count_probes(rt, alloc, 1, [position, position]);
     store_value(&counter.table, position);
     is_62_at_h1(&counter, task_of(rt, position, Scoring::Winner))
 }
 
 #[test]
-fn a_stored_value_is_told(rt: HostRuntime) {
+fn a_stored_value_is_returned(rt: HostRuntime) {
     let position = pos_of(&rt, UNEQUAL_CORNERS, Side::Black);
-    assert!(rt; is_stored_value_told(&rt, rt.alloc(), position));
+    assert!(rt; is_stored_value_returned(&rt, rt.alloc(), position));
 }
 
 // A scoring, and the ends of a window.
