@@ -17,17 +17,17 @@ place_in (Holds entry) = 0
 place_in Skipped = 0
 place_in (Faulty fault) = place_of fault
 
-pub same_entry : (told entry : Entry) → Holds entry ≡ Holds told → told ≡ entry
-same_entry told entry same = let e : entry ≡ told = ap (entry_or told) same in sym e
+pub same_entry : (found entry : Entry) → Holds entry ≡ Holds found → found ≡ entry
+same_entry found entry same = let e : entry ≡ found = ap (entry_or found) same in sym e
 
-pub same_place : (told fault : LineFault) → IsResultFor (Err told) (Faulty fault) → place_of told ≡ place_of fault
+pub same_place : (found fault : LineFault) → IsResultFor (Err found) (Faulty fault) → place_of found ≡ place_of fault
 same_place (Short n) fault same = sym (ap place_in same)
 same_place (BadCell n) fault same = sym (ap place_in same)
 same_place (BadSide n) fault same = sym (ap place_in same)
 same_place Memory fault none = absurd none
 
-pub told_of_line : (told fault : LineFault) → IsResultFor (Err told) (Faulty fault) → IsOfLine (call_status (fault_refusal told))
-told_of_line (Short n) fault same = inl refl
-told_of_line (BadCell n) fault same = inr (inl refl)
-told_of_line (BadSide n) fault same = inr (inr refl)
-told_of_line Memory fault none = absurd none
+pub fault_of_line : (found fault : LineFault) → IsResultFor (Err found) (Faulty fault) → IsOfLine (call_status (fault_refusal found))
+fault_of_line (Short n) fault same = inl refl
+fault_of_line (BadCell n) fault same = inr (inl refl)
+fault_of_line (BadSide n) fault same = inr (inr refl)
+fault_of_line Memory fault none = absurd none

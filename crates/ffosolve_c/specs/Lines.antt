@@ -10,7 +10,7 @@ use Rattle.obf_text.specs.declared.entries.ListedMove.TheVariants as listed
 use Rattle.ffosolve_c.specs.declared.line.FfosolveLine.{FfosolveLine}
 use Rattle.ffosolve_c.specs.declared.listed.FfosolveListed.{FfosolveListed}
 use Rattle.ffosolve_c.specs.declared.call_refusal.CallRefusal.TheVariants as refusal
-use Rattle.ffosolve_c.specs.Answers.{c_position}
+use Rattle.ffosolve_c.specs.CValues.{c_position}
 use Rattle.ffosolve_c.specs.Refusals.{call_status, fault_refusal}
 
 -- the side to move: 0 black, 1 white

@@ -12,7 +12,7 @@ use Rattle.ffosolve_c.specs.declared.call_refusal.CallRefusal.TheVariants.{TooMa
 use Rattle.ffosolve_c.specs.declared.call_refusal.CallRefusal.TheVariants.{Skipped, ShortBoard, BadSquare, BadSide}
 use Rattle.obf_text.specs.declared.line_fault.LineFault.{LineFault}
 use Rattle.obf_text.specs.declared.line_fault.LineFault.TheVariants as fault
-use Rattle.ffosolve_c.specs.Answers.{discs_at, numbered_scoring}
+use Rattle.ffosolve_c.specs.CValues.{discs_at, numbered_scoring}
 
 abbrev pub call_status : CallRefusal → ℤ
 call_status UnknownScoring = pos 1
@@ -81,8 +81,8 @@ list_refusal scoring entries ps room =
 
 -- the refusal that a failed request returns: its own, or `NoMemory` if it has none
 abbrev pub IsRefusal : Option CallRefusal → CallRefusal → Type 0
-IsRefusal (Some refusal) told = told ≡ refusal
-IsRefusal None told = told ≡ NoMemory
+IsRefusal (Some refusal) returned = returned ≡ refusal
+IsRefusal None returned = returned ≡ NoMemory
 
 abbrev pub IsStatus : Option CallRefusal → ℤ → Type 0
 IsStatus (Some refusal) status = status ≡ call_status refusal

@@ -1,7 +1,7 @@
 //! Answers and claims as C reads and writes them.
 
 ghost use Rattle.std.specs.Prelude.{◌≡◌, ◌≤ℤ◌, pos, IfSome, IsSome};
-ghost use Rattle.ffosolve_c.specs.Answers.{kind_of, moves_in, c_answer, IsPossible};
+ghost use Rattle.ffosolve_c.specs.CValues.{kind_of, moves_in, c_answer, IsPossible};
 
 use endgame_search::Claim;
 use othello_rules::{Answer, Best, GREATEST_SCORE};
@@ -66,9 +66,9 @@ fn claimed_best(kind: i32, moves: u64) -> Option<Best>
 /// -64 to 64: such a claim can't be right.
 pub fn possible_claim(claim: FfosolveAnswer) -> Option<Claim>
     ensures possible { IsPossible claim → IsSome result }
-    ensures score { IfSome result (λ told. told.score ≡ claim.score) }
-    ensures kind { IfSome result (λ told. kind_of told.best ≡ claim.kind) }
-    ensures moves { IfSome result (λ told. claim.kind ≡ pos 0 → moves_in told.best ≡ claim.best) }
+    ensures score { IfSome result (λ found. found.score ≡ claim.score) }
+    ensures kind { IfSome result (λ found. kind_of found.best ≡ claim.kind) }
+    ensures moves { IfSome result (λ found. claim.kind ≡ pos 0 → moves_in found.best ≡ claim.best) }
 {
     let greatest = i32::from(GREATEST_SCORE);
     if claim.score < -greatest || claim.score > greatest {

@@ -5,8 +5,8 @@ ghost use Rattle.othello_bits.specs.Pos.{moves_of, play_of, IsMove};
 ghost use Rattle.obf_text.specs.Obf.{Entry, Faulty, Holds, Meaning, Says, place_of};
 ghost use Rattle.obf_text.specs.declared.line_fault.LineFault.{LineFault};
 ghost use Rattle.ffosolve_c.specs.declared.call_refusal.CallRefusal.TheVariants as refusal;
-ghost use Rattle.ffosolve_c.specs.Answers.{c_position, discs_at};
-ghost use Rattle.ffosolve_c.specs.Answers.{AreAnswers, AreScores, AreScoresOfAll, IsAnswer};
+ghost use Rattle.ffosolve_c.specs.CValues.{c_position, discs_at};
+ghost use Rattle.ffosolve_c.specs.CValues.{AreAnswers, AreScores, AreScoresOfAll, IsAnswer};
 ghost use Rattle.ffosolve_c.specs.Limits.{limit_of};
 ghost use Rattle.ffosolve_c.specs.Lines.{c_line, c_listed, written_over, IsLineStatus, IsOfLine};
 ghost use Rattle.ffosolve_c.specs.Refusals.{first_refused, request_refusal, list_refusal, call_status};
@@ -250,7 +250,7 @@ pub extern "C" fn ffosolve_read_line(
 }
 
 /// A limit by its number: 0 is the most entries of a table, 1 the most empty squares of a position
-/// that is solved, 2 the number of scorings. Any other number gives 0.
+/// that is solved, 2 the number of scorings. For any other number it is 0.
 #[unsafe(no_mangle)]
 pub extern "C" fn ffosolve_limit(limit: u32) -> usize
     ensures { result ≡ limit_of limit }

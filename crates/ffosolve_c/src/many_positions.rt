@@ -4,8 +4,8 @@ ghost use Rattle.std.specs.Prelude.{◌≡◌, ◌≢◌, ◌≤◌, Some, None,
 ghost use Rattle.std.specs.Prelude.{length, map};
 ghost use Rattle.bound_table.specs.Limits.{most_entries};
 ghost use Rattle.ffosolve_c.specs.declared.call_refusal.CallRefusal.TheVariants as refusal;
-ghost use Rattle.ffosolve_c.specs.Answers.{answer_at, numbered_scoring, scores_at};
-ghost use Rattle.ffosolve_c.specs.Answers.{AreAnswers, AreScoresOfAll};
+ghost use Rattle.ffosolve_c.specs.CValues.{answer_at, numbered_scoring, scores_at};
+ghost use Rattle.ffosolve_c.specs.CValues.{AreAnswers, AreScoresOfAll};
 ghost use Rattle.ffosolve_c.specs.Refusals.{first_refusal, first_refused, position_refusal};
 ghost use Rattle.ffosolve_c.specs.Refusals.{list_refusal, call_status};
 ghost use Rattle.ffosolve_c.specs.Refusals.{AreSolvable, IsOfPosition, IsRefusal};
@@ -89,7 +89,8 @@ fn accepted_scoring(
     ensures not_memory { IfErr result (λ r. r ≢ refusal.NoMemory) }
     ensures at { IfErr result (λ r.
         IsOfPosition (call_status r) → first_refused positions.now ≡ Some at.new) }
-    ensures at_unchanged { IfErr result (λ r. (IsOfPosition (call_status r) → ⊥) → at.new ≡ at.old) }
+    ensures at_unchanged { IfErr result
+        (λ r. (IsOfPosition (call_status r) → ⊥) → at.new ≡ at.old) }
     ensures at_kept { OnOk result (at.new ≡ at.old) }
 {
     let scoring = table_scoring(scoring, entries)?;
@@ -123,7 +124,8 @@ pub fn answer_all(
     ensures unchanged { OnErr result (answers.new ≡ answers.old) }
     ensures at { IfErr result (λ r.
         IsOfPosition (call_status r) → first_refused positions.now ≡ Some at.new) }
-    ensures at_unchanged { IfErr result (λ r. (IsOfPosition (call_status r) → ⊥) → at.new ≡ at.old) }
+    ensures at_unchanged { IfErr result
+        (λ r. (IsOfPosition (call_status r) → ⊥) → at.new ≡ at.old) }
     ensures at_kept { OnOk result (at.new ≡ at.old) }
 {
     let scoring = accepted_scoring(positions, scoring, entries, answers.len(), at)?;
@@ -151,7 +153,8 @@ pub fn score_each(
     ensures unchanged { OnErr result (found.new ≡ found.old) }
     ensures at { IfErr result (λ r.
         IsOfPosition (call_status r) → first_refused positions.now ≡ Some at.new) }
-    ensures at_unchanged { IfErr result (λ r. (IsOfPosition (call_status r) → ⊥) → at.new ≡ at.old) }
+    ensures at_unchanged { IfErr result
+        (λ r. (IsOfPosition (call_status r) → ⊥) → at.new ≡ at.old) }
     ensures at_kept { OnOk result (at.new ≡ at.old) }
 {
     let scoring = accepted_scoring(positions, scoring, entries, found.len(), at)?;

@@ -3,7 +3,7 @@
 ghost use Rattle.std.specs.Prelude.{◌≡◌, ◌≢◌, None, IfOk, IfErr};
 ghost use Rattle.othello_bits.specs.Pos.{answer_of};
 ghost use Rattle.ffosolve_c.specs.declared.call_refusal.CallRefusal.TheVariants as refusal;
-ghost use Rattle.ffosolve_c.specs.Answers.{IsAnswer};
+ghost use Rattle.ffosolve_c.specs.CValues.{IsAnswer};
 ghost use Rattle.ffosolve_c.specs.Refusals.{request_refusal, IsRefusal};
 
 use crate::answer::{FfosolveAnswer, c_answer};

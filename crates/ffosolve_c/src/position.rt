@@ -3,7 +3,7 @@
 ghost use Rattle.std.specs.Prelude.{◌≡◌, ◌≢◌, ◌↔◌, bit_and, Some, None, Err, IfOk, IfErr};
 ghost use Rattle.othello_bits.specs.Pos.{play_of, IsMove};
 ghost use Rattle.ffosolve_c.specs.declared.call_refusal.CallRefusal.TheVariants as refusal;
-ghost use Rattle.ffosolve_c.specs.Answers.{c_position, discs_at};
+ghost use Rattle.ffosolve_c.specs.CValues.{c_position, discs_at};
 ghost use Rattle.ffosolve_c.specs.Refusals.{position_refusal, call_status, IsOfPosition};
 
 use crate::call_refusal::CallRefusal;

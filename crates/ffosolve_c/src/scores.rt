@@ -4,7 +4,7 @@ ghost use Rattle.std.specs.Prelude.{◌≡◌, ◌≢◌, Some, None, length, ma
 ghost use Rattle.othello_rules.specs.Board.{squares};
 ghost use Rattle.othello_bits.specs.Pos.{moves_of};
 ghost use Rattle.ffosolve_c.specs.declared.call_refusal.CallRefusal.TheVariants as refusal;
-ghost use Rattle.ffosolve_c.specs.Answers.{discs_at, score_at, scores_at, AreScores};
+ghost use Rattle.ffosolve_c.specs.CValues.{discs_at, score_at, scores_at, AreScores};
 ghost use Rattle.ffosolve_c.specs.Refusals.{position_refusal, request_refusal, IsRefusal};
 
 use crate::call_refusal::CallRefusal;

@@ -3,7 +3,7 @@
 ghost use Rattle.std.specs.Prelude.{◌≡◌, ◌≢◌, ◌≤◌, Some, None, IfOk, IfErr};
 ghost use Rattle.bound_table.specs.Limits.{most_entries};
 ghost use Rattle.ffosolve_c.specs.declared.call_refusal.CallRefusal.TheVariants as refusal;
-ghost use Rattle.ffosolve_c.specs.Answers.{numbered_scoring};
+ghost use Rattle.ffosolve_c.specs.CValues.{numbered_scoring};
 ghost use Rattle.ffosolve_c.specs.Refusals.{call_status, table_refusal, IsOfPosition};
 
 use crate::call_refusal::CallRefusal;
@@ -11,7 +11,7 @@ use bound_table::{BoundTable, Bounds};
 use othello_rules::Scoring;
 use std::alloc::Global;
 
-#[tactic(auto, unfolding(crate::specs::Answers::numbered_scoring))]
+#[tactic(auto, unfolding(crate::specs::CValues::numbered_scoring))]
 fn numbered_scoring(number: u32) -> Option<Scoring>
     ensures { result ≡ numbered_scoring number }
 {
@@ -20,7 +20,7 @@ fn numbered_scoring(number: u32) -> Option<Scoring>
 
 /// The scoring with the number `number`, for a table of `entries` entries. `UnknownScoring` if
 /// none has the number; `TooManyEntries` above `BoundTable::MOST_ENTRIES`.
-#[tactic(auto, unfolding(crate::specs::Refusals::table_refusal, crate::specs::Answers::numbered_scoring))]
+#[tactic(auto, unfolding(crate::specs::Refusals::table_refusal, crate::specs::CValues::numbered_scoring))]
 pub fn table_scoring(number: u32, entries: usize) -> Result<Scoring, CallRefusal>
     ensures good { IfOk result (λ g. table_refusal number entries ≡ None) }
     ensures few { IfOk result (λ g. entries ≤ most_entries) }

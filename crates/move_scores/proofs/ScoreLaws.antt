@@ -17,7 +17,9 @@ use Rattle.othello_bits.proofs.TestMasks.{filter_again}
 use Rattle.obf_text.specs.Fields.{Field}
 use Rattle.obf_text.specs.declared.entries.ListedMove.TheVariants.{At, Pass, Over}
 use Rattle.move_scores.specs.Scores.{move_scores, score_fields, score_fields_of, scored}
-use Rattle.move_scores.proofs.PutIn.{all_put, put_all}
+use Rattle.move_scores.proofs.EitherSide.{of_move}
+use Rattle.move_scores.proofs.Orders.{each_score}
+use Rattle.move_scores.proofs.PutIn.{put_all}
 
 pub squares_are : (p : PosView) → squares_of (moves_of p) ≡ rules.moves (position_of Black p)
 unfolding squares_of moves_of rules.moves
@@ -54,13 +56,15 @@ abbrev pub AreInRange : List Field → Type 0
 AreInRange fields = All (λ f. IsScore f.1) fields
 
 pub in_range : (g : Scoring) (p : PosView) → AreInRange (score_fields_of g p)
+unfolding score_fields_of
 in_range g p =
     elim (cases_eq (moves_of p) 0) [
       | inr some ↦
-          subst AreInRange (sym (of_moves g p some))
-          (all_put (λ f. IsScore f.1) (scored_of g p) [] (squares_of (moves_of p))
-          (All-nil (λ (f : Field). IsScore f.1))
-          (λ q. negated (value_of g (play_of p q)) (value_score g (play_of p q))))
+          subst AreInRange (sym (of_move g (position_of Black p) (can_go p some)))
+          (each_score (λ f. IsScore f.1) g (position_of Black p)
+          (λ q h.
+          subst (λ f. IsScore f.1) (scored_is g p q)
+          (negated (value_of g (play_of p q)) (value_score g (play_of p q)))))
       | inl none ↦
           elim (cases_eq (moves_of (pass_of p)) 0) [
             | inr reply ↦

@@ -1,7 +1,7 @@
 use Rattle.std.proofs.Common.{◌≡◌, ap, ◌∙◌, map, rules}
 use Rattle.obf_text.specs.Obf.{Entry, Faulty, Holds, Skipped, entry_of}
 use Rattle.ffosolve_c.specs.Lines.{c_line, c_listed, written_over}
-use Rattle.ffosolve_c.proofs.LineMeaning.{same_entry, same_place, told_of_line}
+use Rattle.ffosolve_c.proofs.LineMeaning.{same_entry, same_place, fault_of_line}
 use Rattle.ffosolve_c.proofs.calls.ffosolve_read_line.Goals as goal
 
 pub returns-in-Ok-Skip-clause-at : goal.returns-in-Ok-Skip-clause-at
@@ -28,7 +28,7 @@ returns-in-Ok-Entry-clause-at c fault says =
 pub returns-in-Err-clause-at : goal.returns-in-Err-clause-at
 returns-in-Err-clause-at c fault says =
     let gives = c.in-Err.ensures.says (Faulty fault) says in
-    c.place_or.ensures.place (told_of_line c.in-Err.fault fault gives) ∙ same_place c.in-Err.fault fault gives
+    c.place_or.ensures.place (fault_of_line c.in-Err.fault fault gives) ∙ same_place c.in-Err.fault fault gives
 
 pub returns-in-Ok-Skip-clause-status : goal.returns-in-Ok-Skip-clause-status
 returns-in-Ok-Skip-clause-status c = search rules

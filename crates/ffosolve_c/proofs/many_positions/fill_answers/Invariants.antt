@@ -1,5 +1,5 @@
 use Rattle.std.proofs.Common.{◌≡◌, map, take}
-use Rattle.ffosolve_c.specs.Answers.{answer_at}
+use Rattle.ffosolve_c.specs.CValues.{answer_at}
 use Rattle.ffosolve_c.proofs.many_positions.fill_answers.Given as goal
 
 abbrev pub invariant-loop-i : goal.invariant-loop-i

@@ -1,5 +1,5 @@
 use Rattle.std.proofs.Common.{◌≡◌, map, take}
-use Rattle.ffosolve_c.specs.Answers.{scores_at}
+use Rattle.ffosolve_c.specs.CValues.{scores_at}
 use Rattle.ffosolve_c.proofs.many_positions.fill_scores.Given as goal
 
 abbrev pub invariant-loop-i : goal.invariant-loop-i

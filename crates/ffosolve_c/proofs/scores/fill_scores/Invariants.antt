@@ -1,6 +1,6 @@
 use Rattle.std.proofs.Common.{◌≡◌, map, take}
 use Rattle.othello_rules.specs.Board.{squares}
-use Rattle.ffosolve_c.specs.Answers.{score_at}
+use Rattle.ffosolve_c.specs.CValues.{score_at}
 use Rattle.ffosolve_c.proofs.scores.fill_scores.Given as goal
 
 abbrev pub invariant-loop-i : goal.invariant-loop-i
