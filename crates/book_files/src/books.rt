@@ -39,7 +39,7 @@ fn is_final(read: &Result<Claims, BookFault>, front: &[u8]) -> bool {
     }
 }
 
-// The claims of the book that a reader gives, or the fault of the book, which may be known before
+// The claims of the book in a reader, or the fault of the book, which may be known before
 // the rest is read. The error is that of the reader.
 fn claims_in<R: Read>(alloc: Global, reader: &mut R) -> io::Result<Result<Claims, BookFault>> {
     let mut text = Vec::new(alloc);

@@ -42,7 +42,7 @@ fn list_status(error: &ProgramError<'_>) -> u8
     }
 }
 
-/// Prints the error that ends the program, and gives the exit status. A failure of standard error
+/// Prints the error that ends the program, and returns the exit status. A failure of standard error
 /// changes nothing.
 pub(crate) fn print_error<E: Write>(error: &ProgramError<'_>, errors: &mut E) -> u8
     ensures { result ≡ list_status_of error.now }
@@ -51,7 +51,7 @@ pub(crate) fn print_error<E: Write>(error: &ProgramError<'_>, errors: &mut E) ->
     list_status(error)
 }
 
-/// The whole program, like `list_program`, for the words that `env::args` gives. The result ends
+/// The whole program, like `list_program`, for the words that `env::args` returns. The result ends
 /// the process with the status, 0 to 3: with 2 if a word is not text, and with 3 if memory
 /// for the words was refused.
 pub fn list_program_of<T: Files + Threads + Wait, R: Read, W: Write, E: ErrorStream>(

@@ -27,7 +27,7 @@ pub(crate) struct Scorer {
     pub running: AtomicU64,
 }
 
-/// The promise of a chunk's thread: it gives what is printed for the lines of `text`, under
+/// The promise of a chunk's thread: it returns what is printed for the lines of `text`, under
 /// `scoring` and by `criteria`.
 #[derive(Clone, Copy)]
 pub struct ChunkPromise<'a> {
@@ -102,7 +102,7 @@ impl<'a> StartedChunk<'a> {
         }
     }
 
-    // Waits for the chunk's thread, if it has one, and gives what is printed.
+    // Waits for the chunk's thread, if it has one, and returns what is printed.
     pub(crate) fn join<R: Threads>(self, rt: &R) -> Result<LinesText, AllocError>
         ensures { HasOutput self.entry result }
     {

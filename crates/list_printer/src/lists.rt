@@ -61,8 +61,8 @@ impl From<io::Error> for ListFault {
 // Writes bytes by one call of the writer. Returns the bytes that the writer did not take: all of
 // them if it was interrupted.
 fn send_some<'a, W: Write>(writer: &mut W, bytes: &'a [u8]) -> io::Result<&'a [u8]>
-    ensures taken { IfOk result (λ rest. WritesBefore (W.contents writer.old) (W.contents writer.new)
-        rest.now bytes.now) }
+    ensures taken { IfOk result (λ rest.
+        WritesBefore (W.contents writer.old) (W.contents writer.new) rest.now bytes.now) }
     ensures front { OnErr result
         (AppendsFront (W.contents writer.old) (W.contents writer.new) bytes.now) }
 {

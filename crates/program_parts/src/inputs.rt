@@ -23,7 +23,7 @@ fn read_front<R: Read>(alloc: Global, reader: &mut R) -> io::Result<Vec<u8>>
 {
     let mut bytes = Vec::new(alloc);
     reader.take(MOST_BYTES as u64 + 1).read_to_end(&mut bytes)?;
-    // The bytes are cut once more, since no contract limits how many a reader gives whose bytes
+    // The bytes are cut once more, since no contract limits how many a reader returns whose bytes
     // aren't known.
     bytes.truncate(MOST_BYTES + 1);
     Ok(bytes)

@@ -1,4 +1,4 @@
-//! Why a command line gives no options.
+//! Why the options of a command line are not read.
 
 ghost use Rattle.std.specs.Prelude.{◌≡◌};
 ghost use Rattle.program_parts.specs.CommandLine.{IsFaultBy};
@@ -8,7 +8,7 @@ use clap::error::ErrorKind;
 use std::alloc::{AllocError, AllocFailed};
 use thiserror::Error;
 
-/// Why a command line gives no options.
+/// Why the options of a command line are not read.
 #[derive(Debug, Drop, Error)]
 pub enum OptionFault {
     /// Memory was refused, here or in clap.

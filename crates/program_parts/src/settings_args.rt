@@ -158,7 +158,7 @@ pub fn with_settings<'a>(
 }
 
 // The number under this option; None if it has no number of 8 bits. This and `u32_of` are
-// functions of their own so that their contracts say which number clap gives.
+// functions of their own so that their contracts say which number clap returns.
 fn u8_of(matches: &ArgMatches<'_>, id: &str) -> Option<u8>
     ensures value { IfSome result (λ n. HasNumber id.now (rows_of (found_of matches.now)) n) }
     ensures found { (n : ℕ) → n < 2 ^ 8 → HasNumber id.now (rows_of (found_of matches.now)) n

@@ -24,7 +24,8 @@ pub fn book_is_read_again()
     ensures claims { (g : Scoring) (positions : List PosView) → AreBookPositions positions
         → claims_of (book_text g positions)
         ≡ Ok (record { scoring = g; claims = map (answer_claim g) positions }) }
-    ensures found { (g : Scoring) (positions : List PosView) (a : ClaimsView) (p : PosView) (s : Sym)
+    ensures found { (g : Scoring) (positions : List PosView) (a : ClaimsView) (p : PosView)
+        (s : Sym)
         → AreBookPositions positions
         → claims_of (book_text g positions) ≡ Ok a
         → Contains positions (canonical_of p)

@@ -1,5 +1,5 @@
 //! What a run over the files of a suite reads from a text, and what it reports: the tasks of the
-//! lines, the rows that their answers give, and the report of a file.
+//! lines, the rows of their answers, and the report of a file.
 //!
 //! ```rust
 //! use program_settings::Settings;

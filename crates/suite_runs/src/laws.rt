@@ -12,7 +12,7 @@ pub use crate::client::client_part;
 
 /// Two books of the same tasks under one scoring are equal, if the positions of each are canonical
 /// and in rising order. So runs on the same files, under one scoring and one limit of empty
-/// squares, give equal books, whatever their workers, tables, claims and gates. The contracts of
+/// squares, make equal books, whatever their workers, tables, claims and gates. The contracts of
 /// `Book::len` and `Book::write` say that the positions of a book are canonical and in rising
 /// order.
 pub fn books_are_one()

@@ -1,4 +1,4 @@
-//! Why a run gives no reports.
+//! Why a run makes no reports.
 
 ghost use Rattle.std.specs.Prelude.{◌≡◌, Some};
 ghost use Rattle.suite_runs.specs.RunFault.{fault_of_submit, run_fault_of, run_fault_text, worse_fault};
@@ -10,7 +10,7 @@ use std::alloc::{AllocError, AllocFailed};
 use std::error::Error;
 use std::fmt;
 
-/// Why a run gives no reports. A sender is the number of a file, counted from 0.
+/// Why a run makes no reports. A sender is the number of a file, counted from 0.
 #[derive(Clone, Copy, PartialEq, Eq, Debug, Drop)]
 pub enum RunFault {
     /// Memory was refused.

@@ -29,7 +29,8 @@ fn run_files(
     settings: &Settings,
     claims: Option<&Claims>,
 ) -> Result<Outcome, RunFault>
-    ensures answers { Answers (Solves settings.now (texts_of files.now)) (texts_of files.now) result }
+    ensures answers { Answers (Solves settings.now (texts_of files.now)) (texts_of files.now)
+        result }
     ensures unmixed { result ≢ Err Mixed }
 {
     check_files(files)?;

@@ -43,7 +43,7 @@ impl<'a, T: Bounds> Solver<'a, T> {
         claims.find(&task.pos())
     }
 
-    /// The task's position with its exact answer. `confirm` gives it if the position has a
+    /// The task's position with its exact answer. `confirm` returns it if the position has a
     /// claim, otherwise `solve`.
     pub fn answer(&self, task: Task) -> Solved
         requires { task.scoring ≡ T.scoring self.now.table.now }

@@ -9,8 +9,8 @@ use program_settings::Criteria;
 use std::marker::Model;
 use std::thread::{Promise, PromisedHandle, Threads};
 
-/// The promise of a client's thread: it gives the part of `text`, under `scoring` and by `criteria`,
-/// or `Memory` or `Mixed`.
+/// The promise of a client's thread: it returns the part of `text`, under `scoring` and by
+/// `criteria`, or `Memory` or `Mixed`.
 #[derive(Clone, Copy)]
 pub struct PartPromise<'a> {
     pub scoring: Scoring,
@@ -48,7 +48,7 @@ impl<'a> Model for StartedClient<'a> {
 }
 
 impl<'a> StartedClient<'a> {
-    /// Waits for the client's thread, if it has one, and gives the client's result.
+    /// Waits for the client's thread, if it has one, and returns the client's result.
     pub(crate) fn join<R: Threads>(self, rt: &R) -> Result<Part, RunFault>
         ensures { GivesPart self.entry.scoring self.entry.criteria self.entry.text result }
     {

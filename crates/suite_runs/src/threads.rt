@@ -63,8 +63,8 @@ fn start<'a, E, R: Threads + Wait + Sync, G: Gate>(
         promise,
         move || -> Result<Part, RunFault>
             requires { length text.now ≤ most_bytes }
-            ensures { GivesPart shared.entry.now.table.scoring (criteria_of shared.entry.now.settings)
-                text.entry.now result }
+            ensures { GivesPart shared.entry.now.table.scoring
+                (criteria_of shared.entry.now.settings) text.entry.now result }
         {
             // A second call, since a closure knows only the types of what it captures.
             let criteria = shared.settings.criteria();

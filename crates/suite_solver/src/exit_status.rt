@@ -50,7 +50,7 @@ fn error_status(error: &SolveError<'_>) -> u8
     }
 }
 
-/// Prints the error that ends the program, and gives the exit status. A failure of standard error
+/// Prints the error that ends the program, and returns the exit status. A failure of standard error
 /// changes nothing.
 pub(crate) fn print_error<E: Write>(error: &SolveError<'_>, errors: &mut E) -> u8
     ensures { result ≡ solve_status_of error.now }
@@ -59,7 +59,7 @@ pub(crate) fn print_error<E: Write>(error: &SolveError<'_>, errors: &mut E) -> u
     error_status(error)
 }
 
-/// The whole program, like `program`, for the words that `env::args` gives. The result ends the
+/// The whole program, like `program`, for the words that `env::args` returns. The result ends the
 /// process with the status, 0 to 3: with 2 if a word is not text, and with 1 if memory for
 /// the words was refused.
 pub fn program_of<T: Files + Clock + Threads + Wait + Sync, R: Read, W: Write, E: ErrorStream>(
