@@ -111,4 +111,4 @@ class Case(InFolder):
 
     def place(self, name=""):
         """A file of the run in the folder `work`."""
-        return next(Path("work").glob("run-*")) / name
+        return Path("work", name)

@@ -1,5 +1,5 @@
 """bin/ffosolve-many on a Dask cluster of this machine: whatever happens there, it prints what one run of ffosolve does."""
-import gc
+import concurrent.futures
 import os
 import random
 import shutil
@@ -26,50 +26,50 @@ def setUpModule():
         lack("distributed (Debian: python3-distributed)")
     many.set_up_module()
     HASTY = install("hasty", ACTING)
-    for name, old, new in (("LOST_SECONDS", 600, 20), ("STRAY_SECONDS", 10, 3)):
-        change_many(HASTY, "cluster", f"{name} = {old}", f"{name} = {new}")
+    change_many(HASTY, "cluster", "LOST_SECONDS = 30", "LOST_SECONDS = 12")
     change_many(HASTY, "solve", "KNOWN_SECONDS = 30", "KNOWN_SECONDS = 2")
     change_many(HASTY, "engine", "(1 if is_terminal else 60)", "1")
 
 
 class Interfaces(InFolder):
-    def test_the_calls_of_later_versions_of_dask_are_used_and_one_that_fails_is_made_again(self):
+    def test_the_calls_of_later_versions_of_dask_are_used(self):
+        calls, sent = [], []
+
         class Client:
-            status, calls = "running", []
+            status, loop = "running", types.SimpleNamespace(add_callback=lambda call, *words, **how: call(*words, **how))
 
             def __init__(self, **words):
-                self.calls.append(words)
-                if gc.isenabled():
-                    raise OSError("a client may be collected while another one starts")
+                calls.append(words)
 
             def register_plugin(self, plugin, name):
-                self.calls.append((plugin.name, name))
+                calls.append(name)
 
-            def scheduler_info(self, n_workers=5):
-                name, count = self.calls[-1][1], 7 if n_workers == -1 else n_workers
-                return {"workers": {f"w{n}": {"resources": {name: 2}, "nthreads": 2, "host": "h"} for n in range(count)}}
-
-            def processing(self):
-                return {}
+            def run_on_scheduler(self, function, *words):
+                return name in calls, {"h1": (None, 2, "h1", 2, []), "h2": (None, None, "h2", 7, [])}, sent[:1]
 
             def get_executor(self, **words):
-                return types.SimpleNamespace(submit=mock.Mock(side_effect=Exception("closed")))
+                calls.append(words)
+                return self
 
-            unregister_worker_plugin = None
+            def submit(self, *words, key, workers):
+                sent.append(key)
+                return concurrent.futures.Future()
+
         fakes = {"distributed": types.SimpleNamespace(Client=Client, WorkerPlugin=object),
                  "cloudpickle": types.SimpleNamespace(register_pickle_by_value=lambda module: None)}
         with mock.patch.dict(sys.modules, fakes):
             sys.modules.pop("ffosolve._many.cluster", None)
             from ffosolve._many import cluster
             with mock.patch.multiple("logging", disable=mock.DEFAULT), mock.patch.multiple("warnings", simplefilter=mock.DEFAULT):
-                a_run = types.SimpleNamespace(task={"run": "run-1"}, place=self.folder, text=str)
-                one = cluster.Cluster("h1:8786", a_run)
+                one = cluster.Cluster("h1:8786", types.SimpleNamespace(task={}, folder=self.folder, text=str))
             sys.modules.pop("ffosolve._many.cluster")
-        wait_until(lambda: one.room() == 2 * 14 + 2)
-        self.assertEqual(Client.calls, [{"address": "h1:8786", "timeout": 10, "set_as_default": False}, (one.name, one.name)])
-        one.close()
-        future = one.submit(0)  # to a scheduler that was just lost
-        self.assertEqual((one.result(future, 0), one.ready), ((None, None, None), {}))
+        name = one.name
+        self.assertEqual([one.look(), one.room(), one.look(), one.room()], [{}, 6, {}, 6])
+        future = one.submit(0, ())
+        one.look()  # finds that no worker can have it
+        self.assertTrue(future.cancelled())
+        self.assertEqual(calls, [{"address": "h1:8786", "timeout": 30, "set_as_default": False},
+                                 {"pure": False, "resources": {name: 1}}, name])
 
 
 class Cluster(Case):
@@ -136,14 +136,14 @@ class Cluster(Case):
         return [number for name in names or self.workers for number in processes_in(self.folder / name)]
 
     def done(self):
-        return len(list(Path("work").glob("run-*/results/" + "[0-9]" * 7)))
+        return len(list(Path("work/results").glob("[0-9]" * 7)))
 
     def test_report_book_and_scores_are_those_of_one_run(self):
         self.start_workers("worker1", "worker2")
         self.ended(self.begin(by=many.MANY))
         shutil.rmtree("work")
         self.same(many.MANY, "--scheduler", f"tcp://127.0.0.1:{self.port}", *self.WORDS, by=PYTHON)
-        self.assertEqual([*Path(".").rglob("ffosolve-run-*")], [])
+        self.assertEqual({path.parts[0] for path in Path(".").rglob("program-?")}, {"work"})
         scores = run(many.MANY.with_name("ffoscores"), "list.obf").stdout
         self.same(many.MANY, "--scheduler=scheduler.json", "--scores", "scores", "list.obf", by=PYTHON, text=scores)
 
@@ -198,7 +198,7 @@ class Cluster(Case):
         self.assertIn("not solved: 15 of 15 parts: part 0000000 (lines 1 to 4), ", self.messages())
         self.assertEqual(self.messages().count("failed part 0000000 "), 3)
 
-    def test_a_scheduler_that_ends_is_waited_for_and_then_the_run_ends(self):
+    def test_a_scheduler_that_is_back_at_once_goes_on_and_one_that_is_lost_ends_the_run(self):
         self.start_workers("worker1", PAUSE="0.5")
         for is_back in (True, False):
             ran = self.begin()
@@ -206,11 +206,11 @@ class Cluster(Case):
             self.signal(signal.SIGKILL, *self.workers)
             self.scheduler.kill()
             self.scheduler.wait()
-            wait_until(lambda: " is lost; it is waited for, 20 seconds at most\n" in self.messages())
+            wait_until(lambda: "%, no machine at work, parts " in self.messages())
             if is_back:
                 self.start_scheduler()
                 self.start_workers("worker1")
-                self.assertIn("scheduler.json is back\n", self.ended(ran))
+                self.ended(ran)
                 shutil.rmtree("work")
                 self.signal(signal.SIGKILL, *self.workers)
                 self.start_workers("worker1", PAUSE="0.5")
@@ -241,7 +241,7 @@ class Cluster(Case):
     def test_a_scheduler_that_cannot_be_reached_is_named(self):
         self.scheduler.kill()
         change = install("impatient")
-        change_many(change, "cluster", "CONNECT_SECONDS = 10", "CONNECT_SECONDS = 1")
+        change_many(change, "cluster", "LOST_SECONDS = 30", "LOST_SECONDS = 1")
         for address in (f"tcp://127.0.0.1:{self.port}", "nonsense"):
             self.ends(3, b"", f"cannot reach the scheduler {address}: ", change, "--scheduler", address, "work", "list.obf", by=PYTHON)
         self.refused(4, "--scheduler needs Python's package distributed (No module named ", many.MANY, "--scheduler=h1:8786",

@@ -45,9 +45,9 @@ class Functions(InFolder):
 
     def test_scores_are_complete_with_a_line_for_each_of_the_part(self):
         one = parts.Run.__new__(parts.Run)
-        one.task = {"most": 1}
+        one.options = {"--scores": True}
         for text, is_whole in ((b"a\nb\nc\n", True), (b"a\nb\n", False), (b"a\nb\nc", False), (b"a\nb\nc\nd\n", False)):
-            self.assertEqual(one.is_whole(b"1\n2\n3\n", text, b""), is_whole)
+            self.assertEqual(one.is_whole(b"1\n2\n3\n", 0, text, b""), is_whole)
 
     def test_a_file_is_on_the_disk_before_it_has_its_name(self):
         synced = []
@@ -61,7 +61,7 @@ class Functions(InFolder):
     def test_the_lock_of_a_run_that_ends_is_waited_for(self):
         folder.lock_folder(Path("work"))
         lock = max(int(name) for name in os.listdir("/proc/self/fd"))
-        lock = next(file for file in range(lock, 2, -1) if os.path.realpath(f"/proc/self/fd/{file}").endswith("work/lock"))
+        lock = next(file for file in range(lock, 2, -1) if os.path.realpath(f"/proc/self/fd/{file}").endswith("work/" + folder.LOCK))
         threading.Timer(0.5, os.close, [lock]).start()
         folder.lock_folder(Path("work"))
 
@@ -82,32 +82,35 @@ class Resuming(Case):
     def test_a_part_whose_results_are_not_complete_is_solved_again(self):
         self.begin()
         self.again(3)
-        path = self.place("results/0000001")
+        path, task = self.place("results/0000001"), json.loads(self.place("task.json").read_text())
         whole = path.read_bytes()
         head, _, results = whole.partition(b"\n")
-        report, book = results[:int(head.split()[3])], results[int(head.split()[3]):]
-        seconds = float(head.split()[5])
+        report, book = results[:int(head.split()[1])], results[int(head.split()[1]):]
+        seconds, text = float(head.split()[3]), b"".join(many.SMALL.splitlines(keepends=True)[20:40])
 
-        def record(report, book, run=head.split()[0], part=b"0000001", status=b"0"):
+        def record(report, book, part=1, status=0):
             """A record with a right digest."""
-            head = b"%b %b %b %d %d %.3f" % (run, part, status, len(report), len(book), seconds)
-            text = b"".join(many.SMALL.splitlines(keepends=True)[20:40])
-            return b"%b %b\n%b%b" % (head, solve.digest_of(head, text, report + book), report, book)
+            head = b"%d %d %d %.3f" % (status, len(report), len(book), seconds)
+            return b"%b %b\n%b%b" % (head, solve.digest_of(task, part, head, text, report + book), report, book)
         self.assertEqual(record(report, book), whole)
+        of_others = record(report, book, part=2)
+        task["options"]["--complete"] = True
+        of_others_too = record(report, book)
+        task["options"]["--complete"] = False
         for spoiled in (None, b"", whole[:-1], whole[:whole[:-1].rindex(b"\n") + 1], bytes(len(whole)), whole + b"\n",
-                        whole.replace(b"+", b"-", 1), self.place("results/0000000").read_bytes(),
-                        record(report, book, run=b"run-0123456789ab"), record(report, book, part=b"0000002"),
-                        record(report, book, status=b"1"), record(report.replace(b"\n1 ", b"\n2 "), book),
+                        whole.replace(b"+", b"-", 1), self.place("results/0000000").read_bytes(), of_others, of_others_too,
+                        record(report, book, status=1), record(report.replace(b"\n1 ", b"\n2 "), book),
                         record(report, book.replace(b"winner", b"discs")), record(report, b"")):
             path.unlink() if spoiled is None else path.write_bytes(spoiled)
             self.again(2)
             self.assertEqual(path.read_bytes().partition(b"\n")[2], results)
 
-    def test_a_removed_run_is_solved_again(self):
+    def test_removed_results_are_solved_again(self):
         self.begin()
-        shutil.rmtree(self.place())
-        self.same(*self.WORDS, message="is gone: all parts are solved again")
-        self.same_book()
+        shutil.rmtree(self.place("results"))
+        self.again(0)
+        self.place("task.json").unlink()
+        self.again(3)
 
     def test_the_folder_keeps_the_program_that_it_was_begun_with(self):
         self.begin()
@@ -119,7 +122,7 @@ class Resuming(Case):
     def test_damaged_files_of_the_run_are_written_again(self):
         read = "--book-in=one.book"
         self.begin(read)
-        names = ("list", "starts", "program-0", "book-in", "solve.py", "task.json")
+        names = ("list", "program-0", "book-in", "solve.py", "task.json")
         before = {path: path.read_bytes() for path in map(self.place, names)}
         for path, whole in before.items():
             path.write_bytes(whole[:-5])
@@ -145,10 +148,10 @@ class Resuming(Case):
         self.same(*words, "--table=9", "--workers=1", "--jobs=3", message=", 3 of them solved before")
 
     def test_the_folder_of_an_earlier_version_is_refused(self):
-        self.begin()
-        asked = json.loads(Path("work/asked.json").read_text())
-        write("work/asked.json", json.dumps({**asked, "mark": "the work of ffosolve-many, form 1", "program": ""}))
-        self.refused(2, "work was begun by an earlier version: use another folder", *self.WORDS)
+        for name in ("lock", "asked.json", "run-0123456789ab/list"):
+            write(Path("work", name), "the work of ffosolve-many, form 1")
+        self.refused(2, "work has files that are not ffosolve-many's, or those of an earlier version, such as asked.json: name a "
+                        "new or an empty folder", *self.WORDS)
 
     def test_a_list_that_grew_at_its_end_goes_on(self):
         self.begin()
@@ -187,13 +190,12 @@ class Resuming(Case):
     def test_what_killed_runs_left_is_removed_and_nothing_else(self):
         self.begin()
         self.place("results/0000002").unlink()
-        strays = [self.place(name) for name in ("results/0000001.0123abcd.new", "program-0.0123abcd.new", "tmp.new/1.book",
-                                                "../asked.json.0123abcd.new")]
-        kept = [self.place(name) for name in ("results/mine.txt", "notes", "copy", "../notes.new")]
+        strays = [self.place(name) for name in ("results/0000001.0123abcd.new", "task.json.0123abcd.new", "book.01_3abcd.new/1.book")]
+        kept = [self.place(name) for name in ("results/mine.txt", "notes", "copy", "notes.new")]
         for path in strays + kept:
             write(path, "?")
         self.again(2)
-        self.assertEqual([path.exists() for path in strays + kept], [False] * 4 + [True] * 4)
+        self.assertEqual([path.exists() for path in strays + kept], [False] * 3 + [True] * 4)
 
     def test_a_full_disk_ends_the_run_and_it_goes_on_when_there_is_room(self):
         by = install("full")
@@ -201,7 +203,7 @@ class Resuming(Case):
                     "not '0000005' <= path.name < '1' else open('/dev/full', 'wb', 0).write(b'?')")
         words = ("--jobs=1", "--lines=5", *self.WORDS[1:])
         ran = self.ends(3, b"", ": No space left on device\n", *words, by=by)
-        self.assertIn(b"cannot write work/run-", ran.stderr)
+        self.assertIn(b"cannot write work: No space left", ran.stderr)
         self.same(*words, message=", 5 of them solved before", by=by, places={"ROOM": ""})
         self.same_book()
 
@@ -212,7 +214,7 @@ class Files(Case):
     def test_a_list_on_standard_input(self):
         self.same("--lines=20", "work", "-", message="-: 60 lines in 3 parts", input=many.SMALL)
         self.same("--lines=20", "work", "/dev/stdin", message=", 3 of them solved before", input=many.SMALL)
-        self.assertEqual({path.name for path in Path("work").iterdir()}, {"asked.json", "lock", self.place().name})
+        self.assertEqual({path.name for path in Path("work").iterdir()}, {folder.LOCK, "list", "program-0", "results", "solve.py", "task.json"})
         with open("list.obf", "rb") as file:
             self.same("--lines=20", "work", "-", message=", 3 of them solved before", stdin=file)
         self.refused(2, "- is not the list that work was begun with, from line 1 on", "--lines=20", "work", "-",
@@ -243,40 +245,35 @@ class Files(Case):
                      preexec_fn=limited("RLIMIT_FSIZE", 1000))
 
     def test_a_part_has_at_most_the_bytes_of_a_file(self):
-        half, most = b"%" * (MOST_BYTES // 2 - 1) + b"\n", "has more than 1048576 bytes: "
+        half, most = b"%" * (MOST_BYTES // 2 - 1) + b"\n", "has more than 1048576 bytes"
         Path("empty").mkdir()
-        for text, message in ((b"%" * (MOST_BYTES + 1), f"line 1 of - {most}no part can hold it"),
-                              (b"\n\n" + (b"%" + half) * 2, f"part 0000001 (from line 3 of - on) {most}use fewer lines, "
-                                                            "such as --lines 1")):
-            for name in ("a/b/work", "empty"):
-                self.refused(2, message, "--lines=2", name, "-", input=text)
+        for name in ("a/b/work", "empty"):
+            self.refused(3, f"cannot read -: its line 1 {most}\n", name, "-", input=b"%" * (MOST_BYTES + 1))
+            self.refused(2, f"part 0000001 (from line 3 of - on) {most}: use fewer lines, such as --lines 1\n", "--lines=2", name,
+                         "-", input=b"\n\n" + (b"%" + half) * 2)
         self.assertEqual(self.many("--cut", "--lines=2", "work", "-", input=half * 4).stdout[:8], b"2 parts,")
 
     def test_a_list_that_changes_while_it_is_read(self):
         by = install("changing")
-        cut = "    lock_folder(command.folder)\n"
+        cut = "    lock_folder(folder)\n"
         change_many(by, "folder", cut, f'{cut}    source.write_bytes(source.read_bytes().replace(b"X", b"O", 1))\n')
         self.ends(3, b"", "list.obf changes while it is read", "--lines=6", "work", "list.obf", by=by)
 
     def test_a_folder_with_other_files_is_refused_and_untouched(self):
-        for name in ("log", "run-1/parts", "lock", "copy", "a.new"):
-            write(Path("mine", name), "mine")
         message = "name a new or an empty folder"
-        self.refused(2, f"mine has files that are not ffosolve-many's, such as a.new: {message}", "mine", "list.obf")
-        self.refused(2, message, ".", "list.obf")
-        for asked in ("{}", "[]", "", '{"mark": "the work of ffosolve-many, form 2", "run": "; x"}'):
-            write("mine/asked.json", asked)
-            self.refused(2, message, "mine", "list.obf")
-        for names in ("copy", "lock copy", "a.new", "lock a.new", "lock log"):
+        for names in ("copy", "lock copy", "a.new", "results/0000000 task.json list"):
             for name in names.split():
-                write(Path(names, name), "")
+                write(Path(names, name), "mine")
             self.refused(2, message, names, "list.obf")
+        self.refused(2, f"a.new has files that are not ffosolve-many's, or those of an earlier version, such as a.new: {message}",
+                     "a.new", "list.obf")
+        self.refused(2, message, ".", "list.obf")
 
     def test_a_folder_that_is_empty_or_was_just_begun_is_used(self):
-        for names in ((), ("lock",), ("lock", "asked.json.0123abcd.new")):
+        for names in ((), (folder.LOCK,), (folder.LOCK, "list.0123abcd.new"), (folder.LOCK, "task.json")):
             Path("work").mkdir()
             for name in names:
-                write(Path("work", name), folder.MARK if len(names) > 1 else "")
+                write(Path("work", name), "[]")
             self.same("work", "list.obf")
             self.assertEqual([*Path("work").glob("*.new")], [])
             shutil.rmtree("work")
@@ -301,7 +298,7 @@ class Signals(Case):
 
     def done(self):
         """Returns the number of solved parts."""
-        return len(list(Path("work").glob("run-*/results/" + "[0-9]" * 7)))
+        return len(list(Path("work/results").glob("[0-9]" * 7)))
 
     def workers(self):
         """Returns {number: command line} of the processes in the test's folder."""

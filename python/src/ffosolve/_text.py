@@ -10,7 +10,7 @@ class NotText(ValueError):
     """A text is refused. The message names it."""
 
 
-def text_lines(file: BinaryIO, name: str) -> Iterator[bytes]:
+def text_lines(file: BinaryIO, name: str, may_have_nul: bool = False) -> Iterator[bytes]:
     """The lines of a text, each with its end. Raises NotText; reads at most one byte more than MOST_BYTES of a line."""
     number, line = 1, file.readline(MOST_BYTES + 1)
     if line.startswith(MARKS):
@@ -20,7 +20,7 @@ def text_lines(file: BinaryIO, name: str) -> Iterator[bytes]:
     while line:
         if len(line) > MOST_BYTES:
             raise NotText(f"cannot read {name}: its line {number} has more than {MOST_BYTES} bytes")
-        if b"\0" in line:
+        if b"\0" in line and not may_have_nul:
             raise NotText(f"cannot read {name}: its line {number} has a NUL byte, so it is not a text")
         yield line
         number, line = number + 1, file.readline(MOST_BYTES + 1)

@@ -10,6 +10,10 @@ MOST = {"--jobs": 999, "--lines": 10_000}
 GONE = {
     "--hosts": "start a cluster with `dask ssh --hostfile FILE`, and use --scheduler (PARALLEL_SSH is not read, either)",
     "--sweep": "a cluster removes its own files; those of an earlier version are folders run-* in your home folder there"}
+EXCLUDED = {  # options that are refused with another one
+    "scheduler": ("jobs", "cut"), "scores": ("book_in", "book_out"),
+    "merge_books": ("jobs", "lines", "scheduler", "scores", "complete", "cut", "max_empties", "workers", "table", "scoring",
+                    "book_in")}
 
 USAGE = f"""{NAME} [OPTIONS] [FOLDER] LIST
        {NAME} --merge-books [--book-out FILE] BOOK.."""
@@ -87,12 +91,18 @@ def parse(words):
         command, others = parser.parse_known_args(words[:end])
     except argparse.ArgumentError as why:
         raise misused(str(why).removeprefix("argument ")) from None
-    command.help = command.help and parser.format_help()
-    for word in others if not command.help else ():
+    if command.help:
+        command.help = parser.format_help()
+        return command
+    for word in others:
         if instead := GONE.get(word.partition("=")[0]):
             raise misused(f"{word.partition('=')[0]} is gone: {instead}")
         if word.startswith("-") and word != "-":
             raise misused(f"'{shown(word)}' is not an option; a file of that name is ./{shown(word)}")
+    for option, excluded in EXCLUDED.items():
+        for other in excluded:
+            if getattr(command, option) and getattr(command, other):
+                raise misused(f"--{other} is not an option of --{option}".replace("_", "-"))
     command.words = others + words[end + 1:]
     if "" in command.words:
         raise misused("'' is not the name of a file")
@@ -106,16 +116,10 @@ def complete(command):
     if len(command.words) > 2:
         raise misused(f"'{shown(command.words[2])}' is one word too many: name one FOLDER and one LIST")
     *named, command.list = command.words
-    command.folder = Path(named[0] if named else f"{command.list}.parts")
+    command.folder, path = Path(named[0] if named else f"{command.list}.parts"), path_of(command.list)
     if command.folder.exists() and not command.folder.is_dir():
         raise misused(f"'{shown(command.folder)}' is not a folder: name one FOLDER and one LIST")
-    if command.scores and (command.book_in or command.book_out):
-        raise misused(f"--book-{'in' if command.book_in else 'out'} is not an option of ffoscores")
-    if command.scheduler and (command.jobs or command.cut):
-        raise misused(f"--{'jobs' if command.jobs else 'cut'} is not an option of --scheduler: a worker solves as many parts at "
-                      "a time as its --nthreads, which its own command sets")
-    path = path_of(command.list)
-    if not named and (not path.is_file() or path.parts[1:2] in (("dev",), ("proc",))):
+    if not named and path.exists() and (not path.is_file() or path.parts[1:2] in (("dev",), ("proc",))):
         raise misused(f"'{shown(command.list)}' has no folder of its own: name a FOLDER before it")
     command.lines = command.lines or 1000
     command.scoring = command.scoring or "winner"

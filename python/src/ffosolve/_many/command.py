@@ -1,20 +1,17 @@
 """Does what a command line asks for."""
 import contextlib
 import os
-import shutil
 import signal
 import sys
-import tempfile
 
 from .. import __version__
 from .arguments import complete, parse
-from .books import book_of, check_place, merge_books, place_book
+from .books import check_place, merge_books, place_book
 from .engine import Threads, solve_parts
 from .files import is_same, path_of, regular
 from .folder import prepare
-from .messages import (DONE, NAME, UNREADABLE, UNSOLVED, Refusal, cannot, counted, misused, outcome, say, shown,
+from .messages import (DONE, NAME, UNREADABLE, UNSOLVED, Refusal, cannot, counted, misused, say, shown,
                        standard_output)
-from .parts import report_lines
 from .programs import Program, run_options
 
 SIGNALS = (signal.SIGINT, signal.SIGTERM, signal.SIGHUP)
@@ -25,14 +22,14 @@ def begin(command, programs):
     complete(command)
     if is_same(path_of(command.list), 1):
         raise misused(f"standard output is the list {shown(command.list)}: name another file")
-    program = Program(programs, "ffoscores" if command.scores else "ffosolve")
     with contextlib.ExitStack() as stack:
+        source = regular(command.list, stack)
         book_in = regular(command.book_in, stack) if command.book_in else None
-        read = [f"--book-in={book_in}"] if book_in else []
+        program, read = Program(programs, "ffoscores" if command.scores else "ffosolve"), [f"--book-in={book_in}"] * bool(book_in)
         most = program.check(run_options(command) + read)
         command.max_empties = command.max_empties or most
-        check_place(command, path_of(command.list), program, *read)
-        source = regular(command.list, stack)
+        if command.book_out:
+            check_place(command.book_out, path_of(command.list), program, *read)
         try:
             return prepare(command, source, program, book_in)
         except OSError as why:
@@ -44,43 +41,36 @@ def solve_list(command, programs):
     if command.scheduler:
         from .cluster import Cluster  # refuses if its package is missing
     run, program = begin(command, programs)
-    parts = len(run.unsolved())
-    if not command.cut and not command.quiet:
-        say(f"{shown(command.list)}: {counted(run.all_lines, 'line')} in {counted(run.parts, 'part')}, {run.parts - parts} of "
-            f"them solved before; folder {shown(command.folder)}")
-    failed = []
+    unsolved = len(run.unsolved())
     if command.cut:
         with standard_output() as output:
-            output.write(os.fsencode(f"{counted(run.parts, 'part')}, {run.parts - parts} of them solved; "
-                                     f"python3 {shown(run.place)}/solve.py NAME solves one, from 0000000 to {run.parts - 1:07d}\n"))
+            output.write(os.fsencode(f"{counted(run.parts, 'part')}, {run.parts - unsolved} of them solved; "
+                                     f"python3 {shown(run.folder)}/solve.py NAME solves one, from 0000000 to {run.parts - 1:07d}\n"))
         return DONE
-    if parts:
+    if not command.quiet:
+        say(f"{shown(command.list)}: {counted(run.all_lines, 'line')} in {counted(run.parts, 'part')}, {run.parts - unsolved} of "
+            f"them solved before; folder {shown(command.folder)}")
+    if unsolved:
         engine = Cluster(command.scheduler, run) if command.scheduler else Threads(
             run, program, command.jobs or len(os.sched_getaffinity(0)))
         try:
             failed = solve_parts(run, engine, int(command.max_empties), command.quiet)
         finally:
             engine.close()
-    return finish(run, command, failed)
+        if failed:
+            named = ", ".join(map(run.span, sorted(failed)[:3])) + (", .." if len(failed) > 3 else "")
+            raise Refusal(UNREADABLE if command.scores else UNSOLVED, f"not solved: {len(failed)} of "
+                          f"{counted(run.parts, 'part')}: {named}. The same command solves only these")
+    return finish(run, command)
 
 
-def finish(run, command, failed):
-    """Prints the report and writes the book, if all parts are solved; returns the status."""
-    if failed:
-        named = ", ".join(map(run.span, sorted(failed)[:3])) + (", .." if len(failed) > 3 else "")
-        raise Refusal(UNREADABLE if command.scores else UNSOLVED,
-                      f"not solved: {len(failed)} of {counted(run.parts, 'part')}: {named}. The same command solves only these")
-    for pattern in ("asked.json.*.new", "run-*/*.new", "run-*/results/[0-9]*.new"):  # what killed runs left
-        for path in command.folder.glob(pattern):
-            path.unlink() if path.is_file() else shutil.rmtree(path)
+def finish(run, command):
+    """Prints the report and writes the book; returns the status."""
+    run.sweep()
     with standard_output() as output:
-        if command.scores:
-            output.writelines(run.results(number)[1] for number in range(run.parts))
-        else:
-            output.writelines(report_lines(run.rows()))
-    if command.book_out is not None:
-        with tempfile.TemporaryDirectory(dir=run.place, suffix=".new") as folder:
-            place_book(command.book_out, book_of(run, folder))
+        output.writelines(run.output())
+    if command.book_out:
+        place_book(run, command.book_out)
     return max(run.statuses, default=DONE)
 
 
@@ -110,7 +100,15 @@ def main(programs, words):
         if signal.getsignal(number) != signal.SIG_IGN:
             signal.signal(number, catch)
     try:
-        status = outcome(run_command, programs, words)
+        status = run_command(programs, words)
+    except Refusal as why:
+        status = why.args[0]
+        say(why.args[1])
+    except BrokenPipeError:  # standard output is no longer read
+        status = -signal.SIGPIPE
+    except OSError as why:
+        status = UNREADABLE
+        say(f"{shown(why.filename or 'a file')}: {why.strerror or why}")
     except KeyboardInterrupt as why:
         say("interrupted; the same command goes on with what is solved")
         status = -why.args[0]

@@ -33,31 +33,26 @@ class Threads:
         """How many parts may be submitted but not done at a time."""
         return 2 * self.jobs
 
-    def submit(self, number):
-        """A future of a part's results."""
-        return self.pool.submit(self.solve, number, self.run.text(number))
+    def submit(self, number, failed):
+        """A future of a part's results. `failed` has the machines that failed it before."""
+        return self.pool.submit(self.solve, number)
 
-    def solve(self, number, text):
+    def solve(self, number):
         self.running[number] = HERE
         try:
-            record = solve(self.run.task, self.run.place, self.program, f"{number:07d}", text)
-            return HERE, self.run.keep(number, record), None
+            return HERE, self.run.keep(number, solve(self.run.task, self.run.folder, self.program, number, self.run.text(number))), ""
         except Failed as why:
             return HERE, None, str(why)
         finally:
             del self.running[number]
 
     def result(self, future, number):
-        """Returns (machine, seconds, reason) of a part: without seconds its results are not complete, for this reason if it is
-        known; without a machine the part has to be submitted again."""
+        """The machine that had a part, the seconds it took, and the reason if it failed; without seconds it is not solved."""
         return future.result()
 
-    def at_work(self):
+    def look(self):
         """The machine of each part that is being solved."""
         return dict(self.running)
-
-    def judge(self, machine, is_solved):
-        """Notes whether a machine solved a part."""
 
     def close(self):
         """Ends the work; the programs end with this process."""
@@ -65,18 +60,19 @@ class Threads:
 
 def solve_parts(run, engine, most, quiet):
     """Solves the unsolved parts of a run, and returns those that failed. `most` is the limit of empty squares."""
-    parts, failed, tries, flying, done = run.unsolved(), array.array("L"), collections.Counter(), {}, queue.SimpleQueue()
+    parts, failed, failures = run.unsolved(), array.array("L"), {}
     progress, waiting, again = Progress(run, parts, most), iter(parts), collections.deque()
-    left, due, shown, is_terminal = len(parts), time.monotonic(), time.monotonic(), sys.stderr.isatty()
+    flying, done, left, is_terminal = {}, queue.SimpleQueue(), len(parts), sys.stderr.isatty()
+    due, shown = 0, time.monotonic()
     while left:
         while len(flying) < engine.room() and (number := again.popleft() if again else next(waiting, None)) is not None:
-            future = engine.submit(number)
+            future = engine.submit(number, failures.get(number, ()))
             flying[future] = number
             future.add_done_callback(done.put)
         now = time.monotonic()
         if now >= due:
-            due = now + 1
-            progress.update(engine.at_work())
+            due = now + (1 if flying else 0.2)
+            progress.update(engine.look())
             if not quiet and now >= shown + (1 if is_terminal else 60):
                 shown = now
                 (show if is_terminal else say)(progress.text())
@@ -85,19 +81,21 @@ def solve_parts(run, engine, most, quiet):
         except queue.Empty:
             continue
         number = flying.pop(future)
+        if future.cancelled():
+            again.append(number)
+            continue
         machine, seconds, why = engine.result(future, number)
         if seconds is not None:
-            left -= 1
             progress.end(number, seconds)
-            engine.judge(machine, True)
-        elif not machine:
+            left -= 1
+            continue
+        say(f"{machine} failed {run.span(number)}: {why or 'its results are not complete'}")
+        machines = (*failures.pop(number, ()), machine)
+        if len(machines) < engine.tries:
+            failures[number] = machines
             again.append(number)
         else:
-            say(f"{machine} failed {run.span(number)}: {why or 'its results are not complete'}")
-            engine.judge(machine, False)
-            tries[number] += 1
-            is_last = tries[number] == engine.tries
-            (failed if is_last else again).append(number)
-            left -= is_last
+            failed.append(number)
+            left -= 1
     show("")
     return failed

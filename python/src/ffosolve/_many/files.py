@@ -1,30 +1,14 @@
-"""Files: what they are, what they hold, and how they are written."""
+"""Files that are read or replaced."""
 import contextlib
-import errno
-import hashlib
 import os
 import shutil
+import stat
 import sys
 import tempfile
 from pathlib import Path
 
-from .._text import MOST_BYTES
 from .messages import NAME, UNREADABLE, Refusal, cannot, shown
-
-
-def path_of(name):
-    """The path of a file that is read; `-` is standard input. Refuses one that can't be read."""
-    path = Path("/dev/stdin" if name == "-" else name)
-    try:
-        if str(path) == "/dev/stdin" and sys.stdin is None:
-            raise Refusal(UNREADABLE, f"cannot read {name}: standard input is closed")
-        path.stat()
-        if path.is_dir() or not os.access(path, os.R_OK):
-            number = errno.EISDIR if path.is_dir() else errno.EACCES
-            raise OSError(number, os.strerror(number))
-    except OSError as why:
-        raise cannot("read", name, why) from None
-    return path
+from .solve import write_whole
 
 
 def is_same(one, other):
@@ -34,32 +18,37 @@ def is_same(one, other):
     return False
 
 
+def path_of(name):
+    """The path of a file that is read; `-` is standard input."""
+    return Path("/dev/stdin" if name == "-" else name)
+
+
 def regular(name, stack):
     """The path of a readable regular file: the file itself or, for a pipe, a temporary copy that lives as long as `stack`."""
-    path = path_of(name)
-    if path.is_file():
-        return path
+    path, doing = path_of(name), ("read", name)
+    if str(path) == "/dev/stdin" and sys.stdin is None:
+        raise Refusal(UNREADABLE, f"cannot read {name}: standard input is closed")
     try:
-        copy = stack.enter_context(tempfile.NamedTemporaryFile(prefix=f"{NAME}-"))
-        with path.open("rb") as source, open(copy.name, "wb") as target:
-            shutil.copyfileobj(source, target)
+        with path.open("rb") as source:
+            if path.is_file():
+                return path
+            doing = f"copy {shown(name)} to", tempfile.gettempdir()
+            copy = stack.enter_context(tempfile.NamedTemporaryFile(prefix=f"{NAME}-"))
+            with open(copy.name, "wb") as target:
+                shutil.copyfileobj(source, target)
+            return Path(copy.name)
     except OSError as why:
-        raise cannot(f"copy {shown(name)} to", tempfile.gettempdir(), why) from why
-    return Path(copy.name)
+        raise cannot(*doing, why) from why
 
 
-def read_or_nothing(path):
-    """The bytes of a file; none if it can't be read."""
-    with contextlib.suppress(OSError):
-        return path.read_bytes()
-    return b""
-
-
-def digest_of(path, size=sys.maxsize):
-    """The SHA-256 of a file, or of its first `size` bytes; that of nothing if it can't be read."""
-    digest = hashlib.sha256()
-    with contextlib.suppress(OSError), path.open("rb") as file:
-        while block := file.read(min(size, MOST_BYTES)):
-            digest.update(block)
-            size -= len(block)
-    return digest.hexdigest()
+def replace(name, pieces):
+    """Writes a file: replaces a regular one whole, with its permissions, and writes into a pipe."""
+    try:
+        with open(name, "ab") as file:
+            mode = os.fstat(file.fileno()).st_mode
+            if stat.S_ISREG(mode):
+                write_whole(Path(os.path.realpath(name)), pieces, stat.S_IMODE(mode))
+            else:
+                file.writelines(pieces)
+    except OSError as why:
+        raise cannot("write", name, why) from why

@@ -1,7 +1,6 @@
-"""How the command ends, and what it prints on standard error."""
+"""What the command prints, and the refusals that end it."""
 import contextlib
 import os
-import signal
 import sys
 import threading
 
@@ -27,20 +26,6 @@ def cannot(verb, name, why):
 
 def counted(count, name):
     return f"{count} {name}" if count == 1 else f"{count} {name}s"
-
-
-def outcome(action, *words):
-    """The status of an action, after its refusal is printed; a negative one is the signal by which the program has to end."""
-    try:
-        return action(*words)
-    except Refusal as why:
-        say(why.args[1])
-        return why.args[0]
-    except BrokenPipeError:  # standard output is no longer read
-        return -signal.SIGPIPE
-    except OSError as why:
-        say(f"{shown(why.filename or 'a file')}: {why.strerror or why}")
-        return UNREADABLE
 
 
 def say(text):

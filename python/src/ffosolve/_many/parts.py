@@ -1,44 +1,41 @@
 """The parts of a list, and their results."""
 import array
+import contextlib
+import hashlib
 import itertools
 import os
 import re
+import shutil
 
-from .._text import MARKS, MOST_BYTES
-from .files import digest_of as digest_of_file, read_or_nothing
+from .._text import MOST_BYTES, NotText, text_lines
 from .messages import REFUSED, UNREADABLE, UNSOLVED, Refusal, cannot
 from .solve import HEAD, digest_of, write_whole
 
-LARGE = f"has more than {MOST_BYTES} bytes"
-SKIPPED = re.compile(rb"[ \t]*(?:%.*|\r?)", re.DOTALL)
 HEADER = "% ffobook 2 {}\n"  # the first line of a book, with its scoring
-ROW = rb"\d+ (?:[+-]\d\d (?:[A-H][1-8](?:,[A-H][1-8])*|PS|--) [a-z]+|refused: [^\0\n]+)\n"
-REPORT = re.compile(rb"\[1\]\n((?:" + ROW + rb")*)solved (\d+) refused (\d+)\n")
 UNKNOWN = 255  # instead of the status of an unsolved part
+SKIPPED = re.compile(rb"[ \t]*(?:%.*|\r?)", re.DOTALL)
+ROW = re.compile(rb"(\d{1,9}) ([+-]\d\d (?:[A-H][1-8](?:,[A-H][1-8])*|PS|--) [a-z]+|refused: [^\0\n]+)\n")
 
 
 def cut_list(path, lines, name):
-    """Cuts a list into parts. Returns where each starts and the last one ends, and the size and SHA-256 of the list. Refuses
-    a file that is not a list, and a part above the size limit."""
-    starts, count = array.array("Q"), 0
+    """Cuts a list into parts. Returns where each starts and the last one ends, the number of lines, and the SHA-256 of the
+    list. Refuses a file that is not a list, and a part above the size limit."""
+    starts, count, digest = array.array("Q", [0]), 0, hashlib.sha256()
     with path.open("rb") as file:
-        first = file.readline(MOST_BYTES + 1)
-        if first.startswith(MARKS):
-            raise Refusal(UNREADABLE, f"cannot read {name}: it begins with a byte-order mark")
-        if not first.endswith(b"\n") and b"\r" in first.rstrip():
-            raise Refusal(UNREADABLE, f"cannot read {name}: its lines end with CR alone")
-        at = file.seek(0)
-        while sizes := list(map(len, itertools.islice(iter(lambda: file.readline(MOST_BYTES + 1), b""), lines))):
-            if sizes[0] > MOST_BYTES:
-                raise Refusal(REFUSED, f"line {count + 1} of {name} {LARGE}: no part can hold it")
-            if sum(sizes) > MOST_BYTES:
-                fewer = next(few for few in range(1, lines) if sum(sizes[:few + 1]) > MOST_BYTES)
-                raise Refusal(REFUSED, f"part {len(starts):07d} (from line {count + 1} of {name} on) {LARGE}: "
-                                       f"use fewer lines, such as --lines {fewer}")
-            starts.append(at)
-            at, count = at + sum(sizes), count + len(sizes)
-        starts.append(at)
-    return starts, {"bytes": at, "lines": count, "digest": digest_of_file(path, at)}
+        try:
+            texts = text_lines(file, name, may_have_nul=True)
+            while part := list(itertools.islice(texts, lines)):
+                text = b"".join(part)
+                if len(text) > MOST_BYTES:
+                    fewer = sum(size <= MOST_BYTES for size in itertools.accumulate(map(len, part)))
+                    raise Refusal(REFUSED, f"part {len(starts) - 1:07d} (from line {count + 1} of {name} on) has more than "
+                                           f"{MOST_BYTES} bytes: use fewer lines, such as --lines {fewer}")
+                digest.update(text)
+                starts.append(starts[-1] + len(text))
+                count += len(part)
+        except NotText as why:
+            raise Refusal(UNREADABLE, str(why)) from None
+    return starts, count, digest.hexdigest()
 
 
 def asked_lines(part):
@@ -57,27 +54,24 @@ def report_lines(rows):
 
 
 def rows_of(report):
-    """The rows of a complete report, each a pair of the line's number and the rest."""
-    return ((int(number), rest) for number, _, rest in (row.partition(b" ") for row in report.split(b"\n")[1:-2]))
+    """The rows of a report, each a pair of the line's number and the rest."""
+    return [(int(number), rest) for number, rest in ROW.findall(report)]
 
 
 def is_report(text, numbers):
     """Whether a text is the complete report of lines with these numbers."""
-    found = REPORT.fullmatch(text)
-    rows = [row.split(b" ", 2) for row in found[1].split(b"\n")[:-1]] if found else ()
-    refused = sum(row[1] == b"refused:" for row in rows)
-    return bool(found) and found.group(2, 3) == (b"%d" % (len(rows) - refused), b"%d" % refused) and [
-        row[0] for row in rows] == [b"%d" % number for number in numbers]
+    rows = rows_of(text)
+    return [number for number, _ in rows] == list(numbers) and b"".join(report_lines(rows)) == text
 
 
 class Run:
     """The parts of a list by number, and the records of their results in the folder `results`."""
 
-    def __init__(self, place, lines, starts, all_lines, task, scoring):
-        self.place, self.lines, self.starts, self.all_lines, self.scoring = place, lines, starts, all_lines, scoring
-        self.task, self.parts, self.list = task, len(starts) - 1, (place / "list").open("rb")
+    def __init__(self, folder, task, starts, all_lines):
+        self.folder, self.task, self.options, self.starts, self.all_lines = folder, task, task["options"], starts, all_lines
+        self.parts, self.lines, self.list = len(starts) - 1, self.options["--lines"], (folder / "list").open("rb")
         self.statuses = bytearray([UNKNOWN]) * self.parts
-        for entry in os.scandir(place / "results"):
+        for entry in os.scandir(folder / "results"):
             if re.fullmatch("[0-9]{7}", entry.name) and int(entry.name) < self.parts:
                 found = self.results(int(entry.name))
                 self.statuses[int(entry.name)] = found[0] if found else UNKNOWN
@@ -100,32 +94,32 @@ class Run:
     def read(self, number, record):
         """The status, the output, the book, and the seconds in a part's record; None unless it is complete."""
         head, text = HEAD.match(record), self.text(number)
-        if not head or (head[2].decode(), int(head[3])) != (self.task["run"], number) or int(head[4]) > self.task["most"]:
+        if not head or digest_of(self.task, number, head[1], text, record[head.end():]) != head[6]:
             return None
-        size, results = int(head[5]), record[head.end():]
-        is_same = len(results) == size + int(head[6]) and digest_of(head[1], text, results) == head[8]
-        found = int(head[4]), results[:size], results[size:], float(head[7])
-        return found if is_same and self.is_whole(text, *found[1:3]) else None
+        results, size = record[head.end():], int(head[3])
+        found = int(head[2]), results[:size], results[size:], float(head[5])
+        return found if self.is_whole(text, *found[:3]) else None
 
-    def is_whole(self, text, output, book):
-        """Whether the output and the book of a part are complete."""
-        if self.task["most"]:
+    def is_whole(self, text, status, output, book):
+        """Whether the status, the output and the book of a part are those of complete results."""
+        if self.options["--scores"]:
             return output.count(b"\n") == text.count(b"\n") + (text[-1:] != b"\n") and output.endswith(b"\n")
-        is_book = book.startswith(HEADER.format(self.scoring).encode()) and book.endswith(b"\n")
-        return is_book == self.task["has_book"] and is_report(output, asked_lines(text))
+        is_book = book.startswith(HEADER.format(self.options["--scoring"]).encode()) and book.endswith(b"\n")
+        return status == 0 and is_book == self.options["--book-out"] and is_report(output, asked_lines(text))
 
     def results(self, number):
         """The status, the output, the book, and the seconds of a part; None unless it is solved."""
-        return self.read(number, read_or_nothing(self.place / f"results/{number:07d}"))
+        with contextlib.suppress(OSError):
+            return self.read(number, (self.folder / f"results/{number:07d}").read_bytes())
 
     def keep(self, number, record):
         """Keeps a record if it is complete, and returns the seconds in it; otherwise None."""
         if not (found := self.read(number, record)):
             return None
         try:
-            write_whole(self.place / f"results/{number:07d}", [record])
+            write_whole(self.folder / f"results/{number:07d}", [record])
         except OSError as why:
-            raise cannot("write", self.place, why) from why
+            raise cannot("write", self.folder, why) from why
         self.statuses[number] = found[0]
         return found[3]
 
@@ -137,7 +131,13 @@ class Run:
                 raise Refusal(UNSOLVED, f"{self.span(number)} was changed meanwhile; the same command solves it again")
             yield found
 
-    def rows(self):
-        """The rows of the whole list's report, each with the number of its line."""
-        for number, (_, output, *_) in enumerate(self.solved()):
-            yield from ((number * self.lines + line, rest) for line, rest in rows_of(output))
+    def output(self):
+        """The lines that one run of the program prints for the whole list."""
+        outputs = (output for _, output, _, _ in self.solved())
+        return outputs if self.options["--scores"] else report_lines(
+            (number * self.lines + line, rest) for number, output in enumerate(outputs) for line, rest in rows_of(output))
+
+    def sweep(self):
+        """Removes what killed runs left."""
+        for path in list(self.folder.rglob("*.????????.new")):
+            path.unlink() if path.is_file() else shutil.rmtree(path)

@@ -14,27 +14,24 @@ LIMITS = {"ffosolve": rb"\[1\]\n1 refused: 64 empties, limit (\d+)\nsolved 0 ref
 
 
 class Program:
-    """A program in a folder: `start` runs it, and in a checkout builds it first; `files` are for other machines, too."""
+    """A program in a folder, which runs it and in a checkout builds it first."""
 
     def __init__(self, folder, name):
-        self.start, root = Path(folder, name), Path(folder).parent
-        self.is_checkout = (root / "crates.txt").is_file()
-        self.place = root / ("out" if self.is_checkout else "libexec/ffosolve")
+        self.start = Path(folder, name)
         if not os.access(self.start, os.X_OK):
             raise Refusal(UNBUILT, f"{name} is missing: it has to be next to {NAME}, in {folder}")
 
     def files(self):
         """The contents of its files for the levels of processors, the best level first."""
-        levels = [self.place / level / self.start.name for level in ("x86-64-v3", "x86-64-v2")]
-        here = self.place / self.start.name if self.is_checkout else self.start
-        has_levels = not self.is_checkout and levels[1].is_file()
-        places = levels if has_levels else [levels[0], here, levels[1]]
-        return list(dict.fromkeys(path.read_bytes() for path in places if path.is_file()))
+        places = (self.start.parent.parent / place for place in ("out", "libexec/ffosolve"))
+        levels = [path for place in places for path in place.glob(f"x86-64-v?/{self.start.name}")]
+        return [path.read_bytes() for path in sorted(levels, reverse=True) or [self.start]]
 
     def try_run(self, *words, stdout=subprocess.PIPE, **how):
         """The status of a run, and its messages on standard error, without the program's name."""
         ran = subprocess.run([self.start, *words], stdin=subprocess.DEVNULL, stdout=stdout, stderr=subprocess.PIPE, **how)
-        return ran.returncode, ran.stderr.decode(errors="replace").strip().removeprefix("ffosolve: ")
+        lines = ran.stderr.decode(errors="replace").splitlines()
+        return ran.returncode, ": ".join(line.removeprefix("ffosolve: ") for line in lines)
 
     def check(self, options):
         """Builds the program if needed, and lets it refuse wrong options and a wrong book. Returns the most empty squares that it

@@ -2,8 +2,8 @@
 
 It needs only Python and util-linux, so it works on machines without this package.
 """
-import array
 import hashlib
+import itertools
 import json
 import os
 import re
@@ -15,7 +15,7 @@ from pathlib import Path
 
 KNOWN = b"-OXXXXX-XXXXXXXOXXXXXXXXXXXXXXXXXXXOXXXXXXXXXXXXXXXXXXXXXXXXXXXX X; H1:+62; A1:+52;\n"
 KNOWN_SECONDS = 30  # after which a machine is too slow to solve that line
-HEAD = re.compile(rb"((run-[0-9a-f]{12}) (\d{7}) (\d) (\d+) (\d+) (\d+\.\d+)) ([0-9a-f]{64})\n")
+HEAD = re.compile(rb"(([01]) (\d+) (\d+) (\d+\.\d+)) ([0-9a-f]{64})\n")
 
 
 class Failed(Exception):
@@ -27,26 +27,27 @@ def guarded(words):
     return ["setpriv", "--pdeathsig", "KILL", "sh", "-c", '[ "$PPID" = "$0" ] && exec "$@"', str(os.getpid()), *words]
 
 
-def digest_of(head, text, results):
+def digest_of(task, part, head, text, results):
     """The SHA-256 of what was asked and of what came out."""
-    return hashlib.sha256(b"\n".join((head, text, results))).hexdigest().encode()
+    asked = json.dumps([task["options"], part]).encode()
+    return hashlib.sha256(b"\n".join((asked, head, text, results))).hexdigest().encode()
 
 
-def solve(task, place, program, part, text, is_wanted=lambda: True):
-    """Solves the lines `text` with a program, and returns the record of their results: a line with the run, the part, the
-    program's status, the sizes of its output and its book, the seconds it took, and the digest; then output and book.
+def solve(task, folder, program, part, text, is_wanted=lambda: True):
+    """Solves the lines `text` with a program, and returns the record of their results: a line with the program's status, the
+    sizes of its output and its book, the seconds it took, and the digest; then output and book.
 
-    `task` holds the run, the program's `words`, the greatest status of a solved part, and whether a book is written. A book
-    that is read lies in the folder `place`. Kills the program once `is_wanted` returns false. Raises Failed.
+    `task` has the program's `words`, and the `options` of the list. A book that is read is in the folder. Kills the program
+    once `is_wanted` returns false. Raises Failed.
     """
-    # The book comes through the pipe of standard error, so it needs no room on a disk.
-    command = guarded([program, *task["words"], *["--book-out=/dev/stderr"] * task["has_book"]])
+    has_book = task["options"]["--book-out"]  # which comes through the pipe of standard error: it needs no room on a disk
+    command = guarded([program, *task["words"], *["--book-out=/dev/stderr"] * has_book])
     begun = time.monotonic()
     try:  # `communicate` loses what it has not written when its time ends, so the list is a file in memory
         with open(os.memfd_create("part"), "w+b") as file:
             file.write(text)
             file.seek(0)
-            process = subprocess.Popen(command, cwd=place, start_new_session=True, stdin=file, stdout=subprocess.PIPE,
+            process = subprocess.Popen(command, cwd=folder, start_new_session=True, stdin=file, stdout=subprocess.PIPE,
                                        stderr=subprocess.PIPE)
     except OSError as why:
         raise Failed(f"{why.filename or 'part'}: {why.strerror}") from None
@@ -59,22 +60,22 @@ def solve(task, place, program, part, text, is_wanted=lambda: True):
                 if not is_wanted():
                     process.kill()
     status = process.returncode
-    if not 0 <= status <= task["most"]:
+    if not 0 <= status <= task["options"]["--scores"]:
         name = f"status {status}" if status >= 0 else f"killed by {signal.Signals(-status).name}"
         raise Failed((errors.decode(errors="replace").strip() or name).splitlines()[0])
-    book = errors[max(0, errors.find(b"% ffobook ")):] if task["has_book"] else b""
-    head = f"{task['run']} {part} {status} {len(output)} {len(book)} {time.monotonic() - begun:.3f}".encode()
-    return b"%b %b\n%b%b" % (head, digest_of(head, text, output + book), output, book)
+    book = errors[max(0, errors.find(b"% ffobook ")):] if has_book else b""
+    head = b"%d %d %d %.3f" % (status, len(output), len(book), time.monotonic() - begun)
+    return b"%b %b\n%b%b" % (head, digest_of(task, part, head, text, output + book), output, book)
 
 
-def fit_program(task, place):
+def fit_program(task, folder):
     """The first program in a folder that solves a known line, and its results. If `task` has `known`, they have to equal it.
     Raises Failed."""
     why = "is missing"
-    for program in sorted(place.absolute().glob("program-?")):
+    for program in sorted(folder.absolute().glob("program-?")):
         end = time.monotonic() + KNOWN_SECONDS
         try:
-            record = solve(task, place, program, "0000000", KNOWN, lambda end=end: time.monotonic() < end)
+            record = solve(task, folder, program, 0, KNOWN, lambda end=end: time.monotonic() < end)
             results = record.partition(b"\n")[2].decode("latin-1")
             if results == task.get("known", results):
                 return program, results
@@ -100,16 +101,15 @@ def write_whole(path, pieces, mode=None):
         beside.unlink(missing_ok=True)
 
 
-def main(place, part):
+def main(folder, part):
     """Solves a part of the list that was cut into a folder, and keeps its record there."""
-    task = json.loads((place / "task.json").read_text())
-    starts = array.array("Q", (place / "starts").read_bytes())
-    if not re.fullmatch("[0-9]{7}", part) or int(part) + 1 >= len(starts):
-        raise Failed(f"the parts are 0000000 to {len(starts) - 2:07d}")
-    with (place / "list").open("rb") as file:
-        file.seek(starts[int(part)])
-        text = file.read(starts[int(part) + 1] - starts[int(part)])
-    write_whole(place / "results" / part, [solve(task, place, fit_program(task, place)[0], part, text)])
+    task = json.loads((folder / "task.json").read_text())
+    if not re.fullmatch("[0-9]{7}", part) or int(part) >= task["parts"]:
+        raise Failed(f"the parts are 0000000 to {task['parts'] - 1:07d}")
+    first, lines = int(part) * task["options"]["--lines"], task["options"]["--lines"]
+    with (folder / "list").open("rb") as file:
+        text = b"".join(itertools.islice(file, first, first + lines))
+    write_whole(folder / "results" / part, [solve(task, folder, fit_program(task, folder)[0], int(part), text)])
 
 
 if __name__ == "__main__":
