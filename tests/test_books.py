@@ -5,7 +5,6 @@ As root, tests of permissions drop root's rights.
 import os
 import shutil
 import stat
-import subprocess
 from pathlib import Path
 
 from tests.support import (MOST_BYTES, NOBODY, SECONDS, InFolder, built, lay_many, module_folder, need, positions, preload,
@@ -185,8 +184,8 @@ class Streams(Books):
         os.mkfifo("it.book")
         os.symlink("it.book", "link.book")
         for name in ("it.book", "link.book"):
-            with self.subTest(name=name), subprocess.Popen(["cat", "it.book"], stdout=subprocess.PIPE) as reader:
-                self.addCleanup(reader.kill)
+            with self.subTest(name=name):
+                reader = self.start("cat", "it.book")
                 self.solves(DONE, name)
                 self.assertEqual(reader.communicate(timeout=SECONDS)[0], BOOK)
         self.assertTrue(stat.S_ISFIFO(os.lstat("it.book").st_mode) and os.path.islink("link.book"))
@@ -284,11 +283,11 @@ class Overwrites(Books):
 
     def test_the_log_that_standard_output_goes_to_is_not_overwritten(self):
         os.symlink("/proc/self/fd/1", "out")
-        for old, error in ((NOTES, b"out is not a book and would be overwritten"), (b"", b"cannot write out\nffosolve: another file is in the way")):
+        for old, error in ((NOTES, NO_BOOK[2].replace(b"it.book", b"out")), (b"", unwritten(IN_THE_WAY, "out")[2])):
             write("log", old)
             with self.subTest(old=old), open("log", "ab") as log:
-                ran = run(PROGRAM, "--book-out", "out", input=TEXT, capture_output=False, stdout=log, stderr=subprocess.PIPE)
-                self.assertEqual((ran.returncode, ran.stderr), (3, b"ffosolve: " + error + b"\n"))
+                ran = run(PROGRAM, "--book-out", "out", input=TEXT, stdout=log)
+                self.assertEqual((ran.returncode, ran.stderr), (3, error))
                 self.assertTrue(content("log").startswith(old or b"[1]\n"))
 
     def test_the_book_that_is_read_is_not_overwritten_and_can_be_merged_as_the_error_says(self):

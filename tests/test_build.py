@@ -80,9 +80,10 @@ class Case(InFolder):
         return self.starts.read_text().count("start")
 
     def ran(self, ran, text, words="<w>", builds=None):
-        """Asserts that the program ran: it printed what it was made of, its words, its folder and its input."""
+        """Asserts that a run printed what the program was made of, its words, its folder and its input; returns the rest."""
         self.assertEqual((ran.returncode, ran.stdout), (3, f"made of {text}\n{words}/\nread\n"), ran.stderr)
         self.assertEqual(self.builds(), builds or self.builds())
+        return ran.stderr
 
     def refused(self, ran, words, lines=None):
         """Asserts that a run ended with status 4 and printed one line after those about the build."""
@@ -99,20 +100,18 @@ class Case(InFolder):
 class Builds(Case):
     def test_the_first_use_of_each_program_builds_it_and_later_ones_only_run_it(self):
         """The same through a symlink."""
-        ran = self.use("one", "a b")
-        self.ran(ran, 1, "<one><a b>", builds=1)
-        self.assertTrue(all(line.startswith("ffosolve: ") for line in ran.stderr.splitlines()), ran.stderr)
+        printed = self.ran(self.use("one", "a b"), 1, "<one><a b>", builds=1)
+        self.assertTrue(all(line.startswith("ffosolve: ") for line in printed.splitlines()), printed)
         for words in ("minutes", "GB", str(self.log), "ffosolve: 0 min, crate 1 of 2, othello_rules\n"):
-            self.assertEqual(ran.stderr.count(words), 1, ran.stderr)
-        self.assertFalse("34 of 83" in ran.stderr or "\r" in ran.stderr, ran.stderr)
+            self.assertEqual(printed.count(words), 1, printed)
+        self.assertFalse("34 of 83" in printed or "\r" in printed, printed)
         self.assertIn("functions checked", self.log.read_text())
         write(self.root / "crates/ffoscores/src/main.rt", "scores\n")
-        for name, builds, text in (("ffosolve", 2, 1), ("ffosolve", 2, 1), ("ffoscores", 3, "scores")):
-            self.script = self.folder / f"{name}-{builds}"
-            self.script.exists() or self.script.symlink_to(self.root / "bin" / name)
-            ran = self.use()
-            self.ran(ran, text, builds=builds)
-        self.assertEqual(self.use().stderr, "")
+        for name, builds, text in (("ffosolve", 2, 1), ("ffoscores", 3, "scores")):
+            self.script = self.folder / name
+            self.script.symlink_to(self.root / "bin" / name)
+            self.ran(self.use(), text, builds=builds)
+            self.assertEqual(self.ran(self.use(), text, builds=builds), "")
         ran = run("sh", "ffosolve", "w", **{**HOW, "cwd": self.root / "bin"})
         self.assertEqual(ran.stdout, f"made of 1\n<w>{self.root}/bin\n", ran)
 
@@ -160,9 +159,7 @@ class Builds(Case):
         (self.tools / "sha256sum").unlink()
         write(self.root / "crates/ffosolve/stdin", "")
         os.utime(self.source)
-        ran = self.use()
-        self.ran(ran, 1, builds=8)
-        self.assertEqual(ran.stderr, "")
+        self.assertEqual(self.ran(self.use(), 1, builds=8), "")
         write(self.root / "crates.txt", (self.root / "crates.txt").read_text() + "\n")
         self.ran(self.use(), 1, builds=9)
 
@@ -214,10 +211,9 @@ class Failures(Case):
         self.assertIn("make", ran.stderr)
         for builds, kit in enumerate(("rattle-kit-13b", "rattle-kit-13f", "rattle-kit-14a", "rattle-kit-13"), 1):
             write(self.source, f"{builds}\n")
-            ran = self.use(KIT=kit)
-            self.ran(ran, builds, builds=builds)
+            printed = self.ran(self.use(KIT=kit), builds, builds=builds)
             warning = f"ffosolve: rt is {kit} logic 0123; this checkout was proved with rattle-kit-13b and 13f; trying anyway\n"
-            self.assertEqual(warning in ran.stderr, builds > 2, ran.stderr)
+            self.assertEqual(warning in printed, builds > 2, printed)
 
     def test_a_failed_build_reports_its_first_error_and_runs_no_older_program(self):
         self.use()
@@ -234,16 +230,12 @@ class Failures(Case):
         ran = self.use()
         self.assertEqual((ran.returncode, ran.stdout, ran.stderr.splitlines()[-1]), (4, "", "ld.lld: error: no room"), ran)
         write(self.link, LINK + "echo linked >&2\n")
-        ran = self.use()
-        self.ran(ran, 1, builds=1)
-        self.assertEqual(ran.stderr, "")
+        self.assertEqual(self.ran(self.use(), 1, builds=1), "")
 
     def test_kept_work_that_cannot_be_used_is_dropped_and_built_again(self):
         for name in ("othello_rules/out/kept", "ffosolve/out/spoiled"):
             write(self.root / "crates" / name, "")
-        ran = self.use()
-        self.ran(ran, 1, builds=2)
-        self.assertIn("dropped the old work on ffosolve", ran.stderr)
+        self.assertIn("dropped the old work on ffosolve", self.ran(self.use(), 1, builds=2))
         self.assertTrue((self.root / "crates/othello_rules/out/kept").exists())
         write(self.source, "2\n")
         self.refused(self.use(SPOILS="yes"), "cannot be used")
@@ -293,9 +285,7 @@ class Failures(Case):
         Path(f"{self.starts}.program").chmod(0o666)
         for how in ({}, {"crates": 0o700}, {"crates/ffosolve/src/main.rt": 0}):
             os.utime(self.source)
-            ran = closed(**how)
-            self.ran(ran, 1, builds=1)
-            self.assertEqual(ran.stderr, "")
+            self.assertEqual(self.ran(closed(**how), 1, builds=1), "")
         self.assertEqual(closed(out=0o777, **{"crates/ffosolve/src/main.rt": 0}).returncode, 4)
         write(self.source, "2\n")
         self.refused(closed(), "can't be written", lines=1)

@@ -1,9 +1,7 @@
 """What the programs print for --help, --version and command lines that they refuse, before they read anything."""
-import os
 import re
-import subprocess
 
-from tests.support import ROOT, InFolder, built, run, stored, write
+from tests.support import ROOT, SECONDS, InFolder, built, run, stored, write
 from ffosolve import MOST_ENTRIES
 
 LARGE = MOST_ENTRIES + 1
@@ -62,9 +60,7 @@ REFUSED_BY_ONE = {
 class CommandLines(InFolder):
     def setUp(self):
         super().setUp()
-        self.pipe, writer = os.pipe()  # that stays empty: a program that read it would wait
-        self.addCleanup(os.close, self.pipe)
-        self.addCleanup(os.close, writer)
+        self.pipe = self.start("sleep", SECONDS).stdout  # that stays empty: a program that read it would wait
 
     def ends(self, wanted, name, *words):
         super().ends(wanted, built(name), *words, stdin=self.pipe)
@@ -74,19 +70,19 @@ class CommandLines(InFolder):
             for line, why in REFUSED + REFUSED_BY_ONE[name]:
                 with self.subTest(name=name, line=line):
                     error = f"error: {why.format(name=name)}\n\nFor more information, try '--help'.\n"
-                    self.ends((2, b"", error.encode()), name, *line.split())
+                    self.ends((2, "", error), name, *line.split())
 
     def test_a_word_that_is_not_utf_8_is_refused(self):
         for name in PROGRAMS:
-            self.ends((2, b"", f"{name}: cannot read the command line\n".encode()), name, b"\xff.obf")
+            self.ends((2, "", f"{name}: cannot read the command line\n"), name, b"\xff.obf")
 
     def test_help_is_printed_whatever_follows(self):
         for name in PROGRAMS:
-            text = run(built(name), "--help").stdout
-            self.assertIn(f"\n\nUsage: {name} [OPTIONS] [FILES]...\n".encode(), text)
+            text = run(built(name), "--help", text=True).stdout
+            self.assertIn(f"\n\nUsage: {name} [OPTIONS] [FILES]...\n", text)
             for line in ("--help", "-h", "-hx", "--help --best", "none.obf -h"):
                 with self.subTest(name=name, line=line):
-                    self.ends((0, text, b""), name, *line.split())
+                    self.ends((0, text, ""), name, *line.split())
 
     def test_limits_that_help_names_hold(self):
         for name, status in zip(PROGRAMS, (1, 3)):
@@ -108,18 +104,17 @@ class CommandLines(InFolder):
         for name in PROGRAMS:
             for line in ("--version", "-V", "-Vx", "--table 5 --version"):
                 with self.subTest(name=name, line=line):
-                    self.ends((0, name.encode() + b" " + stored("VERSION"), b""), name, *line.split())
+                    self.ends((0, f"{name} {stored('VERSION').decode()}", ""), name, *line.split())
 
     def test_a_full_or_closed_output_is_reported_even_for_an_empty_report(self):
-        for name, words in (("ffosolve", "--help --version /dev/null"), ("ffoscores", f"--help --version {ROOT}/examples/kinds.obf")):
-            for word in words.split():
-                for target, prepare in (("/dev/full", None), ("/dev/null", lambda: os.close(1))):
-                    with self.subTest(name=name, word=word, target=target), open(target, "wb") as output:
-                        how = {"stdout": output, "stderr": subprocess.PIPE, "capture_output": False, "preexec_fn": prepare}
-                        ran = run(built(name), word, **how)
-                        self.assertEqual((ran.returncode, ran.stderr), (3, f"{name}: cannot write standard output\n".encode()))
+        for name, list_ in zip(PROGRAMS, ("/dev/null", ROOT / "examples/kinds.obf")):
+            for word in ("--help", "--version", list_):
+                for output in (">/dev/full", ">&-"):
+                    with self.subTest(name=name, word=word, output=output):
+                        wanted = (3, "", f"{name}: cannot write standard output\n")
+                        super().ends(wanted, "sh", "-c", f'exec "$0" "$1" {output}', built(name), word)
 
     def test_words_after_two_dashes_are_files(self):
         for name in PROGRAMS:
             for word in ("--best", "-x", "--help"):
-                self.ends((3, b"", f"{name}: cannot read {word}\n".encode()), name, "--", word)
+                self.ends((3, "", f"{name}: cannot read {word}\n"), name, "--", word)

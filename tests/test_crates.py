@@ -1,5 +1,4 @@
 """The tests of the crates, unproved, with all runtime checks of `rt try`. The gate proves them."""
-import os
 import re
 import unittest
 
@@ -25,8 +24,5 @@ class Crates(unittest.TestCase):
 
 class Links(unittest.TestCase):
     def test_the_checkout_has_no_link_which_rt_ci_would_refuse(self):
-        links = []
-        for at, folders, names in os.walk(ROOT):
-            folders[:] = [name for name in folders if name != ".git"]
-            links += [os.path.join(at, name) for name in folders + names if os.path.islink(os.path.join(at, name))]
+        links = [path for path in ROOT.rglob("*") if path.is_symlink() and ".git" not in path.parts]
         self.assertEqual(links, [])

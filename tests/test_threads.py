@@ -1,20 +1,33 @@
-"""Threads of the programs: how many they start, and that they print the same with many and with none."""
+"""Threads of the programs: how many run, that any number of them prints the same, and that they end with the program."""
+import os
+import random
+import signal
 import time
 from pathlib import Path
 
-from tests.support import SECONDS, InFolder, built, positions, refuse_threads, write
+from tests import support
+from tests.support import (ROOT, SECONDS, InFolder, as_at_a_login, built, limited, processes_in, refuse_threads, run,
+                           stored, wait_until, write)
 
 RUNS = 100  # with 64 files and 64 workers
-# A position with 17 empty squares, which takes 0.2 seconds, and some with two.
-HARD = "-XXXXX----XOOX--XXXXOOOO-OXOOOO-OOXOOX--OOX-OOOOOXXXXXX-X----XXX O"
+OFTEN = 500  # runs: when a thread was not woken, one in fifteen hung
+WORKERS = ("0", "1", "3", "64")
+HOURS = b"-" * 27 + b"OX------XO" + b"-" * 27 + b" X;\n"
+HARD = b"-XXXXX----XOOX--XXXXOOOO-OXOOOO-OOXOOX--OOX-OOOOOXXXXXX-X----XXX O\n"  # 17 empty squares, 0.2 seconds
+# Positions with two empty squares; the first one's score.
 EASY = [
-    "-OXXXXX-XXXXXXXOXXXXXXXXXXXXXXXXXXXOXXXXXXXXXXXXXXXXXXXXXXXXXXXX X",
-    "-OXXXXX-XXXXXXXOXXXXXXXXXXXXXXXXXXXOXXXXXXXXXXXXXXXXXXXXXXXXXXXX O",
-    "--OOOOOXXXXXXXXXXXXXXXXXXXXXXXXXXXXXXXXXXXXXXXXXXXXXXXXXXXXXXXXXX X",
-    "-OOXXOO-XXXXXXXXXXXXXXXXXXXXXXXXXXXXXXXXXXXXXXXXXXXXXXXXXXXXXXXX X",
+    b"-OXXXXX-XXXXXXXOXXXXXXXXXXXXXXXXXXXOXXXXXXXXXXXXXXXXXXXXXXXXXXXX X;\n",
+    b"-OXXXXX-XXXXXXXOXXXXXXXXXXXXXXXXXXXOXXXXXXXXXXXXXXXXXXXXXXXXXXXX O\n",
+    b"--OOOOOXXXXXXXXXXXXXXXXXXXXXXXXXXXXXXXXXXXXXXXXXXXXXXXXXXXXXXXXX X\n",
+    b"-OOXXOO-XXXXXXXXXXXXXXXXXXXXXXXXXXXXXXXXXXXXXXXXXXXXXXXXXXXXXXXX X\n",
 ]
+SCORED = EASY[0][:-1] + b" H1:+62; A1:+52;\n"
 HARD_FILES = ["hard-0.obf", "hard-1.obf"]
 MANY_FILES = [f"{number}.obf" for number in range(64)]
+
+
+def positions(*words):
+    return support.positions(*words).splitlines(keepends=True)
 
 
 def threads_of(process):
@@ -23,13 +36,15 @@ def threads_of(process):
         return sum(int(line.split()[1]) for line in status if line.startswith("Threads:"))
 
 
-class Threads(InFolder):
+class Reports(InFolder):
+    """Of ffosolve."""
+
     def setUp(self):
         super().setUp()
         for number, name in enumerate(MANY_FILES):
-            write(name, "\n".join(EASY[number % 4:] + EASY))
+            write(name, b"".join(EASY[number % 4:] + EASY))
         for number, name in enumerate(HARD_FILES):
-            write(name, "\n".join([HARD][number:] + EASY + [HARD]))
+            write(name, b"".join([HARD][number:] + EASY + [HARD]))
 
     def run_of(self, *words, prepare=None, is_watched=True):
         """Returns what a program printed, and the most threads that it was seen with if it was watched."""
@@ -53,24 +68,24 @@ class Threads(InFolder):
         wanted = None
         for workers in (0, 1, 4, 64):
             with self.subTest(workers=workers):
-                found, seen = self.solve("--workers", str(workers), *HARD_FILES)
+                found, seen = self.solve("--workers", workers, *HARD_FILES)
                 self.assertEqual(seen, 1 + workers + len(HARD_FILES))
                 self.assertEqual(found, wanted or found)
                 wanted = found
 
     def test_workers_end_if_there_is_no_position(self):
-        for workers in ("1", "64"):
+        for workers in (1, 64):
             self.assertEqual(self.run_of(built(), "--workers", workers, "/dev/null")[0], b"[1]\nsolved 0 refused 0\n")
 
     def test_the_report_is_the_same_if_no_thread_can_be_started(self):
-        for workers, files in (("0", HARD_FILES), ("1", HARD_FILES), ("4", HARD_FILES), ("64", HARD_FILES + MANY_FILES[:62])):
+        for workers, files in ((0, HARD_FILES), (1, HARD_FILES), (4, HARD_FILES), (64, HARD_FILES + MANY_FILES[:62])):
             with self.subTest(workers=workers):
                 words = ["--workers", workers, *files]
                 wanted, _ = self.solve(*words)
                 self.assertEqual(self.solve(*words, prepare=refuse_threads), (wanted, 1))
 
     def test_64_files_with_64_workers_always_give_the_same(self):
-        words = ["--workers", "64", *MANY_FILES]
+        words = ["--workers", 64, *MANY_FILES]
         wanted, _ = self.solve(*words)
         self.assertTrue(wanted[0].endswith(b"refused 0\n") and wanted[0].count(b"[") == 64, wanted[0][-100:])
         for number in range(RUNS):
@@ -79,7 +94,100 @@ class Threads(InFolder):
 
     def test_lines_that_take_a_millisecond_are_scored_on_threads_too(self):
         for empties in (10, 11, 12):
-            write("list.obf", positions(40, empties, empties) * 25)
+            write("list.obf", b"".join(positions(40, empties, empties)) * 25)
             with self.subTest(empties=empties):
-                _, most = self.run_of(built("ffoscores"), "--workers", "4", "--table", "0", "list.obf")
+                _, most = self.run_of(built("ffoscores"), "--workers", 4, "--table", 0, "list.obf")
                 self.assertGreaterEqual(most, 3)
+
+
+class Scores(InFolder):
+    def same(self, lists, seeds=(None,)):
+        """Asserts that runs with each number of workers print the same and have the same status."""
+        names = [write(f"{number}.obf", text) for number, text in enumerate(lists)]
+        wanted = run(built("ffoscores"), "--workers", "0", *names)
+        self.assertIn(wanted.returncode, (0, 1), wanted.stderr)
+        self.assertEqual(wanted.stdout.count(b"\n"), sum(len(text.splitlines()) for text in lists))
+        for workers in WORKERS[1:]:
+            with self.subTest(workers=workers, seeds=seeds):
+                self.ends((wanted.returncode, wanted.stdout, b""), built("ffoscores"), "--workers", workers, *names)
+
+    def test_odd_and_deep_files_are_scored_the_same_on_threads(self):
+        deep, short = positions(24, 10, 13), positions(300, 1, 8)
+        kinds = stored("examples", "kinds.obf")
+        self.same([b"".join(deep)[:-1], b"", b"\n", kinds, deep[0], b"".join(short), kinds[:-1], b"".join(deep[9:])])
+
+    def test_lines_that_wait_for_a_hard_position_are_printed_in_order(self):
+        self.same([positions(1, 16, 16)[0] + EASY[0] * 9000 + b"".join(positions(8, 10, 12))])
+
+    def test_the_output_is_the_same_if_threads_or_their_memory_run_out(self):
+        write("list.obf", b"".join(positions(40, 7, 13)))
+        wanted = run(built("ffoscores"), "--workers", "0", "list.obf")
+        for workers in WORKERS:
+            for prepare in (refuse_threads, limited("RLIMIT_AS", 30_000 * 1024)):
+                with self.subTest(workers=workers):
+                    words = (built("ffoscores"), "--workers", workers, "list.obf")
+                    self.ends((0, wanted.stdout, b""), *words, preexec_fn=prepare)
+
+    def test_each_of_many_short_runs_ends(self):
+        kinds = ROOT / "examples/kinds.obf"
+        for number in range(OFTEN):
+            found = run(built("ffoscores"), "--workers", "3", kinds)
+            self.assertEqual((found.returncode, found.stdout), (1, stored("examples", "kinds.scores")), f"run {number}")
+
+    def test_shuffled_lines_are_scored_the_same_on_threads(self):
+        lines = positions(40, 1, 9) + positions(24, 10, 11) + positions(6, 12, 13)
+        lines += [b"\n", b"% no position\n", b"XX\n", HOURS] * 3
+        for seed in range(25):
+            mixed = random.Random(seed).sample(lines, len(lines))
+            cut = seed % len(lines)
+            self.same([b"".join(mixed[:cut]), b"".join(mixed[cut:])], seeds=(seed,))
+
+
+class Streams(InFolder):
+    """Of ffoscores."""
+
+    def begin(self, text, *words):
+        write("list.obf", text)
+        return self.start(built("ffoscores"), "--max-empties", "60", *words, "list.obf", preexec_fn=as_at_a_login)
+
+    def test_a_line_is_printed_as_soon_as_it_and_those_before_are_scored(self):
+        for workers in WORKERS:
+            with self.subTest(workers=workers):
+                deep = positions(12, 8, 12)
+                program = self.begin(b"".join([EASY[0], *deep, b"% next\n", HOURS, EASY[0]]), "--workers", workers)
+                printed = [program.stdout.readline() for _ in range(14)]
+                self.assertEqual([line[:66] for line in printed], [line[:66] for line in (EASY[0], *deep, b"% next\n")])
+                program.send_signal(signal.SIGINT)
+                self.assertEqual((program.stdout.read(), program.wait(SECONDS)), (b"", -signal.SIGINT))
+
+    def test_n_workers_score_n_plus_one_lines_at_once_and_0_workers_start_no_thread(self):
+        deep = positions(24, 10, 13)
+        for workers in WORKERS:
+            with self.subTest(workers=workers):
+                threads = 1 if workers == "0" else int(workers) + 2
+                program = self.begin(b"".join(deep) + HOURS * 70, "--workers", workers)
+                self.assertEqual([program.stdout.readline()[:66] for _ in deep], [line[:66] for line in deep])
+                wait_until(lambda: threads_of(program) >= threads)
+                time.sleep(1)  # time for one too many to start
+                self.assertEqual(threads_of(program), threads)
+                program.kill()
+
+    def test_a_reader_that_leaves_ends_the_program_within_positions_that_take_hours(self):
+        text = EASY[0] + b"".join(positions(100, 14, 15)) + HOURS * 9
+        for workers in WORKERS[1:]:
+            with self.subTest(workers=workers):
+                program = self.begin(text, "--workers", workers)
+                self.assertEqual(program.stdout.readline(), SCORED)
+                program.stdout.close()
+                error = program.stderr.read()
+                self.assertEqual((program.wait(SECONDS), error), (3, b"ffoscores: cannot write standard output\n"))
+
+    def test_an_interrupt_from_the_terminal_leaves_no_process(self):
+        shell = f"{ROOT}/bin/ffoscores --max-empties 60 --workers 3 list.obf | cat"
+        write("list.obf", EASY[0] + HOURS * 9)
+        begun = self.start("sh", "-c", shell, start_new_session=True, preexec_fn=as_at_a_login)
+        self.assertEqual(begun.stdout.readline(), SCORED)
+        os.killpg(begun.pid, signal.SIGINT)
+        self.assertEqual(begun.stdout.read(), b"")
+        begun.wait(SECONDS)
+        wait_until(lambda: not processes_in(self.folder))
