@@ -269,24 +269,20 @@ class Failures(Case):
 
     def test_in_a_checkout_of_another_user_a_built_program_runs_and_no_other_is_built(self):
         """A touched source, or one that can't be read, does not matter."""
-        def closed(out=0o555, **how):
-            paths = [self.root, *self.root.rglob("*")]
-            modes = [path.stat().st_mode for path in paths]
-            for path in paths[::-1]:
-                path.chmod(path.stat().st_mode & how.get(str(path.relative_to(self.root)), 0o555))
-            (self.root / "out").exists() and (self.root / "out").chmod(out)
+        def closed(*changes):
+            for *words, name in (("-R", "a-w", "."), *changes):
+                run("chmod", *words, self.root / name, check=True)
             ran = self.use(who=NOBODY)
-            for path, mode in zip(paths, modes):
-                path.chmod(mode)
+            run("chmod", "-R", "u=rwX,go=rX", self.root, check=True)
             return ran
 
         self.refused(closed(), "can't be written", lines=1)
         self.use()
         Path(f"{self.starts}.program").chmod(0o666)
-        for how in ({}, {"crates": 0o700}, {"crates/ffosolve/src/main.rt": 0}):
+        for changes in ([], [("go=", "crates")], [("a=", self.source)]):
             os.utime(self.source)
-            self.assertEqual(self.ran(closed(**how), 1, builds=1), "")
-        self.assertEqual(closed(out=0o777, **{"crates/ffosolve/src/main.rt": 0}).returncode, 4)
+            self.assertEqual(self.ran(closed(*changes), 1, builds=1), "")
+        self.assertEqual(closed(("a=", self.source), ("a+w", "out")).returncode, 4)
         write(self.source, "2\n")
         self.refused(closed(), "can't be written", lines=1)
 

@@ -70,10 +70,9 @@ def archive(checkout):
 
 class Archive(unittest.TestCase):
     def test_two_checkouts_make_the_same_bytes(self):
-        first, second = archive(FIRST_ONE).read_bytes(), archive(SECOND_ONE).read_bytes()
-        self.assertEqual(hashlib.sha256(first).hexdigest(), hashlib.sha256(second).hexdigest())
-        checksum = Path(f"{archive(FIRST_ONE)}.sha256").read_text()
-        self.assertEqual(checksum, f"{hashlib.sha256(first).hexdigest()}  {NAME}.tar.gz\n")
+        first, second = (hashlib.sha256(archive(one).read_bytes()).hexdigest() for one in (FIRST_ONE, SECOND_ONE))
+        self.assertEqual(first, second)
+        self.assertEqual(Path(f"{archive(FIRST_ONE)}.sha256").read_text(), f"{first}  {NAME}.tar.gz\n")
 
     def test_entries_are_sorted_in_one_folder_with_the_time_of_the_commit_and_owner_0(self):
         with tarfile.open(archive(FIRST_ONE)) as entries:
