@@ -311,5 +311,6 @@ class Wheel(InFolder):
         for words in ((), (["init", "-q"], ["add", "-A"], ["commit", "-q", "-m", "all"])):
             for each in words:
                 git(checkout, *each)
-            made("wheel", checkout / name, checkout)
+            ran = make("wheel", checkout)
+            self.assertEqual((ran.returncode, ran.stdout), (0, f"made: {checkout / name}\n"), ran)
             (checkout / name).unlink()
