@@ -31,7 +31,7 @@ one_greatest : (f : Field) → greatest_listed (f ∷ []) ≡ f.1
 unfolding greatest
 one_greatest f = refl
 
-listed_is_move : (m q : ℕ) → Contains (squares_of m) q → in_mask m q ≡ true
+pub listed_is_move : (m q : ℕ) → Contains (squares_of m) q → in_mask m q ≡ true
 unfolding squares_of
 listed_is_move m q h = passes_in_filter (in_mask m) squares q h
 
