@@ -2,18 +2,18 @@
 use crate::raw;
 use crate::Squares;
 
-/// What attains a score.
+/// How a score is reached.
 #[derive(Clone, Copy, PartialEq, Eq, Hash, Debug)]
 pub enum Best {
-    /// These moves, and no other.
+    /// By each of these moves, and by no other.
     Moves(Squares),
-    /// A pass: the mover has no move, and the other side has one.
+    /// By a pass: the side to move has no move, and the other side has one.
     Pass,
-    /// Nothing: neither side has a move.
+    /// The game is over: neither side has a move.
     Over,
 }
 
-/// The score of a position as the mover sees it, -64 to 64, and what attains it.
+/// The score of a position for the side to move, -64 to 64, and how it is reached.
 #[derive(Clone, Copy, PartialEq, Eq, Hash, Debug)]
 pub struct Answer {
     pub score: i8,

@@ -8,7 +8,7 @@ pub struct Position {
     pub opp: u64,
 }
 
-/// The score, what attains it (0 moves, 1 a pass, 2 the end of the game), and the mask of the best moves.
+/// The score, how it is reached (0 by moves, 1 by a pass, 2 the game is over), and the mask of the best moves.
 #[repr(C)]
 #[derive(Clone, Copy, PartialEq, Eq, Hash, Debug, Default)]
 pub struct Answer {
