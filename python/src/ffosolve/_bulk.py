@@ -29,12 +29,8 @@ class Part(NamedTuple):
     refusal: Optional[Refused] = None  # of the position after them, with which the parts end
 
 
-def parts_of(
-    positions: Iterable[Sequence[int]],
-    max_empties: int,
-    most_weight: float = MOST_WEIGHT,
-    most_seconds: float = MOST_SECONDS,
-) -> Iterator[Part]:
+def parts_of(positions: Iterable[Sequence[int]], max_empties: int, most_weight: float = MOST_WEIGHT,
+             most_seconds: float = MOST_SECONDS) -> Iterator[Part]:
     """Cuts positions into parts, up to the first refused one."""
     clock = time.monotonic
     start, most, weight, part, end = 0, 0, 0, [], clock() + most_seconds  # type: ignore[var-annotated]
@@ -89,11 +85,8 @@ def in_order(call: Callable[[A], B], parts: Iterable[A], threads: int) -> Iterat
 
 
 def interruptible(call: Callable[..., A], count: int, empties: int, *arguments: Any) -> A:
-    """What a call of the library returns for `count` positions with at most `empties` empty squares.
-
-    Unless it is brief, the main thread lets another one make it. So Ctrl-C, or another signal, can raise an exception at
-    once; the call itself goes on until it or the process ends.
-    """
+    """What a call of the library returns for `count` positions with at most `empties` empty squares. Unless it is brief, the
+    main thread lets another one make it: so Ctrl-C can raise an exception at once, while the call itself goes on."""
     is_brief = count << 2 * max(0, empties - LIGHTEST) <= BRIEF
     if is_brief or threading.current_thread() is not threading.main_thread():
         return call(*arguments)

@@ -10,11 +10,9 @@ from ._published import Compared, Unfit
 
 
 class Fixed:
-    """The bytes of a WTHOR file with the exact scores of the games that were compared.
-
-    A header without a number of empty squares gets that of the positions. If `with_real`, each real score is that of the
-    game's moves. No other byte is changed. Iterating raises Unfit if this is not the file of the comparison.
-    """
+    """The bytes of a WTHOR file with the exact scores of the games that were compared, and if `with_real` with the real scores
+    that the moves have. A header without a number of empty squares gets that of the positions. No other byte is changed.
+    Iterating raises Unfit if this is not the file of the comparison."""
 
     def __init__(self, name: str, file: BinaryIO, compared: List[Compared], player: Player, with_real: bool) -> None:
         self._name, self._file, self._player, self._with_real = name, file, player, with_real
@@ -82,10 +80,8 @@ class Fixed:
 
 
 def write_new(files: Mapping[str, Iterable[bytes]]) -> None:
-    """Writes new files, each under its path, once all of them are complete and on the disk.
-
-    Raises FileExistsError if one is there, and OSError. The error's `filename` is the path.
-    """
+    """Writes new files, each under its path, once all of them are complete and on the disk. Raises FileExistsError if one is
+    there, and OSError; the error's `filename` is the path."""
     complete: Dict[str, str] = {}  # a file next to each path
     try:
         for path, pieces in files.items():

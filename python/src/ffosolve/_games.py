@@ -11,7 +11,7 @@ from ._library import CPosition
 from ._positions import START, Position
 from ._rules import illegal_move
 from ._squares import NAMES, square_name
-from ._text import text_lines
+from ._text import NotText, text_lines
 from ._transcripts import PASSES, words_of
 
 PASS, NO_SQUARE = 64, 255  # instead of a square's number
@@ -25,8 +25,8 @@ SQUARES = bytes(WORDS.get(f"{chr(96 + byte % 10)}{byte // 10}", NO_SQUARE) for b
 TEXT = bytes([*b"\t\n\v\f\r", *range(32, 256)])  # first bytes of a text; that of a WTHOR file, the century, is another
 
 
-class NotGames(ValueError):
-    """A file is not a WTHOR file of games; the text says why."""
+class NotGames(NotText):
+    """A file is neither a text nor a WTHOR file of games."""
 
 
 class GameRefused(ValueError):

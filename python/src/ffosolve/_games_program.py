@@ -10,7 +10,7 @@ import sys
 from typing import Callable, Dict, Iterator, List, Optional, Sequence
 
 from ._fix_wthor import Fixed, write_new
-from ._games import MOST_DISCS, Game, GameRefused, NotGames, Played, Player, games_in
+from ._games import MOST_DISCS, Game, GameRefused, Played, Player, games_in
 from ._games_arguments import NAME, options_of
 from ._library import LibraryNotFound, load
 from ._positions import Position
@@ -49,8 +49,9 @@ class Output:
             raise unwritable("standard output", error) from None
 
     def game(self, name: str, game: Game, position: Position) -> None:
+        name = shown(name) if any(letter < " " for letter in name) else name  # by which `compare --fix` opens the file
         score = "" if game.score is None else f", theoretical score {game.score}"
-        line = os.fsencode(f"{position.to_obf()} % {listed_name(name)}, game {game.number}{score}")
+        line = os.fsencode(f"{position.to_obf()} % {name}, game {game.number}{score}")
         self.line(line)
         self._games.update(line + b"\n")
         self._has_scores |= game.score is not None
@@ -69,10 +70,8 @@ class Output:
 
 
 def main(find: Callable[[], Optional[str]] = lambda: None) -> int:
-    """Runs the program with this process's command line, and returns its status.
-
-    `find` returns the path of the library, or None if the package has to look for it.
-    """
+    """Runs the program with this process's command line, and returns its status. `find` returns the path of the library, or
+    None if the package has to look for it."""
     signal.signal(signal.SIGPIPE, signal.SIG_DFL)  # if nothing reads the output any more, the program ends silently
     try:
         with Output() as output:
@@ -212,15 +211,10 @@ def opened(name: str) -> Iterator[io.BufferedReader]:
     try:
         with open(0 if name == "-" else name, "rb", closefd=name != "-") as file:
             yield file
-    except (NotGames, NotText) as why:
+    except NotText as why:
         raise FileRefused(str(why)) from None
     except OSError as error:
         raise FileRefused(f"cannot read {shown(name)}: {error.strerror}") from None
-
-
-def listed_name(name: str) -> str:
-    """A file's name in a list: as it is, since `compare --fix` opens it, unless it would break the line."""
-    return shown(name) if any(letter < " " for letter in name) else name
 
 
 def would_be_lost(name: str) -> Stop:

@@ -217,9 +217,7 @@ def without_end(text: Union[str, bytes]) -> bytes:
     return line[:-1] if line[-1:] == b"\r" else line
 
 
-def read_lines(
-    source: Source, refused: Optional[Callable[[LineRefused], object]] = None
-) -> Iterator[Line]:
+def read_lines(source: Source, refused: Optional[Callable[[LineRefused], object]] = None) -> Iterator[Line]:
     """The positions of many lines of OBF text, in their order. `source` is the path of a file, or an iterable of lines such
     as an open file. Blank lines and comments are skipped. A line that holds no position raises ShortBoard, BadSquare or
     BadSide, whose `line` is its number. If `refused` is given, it is called with the error instead, and reading goes on:
@@ -232,9 +230,7 @@ def read_lines(
     return positions_in(lines_of(source), refused)
 
 
-def parse_lines(
-    text: Union[str, bytes], refused: Optional[Callable[[LineRefused], object]] = None
-) -> Iterator[Line]:
+def parse_lines(text: Union[str, bytes], refused: Optional[Callable[[LineRefused], object]] = None) -> Iterator[Line]:
     """The positions of the lines of a text, as `read_lines` reads those of a file."""
     return positions_in(bytes_of(text).split(b"\n"), refused)
 

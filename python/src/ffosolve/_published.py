@@ -71,22 +71,17 @@ class Comparison:
 
 
 def digest_of(lines: "hashlib._Hash") -> List[bytes]:
-    """Four finished games, as lines of OBF, for the SHA-256 of a list's lines, cut to 24 bits. Their rows in a report of the
-    list spell these bits.
-
-    A line stands for six bits: a number n from 0 to 63 is a game with n black squares, an empty one and 63 - n white ones.
-    Each n has another score. Because of the empty square the scores are even under the scoring `winner` only.
-    """
+    """Four lines of OBF for the first 24 bits of a list's SHA-256, whose rows in a report of the list show these bits. A line
+    stands for six bits: the number n is a finished game with n black squares, an empty one and 63 - n white ones. Each n has
+    another score. Because of the empty square the scores are even under the scoring `winner` only."""
     number = int.from_bytes(lines.digest()[:3], "big")
     black = [number >> shift & 63 for shift in (18, 12, 6, 0)]
     return [b"X" * n + b"-" + b"O" * (63 - n) + b" X; %% digest, line %d of 4" % at for at, n in enumerate(black, 1)]
 
 
 def read_list(lines: Iterable[bytes]) -> Dict[int, Listed]:
-    """The positions of a list by the numbers of their lines.
-
-    Each line is followed by a digest of all lines since the previous digest, so lists may be joined. Raises BadList.
-    """
+    """The positions of a list by the numbers of their lines. A digest follows, of all lines since the previous digest, so lists
+    may be joined. Raises BadList."""
     found: Dict[int, Listed] = {}
     awaited: List[bytes] = []
     covered, uncovered = hashlib.sha256(), 0

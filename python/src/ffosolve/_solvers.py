@@ -48,14 +48,9 @@ class Solver:
     A solver keeps nothing between calls. Several threads may use one at the same time.
     """
 
-    def __init__(
-        self,
-        library: Union[str, "os.PathLike[str]", None] = None,
-        *,
-        scoring: Union[Scoring, int, str] = Scoring.WINNER,
-        entries: Optional[int] = None,
-        max_empties: int = 20,
-    ) -> None:
+    def __init__(self, library: Union[str, "os.PathLike[str]", None] = None, *,
+                 scoring: Union[Scoring, int, str] = Scoring.WINNER, entries: Optional[int] = None,
+                 max_empties: int = 20) -> None:
         if entries is not None and checked_number("entries", entries, 0) > MOST_ENTRIES:
             raise TooManyEntries()
         if checked_number("max_empties", max_empties, 0) > MOST_EMPTIES:
