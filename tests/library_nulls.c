@@ -17,6 +17,8 @@ static ffosolve_listed listed;
 static char text[1];
 static size_t at;
 
+#define SHOW(pointer, given) printf(" %s", !(pointer) ? "null" : (pointer) == (given) ? "given" : "other")
+
 int main(void) {
     for (size_t i = 0; i < sizeof ways / sizeof *ways; i++) {
         const size_t count = ways[i].count, room = ways[i].room;
@@ -33,27 +35,23 @@ int main(void) {
 #undef ffosolve_move_scores_all
 #undef ffosolve_read_line
 
-static void show(const void *pointer, const void *given) {
-    printf(" %s", !pointer ? "null" : pointer == given ? "given" : "other");
-}
-
 int32_t ffosolve_solve_all(const ffosolve_position *positions, size_t count, uint32_t scoring, size_t entries,
                            ffosolve_answer *answers, size_t room, size_t *where) {
     printf("%zu %u %zu %zu:", count, scoring, entries, room);
-    show(positions, &position), show(answers, &answer), show(where, &at);
+    SHOW(positions, &position), SHOW(answers, &answer), SHOW(where, &at);
     return FFOSOLVE_NO_MEMORY;
 }
 
 int32_t ffosolve_move_scores_all(const ffosolve_position *positions, size_t count, uint32_t scoring, size_t entries,
                                  ffosolve_move_scores_of *scores, size_t room, size_t *where) {
     printf("%zu %u %zu %zu:", count, scoring, entries, room);
-    show(positions, &position), show(scores, &found), show(where, &at);
+    SHOW(positions, &position), SHOW(scores, &found), SHOW(where, &at);
     return FFOSOLVE_NO_MEMORY;
 }
 
 int32_t ffosolve_read_line(const char *bytes, size_t length, ffosolve_line *to, ffosolve_listed *moves, size_t room,
                            size_t *where) {
     printf("%zu 2 65 %zu:", length, room);
-    show(bytes, text), show(moves, &listed), show(where, &at);
+    SHOW(bytes, text), SHOW(moves, &listed), SHOW(where, &at);
     return to == &line ? FFOSOLVE_NO_MEMORY : FFOSOLVE_DONE;
 }

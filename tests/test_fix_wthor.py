@@ -43,38 +43,37 @@ class Fix(Case):
     def write_report(self, skipped=()):
         write("report", report_of(Path("list").read_text(), dict.fromkeys(skipped, "5 empties, limit 4")))
 
-    def fix(self, status, err, *words, place="new.wtb", **how):
+    def fix(self, status, err, *words, place="new.wtb", wanted=None, **how):
         """Runs the program, which may write the new file and no other, and leaves its source unchanged."""
         before = set(os.listdir())
         out, _ = self.games("compare", "list", "report", "--fix", place, *words, status=status, err=f"ffosolve-games: {err}\n", **how)
         self.assertEqual(set(os.listdir()), before | ({place} if status < 3 else set()))
         if "it.wtb" in before:
             self.assertEqual(Path("it.wtb").read_bytes(), self.whole)
+        if wanted is not None:
+            self.assertEqual(Path(place).read_bytes(), wanted)
         return out
 
     def test_the_scores_that_are_wrong_are_changed_and_no_other_byte(self):
-        out = self.fix(1, self.err)
-        self.assertEqual(Path("new.wtb").read_bytes(), self.wanted)
+        out = self.fix(1, self.err, wanted=self.wanted)
         self.assertEqual(out, self.games("compare", "list", "report", status=1)[0])
         self.assertEqual(stat.S_IMODE(os.stat("new.wtb").st_mode), 0o644)
         self.write_list("new.wtb")
         self.games("compare", "list", "report", out=f"compared {len(self.exact)} differ 0 refused 0 unscored 0\n", err="")
         again = f"again.wtb: theoretical scores changed 0 of {len(self.exact)}, not compared 0"
-        self.fix(0, again, place="again.wtb")
-        self.assertEqual(Path("again.wtb").read_bytes(), self.wanted)
+        self.fix(0, again, place="again.wtb", wanted=self.wanted)
 
     def test_games_that_are_not_compared_stay_as_they_are(self):
         """One is refused in the report; one has an illegal move, and so is not in the list."""
         self.records[0] = self.records[0][:8] + b"\x63" + self.records[0][9:]
         self.write_source(wthor(self.records, empties=5), "it.wtb", skipped=[2])
-        self.fix(1, f"new.wtb: theoretical scores changed 1 of {len(self.exact)}, not compared 2")
         self.records[5] = self.exact_records[5]
-        self.assertEqual(Path("new.wtb").read_bytes(), wthor(self.records, empties=5))
+        self.fix(1, f"new.wtb: theoretical scores changed 1 of {len(self.exact)}, not compared 2",
+                 wanted=wthor(self.records, empties=5))
 
     def test_a_header_without_a_number_of_empty_squares_gets_that_of_the_list(self):
         self.write_source(wthor(self.records, empties=0), "--empties=5", "it.wtb")
-        self.fix(1, self.err)
-        self.assertEqual(Path("new.wtb").read_bytes(), self.wanted.removesuffix(b"more"))
+        self.fix(1, self.err, wanted=self.wanted.removesuffix(b"more"))
 
     def test_real_scores_are_changed_only_if_asked(self):
         """The first one is wrong, the second game stops before its end, and the third has an illegal move."""
@@ -214,8 +213,7 @@ class Fix(Case):
             self.assertFalse((self.folder / "new.wtb").exists())
             self.assertEqual(bool(list(self.folder.glob("new.wtb.*.new"))), number == signal.SIGKILL)
         write("it.wtb", self.whole)
-        self.fix(1, self.err)
-        self.assertEqual(Path("new.wtb").read_bytes(), self.wanted)
+        self.fix(1, self.err, wanted=self.wanted)
 
     def test_the_commands_of_guide_and_help_fix_a_file(self):
         built("ffosolve")

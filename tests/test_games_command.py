@@ -24,7 +24,7 @@ class Command(Case):
         out = self.line.format("-").rstrip() + ", theoretical score 33\n"
         self.games("-", input=wthor([record(self.game)], empties=20), out=out, err="")
 
-    def test_names_of_files_stand_in_the_list_as_they_are(self):
+    def test_names_of_files_are_in_the_list_as_they_are(self):
         for name, shown in (("a b%c, game 7", "a b%c, game 7"), ("new\nline", "$'new\\nline'")):
             write(name, transcript(self.game))
             self.games("--empties=20", name, out=self.line.format(shown), err="")
