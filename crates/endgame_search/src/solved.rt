@@ -119,9 +119,10 @@ pub fn solve<T: Bounds>(table: &T, task: Task) -> Solved
 }
 
 /// Solves a task by testing a claim. The result is that of `solve` whatever the claim is, and comes
-/// sooner if the claimed score is right: then each move is only searched for whether it is worth
-/// that much, whatever is claimed of the moves. A claimed score below the value saves less, and one
-/// above it nothing. The table must have the scoring of the task.
+/// sooner if the claimed score is right: then one null window for each move, and one more for a
+/// best one, find the answer, whatever is claimed of the moves. A score that is too low saves less,
+/// and one that is too high costs a window for each move. The table must have the scoring of the
+/// task.
 pub fn confirm<T: Bounds>(table: &T, task: Task, claim: Claim) -> Solved
     requires { task.scoring ≡ T.scoring table.now }
     ensures { result ≡ task }
@@ -180,9 +181,9 @@ struct BestMoves {
     squares: u64,
 }
 
-// The best moves of a position whose value is at most `high`, if it is at least `low`; otherwise
-// none. Each move is searched for whether it is worth as much as the best one before it, or at
-// first `low`; how much more, is only searched for if it is.
+// The best moves of a position whose value is at most `high`, if it is at least `low`; otherwise no
+// squares. Each move is asked whether it is worth as much as the best one before it, or `low` at
+// first. Only if it is, it is asked how much more it is worth.
 fn best_moves<T: Bounds>(table: &T, position: Pos, low: i8, high: i8) -> BestMoves
     requires some { moves_of position ≢ 0 }
     requires low { IsScore low }
