@@ -81,8 +81,7 @@ class Calls(unittest.TestCase):
         for text in (white.to_obf(), "oB" + "." * 62 + "w;A1:+2;"):
             self.assertEqual(Position.from_obf(text).to_obf(), "OX" + "-" * 62 + " O;")
         self.assertEqual(white.to_obf("X"), "XO" + "-" * 62 + " X;")
-        with self.assertRaisesRegex(ValueError, "^the side to move is 'X' or 'O', not 'black'$"):
-            Position(1, 2, "black")
+        self.assertRaisesRegex(ValueError, "^the side to move is 'X' or 'O', not 'black'$", Position, 1, 2, "black")
 
     def test_scorings_limits_and_versions_are_those_of_the_library(self):
         for scoring in Scoring:
@@ -148,8 +147,7 @@ class Refusals(unittest.TestCase):
         self.refused(ffosolve.TooManyEntries, lambda: Solver(entries=ffosolve.MOST_ENTRIES + 1))
         self.assertEqual(Solver(entries=ffosolve.MOST_ENTRIES).solve(POSITION), ANSWER)
         for entries, error in ((-1, ValueError), ("7", TypeError), (7.0, TypeError)):
-            with self.assertRaisesRegex(error, "^entries is .*, not "):
-                Solver(entries=entries)
+            self.assertRaisesRegex(error, "^entries is .*, not ", Solver, entries=entries)
 
     def test_a_refusal_has_the_index_of_its_position_and_is_a_value_error(self):
         """Except for NoMemory, which is a MemoryError."""
@@ -209,11 +207,9 @@ class Refusals(unittest.TestCase):
                 with self.assertRaisesRegex(TypeError, r"^a position is two masks, as Position\(own, opp\) and .* not "):
                     call(it)
             for it in (Position(-1, 0), Position(0, 2**64)):
-                with self.assertRaisesRegex(ValueError, r"^a mask is a number from 0 to 2\*\*64 - 1$"):
-                    call(it)
+                self.assertRaisesRegex(ValueError, r"^a mask is a number from 0 to 2\*\*64 - 1$", call, it)
         for call in many:
-            with self.assertRaisesRegex(TypeError, "^a position is two masks, .* not [0-9.]+$"):
-                call(POSITION)
+            self.assertRaisesRegex(TypeError, "^a position is two masks, .* not [0-9.]+$", call, POSITION)
 
     def test_another_object_than_a_claim_scores_or_a_line_is_named(self):
         line = Position.from_obf(CORNERS)
@@ -228,15 +224,13 @@ class Refusals(unittest.TestCase):
             self.assertEqual(str(line.show(it)), str(line).replace("is to move", state))
         for it in (5, None, ["a"]):
             for read in (Position.from_obf, lambda it: list(parse_lines(it))):
-                with self.assertRaisesRegex(TypeError, "^OBF text is of the type str or bytes, not "):
-                    read(it)
+                self.assertRaisesRegex(TypeError, "^OBF text is of the type str or bytes, not ", read, it)
 
     def test_a_missing_library_is_named_by_its_path(self):
         for path in ("/nowhere/libffosolve.so", pathlib.Path("/nowhere/libffosolve.so"), __file__):
-            with self.assertRaisesRegex(ffosolve.LibraryNotFound, f"^{path}: "):
-                Solver(path)
-        with self.assertRaisesRegex(ffosolve.LibraryNotFound, f"^{os.getcwd()}/libc.so.6: "):
-            Solver("libc.so.6")  # a file of this folder, and not the system's
+            self.assertRaisesRegex(ffosolve.LibraryNotFound, f"^{path}: ", Solver, path)
+        # A name without a folder is a file of this folder, and not the system's.
+        self.assertRaisesRegex(ffosolve.LibraryNotFound, f"^{os.getcwd()}/libc.so.6: ", Solver, "libc.so.6")
 
     def test_positions_are_read_and_shown_before_a_solver_names_the_library(self):
         Solver()
@@ -294,11 +288,9 @@ class Obf(unittest.TestCase):
             path.write_text(f"% X\n{CORNERS}\n")
             for source in (path, str(path)):
                 self.assertEqual([(line, line.number) for line in read_lines(source)], [(POSITION, 2)])
-            with self.assertRaises(FileNotFoundError):
-                read_lines(pathlib.Path(folder, "none.obf"))
+            self.assertRaises(FileNotFoundError, read_lines, pathlib.Path(folder, "none.obf"))
         for it, what in ((CORNERS + "\n", "a text, which parse_lines reads"), (b"", "a text, .*"), (5, "5"), (None, "None")):
-            with self.assertRaisesRegex(TypeError, f"^lines are read from a path or .*, not from {what}$"):
-                read_lines(it)
+            self.assertRaisesRegex(TypeError, f"^lines are read from a path or .*, not from {what}$", read_lines, it)
 
     def test_squares_have_names_and_numbers(self):
         names = [ffosolve.square_name(number) for number in range(64)]

@@ -5,10 +5,9 @@ from typing import TYPE_CHECKING, Any, List, NamedTuple, Tuple
 
 import numpy
 
-from ._bulk import LIGHTEST, MOST_WEIGHT, in_order, interruptible
+from ._bulk import LIGHTEST, MOST_WEIGHT, in_order
 from ._library import CAnswer, CMoveScores, CPosition
 from ._masks import refusal_for
-from ._rules import accept
 
 if TYPE_CHECKING:
     from ._solvers import Solver
@@ -53,11 +52,9 @@ def found_by(solver: "Solver", call: Any, record: Any, masks: Any, threads: int)
 
     def call_for(run: Tuple[int, int, int]) -> None:
         start, end, empties = run
-        count = end - start
-        asked = (CPosition * count).from_buffer(masks, start * ctypes.sizeof(CPosition))
-        to = (record * count).from_buffer(found, start * ctypes.sizeof(record))
-        more = asked, count, solver.scoring, solver._entries_for(empties), to, count, ctypes.c_size_t()
-        accept(interruptible(call, count, empties, *more))
+        asked = (CPosition * (end - start)).from_buffer(masks, start * ctypes.sizeof(CPosition))
+        to = (record * (end - start)).from_buffer(found, start * ctypes.sizeof(record))
+        solver._fill(to, call, asked, empties)
 
     deque(in_order(call_for, runs_of(solver, masks, threads), threads), 0)
     return found

@@ -38,9 +38,10 @@ class Refused(Exception):
     status: int  # a Status, except for an OtherRefusal
     reason: str
 
-    def __init_subclass__(cls) -> None:
-        if "status" in vars(cls):
-            REFUSALS.setdefault(cls.status, cls)
+    def __init_subclass__(cls, status: Optional[Status] = None, reason: str = "") -> None:
+        if status is not None:
+            cls.status, cls.reason = status, reason
+            REFUSALS[status] = cls
 
     def __init__(self, index: Optional[int] = None, reason: Optional[str] = None) -> None:
         if reason is not None:
@@ -53,38 +54,34 @@ class Refused(Exception):
         return copyreg.__newobj__, (type(self), *self.args), vars(self)  # type: ignore[attr-defined]
 
 
-class UnknownScoring(Refused, ValueError):
-    status, reason = Status.UNKNOWN_SCORING, "no scoring has the number"
+class UnknownScoring(Refused, ValueError, status=Status.UNKNOWN_SCORING, reason="no scoring has the number"):
+    """The scoring is no Scoring, number or name of one."""
 
 
-class TooManyEntries(Refused, ValueError):
-    status, reason = Status.TOO_MANY_ENTRIES, f"more than {MOST_ENTRIES} table entries"
+class TooManyEntries(Refused, ValueError, status=Status.TOO_MANY_ENTRIES,
+                     reason=f"more than {MOST_ENTRIES} table entries"):
+    """The table is too large."""
 
 
-class UnequalLengths(Refused, ValueError):
+class UnequalLengths(Refused, ValueError, status=Status.UNEQUAL_LENGTHS, reason="not as many answers as positions"):
     """No call of a Solver raises this, since it makes room for as many answers as positions."""
 
-    status, reason = Status.UNEQUAL_LENGTHS, "not as many answers as positions"
+
+class SharedSquare(Refused, ValueError, status=Status.SHARED_SQUARE, reason="the masks share a square"):
+    """A square has a disc of both sides."""
 
 
-class SharedSquare(Refused, ValueError):
-    status, reason = Status.SHARED_SQUARE, "the masks share a square"
+class TooManyEmpties(Refused, ValueError, status=Status.TOO_MANY_EMPTIES,
+                     reason=f"more than {MOST_EMPTIES} empty squares"):
+    """The position has more empty squares than the Solver takes."""
 
 
-class TooManyEmpties(Refused, ValueError):
-    status, reason = Status.TOO_MANY_EMPTIES, f"more than {MOST_EMPTIES} empty squares"
-
-
-class NoMove(Refused, ValueError):
+class NoMove(Refused, ValueError, status=Status.NO_MOVE, reason="illegal move"):
     """The move is not legal. The text names the move, the side to move, and the board as an OBF line."""
 
-    status, reason = Status.NO_MOVE, "illegal move"
 
-
-class NoMemory(Refused, MemoryError):
+class NoMemory(Refused, MemoryError, status=Status.NO_MEMORY, reason="out of memory"):
     """Out of memory for the table (never with 0 entries), or for the moves that a line lists."""
-
-    status, reason = Status.NO_MEMORY, "out of memory"
 
 
 class OtherRefusal(Refused):
@@ -96,8 +93,8 @@ class OtherRefusal(Refused):
 
 
 class LineRefused(Refused, ValueError):
-    """A line of OBF text was refused. If many were read, `line` is its number, from 1; otherwise None. `at` is the column,
-    from 1 in bytes, for BadSquare and BadSide, and the number of squares for ShortBoard."""
+    """A line of OBF text was refused. If many were read, `line` is its number, from 1; otherwise None. `at` is the
+    column, from 1 in bytes, for BadSquare and BadSide, and the number of squares for ShortBoard."""
 
     def __init__(self, at: int = 0, line: Optional[int] = None) -> None:
         self.at, self.line, self.reason = at, line, self.reason.format(at)
@@ -111,26 +108,20 @@ class LineRefused(Refused, ValueError):
         return self.at if self.status in (Status.BAD_SQUARE, Status.BAD_SIDE) else None
 
 
-class NoPosition(LineRefused):
+class NoPosition(LineRefused, status=Status.SKIPPED, reason="no position: the line is blank or a comment"):
     """The line is blank or a comment. `read_lines` skips it."""
 
-    status, reason = Status.SKIPPED, "no position: the line is blank or a comment"
+
+class ShortBoard(LineRefused, status=Status.SHORT_BOARD, reason="board has {} of 64 squares"):
+    """The line ends within the squares."""
 
 
-class ShortBoard(LineRefused):
-    status, reason = Status.SHORT_BOARD, "board has {} of 64 squares"
-
-
-class BadSquare(LineRefused):
+class BadSquare(LineRefused, status=Status.BAD_SQUARE, reason="bad square at column {}"):
     """A byte among the squares is not a square."""
 
-    status, reason = Status.BAD_SQUARE, "bad square at column {}"
 
-
-class BadSide(LineRefused):
-    """The side to move is missing: another byte stands in its place, or the line ends."""
-
-    status, reason = Status.BAD_SIDE, "bad side at column {}"
+class BadSide(LineRefused, status=Status.BAD_SIDE, reason="bad side at column {}"):
+    """The side to move is missing: another byte is in its place, or the line ends."""
 
 
 def refusal_of(status: int, *arguments: Any) -> Refused:
@@ -139,8 +130,7 @@ def refusal_of(status: int, *arguments: Any) -> Refused:
 
 
 def checked_number(name: str, value: int, least: int) -> int:
-    """The value of an argument that has to be a whole number, at least `least`. Raises TypeError and ValueError with its
-    name."""
+    """A whole number, at least `least`. Raises TypeError and ValueError with the argument's name."""
     if not hasattr(value, "__index__"):
         raise TypeError(f"{name} is a whole number, not {reprlib.repr(value)}")
     if value < least:

@@ -180,11 +180,15 @@ class Solver:
 
     def _call_for(self, part: Part, call: Any, record: Any, read: "Callable[[Any], List[A]]") -> "Results[A]":
         """The results of a call for the positions of a part. It writes a record for each, which `read` reads."""
-        asked, count, entries = c_positions(part.positions), len(part.positions), self._entries_for(part.empties)
-        found = (record * count)()
-        more = asked, count, self._scoring, entries, found, count, ctypes.c_size_t()
-        accept(interruptible(call, count, part.empties, *more))
+        found = (record * len(part.positions))()
+        self._fill(found, call, c_positions(part.positions), part.empties)
         return read(found), part.refusal
+
+    def _fill(self, found: Any, call: Any, asked: Any, empties: int) -> None:
+        """Makes a call that writes to `found` for each position, of which none has more empty squares than `empties`."""
+        count = len(asked)
+        more = asked, count, self._scoring, self._entries_for(empties), found, count, ctypes.c_size_t()
+        accept(interruptible(call, count, empties, *more))
 
 
 A = TypeVar("A")
@@ -197,15 +201,8 @@ def answers_in(found: Any) -> List[Answer]:
 
 def scores_in(found: Any) -> List[Dict[str, int]]:
     """The scores of each position's moves, by the squares' names."""
-    rows = []
-    for row in MOVE_SCORES.iter_unpack(found):
-        its, moves = {}, row[64]
-        while moves:
-            number = (moves & -moves).bit_length() - 1
-            its[NAMES[number]] = row[number]
-            moves &= moves - 1
-        rows.append(its)
-    return rows
+    rows = MOVE_SCORES.iter_unpack(found)
+    return [{name: score for name, score in zip(NAMES, row) if score != NO_SCORE} for row in rows]
 
 
 def one_by_one(parts: "Iterable[Results[A]]") -> Iterator[A]:
