@@ -144,8 +144,7 @@ class Lists(unittest.TestCase):
     def test_a_number_of_threads_is_refused_by_its_name(self):
         for name in ("solve_all", "solve_iter", "move_scores_all", "move_scores_iter"):
             for threads, error in ((0, ValueError), (-1, ValueError), ("4", TypeError), (1.5, TypeError)):
-                with self.assertRaisesRegex(error, "^threads is .*, not "):
-                    getattr(self.solver, name)([], threads=threads)
+                self.assertRaisesRegex(error, "^threads is .*, not ", getattr(self.solver, name), [], threads=threads)
 
 
 class Arrays(unittest.TestCase):
@@ -195,13 +194,10 @@ class Arrays(unittest.TestCase):
                 with self.assertRaises(error) as refused:
                     call(own, opp, threads=2)
                 self.assertEqual(refused.exception.index, 57)
-            with self.assertRaises(TypeError):
-                call(self.own.astype(numpy.int64), self.opp)
+            self.assertRaises(TypeError, call, self.own.astype(numpy.int64), self.opp)
             for own in (self.own[:-1], self.own.reshape(20, 20)):
-                with self.assertRaises(ValueError):
-                    call(own, self.opp)
-            with self.assertRaisesRegex(ValueError, "^threads is at least 1, not 0$"):
-                call(self.own, self.opp, threads=0)
+                self.assertRaises(ValueError, call, own, self.opp)
+            self.assertRaisesRegex(ValueError, "^threads is at least 1, not 0$", call, self.own, self.opp, threads=0)
 
     def test_no_program_needs_numpy(self):
         words = "import sys, ffosolve; ffosolve.Solver().solve_all([], threads=2); sys.exit('numpy' in sys.modules)"

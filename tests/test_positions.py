@@ -160,8 +160,7 @@ class Boards(unittest.TestCase):
             ({"A1": None}, "X", TypeError, "the score of A1 is a number, not None"),
             ({}, "black", ValueError, "the side to move is 'X' or 'O', not 'black'"),
         ):
-            with self.assertRaisesRegex(error, f"^{why}$"):
-                Position.from_obf(BOARD).show(scores, side)
+            self.assertRaisesRegex(error, f"^{why}$", Position.from_obf(BOARD).show, scores, side)
 
     def picture(self, svg):
         """A call that returns the picture's colour at a place, in pixels from the left and from the top."""
@@ -220,5 +219,4 @@ class MostEmpties(unittest.TestCase):
     def test_a_limit_is_a_number_up_to_sixty(self):
         self.assertEqual([Solver(max_empties=most).max_empties for most in (0, 60)], [0, 60])
         for most, error in ((61, ValueError), (-1, ValueError), ("20", TypeError), (20.0, TypeError)):
-            with self.assertRaisesRegex(error, "^max_empties is "):
-                Solver(max_empties=most)
+            self.assertRaisesRegex(error, "^max_empties is ", Solver, max_empties=most)
