@@ -96,7 +96,7 @@ def with_digest(lines):
 
 
 def report_of(listed, refused=None):
-    """Returns the report of a list by the plain player, which names no moves. `refused` has reasons by line numbers."""
+    """Returns the report of a list by the plain player, without moves. `refused` has reasons by the numbers of lines."""
     rows, refused = [], refused or {}
     for number, line in enumerate(listed.splitlines(), 1):
         if line and line[0] != "%":

@@ -1,5 +1,5 @@
-/* For each line of standard input, makes the call of ffosolve.h that it names, and prints the status and what was written:
-   what still has the bytes 99 was not. Compiled as C and as C++. Printed masks, and texts to read, are in hexadecimal.
+/* For each line of standard input, makes the call of ffosolve.h that it names, and prints the status and what was written.
+   Memory that still has the bytes 99 was not. Compiled as C and as C++. Printed masks, and texts to read, are hexadecimal.
 
        solve OWN OPP SCORING ENTRIES                  SCORE/KIND/BEST
        confirm OWN OPP SCORING ENTRIES SCORE KIND BEST    likewise

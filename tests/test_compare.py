@@ -1,4 +1,4 @@
-"""ffosolve-games compare: a list's theoretical scores beside the exact ones of its report, and WTHOR files with the latter."""
+"""ffosolve-games compare: wrong theoretical scores of a list, and with --fix new WTHOR files with the exact ones."""
 import os
 import random
 import re
@@ -14,7 +14,7 @@ from .support import ROOT, SECONDS, as_at_a_login, built, limited, run, stored, 
 
 
 class Compare(Case):
-    """Positions of examples/kinds.obf, whose scores are +62, -64 and +32, the first and the last also in the other colours."""
+    """Positions of examples/kinds.obf, whose scores are +62, -64 and +32; the first and the last also with exchanged colours."""
 
     TWO = "-OXXXXX-XXXXXXXOXXXXXXXXXXXXXXXXXXXOXXXXXXXXXXXXXXXXXXXXXXXXXXXX"
     PASS = "-OOOOOOXXXXXXXXXXXXXXXXXXXXXXXXXXXXXXXXXXXXXXXXXXXXXXXXXXXXXXXXX"
@@ -218,7 +218,7 @@ class Fix(Case):
         self.fix(1, self.err, wanted=self.wanted.removesuffix(b"more"))
 
     def test_real_scores_are_changed_only_if_asked(self):
-        """The first one is wrong, the second game stops before its end, and the third has an illegal move."""
+        """The first real score is wrong, the second game stops before its end, and the third has an illegal move."""
         self.records[0] = record(self.games_of_file[0], self.published[0], real=70)
         self.records[1] = record(self.games_of_file[1][:-1], self.published[1], real=1)
         self.records[2] = self.records[2][:6] + b"\1" + self.records[2][7:67] + b"\x63"
@@ -246,7 +246,7 @@ class Fix(Case):
         self.assertEqual(os.listdir("new"), ["one.wtb"])
 
     def test_several_files_are_written_all_or_none(self):
-        """The second one is not the file of the list, or does not fit on the disk."""
+        """The second file is not that of the list, or does not fit on the disk."""
         write("other/two.wtb", self.whole)
         os.mkdir("new")
         self.write_list("it.wtb", "other/two.wtb")

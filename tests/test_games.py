@@ -1,4 +1,4 @@
-"""Games: those that Python reads, and the positions that ffosolve-games prints, beside the plain player."""
+"""Games that Python reads, and positions that ffosolve-games prints, are those of the plain player of bench/player.py."""
 import contextlib
 import gzip
 import inspect
@@ -33,7 +33,7 @@ def expected(name, games, empties, more=""):
 
 
 class RandomGames(Case):
-    """They include games with passes and short ones."""
+    """Complete games; some have a pass, and some are short."""
 
     @classmethod
     def setUpClass(cls):
@@ -209,7 +209,7 @@ class ReadByPython(InFolder):
         return [position.to_obf() for position in positions]
 
     def expected(self, game):
-        """The plain player's positions, from the start on."""
+        """Returns the plain player's positions, from the start on."""
         at = positions_of(squares_of(game))
         return [player.line(*at[empties]) for empties in sorted(at, reverse=True)]
 

@@ -18,7 +18,7 @@ CXX_STANDARDS = ("c++11", "c++14", "c++17", "c++20")
 PROGRAM = """#include "ffosolve.h"
 int main(void) { return ffosolve_version() != FFOSOLVE_VERSION || ffosolve_status_text(FFOSOLVE_DONE)[0] != 'd'; }
 """
-# What the names in tests/library_calls.txt stand for: positions with two empty squares, before a pass, at the end of a game,
+# The values of the names in tests/library_calls.txt: positions with two empty squares, before a pass, at the end of a game,
 # and refused ones.
 NAMES = {
     "CORNERS": "0xfffffff7ffff7f7c 0x0000000800008002", "PASSED": "0x0000000800008002 0xfffffff7ffff7f7c",
@@ -44,7 +44,7 @@ fn main() {
 
 
 def named(text):
-    """A text in which each name is replaced by what it stands for."""
+    """Returns a text in which each name is replaced by its value."""
     return re.sub(r"@(\w+)@", lambda name: str(NAMES[name[1]]), text)
 
 
@@ -120,8 +120,8 @@ class Header(unittest.TestCase):
 
 class Calls(unittest.TestCase):
     def setUp(self):
-        """Reads the rows of tests/library_calls.txt: each is a call, or several whose words are between bars, and what the header
-        says that it writes."""
+        """Reads tests/library_calls.txt. A row has a call, and what the header says that it writes. A word may have several
+        forms with `|` between them; each combination is a call."""
         self.calls, self.wanted = [], ""
         for row in (TESTS / "library_calls.txt").read_text().splitlines():
             call, wanted = row.rsplit(" = ", 1)
@@ -178,8 +178,8 @@ class Calls(unittest.TestCase):
         self.assertEqual(printed, ["7"] * 6 + ["0 62/0/80"])
 
     def test_the_stack_that_the_header_names_is_enough(self):
-        """Calls with 14 empty squares end on the smaller one, and a game's first position is searched on the larger one for
-        two seconds."""
+        """Calls with 14 empty squares end on the smaller stack. On the larger one a game's first position is searched for two
+        seconds."""
         self.assertTrue("32 KiB are enough for 14 empty squares and 128 KiB for 60" in re.sub(r"\s+", " ", PREFIX.text))
         calls = [call.format(f"{own:#x} {opp:#x}") for own, opp in random_positions(20, [14])
                  for call in ("solve {} 0 1024", "confirm {} 1 0 0 0 1", "move_scores {} 2 1024", "solve_all 0 1024 1 {}")]
@@ -205,7 +205,7 @@ class Statuses(unittest.TestCase):
             text, is_of_line = refusal.reason, isinstance(refusal, ffosolve.LineRefused)
             if number < len(listed) and not is_of_line:
                 self.assertEqual(text, texts[number])
-            # The crate has no name for 3, gives the index with 5, and may run out of memory, 7, in both calls.
+            # The crate has no name for 3, adds the index to 5, and may run out of memory, 7, in both calls.
             special = {3: (other, other), 5: (f"position at index 0: {text}", other), 7: (text, text)}
             solved, read = special.get(number, (other, text) if is_of_line else (text, other))
             self.assertEqual(in_rust, f"{solved}; {read}")

@@ -1,6 +1,6 @@
-"""Random positions beside plain minimax: through each call of Python, and by ffoscores.
+"""Random positions: each call of Python, and ffoscores, find what plain minimax finds.
 
-POSITIONS in the environment is their number under each scoring, of up to MOST empty squares; 40 of 7 and 8 follow.
+POSITIONS in the environment says how many there are with up to MOST empty squares; 40 with 7 or 8 follow.
 """
 import itertools
 import os
@@ -18,7 +18,7 @@ POSITIONS, MOST, DEEP = int(os.environ.get("POSITIONS", 2000)), int(os.environ.g
 
 
 def solved(position):
-    """A row for each scoring, by plain minimax: the position, the scoring, the answer, and each move's square and score."""
+    """Returns a row for each scoring, by plain minimax: the position, the scoring, the answer, and each move's square and score."""
     own, opp = position
     children = {square.bit_length() - 1: player.values(*player.after(own, opp, square))
                 for square in player.squares_in(player.moves(own, opp))}
@@ -64,7 +64,7 @@ class RandomPositions(unittest.TestCase):
             self.assertEqual([*map(self.by_number, self.solver(scoring).move_scores_all(positions))], list(scores))
 
     def test_ffoscores_prints_what_minimax_finds(self):
-        """The highest score first, equal ones in the order of the squares."""
+        """The highest score comes first; equal ones are in the order of the squares."""
         for scoring in ffosolve.Scoring:
             rows = self.rows[scoring::3]
             text = "".join(f"{position.to_obf()}\n" for position, *_ in rows)

@@ -1,4 +1,4 @@
-"""Python's Position: plays by the rules, beside the plain player of bench/player.py, and shows boards as text and pictures."""
+"""Position in Python: its rules are those of the plain player of bench/player.py; boards as text and as pictures."""
 import io
 import itertools
 import os
@@ -163,7 +163,7 @@ class Boards(unittest.TestCase):
             self.assertRaisesRegex(error, f"^{why}$", Position.from_obf(BOARD).show, scores, side)
 
     def picture(self, svg):
-        """A call that returns the picture's colour at a place, in pixels from the left and from the top."""
+        """Returns a function of a place, in pixels from the left and from the top, which returns the colour there."""
         need_modules()
         need("rsvg-convert")
         xml.etree.ElementTree.fromstring(svg)
@@ -172,7 +172,7 @@ class Boards(unittest.TestCase):
         return lambda x, y: "".join(f"{part:02x}" for part in picture.getpixel((x, y)))
 
     def test_a_picture_has_discs_scores_and_marks_in_their_squares(self):
-        """A square has 44 pixels, and the margin 22. The middle shows the disc, and a corner the square itself."""
+        """A square is 44 pixels wide, and the margin 22. Its middle shows the disc, and a corner the square itself."""
         position, corners = Position.from_obf(BOARD), [(22 + 44 * (at % 8), 22 + 44 * (at // 8)) for at in range(64)]
         self.assertEqual("".join(re.findall(r">(\w)</text>", position._repr_svg_())), "A1B2C3D4E5F6G7H8")
         black, white, green, yellow = "111111", "fafafa", "2f8f5b", "ffd54a"

@@ -1,4 +1,4 @@
-"""Python's compare_scores: a list of an evaluation's scores beside what ffoscores prints for it."""
+"""compare_scores in Python: how far an evaluation's scores in a list are from those that ffoscores prints for it."""
 import io
 from pathlib import Path
 
