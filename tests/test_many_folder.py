@@ -1,5 +1,6 @@
 """bin/ffosolve-many: it continues after any interruption, and takes only complete results."""
 import contextlib
+import hashlib
 import json
 import os
 import random
@@ -45,7 +46,7 @@ class Functions(InFolder):
 
     def test_scores_are_complete_with_a_line_for_each_of_the_part(self):
         one = parts.Run.__new__(parts.Run)
-        one.options = {"--scores": True}
+        one.options = {"--scores": ""}
         for text, is_whole in ((b"a\nb\nc\n", True), (b"a\nb\n", False), (b"a\nb\nc", False), (b"a\nb\nc\nd\n", False)):
             self.assertEqual(one.is_whole(b"1\n2\n3\n", 0, text, b""), is_whole)
 
@@ -94,9 +95,9 @@ class Resuming(Case):
             return b"%b %b\n%b%b" % (head, solve.digest_of(task, part, head, text, report + book), report, book)
         self.assertEqual(record(report, book), whole)
         of_others = record(report, book, part=2)
-        task["options"]["--complete"] = True
+        task["options"]["--complete"] = ""
         of_others_too = record(report, book)
-        task["options"]["--complete"] = False
+        task["options"]["--complete"] = None
         for spoiled in (None, b"", whole[:-1], whole[:whole[:-1].rindex(b"\n") + 1], bytes(len(whole)), whole + b"\n",
                         whole.replace(b"+", b"-", 1), self.place("results/0000000").read_bytes(), of_others, of_others_too,
                         record(report, book, status=1), record(report.replace(b"\n1 ", b"\n2 "), book),
@@ -133,18 +134,19 @@ class Resuming(Case):
         words = ("--lines=20", "--scoring=discs", "--max-empties=07", "--complete", "--book-in=one.book", "work", "list.obf")
         write("other.book", b"% ffobook 2 winner\n")
         self.one = self.solve("--scoring=discs", "list.obf")
+        digest = hashlib.sha256(Path("one.book").read_bytes()).hexdigest()
         self.same(*words)
         for old, new, how in (("--lines=20", "--lines=21", "with --lines 20"),
                               ("--scoring=discs", "--scoring=sign", "with --scoring discs"),
                               ("--max-empties=07", "--max-empties=8", "with --max-empties 07"),
                               ("--complete", "--quiet", "with --complete"),
                               ("--complete", "--book-out=new", "with --complete and without --book-out"),
-                              ("--book-in=one.book", "--book-in=other.book", "with another book as --book-in"),
-                              ("--book-in=one.book", "--quiet", "with --book-in")):
+                              ("--book-in=one.book", "--book-in=other.book", f"with --book-in of SHA-256 {digest}"),
+                              ("--book-in=one.book", "--quiet", f"with --book-in of SHA-256 {digest}")):
             self.refused(2, f"work was begun {how}: use another folder, or the same options",
                          *(new if word == old else word for word in words))
         self.refused(2, "begun with --lines 20 and with --scoring discs and with --max-empties 07 and without --scores "
-                        "and with --complete and with --book-in: use another folder", "--scores", "work", "list.obf")
+                        f"and with --complete and with --book-in of SHA-256 {digest}: use another folder", "--scores", "work", "list.obf")
         self.same(*words, "--table=9", "--workers=1", "--jobs=3", message=", 3 of them solved before")
 
     def test_the_folder_of_an_earlier_version_is_refused(self):
@@ -253,11 +255,12 @@ class Files(Case):
                          "-", input=b"\n\n" + (b"%" + half) * 2)
         self.assertEqual(self.many("--cut", "--lines=2", "work", "-", input=half * 4).stdout[:8], b"2 parts,")
 
-    def test_a_list_that_changes_while_it_is_read(self):
+    def test_a_list_that_changes_while_it_is_read_is_solved_as_it_was_copied(self):
         by = install("changing")
-        cut = "    lock_folder(folder)\n"
-        change_many(by, "folder", cut, f'{cut}    source.write_bytes(source.read_bytes().replace(b"X", b"O", 1))\n')
-        self.ends(3, b"", "list.obf changes while it is read", "--lines=6", "work", "list.obf", by=by)
+        copied = '    copy(source, kept)\n'
+        change_many(by, "folder", copied, f'    source.write_bytes(source.read_bytes()[:68 * 50])\n{copied}    source.write_bytes(b"?")\n')
+        write("fifty.obf", many.SMALL[:68 * 50])
+        self.same("--lines=7", "work", "list.obf", by=by, message=" 50 lines in 8 parts", text=self.solve("fifty.obf"))
 
     def test_a_folder_with_other_files_is_refused_and_untouched(self):
         message = "name a new or an empty folder"

@@ -6,15 +6,11 @@ from pathlib import Path
 from .files import path_of
 from .messages import NAME, misused, shown
 
-MOST = {"--jobs": 999, "--lines": 10_000}
 GONE = {
     "--hosts": "start a cluster with `dask ssh --hostfile FILE`, and use --scheduler (PARALLEL_SSH is not read, either)",
     "--sweep": "a cluster removes its own files; those of an earlier version are folders run-* in your home folder there"}
-EXCLUDED = {  # options that are refused with another one
-    "scheduler": ("jobs", "cut"), "scores": ("book_in", "book_out"),
-    "merge_books": ("jobs", "lines", "scheduler", "scores", "complete", "cut", "max_empties", "workers", "table", "scoring",
-                    "book_in")}
-
+EXCLUDED = {"scheduler": {"jobs", "cut"}, "scores": {"book_in", "book_out"}}  # options that are refused with another one
+WITH_MERGE_BOOKS = {"merge_books", "book_out", "quiet", "version", "help"}
 USAGE = f"""{NAME} [OPTIONS] [FOLDER] LIST
        {NAME} --merge-books [--book-out FILE] BOOK.."""
 WHAT = """\
@@ -39,10 +35,10 @@ status:
      scheduler is lost; with --scores also: not all parts are solved
   4  a tool is missing, or the program can't be built
 """
-OPTIONS = {
+OPTIONS = {  # each with the name of its value, or the greatest one
     "how the list is solved": (
-        ("--jobs", "N", f"parts solved at a time on this machine, 1 to {MOST['--jobs']} [default: one for each of its processors]"),
-        ("--lines", "N", f"lines of a part, 1 to {MOST['--lines']} [default: 1000]"),
+        ("--jobs", 999, "parts solved at a time on this machine, 1 to 999 [default: one for each of its processors]"),
+        ("--lines", 10_000, "lines of a part, 1 to 10000 [default: 1000]"),
         ("--scheduler", "ADDRESS", "solve on the workers of this Dask scheduler; also the file that it writes"),
         ("--scores", None, "solve the parts with ffoscores instead of ffosolve"),
         ("--complete", None, "report lines that list moves but omit a best one"),
@@ -61,18 +57,16 @@ OPTIONS = {
 
 
 class Once(argparse.Action):
-    """Stores the value of an option, and refuses a second or an empty one; `const` is the greatest value of a number."""
+    """Stores the value of an option, and refuses a second one; `const` is its name, or the greatest value of a number."""
 
     def __call__(self, parser, namespace, value, option_string=None):
         if getattr(namespace, self.dest) is not None:
-            raise misused(f"{option_string} is given twice")
-        if value == "":
-            raise misused(f"{option_string} '': the value is empty")
-        if re.search("[\udc80-\udcff]", value):
-            raise misused(f"{option_string} {shown(value)}: the value is not UTF-8")
-        if self.const and (not re.fullmatch("[1-9][0-9]{0,6}", value) or int(value) > self.const):
-            raise misused(f"{option_string}: takes a number from 1 to {self.const}, not '{shown(value)}'")
-        setattr(namespace, self.dest, int(value) if self.const else value)
+            raise argparse.ArgumentError(self, "given twice")
+        if not value or re.search("[\udc80-\udcff]", value):
+            raise argparse.ArgumentError(self, f"{shown(value)} is empty or not UTF-8")
+        if isinstance(self.const, int) and (not re.fullmatch("[1-9][0-9]{0,6}", value) or int(value) > self.const):
+            raise argparse.ArgumentError(self, f"takes a number from 1 to {self.const}, not '{shown(value)}'")
+        setattr(namespace, self.dest, int(value) if isinstance(self.const, int) else value)
 
 
 def parse(words):
@@ -82,10 +76,8 @@ def parse(words):
     for title, options in OPTIONS.items():
         group = parser.add_argument_group(title)
         for names, value, text in options:
-            if value:
-                group.add_argument(names, metavar=value, action=Once, const=MOST.get(names), help=text)
-            else:
-                group.add_argument(*names.split(), action="store_true", help=text)
+            how = {"action": Once, "const": value, "metavar": value if isinstance(value, str) else "N"} if value else {"action": "store_true"}
+            group.add_argument(*names.split(), help=text, **how)
     end = words.index("--") if "--" in words else len(words)
     try:
         command, others = parser.parse_known_args(words[:end])
@@ -99,10 +91,10 @@ def parse(words):
             raise misused(f"{word.partition('=')[0]} is gone: {instead}")
         if word.startswith("-") and word != "-":
             raise misused(f"'{shown(word)}' is not an option; a file of that name is ./{shown(word)}")
-    for option, excluded in EXCLUDED.items():
-        for other in excluded:
-            if getattr(command, option) and getattr(command, other):
-                raise misused(f"--{other} is not an option of --{option}".replace("_", "-"))
+    given = {name for name, value in vars(command).items() if value}
+    for option, excluded in {**EXCLUDED, "merge_books": given - WITH_MERGE_BOOKS}.items():
+        for other in excluded & given if option in given else ():
+            raise misused(f"--{other} is not an option of --{option}".replace("_", "-"))
     command.words = others + words[end + 1:]
     if "" in command.words:
         raise misused("'' is not the name of a file")

@@ -70,12 +70,6 @@ def book_of(run, folder):
     yield from merged(entries_of(lines_of(path), path.name) for path in paths)
 
 
-def place_book(run, name):
-    """Writes the book of all parts."""
-    with tempfile.TemporaryDirectory(dir=run.folder, prefix="book.", suffix=".new") as folder:
-        replace(name, book_of(run, folder))
-
-
 def check_place(name, source, program, *options):
     """Refuses, before anything is solved, a place for a book that can't be written, or that would spoil another file."""
     for other, what in ((1, "standard output, where the report goes"), (2, "standard error"), (source, "the list")):
@@ -87,16 +81,10 @@ def check_place(name, source, program, *options):
         raise Refusal(UNREADABLE, errors.replace(os.fsencode(name).decode(errors="replace"), shown(name)))
 
 
-def scoring_of(path):
-    """The scoring of a book, by its first line."""
-    with path.open("rb") as file:
-        first = file.readline().decode("latin-1")
-    return first.removeprefix("% ffobook 2 ").rstrip() if first.startswith("% ffobook ") else "winner"
-
-
 def merged_book(names, paths):
     """The lines of books of one scoring merged into one."""
-    scorings = list(map(scoring_of, paths))
+    firsts = [next(lines_of(path), b"").decode("latin-1") for path in paths]
+    scorings = [first.removeprefix("% ffobook 2 ").rstrip() if first.startswith("% ffobook ") else "winner" for first in firsts]
     for name, scoring in zip(names, scorings):
         if scoring != scorings[0]:
             raise Refusal(REFUSED, f"{names[0]} has the scoring {scorings[0]} and {name} {scoring}: "

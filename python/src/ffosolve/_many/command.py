@@ -3,12 +3,13 @@ import contextlib
 import os
 import signal
 import sys
+import tempfile
 
 from .. import __version__
 from .arguments import complete, parse
-from .books import check_place, merge_books, place_book
+from .books import book_of, check_place, merge_books
 from .engine import Threads, solve_parts
-from .files import is_same, path_of, regular
+from .files import is_same, path_of, regular, replace
 from .folder import prepare
 from .messages import (DONE, NAME, UNREADABLE, UNSOLVED, Refusal, cannot, counted, misused, say, shown,
                        standard_output)
@@ -70,7 +71,8 @@ def finish(run, command):
     with standard_output() as output:
         output.writelines(run.output())
     if command.book_out:
-        place_book(run, command.book_out)
+        with tempfile.TemporaryDirectory(dir=run.folder, prefix="book.", suffix=".new") as folder:
+            replace(command.book_out, book_of(run, folder))
     return max(run.statuses, default=DONE)
 
 

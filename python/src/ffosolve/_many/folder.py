@@ -60,15 +60,7 @@ def begun(folder):
         return {}
 
 
-def difference(name, before, now):
-    """Describes the value of an option with which the folder was begun."""
-    if name == "--book-in" and before and now:
-        return "with another book as --book-in"
-    value = "" if name == "--book-in" or before is True else f" {before}"
-    return f"with {name}{value}" if before else f"without {name}"
-
-
-def keep_list(kept, source, digest, command):
+def keep_list(kept, source, command):
     """Copies a list to the folder. Refuses it unless it is the list that is there, which may have grown at its end."""
     with source.open("rb") as new, open(kept if kept.is_file() else os.devnull, "rb") as old:
         for line, (before, now) in enumerate(itertools.zip_longest(old, new, fillvalue=b""), 1):
@@ -76,8 +68,6 @@ def keep_list(kept, source, digest, command):
                 raise Refusal(REFUSED, f"{shown(command.list)} is not the list that {shown(command.folder)} was begun with, from "
                                        f"line {line} on: use another folder, or the same list (it may have grown at its end)")
     copy(source, kept)
-    if digest_of_file(kept) != digest:
-        raise Refusal(UNREADABLE, f"{shown(command.list)} changes while it is read")
 
 
 def keep_programs(folder, program, digests):
@@ -92,18 +82,22 @@ def keep_programs(folder, program, digests):
 
 def prepare(command, source, program, book_in):
     """Begins the folder, or goes on with it; returns the run, and the program that solves it here."""
-    starts, all_lines, digest = cut_list(source, command.lines, shown(command.list))
-    folder = command.folder
+    folder, name = command.folder, shown(command.list)
+    cut_list(source, command.lines, name)  # refuses what is not a list
     lock_folder(folder)
-    # What has to be the same for the results to be used again; the others change no result.
+    # What has to be the same for the results to be used again; the others change no result. None is an option that is not given.
     options = {"--lines": command.lines, "--scoring": command.scoring, "--max-empties": command.max_empties,
-               "--scores": command.scores, "--complete": command.complete,
-               "--book-in": digest_of_file(book_in) if book_in else "", "--book-out": command.book_out is not None}
+               "--scores": "" if command.scores else None, "--complete": "" if command.complete else None,
+               "--book-in": f"of SHA-256 {digest_of_file(book_in)}" if book_in else None,
+               "--book-out": None if command.book_out is None else ""}
     before = begun(folder)
     kept = before.get("options", options)
-    if differing := [difference(name, kept[name], now) for name, now in options.items() if kept[name] != now]:
+    if kept != options:
+        differing = (f"with {name} {value}".strip() if value is not None else f"without {name}"
+                     for name, value in kept.items() if value != options[name])
         raise Refusal(REFUSED, f"{shown(folder)} was begun {' and '.join(differing)}: use another folder, or the same options")
-    keep_list(folder / "list", source, digest, command)
+    keep_list(folder / "list", source, command)
+    starts, all_lines = cut_list(folder / "list", command.lines, name)  # which does not change meanwhile
     (folder / "results").mkdir(exist_ok=True)
     if book_in:
         copy(book_in, folder / "book-in")

@@ -1,7 +1,6 @@
 """The parts of a list, and their results."""
 import array
 import contextlib
-import hashlib
 import itertools
 import os
 import re
@@ -18,24 +17,23 @@ ROW = re.compile(rb"(\d{1,9}) ([+-]\d\d (?:[A-H][1-8](?:,[A-H][1-8])*|PS|--) [a-
 
 
 def cut_list(path, lines, name):
-    """Cuts a list into parts. Returns where each starts and the last one ends, the number of lines, and the SHA-256 of the
-    list. Refuses a file that is not a list, and a part above the size limit."""
-    starts, count, digest = array.array("Q", [0]), 0, hashlib.sha256()
+    """Cuts a list into parts. Returns where each starts and the last one ends, and the number of lines. Refuses a file that is
+    not a list, and a part above the size limit."""
+    starts, count = array.array("Q", [0]), 0
     with path.open("rb") as file:
         try:
             texts = text_lines(file, name, may_have_nul=True)
             while part := list(itertools.islice(texts, lines)):
-                text = b"".join(part)
-                if len(text) > MOST_BYTES:
-                    fewer = sum(size <= MOST_BYTES for size in itertools.accumulate(map(len, part)))
+                sizes = list(itertools.accumulate(map(len, part)))
+                if sizes[-1] > MOST_BYTES:
+                    fewer = sum(size <= MOST_BYTES for size in sizes)
                     raise Refusal(REFUSED, f"part {len(starts) - 1:07d} (from line {count + 1} of {name} on) has more than "
                                            f"{MOST_BYTES} bytes: use fewer lines, such as --lines {fewer}")
-                digest.update(text)
-                starts.append(starts[-1] + len(text))
+                starts.append(starts[-1] + sizes[-1])
                 count += len(part)
         except NotText as why:
             raise Refusal(UNREADABLE, str(why)) from None
-    return starts, count, digest.hexdigest()
+    return starts, count
 
 
 def asked_lines(part):
@@ -102,10 +100,10 @@ class Run:
 
     def is_whole(self, text, status, output, book):
         """Whether the status, the output and the book of a part are those of complete results."""
-        if self.options["--scores"]:
+        if self.options["--scores"] is not None:
             return output.count(b"\n") == text.count(b"\n") + (text[-1:] != b"\n") and output.endswith(b"\n")
         is_book = book.startswith(HEADER.format(self.options["--scoring"]).encode()) and book.endswith(b"\n")
-        return status == 0 and is_book == self.options["--book-out"] and is_report(output, asked_lines(text))
+        return status == 0 and is_book == (self.options["--book-out"] is not None) and is_report(output, asked_lines(text))
 
     def results(self, number):
         """The status, the output, the book, and the seconds of a part; None unless it is solved."""
@@ -134,7 +132,7 @@ class Run:
     def output(self):
         """The lines that one run of the program prints for the whole list."""
         outputs = (output for _, output, _, _ in self.solved())
-        return outputs if self.options["--scores"] else report_lines(
+        return outputs if self.options["--scores"] is not None else report_lines(
             (number * self.lines + line, rest) for number, output in enumerate(outputs) for line, rest in rows_of(output))
 
     def sweep(self):

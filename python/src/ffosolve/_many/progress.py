@@ -28,17 +28,14 @@ class Progress:
     def __init__(self, run, parts, most):
         self.run, self.weights, self.running = run, array.array("d", bytes(8 * run.parts)), {}
         self.parts, self.lines, self.seconds, self.weight = len(parts), sum(map(run.size, parts)), 0.0, 0.0
-        self.worked = time.monotonic()
         for number in parts:
             self.weights[number] = weight_of(run.text(number), most)
         self.left_weight = sum(self.weights)
 
     def update(self, at_work):
-        """Takes the machine of each part that is now being solved; between two parts there may be none for a moment."""
+        """Takes the machine of each part that is now being solved."""
         now = time.monotonic()
-        if at_work or now > self.worked + 2:
-            self.running = {number: (machine, self.running.get(number, (None, now))[1]) for number, machine in at_work.items()}
-        self.worked = now if at_work else self.worked
+        self.running = {number: (machine, self.running.get(number, (None, now))[1]) for number, machine in at_work.items()}
 
     def end(self, number, seconds):
         """Counts a solved part, and the seconds it took."""

@@ -40,7 +40,8 @@ def solve(task, folder, program, part, text, is_wanted=lambda: True):
     `task` has the program's `words`, and the `options` of the list. A book that is read is in the folder. Kills the program
     once `is_wanted` returns false. Raises Failed.
     """
-    has_book = task["options"]["--book-out"]  # which comes through the pipe of standard error: it needs no room on a disk
+    # A book comes through the pipe of standard error, so it needs no room on a disk.
+    has_book, most = task["options"]["--book-out"] is not None, task["options"]["--scores"] is not None
     command = guarded([program, *task["words"], *["--book-out=/dev/stderr"] * has_book])
     begun = time.monotonic()
     try:  # `communicate` loses what it has not written when its time ends, so the list is a file in memory
@@ -60,7 +61,7 @@ def solve(task, folder, program, part, text, is_wanted=lambda: True):
                 if not is_wanted():
                     process.kill()
     status = process.returncode
-    if not 0 <= status <= task["options"]["--scores"]:
+    if not 0 <= status <= most:
         name = f"status {status}" if status >= 0 else f"killed by {signal.Signals(-status).name}"
         raise Failed((errors.decode(errors="replace").strip() or name).splitlines()[0])
     book = errors[max(0, errors.find(b"% ffobook ")):] if has_book else b""
