@@ -127,7 +127,7 @@ class Results(Case):
         self.refused(3, "cannot write joined.book: permission denied\n", *self.WORDS, **NOBODY)
         Path("joined.book").unlink()
         by = install("slow", ACTING)  # may not be written once the parts are solved
-        change_many(by, "command", "def finish(run, command):\n", "def finish(run, command):\n"
+        change_many(by, "command", "    run.sweep()\n", "    run.sweep()\n"
                     "    open('joined.book', 'w').close(), os.chmod('joined.book', 0o444)\n")
         self.ends(3, self.one, "cannot write joined.book: Permission denied\n", *self.WORDS, by=by, **NOBODY)
         self.assertEqual(Path("joined.book").read_bytes(), b"")

@@ -138,14 +138,14 @@ class Resuming(Case):
         self.same(*words)
         for old, new, how in (("--lines=20", "--lines=21", "with --lines 20"),
                               ("--scoring=discs", "--scoring=sign", "with --scoring discs"),
-                              ("--max-empties=07", "--max-empties=8", "with --max-empties 07"),
+                              ("--max-empties=07", "--max-empties=8", "with --max-empties 7"),
                               ("--complete", "--quiet", "with --complete"),
                               ("--complete", "--book-out=new", "with --complete and without --book-out"),
                               ("--book-in=one.book", "--book-in=other.book", f"with --book-in of SHA-256 {digest}"),
                               ("--book-in=one.book", "--quiet", f"with --book-in of SHA-256 {digest}")):
             self.refused(2, f"work was begun {how}: use another folder, or the same options",
                          *(new if word == old else word for word in words))
-        self.refused(2, "begun with --lines 20 and with --scoring discs and with --max-empties 07 and without --scores "
+        self.refused(2, "begun with --lines 20 and with --scoring discs and with --max-empties 7 and without --scores "
                         f"and with --complete and with --book-in of SHA-256 {digest}: use another folder", "--scores", "work", "list.obf")
         self.same(*words, "--table=9", "--workers=1", "--jobs=3", message=", 3 of them solved before")
 
@@ -257,7 +257,7 @@ class Files(Case):
 
     def test_a_list_that_changes_while_it_is_read_is_solved_as_it_was_copied(self):
         by = install("changing")
-        copied = '    copy(source, kept)\n'
+        copied = '    copy(source, folder / "list")\n'
         change_many(by, "folder", copied, f'    source.write_bytes(source.read_bytes()[:68 * 50])\n{copied}    source.write_bytes(b"?")\n')
         write("fifty.obf", many.SMALL[:68 * 50])
         self.same("--lines=7", "work", "list.obf", by=by, message=" 50 lines in 8 parts", text=self.solve("fifty.obf"))

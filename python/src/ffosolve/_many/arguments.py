@@ -7,10 +7,11 @@ from .files import path_of
 from .messages import NAME, misused, shown
 
 GONE = {
-    "--hosts": "start a cluster with `dask ssh --hostfile FILE`, and use --scheduler (PARALLEL_SSH is not read, either)",
-    "--sweep": "a cluster removes its own files; those of an earlier version are folders run-* in your home folder there"}
-EXCLUDED = {"scheduler": {"jobs", "cut"}, "scores": {"book_in", "book_out"}}  # options that are refused with another one
+    "--hosts": "start a cluster with `dask ssh --hostfile FILE`, and use --scheduler (nor is PARALLEL_SSH read)",
+    "--sweep": "a cluster removes its own files; those of an earlier version are folders run-* in your home folder"}
+EXCLUDED = {"scheduler": {"jobs", "cut"}, "scores": {"book_in", "book_out"}}  # options that are refused with another
 WITH_MERGE_BOOKS = {"merge_books", "book_out", "quiet", "version", "help"}
+
 USAGE = f"""{NAME} [OPTIONS] [FOLDER] LIST
        {NAME} --merge-books [--book-out FILE] BOOK.."""
 WHAT = """\
@@ -35,10 +36,11 @@ status:
      scheduler is lost; with --scores also: not all parts are solved
   4  a tool is missing, or the program can't be built
 """
-OPTIONS = {  # each with the name of its value, or the greatest one
+MOST = {"--jobs": 999, "--lines": 10_000}
+OPTIONS = {
     "how the list is solved": (
-        ("--jobs", 999, "parts solved at a time on this machine, 1 to 999 [default: one for each of its processors]"),
-        ("--lines", 10_000, "lines of a part, 1 to 10000 [default: 1000]"),
+        ("--jobs", "N", "parts solved at a time on this machine, 1 to 999 [default: one for each of its processors]"),
+        ("--lines", "N", "lines of a part, 1 to 10000 [default: 1000]"),
         ("--scheduler", "ADDRESS", "solve on the workers of this Dask scheduler; also the file that it writes"),
         ("--scores", None, "solve the parts with ffoscores instead of ffosolve"),
         ("--complete", None, "report lines that list moves but omit a best one"),
@@ -57,16 +59,16 @@ OPTIONS = {  # each with the name of its value, or the greatest one
 
 
 class Once(argparse.Action):
-    """Stores the value of an option, and refuses a second one; `const` is its name, or the greatest value of a number."""
+    """Stores the value of an option, and refuses a second one. `const` is the greatest value of a number."""
 
     def __call__(self, parser, namespace, value, option_string=None):
         if getattr(namespace, self.dest) is not None:
             raise argparse.ArgumentError(self, "given twice")
         if not value or re.search("[\udc80-\udcff]", value):
             raise argparse.ArgumentError(self, f"{shown(value)} is empty or not UTF-8")
-        if isinstance(self.const, int) and (not re.fullmatch("[1-9][0-9]{0,6}", value) or int(value) > self.const):
+        if self.const and (not re.fullmatch("[1-9][0-9]{0,6}", value) or int(value) > self.const):
             raise argparse.ArgumentError(self, f"takes a number from 1 to {self.const}, not '{shown(value)}'")
-        setattr(namespace, self.dest, int(value) if isinstance(self.const, int) else value)
+        setattr(namespace, self.dest, int(value) if self.const else value)
 
 
 def parse(words):
@@ -76,8 +78,10 @@ def parse(words):
     for title, options in OPTIONS.items():
         group = parser.add_argument_group(title)
         for names, value, text in options:
-            how = {"action": Once, "const": value, "metavar": value if isinstance(value, str) else "N"} if value else {"action": "store_true"}
-            group.add_argument(*names.split(), help=text, **how)
+            if value:
+                group.add_argument(names, metavar=value, action=Once, const=MOST.get(names), help=text)
+            else:
+                group.add_argument(*names.split(), action="store_true", help=text)
     end = words.index("--") if "--" in words else len(words)
     try:
         command, others = parser.parse_known_args(words[:end])

@@ -11,8 +11,8 @@ from pathlib import Path
 
 from .._positions import BLACK, WHITE, NoPosition, Position
 from .._squares import NAMES
-from .files import is_same, regular, replace
-from .messages import DONE, NAME, REFUSED, UNBUILT, UNREADABLE, Refusal, misused, shown, standard_output
+from .files import is_same, print_all, regular, replace
+from .messages import DONE, NAME, REFUSED, UNBUILT, UNREADABLE, Refusal, misused, shown
 from .parts import HEADER
 from .programs import Program
 
@@ -32,8 +32,8 @@ def lines_of(path):
 
 
 def entries_of(lines, name):
-    """Yields the masks, the place, and the line as ffosolve writes it, of each entry of a book. Raises ValueError for a wrong
-    line."""
+    """Yields the masks, the place, and the line as ffosolve writes it, of each entry of a book. Raises ValueError for a
+    wrong line."""
     for number, text in enumerate(lines, 1):
         if ENTRY.fullmatch(text):
             yield (*(int(text[63::-1].translate(side), 2) for side in (BLACK, WHITE)),), (name, number), text
@@ -48,7 +48,8 @@ def entries_of(lines, name):
 
 
 def merged(books):
-    """The lines of the entries of books, each position once. Refuses two that disagree; raises ValueError if one book has two."""
+    """The lines of the entries of books, each position once. Refuses two that disagree; raises ValueError if a book has
+    a position twice."""
     for _, ((_, place, line), *others) in itertools.groupby(heapq.merge(*books), key=operator.itemgetter(0)):
         for _, other_place, other in others:
             if place[0] == other_place[0] and place != other_place:
@@ -71,7 +72,7 @@ def book_of(run, folder):
 
 
 def check_place(name, source, program, *options):
-    """Refuses, before anything is solved, a place for a book that can't be written, or that would spoil another file."""
+    """Refuses, before anything is solved, a place where a book can't be written, or would spoil another file."""
     for other, what in ((1, "standard output, where the report goes"), (2, "standard error"), (source, "the list")):
         if is_same(name, other):
             raise misused(f"--book-out {shown(name)} is {what}: name another file")
@@ -84,7 +85,8 @@ def check_place(name, source, program, *options):
 def merged_book(names, paths):
     """The lines of books of one scoring merged into one."""
     firsts = [next(lines_of(path), b"").decode("latin-1") for path in paths]
-    scorings = [first.removeprefix("% ffobook 2 ").rstrip() if first.startswith("% ffobook ") else "winner" for first in firsts]
+    scorings = [first.removeprefix("% ffobook 2 ").rstrip() if first.startswith("% ffobook ") else "winner"
+                for first in firsts]
     for name, scoring in zip(names, scorings):
         if scoring != scorings[0]:
             raise Refusal(REFUSED, f"{names[0]} has the scoring {scorings[0]} and {name} {scoring}: "
@@ -121,6 +123,5 @@ def merge_books(command, programs):
         if command.book_out:
             replace(command.book_out, whole)
         else:
-            with standard_output() as output:
-                output.writelines(whole)
+            print_all(whole)
     return DONE

@@ -17,16 +17,16 @@ try:
     import cloudpickle
     import distributed
 except ImportError as why:
-    raise Refusal(UNBUILT, f"--scheduler needs Python's package distributed ({why}): apt-get install python3-distributed, "
-                           "or pip install 'ffosolve[many]'") from None
+    raise Refusal(UNBUILT, f"--scheduler needs Python's package distributed ({why}): "
+                           "apt-get install python3-distributed, or pip install 'ffosolve[many]'") from None
 
 LOST_SECONDS = 30  # in which Dask connects again to a scheduler
 MOST_FAILS = 3  # of a worker, one after the other
 
 
 class Program(distributed.WorkerPlugin):
-    """Puts the program of a run on each worker, including those that join later. If it works there, the worker gets a resource
-    with the run's name, which every part needs; otherwise its metrics say why not."""
+    """Puts the program of a run on each worker, including those that join later. If it works there, the worker gets a
+    resource with the run's name, which every part needs; otherwise its metrics say why not."""
 
     def __init__(self, name, task, files):
         self.name, self.task, self.files, self.is_over = name, task, files, False
@@ -52,7 +52,8 @@ class Program(distributed.WorkerPlugin):
         key = self.worker.get_current_task()
 
         def is_wanted():
-            return not self.is_over and getattr(self.worker.state.tasks.get(key), "state", None) == "executing"
+            state = getattr(self.worker.state.tasks.get(key), "state", None)
+            return state == "executing" and not self.is_over
         try:
             return self.worker.address, solve(self.task, self.folder, self.program, number, text, is_wanted), ""
         except Failed as why:
@@ -65,14 +66,14 @@ class Program(distributed.WorkerPlugin):
 
 
 def look_at(name, left_out, dask_scheduler):
-    """Takes the resource of a run from workers that are left out. Returns whether the scheduler has the run's program; of each
-    worker why it can't solve, whether it can, its host, its threads, and the keys of its parts; and the parts without a worker."""
+    """Takes the resource of a run from workers that are left out. Returns whether the scheduler has the run's program;
+    why each worker can't solve, whether it can, its host, threads and parts; and the parts that no worker can have."""
     for address in left_out & dask_scheduler.workers.keys():
         dask_scheduler.add_resources(address, {name: 0})
     workers = {address: (worker.metrics.get(name), worker.resources.get(name), worker.host, worker.nthreads,
                          sorted(task.key for task in worker.processing if str(task.key).startswith(name)))
                for address, worker in dask_scheduler.workers.items()}
-    return name in dask_scheduler.worker_plugins, workers, [task.key for task in dask_scheduler.unrunnable]
+    return name in dask_scheduler.worker_plugins, workers, {task.key for task in dask_scheduler.unrunnable}
 
 
 class Cluster:
@@ -86,8 +87,8 @@ class Cluster:
         for module in ("solve", "cluster"):  # which workers do not have
             cloudpickle.register_pickle_by_value(sys.modules[f"{__package__}.{module}"])
         files = {path.name: path.read_bytes() for path in run.folder.glob("*-*") if path.is_file()}  # programs and book
-        self.address, self.run, self.name = address, run, f"ffosolve-{os.urandom(6).hex()}"
-        self.plugin, self.heard, self.count = Program(self.name, run.task, files), time.monotonic(), 0
+        self.address, self.run, self.name, self.count = address, run, f"ffosolve-{os.urandom(6).hex()}", 0
+        self.program, self.heard = Program(self.name, run.task, files), time.monotonic()
         self.ready, self.flying, self.left_out, self.fails = {}, {}, set(), collections.Counter()
         place = {"scheduler_file" if os.path.isfile(address) else "address": address}
         try:
@@ -130,24 +131,22 @@ class Cluster:
 
     def look(self):
         """The machine of each part that is being solved. Raises Refusal once the scheduler is lost."""
-        running = {}
+        running, self.ready = {}, {}
         try:
             if self.client.status != "running":
                 raise OSError("Dask connects again")
             has_program, workers, strays = self.client.run_on_scheduler(look_at, self.name, self.left_out)
         except Exception:
-            self.ready = {}
             if time.monotonic() > self.heard + LOST_SECONDS:
-                raise Refusal(UNREADABLE, f"the scheduler {self.address} is lost; the same command goes on with what is solved")
+                raise Refusal(UNREADABLE, f"the scheduler {self.address} is lost; the same command goes on with what "
+                                          "is solved") from None
             return running
-        self.heard, self.ready = time.monotonic(), {}
+        self.heard = time.monotonic()
         if not has_program:  # in the client's own thread, since it hangs while a worker does not answer
             register = getattr(self.client, "register_plugin", None) or self.client.register_worker_plugin
-            self.client.loop.add_callback(register, self.plugin, name=self.name)
+            self.client.loop.add_callback(register, self.program, name=self.name)
         for address, (why, is_fit, host, threads, keys) in workers.items():
-            if address in self.left_out:
-                continue
-            if why:
+            if why and address not in self.left_out:
                 self.leave_out(address, why)
             if is_fit:
                 self.ready[address] = threads

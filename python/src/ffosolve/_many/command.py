@@ -9,10 +9,9 @@ from .. import __version__
 from .arguments import complete, parse
 from .books import book_of, check_place, merge_books
 from .engine import Threads, solve_parts
-from .files import is_same, path_of, regular, replace
+from .files import is_same, path_of, print_all, regular, replace
 from .folder import prepare
-from .messages import (DONE, NAME, UNREADABLE, UNSOLVED, Refusal, cannot, counted, misused, say, shown,
-                       standard_output)
+from .messages import DONE, NAME, UNREADABLE, UNSOLVED, Refusal, cannot, counted, misused, say, shown
 from .programs import Program, run_options
 
 SIGNALS = (signal.SIGINT, signal.SIGTERM, signal.SIGHUP)
@@ -26,9 +25,9 @@ def begin(command, programs):
     with contextlib.ExitStack() as stack:
         source = regular(command.list, stack)
         book_in = regular(command.book_in, stack) if command.book_in else None
-        program, read = Program(programs, "ffoscores" if command.scores else "ffosolve"), [f"--book-in={book_in}"] * bool(book_in)
-        most = program.check(run_options(command) + read)
-        command.max_empties = command.max_empties or most
+        read = [f"--book-in={book_in}"] if book_in else []
+        program = Program(programs, "ffoscores" if command.scores else "ffosolve")
+        command.max_empties = program.check(run_options(command) + read)
         if command.book_out:
             check_place(command.book_out, path_of(command.list), program, *read)
         try:
@@ -42,47 +41,41 @@ def solve_list(command, programs):
     if command.scheduler:
         from .cluster import Cluster  # refuses if its package is missing
     run, program = begin(command, programs)
-    unsolved = len(run.unsolved())
+    unsolved, parts, folder = len(run.unsolved()), counted(run.parts, "part"), shown(run.folder)
     if command.cut:
-        with standard_output() as output:
-            output.write(os.fsencode(f"{counted(run.parts, 'part')}, {run.parts - unsolved} of them solved; "
-                                     f"python3 {shown(run.folder)}/solve.py NAME solves one, from 0000000 to {run.parts - 1:07d}\n"))
+        print_all([os.fsencode(f"{parts}, {run.parts - unsolved} of them solved; python3 {folder}/solve.py NAME solves "
+                               f"one, from 0000000 to {run.parts - 1:07d}\n")])
         return DONE
     if not command.quiet:
-        say(f"{shown(command.list)}: {counted(run.all_lines, 'line')} in {counted(run.parts, 'part')}, {run.parts - unsolved} of "
-            f"them solved before; folder {shown(command.folder)}")
+        say(f"{shown(command.list)}: {counted(run.all_lines, 'line')} in {parts}, {run.parts - unsolved} of them "
+            f"solved before; folder {folder}")
     if unsolved:
-        engine = Cluster(command.scheduler, run) if command.scheduler else Threads(
-            run, program, command.jobs or len(os.sched_getaffinity(0)))
+        jobs = command.jobs or len(os.sched_getaffinity(0))
+        engine = Cluster(command.scheduler, run) if command.scheduler else Threads(run, program, jobs)
         try:
             failed = solve_parts(run, engine, int(command.max_empties), command.quiet)
         finally:
             engine.close()
         if failed:
             named = ", ".join(map(run.span, sorted(failed)[:3])) + (", .." if len(failed) > 3 else "")
-            raise Refusal(UNREADABLE if command.scores else UNSOLVED, f"not solved: {len(failed)} of "
-                          f"{counted(run.parts, 'part')}: {named}. The same command solves only these")
-    return finish(run, command)
-
-
-def finish(run, command):
-    """Prints the report and writes the book; returns the status."""
+            raise Refusal(UNREADABLE if command.scores else UNSOLVED,
+                          f"not solved: {len(failed)} of {parts}: {named}. The same command solves only these")
     run.sweep()
-    with standard_output() as output:
-        output.writelines(run.output())
+    print_all(run.output())
     if command.book_out:
-        with tempfile.TemporaryDirectory(dir=run.folder, prefix="book.", suffix=".new") as folder:
-            replace(command.book_out, book_of(run, folder))
+        with tempfile.TemporaryDirectory(dir=run.folder, prefix="book.", suffix=".new") as place:
+            replace(command.book_out, book_of(run, place))
     return max(run.statuses, default=DONE)
 
 
 def run_command(programs, words):
     """Does what the words of a command line ask for; returns the status."""
-    with standard_output() as output:
-        command = parse(words)
-        if command.help or command.version:
-            output.write((command.help or f"{NAME} {__version__}\n").encode())
-            return DONE
+    if sys.stdout is None:
+        raise Refusal(UNREADABLE, "cannot write standard output: it is closed")
+    command = parse(words)
+    if command.help or command.version:
+        print_all([(command.help or f"{NAME} {__version__}\n").encode()])
+        return DONE
     return (merge_books if command.merge_books else solve_list)(command, programs)
 
 
@@ -94,7 +87,7 @@ def catch(number, _):
 
 
 def main(programs, words):
-    """Runs the program with the words of a command line, and ends with its status. `programs` is the folder of ffosolve."""
+    """Runs the command, and ends with its status. `programs` is the folder of ffosolve."""
     sys.stderr = sys.stderr or open(os.devnull, "w")
     while os.open(os.devnull, os.O_RDWR) < 3:
         pass  # so that no file of the work takes the place of a closed stream

@@ -40,14 +40,15 @@ class Threads:
     def solve(self, number):
         self.running[number] = HERE
         try:
-            return HERE, self.run.keep(number, solve(self.run.task, self.run.folder, self.program, number, self.run.text(number))), ""
+            record = solve(self.run.task, self.run.folder, self.program, number, self.run.text(number))
+            return HERE, self.run.keep(number, record), ""
         except Failed as why:
             return HERE, None, str(why)
         finally:
             del self.running[number]
 
     def result(self, future, number):
-        """The machine that had a part, the seconds it took, and the reason if it failed; without seconds it is not solved."""
+        """The machine that had a part, the seconds it took or None if it failed, and the reason."""
         return future.result()
 
     def look(self):

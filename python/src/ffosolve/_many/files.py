@@ -1,4 +1,4 @@
-"""Files that are read or replaced."""
+"""Files that are read or written, and standard output."""
 import contextlib
 import os
 import shutil
@@ -24,7 +24,7 @@ def path_of(name):
 
 
 def regular(name, stack):
-    """The path of a readable regular file: the file itself or, for a pipe, a temporary copy that lives as long as `stack`."""
+    """The path of a readable regular file: the file itself or, for a pipe, a copy that lives as long as `stack`."""
     path, doing = path_of(name), ("read", name)
     if str(path) == "/dev/stdin" and sys.stdin is None:
         raise Refusal(UNREADABLE, f"cannot read {name}: standard input is closed")
@@ -52,3 +52,14 @@ def replace(name, pieces):
                 file.writelines(pieces)
     except OSError as why:
         raise cannot("write", name, why) from why
+
+
+def print_all(pieces):
+    """Prints on standard output, or refuses if it can't be written."""
+    try:
+        with open(1, "wb", closefd=False) as output:  # PYTHONUNBUFFERED's may write only a part
+            output.writelines(pieces)
+    except BrokenPipeError:
+        raise
+    except OSError as why:
+        raise cannot("write", "standard output", why) from why

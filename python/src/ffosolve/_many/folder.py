@@ -41,8 +41,8 @@ def lock_folder(folder):
     folder.mkdir(parents=True, exist_ok=True)
     found = sorted(os.listdir(folder))
     if found and LOCK not in found:
-        raise Refusal(REFUSED, f"{shown(folder)} has files that are not {NAME}'s, or those of an earlier version, such as "
-                               f"{shown(found[0])}: name a new or an empty folder")
+        raise Refusal(REFUSED, f"{shown(folder)} has files that are not {NAME}'s, or those of an earlier version, such "
+                               f"as {shown(found[0])}: name a new or an empty folder")
     descriptor, end = os.open(folder / LOCK, os.O_RDWR | os.O_CREAT, 0o666), time.monotonic() + LOCK_SECONDS
     while time.monotonic() < end:
         with contextlib.suppress(BlockingIOError):
@@ -60,14 +60,23 @@ def begun(folder):
         return {}
 
 
-def keep_list(kept, source, command):
-    """Copies a list to the folder. Refuses it unless it is the list that is there, which may have grown at its end."""
+def check_options(before, options, folder):
+    """Refuses options other than those that the folder was begun with."""
+    differing = [f"with {name} {kept}".strip() if kept is not None else f"without {name}"
+                 for name, kept in before.items() if kept != options[name]]
+    if differing:
+        raise Refusal(REFUSED, f"{shown(folder)} was begun {' and '.join(differing)}: use another folder, or the same "
+                               "options")
+
+
+def check_list(kept, source, command):
+    """Refuses a list unless it is the one that was kept, which may have grown at its end."""
     with source.open("rb") as new, open(kept if kept.is_file() else os.devnull, "rb") as old:
         for line, (before, now) in enumerate(itertools.zip_longest(old, new, fillvalue=b""), 1):
             if not now.startswith(before):
-                raise Refusal(REFUSED, f"{shown(command.list)} is not the list that {shown(command.folder)} was begun with, from "
-                                       f"line {line} on: use another folder, or the same list (it may have grown at its end)")
-    copy(source, kept)
+                raise Refusal(REFUSED, f"{shown(command.list)} is not the list that {shown(command.folder)} was begun "
+                                       f"with, from line {line} on: use another folder, or the same list (it may have "
+                                       "grown at its end)")
 
 
 def keep_programs(folder, program, digests):
@@ -85,24 +94,22 @@ def prepare(command, source, program, book_in):
     folder, name = command.folder, shown(command.list)
     cut_list(source, command.lines, name)  # refuses what is not a list
     lock_folder(folder)
-    # What has to be the same for the results to be used again; the others change no result. None is an option that is not given.
+    # What has to be the same for the results to be used again; the others change no result. None is not given.
     options = {"--lines": command.lines, "--scoring": command.scoring, "--max-empties": command.max_empties,
                "--scores": "" if command.scores else None, "--complete": "" if command.complete else None,
                "--book-in": f"of SHA-256 {digest_of_file(book_in)}" if book_in else None,
                "--book-out": None if command.book_out is None else ""}
     before = begun(folder)
-    kept = before.get("options", options)
-    if kept != options:
-        differing = (f"with {name} {value}".strip() if value is not None else f"without {name}"
-                     for name, value in kept.items() if value != options[name])
-        raise Refusal(REFUSED, f"{shown(folder)} was begun {' and '.join(differing)}: use another folder, or the same options")
-    keep_list(folder / "list", source, command)
-    starts, all_lines = cut_list(folder / "list", command.lines, name)  # which does not change meanwhile
+    check_options(before.get("options", {}), options, folder)
+    check_list(folder / "list", source, command)
     (folder / "results").mkdir(exist_ok=True)
+    copy(source, folder / "list")
+    copy(Path(solve.__file__), folder / "solve.py")
     if book_in:
         copy(book_in, folder / "book-in")
-    copy(Path(solve.__file__), folder / "solve.py")
-    task = {"options": options, "parts": len(starts) - 1, "programs": keep_programs(folder, program, before.get("programs")),
+    starts, all_lines = cut_list(folder / "list", command.lines, name)
+    programs = keep_programs(folder, program, before.get("programs"))
+    task = {"options": options, "programs": programs, "parts": len(starts) - 1,
             "words": run_options(command) + ["--book-in=book-in"] * bool(book_in)}
     try:
         program, task["known"] = fit_program(task, folder)

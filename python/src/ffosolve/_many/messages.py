@@ -43,17 +43,3 @@ def show(text):
         while len(line) >= columns:
             line = line.rpartition(", ")[0]
         print(f"\r\033[K{line}", end="", file=sys.stderr, flush=True)
-
-
-@contextlib.contextmanager
-def standard_output():
-    """Standard output, which refuses to go on if it can't be written."""
-    if sys.stdout is None:
-        raise Refusal(UNREADABLE, "cannot write standard output: it is closed")
-    try:
-        with open(1, "wb", closefd=False) as output:  # PYTHONUNBUFFERED's may write only a part
-            yield output
-    except BrokenPipeError:
-        raise
-    except OSError as why:
-        raise cannot("write", "standard output", why) from why

@@ -17,20 +17,19 @@ ROW = re.compile(rb"(\d{1,9}) ([+-]\d\d (?:[A-H][1-8](?:,[A-H][1-8])*|PS|--) [a-
 
 
 def cut_list(path, lines, name):
-    """Cuts a list into parts. Returns where each starts and the last one ends, and the number of lines. Refuses a file that is
-    not a list, and a part above the size limit."""
+    """Cuts a list into parts. Returns where each starts and the last one ends, and the number of lines. Refuses a file
+    that is not a list, and a part above the size limit."""
     starts, count = array.array("Q", [0]), 0
     with path.open("rb") as file:
         try:
             texts = text_lines(file, name, may_have_nul=True)
-            while part := list(itertools.islice(texts, lines)):
-                sizes = list(itertools.accumulate(map(len, part)))
-                if sizes[-1] > MOST_BYTES:
-                    fewer = sum(size <= MOST_BYTES for size in sizes)
-                    raise Refusal(REFUSED, f"part {len(starts) - 1:07d} (from line {count + 1} of {name} on) has more than "
-                                           f"{MOST_BYTES} bytes: use fewer lines, such as --lines {fewer}")
-                starts.append(starts[-1] + sizes[-1])
-                count += len(part)
+            while ends := list(itertools.accumulate(map(len, itertools.islice(texts, lines)))):
+                if ends[-1] > MOST_BYTES:
+                    raise Refusal(REFUSED, f"part {len(starts) - 1:07d} (from line {count + 1} of {name} on) has more "
+                                           f"than {MOST_BYTES} bytes: use fewer lines, such as --lines "
+                                           f"{sum(end <= MOST_BYTES for end in ends)}")
+                starts.append(starts[-1] + ends[-1])
+                count += len(ends)
         except NotText as why:
             raise Refusal(UNREADABLE, str(why)) from None
     return starts, count
@@ -66,9 +65,9 @@ class Run:
     """The parts of a list by number, and the records of their results in the folder `results`."""
 
     def __init__(self, folder, task, starts, all_lines):
-        self.folder, self.task, self.options, self.starts, self.all_lines = folder, task, task["options"], starts, all_lines
-        self.parts, self.lines, self.list = len(starts) - 1, self.options["--lines"], (folder / "list").open("rb")
-        self.statuses = bytearray([UNKNOWN]) * self.parts
+        self.folder, self.task, self.starts, self.all_lines = folder, task, starts, all_lines
+        self.options, self.lines, self.parts = task["options"], task["options"]["--lines"], len(starts) - 1
+        self.list, self.statuses = (folder / "list").open("rb"), bytearray([UNKNOWN]) * self.parts
         for entry in os.scandir(folder / "results"):
             if re.fullmatch("[0-9]{7}", entry.name) and int(entry.name) < self.parts:
                 found = self.results(int(entry.name))
@@ -102,8 +101,9 @@ class Run:
         """Whether the status, the output and the book of a part are those of complete results."""
         if self.options["--scores"] is not None:
             return output.count(b"\n") == text.count(b"\n") + (text[-1:] != b"\n") and output.endswith(b"\n")
-        is_book = book.startswith(HEADER.format(self.options["--scoring"]).encode()) and book.endswith(b"\n")
-        return status == 0 and is_book == (self.options["--book-out"] is not None) and is_report(output, asked_lines(text))
+        has_book = book.startswith(HEADER.format(self.options["--scoring"]).encode()) and book.endswith(b"\n")
+        is_book = has_book == (self.options["--book-out"] is not None)
+        return status == 0 and is_book and is_report(output, asked_lines(text))
 
     def results(self, number):
         """The status, the output, the book, and the seconds of a part; None unless it is solved."""
@@ -132,8 +132,10 @@ class Run:
     def output(self):
         """The lines that one run of the program prints for the whole list."""
         outputs = (output for _, output, _, _ in self.solved())
-        return outputs if self.options["--scores"] is not None else report_lines(
-            (number * self.lines + line, rest) for number, output in enumerate(outputs) for line, rest in rows_of(output))
+        if self.options["--scores"] is not None:
+            return outputs
+        return report_lines((number * self.lines + line, rest)
+                            for number, output in enumerate(outputs) for line, rest in rows_of(output))
 
     def sweep(self):
         """Removes what killed runs left."""

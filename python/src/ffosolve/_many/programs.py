@@ -28,14 +28,15 @@ class Program:
         return [path.read_bytes() for path in sorted(levels, reverse=True) or [self.start]]
 
     def try_run(self, *words, stdout=subprocess.PIPE, **how):
-        """The status of a run, and its messages on standard error, without the program's name."""
-        ran = subprocess.run([self.start, *words], stdin=subprocess.DEVNULL, stdout=stdout, stderr=subprocess.PIPE, **how)
+        """The status of a run, and its messages on standard error in one line, without the program's name."""
+        streams = {"stdin": subprocess.DEVNULL, "stdout": stdout, "stderr": subprocess.PIPE}
+        ran = subprocess.run([self.start, *words], **streams, **how)
         lines = ran.stderr.decode(errors="replace").splitlines()
         return ran.returncode, ": ".join(line.removeprefix("ffosolve: ") for line in lines)
 
     def check(self, options):
-        """Builds the program if needed, and lets it refuse wrong options and a wrong book. Returns the most empty squares that it
-        solves."""
+        """Builds the program if needed, and lets it refuse wrong options and a wrong book. Returns the most empty
+        squares that it solves."""
         if not shutil.which("setpriv"):
             raise Refusal(UNBUILT, "setpriv is not on the path: apt-get install util-linux")
         ran = subprocess.run(guarded([self.start, *options, "/dev/stdin"]), input=NO_DISCS, stdout=subprocess.PIPE)
@@ -52,4 +53,5 @@ def run_options(command):
     # The parts keep all processors busy, so none of them needs more than one thread.
     options = {"max-empties": command.max_empties, "scoring": command.scoring, "workers": command.workers or 0,
                "table": command.table}
-    return [f"--{name}={value}" for name, value in options.items() if value is not None] + ["--complete"] * command.complete
+    words = [f"--{name}={value}" for name, value in options.items() if value is not None]
+    return words + ["--complete"] * command.complete

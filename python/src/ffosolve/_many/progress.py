@@ -7,14 +7,13 @@ from .parts import asked_lines
 
 LONG_SECONDS = 600  # after which a part is named
 GROWTH = 2.5  # of the work, with each empty square
-POWERS = [GROWTH ** count for count in range(65)]
 
 
 def weight_of(text, most):
     """The work of lines with at most `most` empty squares, in units of a line without any."""
     fronts = [line.lstrip()[:64] for line in asked_lines(text).values()]
     empties = [front.count(b"-") + front.count(b".") for front in fronts]
-    return sum(POWERS[count] if count <= most else 1 for count in empties)
+    return sum(GROWTH ** count if count <= most else 1 for count in empties)
 
 
 def span_of(seconds):
@@ -23,7 +22,7 @@ def span_of(seconds):
 
 
 class Progress:
-    """The work that is left, the time that the solved parts took, and the parts at work, each with its machine and start."""
+    """The work that is left, the time that the solved parts took, and the machine and start of each part at work."""
 
     def __init__(self, run, parts, most):
         self.run, self.weights, self.running = run, array.array("d", bytes(8 * run.parts)), {}
@@ -34,8 +33,9 @@ class Progress:
 
     def update(self, at_work):
         """Takes the machine of each part that is now being solved."""
+        begun = {number: since for number, (_, since) in self.running.items()}
         now = time.monotonic()
-        self.running = {number: (machine, self.running.get(number, (None, now))[1]) for number, machine in at_work.items()}
+        self.running = {number: (machine, begun.get(number, now)) for number, machine in at_work.items()}
 
     def end(self, number, seconds):
         """Counts a solved part, and the seconds it took."""
@@ -54,12 +54,13 @@ class Progress:
 
     def text(self):
         """The line that is shown, with what matters most first. A part that has run for ten minutes is named."""
-        machines, all_lines = len({machine for machine, _ in self.running.values()}), max(1, self.run.all_lines)
+        run, machines, now = self.run, len({machine for machine, _ in self.running.values()}), time.monotonic()
         left = self.left() if machines else None
-        text = (f"{100 * (self.run.all_lines - self.lines) // all_lines}%, " + (f"{span_of(left)} left, " if left is not None else "")
-                + f"{counted(machines, 'machine') if machines else 'no machine'} at work, "
-                f"parts {self.run.parts - self.parts} of {self.run.parts}")
-        since, number = min(((since, number) for number, (_, since) in self.running.items()), default=(time.monotonic(), 0))
-        if time.monotonic() - since >= LONG_SECONDS:
-            text += f"; {self.run.span(number)} runs for {span_of(time.monotonic() - since)} on {self.running[number][0]}"
+        text = f"{100 * (run.all_lines - self.lines) // max(1, run.all_lines)}%, "
+        text += f"{span_of(left)} left, " if left is not None else ""
+        text += f"{counted(machines, 'machine') if machines else 'no machine'} at work, "
+        text += f"parts {run.parts - self.parts} of {run.parts}"
+        number, (machine, since) = min(self.running.items(), key=lambda one: one[1][1], default=(0, ("", now)))
+        if now - since >= LONG_SECONDS:
+            text += f"; {run.span(number)} runs for {span_of(now - since)} on {machine}"
         return text

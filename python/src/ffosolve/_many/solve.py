@@ -34,11 +34,11 @@ def digest_of(task, part, head, text, results):
 
 
 def solve(task, folder, program, part, text, is_wanted=lambda: True):
-    """Solves the lines `text` with a program, and returns the record of their results: a line with the program's status, the
-    sizes of its output and its book, the seconds it took, and the digest; then output and book.
+    """Solves the lines `text` with a program, and returns the record of their results: a line with the program's
+    status, the sizes of its output and its book, the seconds it took, and the digest; then output and book.
 
-    `task` has the program's `words`, and the `options` of the list. A book that is read is in the folder. Kills the program
-    once `is_wanted` returns false. Raises Failed.
+    `task` has the program's `words`, and the `options` of the list. A book that is read is in the folder. Kills the
+    program once `is_wanted` returns false. Raises Failed.
     """
     # A book comes through the pipe of standard error, so it needs no room on a disk.
     has_book, most = task["options"]["--book-out"] is not None, task["options"]["--scores"] is not None
@@ -70,8 +70,8 @@ def solve(task, folder, program, part, text, is_wanted=lambda: True):
 
 
 def fit_program(task, folder):
-    """The first program in a folder that solves a known line, and its results. If `task` has `known`, they have to equal it.
-    Raises Failed."""
+    """The first program in a folder that solves a known line, and its results. They have to be what `task` has as
+    `known`, if it has that. Raises Failed."""
     why = "is missing"
     for program in sorted(folder.absolute().glob("program-?")):
         end = time.monotonic() + KNOWN_SECONDS
@@ -82,8 +82,8 @@ def fit_program(task, folder):
                 return program, results
             why = "solves a known line wrong"
         except Failed as fault:
-            is_late = time.monotonic() >= end
-            why = f"needs more than {KNOWN_SECONDS} seconds for a known line" if is_late else f"can't solve a known line: {fault}"
+            late = f"needs more than {KNOWN_SECONDS} seconds for a known line"
+            why = late if time.monotonic() >= end else f"can't solve a known line: {fault}"
     raise Failed(f"the program {why}")
 
 
