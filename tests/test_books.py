@@ -50,8 +50,6 @@ class Books(InFolder):
         for name in files:
             os.remove(name)
 
-
-class Files(Books):
     def test_a_book_has_the_scoring_asked_for_whatever_book_was_read_or_stood_there(self):
         list_of_one = b"--OOOOO" + b"X" * 57 + b" X\n"
         for scoring, score in (("discs", b"+63"), ("winner", b"+64"), ("sign", b"+01")):
@@ -178,8 +176,6 @@ class Files(Books):
         self.solves(unwritten(""))
         self.assertTrue(os.path.islink("it.book"))
 
-
-class Streams(Books):
     def test_a_pipe_gets_the_book(self):
         os.mkfifo("it.book")
         os.symlink("it.book", "link.book")
@@ -190,25 +186,16 @@ class Streams(Books):
                 self.assertEqual(reader.communicate(timeout=SECONDS)[0], BOOK)
         self.assertTrue(stat.S_ISFIFO(os.lstat("it.book").st_mode) and os.path.islink("link.book"))
 
-    def device(self, name, number):
-        """Returns a device of the machine, or for root, who could replace it, one like it in the folder."""
-        if os.getuid() != 0:
-            return f"/dev/{name}"
-        os.mknod(name, stat.S_IFCHR | 0o666, os.makedev(1, number))
-        return name
+    def test_a_full_device_is_reported_and_another_can_be_both_list_and_book(self):
+        full = unwritten("no space left", "full", prints=True)
+        for name, number, lists, wanted in (("full", 7, [], full), ("null", 3, ["null"], DONE)):
+            if os.getuid() == 0:  # who could replace a device of the machine
+                os.mknod(name, stat.S_IFCHR | 0o666, os.makedev(1, number))
+            else:
+                os.symlink(f"/dev/{name}", name)
+            self.solves(wanted, name, *lists)
+            self.assertTrue(stat.S_ISCHR(os.stat(name).st_mode))
 
-    def test_a_full_device_stays_and_is_reported(self):
-        name = self.device("full", 7)
-        self.solves(unwritten("no space left", name, prints=True), name)
-        self.assertTrue(stat.S_ISCHR(os.lstat(name).st_mode))
-
-    def test_a_device_can_be_both_list_and_book(self):
-        name = self.device("null", 3)
-        self.solves(DONE, name, name)
-        self.assertTrue(stat.S_ISCHR(os.lstat(name).st_mode))
-
-
-class Lists(Books):
     def test_a_list_that_is_read_is_not_overwritten_by_any_of_its_names(self):
         for name in ("list", "other"):
             write(name, TEXT)
@@ -266,8 +253,6 @@ class Lists(Books):
                 self.solves((3, False, b"ffosolve: " + error + b"\n"), place, "--max-empties", "60", "long")
         self.assertEqual((content("notes"), os.path.exists("it.book")), (NOTES, False))
 
-
-class Overwrites(Books):
     def test_only_a_book_or_an_empty_file_is_overwritten(self):
         rows = ((b"", DONE), (b"% ffobook 2 sign\n" + 99 * b"% longer than the new one\n", DONE),
                 *((old, NO_BOOK) for old in (NOTES, TEXT, b"\n", b"% ffobook 3 winner\n", b"% ffobook 2 winners\n",

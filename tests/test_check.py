@@ -38,8 +38,6 @@ class Check(InFolder):
         for text in texts:
             self.assertIn(text, ran.stdout)
 
-
-class Modules(Check):
     def test_passes_and_failures_are_counted_and_failures_are_shown(self):
         self.ends(2, "0 passed, 0 failed")
         self.module("check", PASSES)  # the name of a target of make
@@ -87,8 +85,6 @@ class Modules(Check):
 """)
         self.ends(0, "1 passed, 0 failed", words=("sh", "-c", "trap '' INT; exec make --no-print-directory check"))
 
-
-class Gate(Check):
     def test_counts_of_rt_ci_and_make_check_are_added_and_one_that_counts_nothing_fails(self):
         all_pass = ("7 passed, 0 failed", 0)
         for status, last, ci, check in (

@@ -78,6 +78,21 @@ class Commands(InFolder):
         if (ROOT / ".git").exists():
             self.assertEqual([name for name in left if not is_ignored(name)], [])
 
+    def test_stored_reports_are_what_ffosolve_prints(self):
+        reports = sorted(ROOT.glob("examples/*.report"))
+        self.assertTrue(reports)
+        for report in reports:
+            with self.subTest(report=report.name):
+                self.ends((0, report.read_bytes(), b""), built(), report.with_suffix(".obf"))
+
+
+def defines(sources, word):
+    """Returns whether a file declares a word as a definition, field, function, constant, type or variant."""
+    kinds = "record|data|fn|const|struct|enum|trait|type"
+    forms = rf"(?:[\w()]+ )*{word} *:", rf"(?:[\w()]+ )*(?:{kinds}) {word}\b", rf"{word}[,({{]", rf"pub use [^;]*\b{word}\b"
+    declared = re.compile(rf"^ *(?:{'|'.join(forms)})", re.M)
+    return any(declared.search(source.read_text()) for source in sources)
+
 
 class Names(unittest.TestCase):
     def test_targets_of_links_exist(self):
@@ -92,16 +107,6 @@ class Names(unittest.TestCase):
             lost = [to for to in path.findall(text) if not (ROOT / to).exists() and not list(ROOT.glob(to))]
             self.assertEqual([to for to in lost if not re.search(r"/out(/|$)|^share/doc/", to)], [], name)
 
-
-def defines(sources, word):
-    """Returns whether a file declares a word as a definition, field, function, constant, type or variant."""
-    kinds = "record|data|fn|const|struct|enum|trait|type"
-    forms = rf"(?:[\w()]+ )*{word} *:", rf"(?:[\w()]+ )*(?:{kinds}) {word}\b", rf"{word}[,({{]", rf"pub use [^;]*\b{word}\b"
-    declared = re.compile(rf"^ *(?:{'|'.join(forms)})", re.M)
-    return any(declared.search(source.read_text()) for source in sources)
-
-
-class Definitions(unittest.TestCase):
     def test_qualified_names_are_declared(self):
         """Tests names such as `Rules.flips` of a definition, and `laws::books_are_one` or `Task::new` of code."""
         sources = {path: path.read_text() for path in ROOT.glob("crates/*/src/**/*.rt")}
@@ -118,12 +123,3 @@ class Definitions(unittest.TestCase):
         words = set(re.findall(r"\w+", "\n".join(source.read_text() for source in sources)))
         named = re.findall(r"`([A-Z]\w*[a-z][A-Z]\w*|[a-z]+_\w+)`", TEXTS["docs/definitions.md"])
         self.assertEqual([word for word in named if word not in words], [])
-
-
-class Reports(InFolder):
-    def test_stored_reports_are_what_ffosolve_prints(self):
-        reports = sorted(ROOT.glob("examples/*.report"))
-        self.assertTrue(reports)
-        for report in reports:
-            with self.subTest(report=report.name):
-                self.ends((0, report.read_bytes(), b""), built(), report.with_suffix(".obf"))

@@ -181,8 +181,6 @@ class Install(Case):
         self.refused(self.make("install", "-C", checkout), error)
         self.assertFalse(self.stage.exists())
 
-
-class Installed(Case):
     def test_programs_run_on_their_level_and_the_loader_reports_a_lower_one(self):
         need("qemu-x86_64", "readelf")
         for level, lesser in zip(LEVELS, ("core2duo,+cx16,+lahf-lm", "Nehalem")):

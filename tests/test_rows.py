@@ -110,8 +110,6 @@ class Rows(InFolder):
             self.ends((0, printed, b""), built(), *words, input=text)
         self.ends((1, b"", b"ffosolve: more than 64 files\n"), built(), *["empty.obf"] * 65)
 
-
-class Streams(InFolder):
     def test_an_output_that_fails_in_the_middle_is_reported_and_no_book_is_written(self):
         for name, words in (("ffosolve", ["--book-out", "it.book"]), ("ffoscores", []), ("ffosolve", ["--help"])):
             with self.subTest(name=name, words=words):

@@ -19,8 +19,6 @@ class Scores(InFolder):
     def ends(self, wanted, *words, **how):
         super().ends(wanted, built("ffoscores"), *words, **how)
 
-
-class Lines(Scores):
     def test_a_file_and_standard_input_give_the_stored_scores(self):
         Path("kinds.obf").write_bytes(KINDS)
         self.ends((1, SCORES, b""), "kinds.obf")
@@ -87,8 +85,6 @@ class Lines(Scores):
         self.assertTrue(ran.stdout.endswith(line[line.index(b" % 40"):] + b"\n"), ran.stdout)
         self.assertTrue(len(scores) > 9 and scores[1] < 38, ran.stdout)
 
-
-class Streams(Scores):
     def test_all_files_are_read_then_measured_and_counted_before_anything_is_printed(self):
         Path("two.obf").write_bytes(TWO)
         Path("large.obf").write_bytes(b" " * LARGE)

@@ -36,9 +36,7 @@ def threads_of(process):
         return sum(int(line.split()[1]) for line in status if line.startswith("Threads:"))
 
 
-class Reports(InFolder):
-    """Of ffosolve."""
-
+class Files(InFolder):
     def setUp(self):
         super().setUp()
         for number, name in enumerate(MANY_FILES):
@@ -100,7 +98,7 @@ class Reports(InFolder):
                 self.assertGreaterEqual(most, 3)
 
 
-class Scores(InFolder):
+class Lines(InFolder):
     def same(self, lists, seeds=(None,)):
         """Asserts that runs with each number of workers print the same and have the same status."""
         names = [write(f"{number}.obf", text) for number, text in enumerate(lists)]
@@ -141,10 +139,6 @@ class Scores(InFolder):
             mixed = random.Random(seed).sample(lines, len(lines))
             cut = seed % len(lines)
             self.same([b"".join(mixed[:cut]), b"".join(mixed[cut:])], seeds=(seed,))
-
-
-class Streams(InFolder):
-    """Of ffoscores."""
 
     def begin(self, text, *words):
         write("list.obf", text)
