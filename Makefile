@@ -65,9 +65,8 @@ $(levels:%=out/%/libffosolve.a): %.a: %.o
 	mv -f $(new) $@
 
 $(levels:%=out/%/libffosolve.so): %.so: %.o VERSION
-	echo 'FFOSOLVE_$(major) { global: $(exported); };' >$(new).map
-	cc -shared -Wl,-soname,libffosolve.so.$(major),--version-script=$(new).map,-z,defs,-z,relro,-z,now,-z,$(level) -o $(new) $<
-	rm $(new).map
+	echo 'FFOSOLVE_$(major) { global: $(exported); };' | cc -shared -Wl,--version-script=/dev/stdin -o $(new) $< \
+	    -Wl,-soname,libffosolve.so.$(major),-z,defs,-z,relro,-z,now,-z,$(level)
 	mv -f $(new) $@
 
 # The programs that bin/ runs.

@@ -48,8 +48,8 @@ def setUpModule():
     need("make", "setpriv", "flock")
 
 
-class Case(InFolder):
-    """A test with a small checkout in its folder, whose name has a blank."""
+class Build(InFolder):
+    """Tests in a small checkout, whose name has a blank."""
 
     def setUp(self):
         super().setUp()
@@ -96,8 +96,6 @@ class Case(InFolder):
         """Waits until no process is left in the checkout; the fake rt would stay for 45 seconds."""
         wait_until(lambda: not processes_in(self.root), 30)
 
-
-class Builds(Case):
     def test_the_first_use_of_each_program_builds_it_and_later_ones_only_run_it(self):
         """The same through a symlink."""
         printed = self.ran(self.use("one", "a b"), 1, "<one><a b>", builds=1)
@@ -201,8 +199,6 @@ class Builds(Case):
         self.assertEqual(self.builds(), 1)
         self.assertEqual(sorted(os.listdir(self.root / "out")), ["ffosolve", LEVEL])
 
-
-class Failures(Case):
     def test_a_missing_tool_is_reported_and_so_is_another_kit_which_is_tried(self):
         ran = self.use(PATH="/usr/bin:/bin")
         self.refused(ran, "rt (rattle-kit-13b or rattle-kit-13f) is not on the path", lines=1)
@@ -286,8 +282,6 @@ class Failures(Case):
         write(self.source, "2\n")
         self.refused(closed(), "can't be written", lines=1)
 
-
-class Signals(Case):
     def test_a_signal_ends_the_build_and_the_run_that_waits(self):
         for count, number in enumerate((signal.SIGTERM, signal.SIGHUP, signal.SIGINT, signal.SIGKILL), 1):
             ran = self.begin(WAITS="yes")
@@ -323,8 +317,6 @@ class Signals(Case):
         shown = [line for line in re.split(r"\r\n?|\x1b\[K", output) if "crate 1" in line]
         self.assertTrue(shown and all(len(line) < 30 for line in shown), output)
 
-
-class Targets(Case):
     def make(self, *words):
         return run("make", "-s", "-C", self.root, *words, **HOW)
 

@@ -152,7 +152,7 @@ def shows(test, readme, count, start):
             test.assertEqual(ran.stdout, (ROOT / "examples/answers.txt").read_text())
 
 
-class Unpacked(InFolder):
+class Packages(InFolder):
     def test_the_commands_of_readme_print_what_it_shows(self):
         shows(self, UNPACKED / "README.md", 7, lambda *words: run(*words, cwd=UNPACKED, env=WITHOUT_RT, text=True, timeout=300))
 
@@ -169,10 +169,9 @@ class Unpacked(InFolder):
         start.write_text(start.read_text().replace("/lib64/ld-linux-x86-64.so.2", str(self.folder / "loader")))
         for level in LEVELS:
             write(top / "libexec/ffosolve" / level / "ffosolve", f'#!/bin/sh\necho {level} "$#" "$@"\nexit 3\n')
+        os.symlink(start, "linked")
         for line, level in (("  x86-64-v3 (supported, searched)", LEVELS[1]), ("  x86-64-v3", LEVELS[0])):
             write("loader", f"#!/bin/sh\necho '{line}'\n")
-            (self.folder / "linked").unlink(missing_ok=True)
-            (self.folder / "linked").symlink_to(start)
             for words in (start, "./linked"):
                 self.ends((3, f"{level} 1 a b\n", ""), words, "a b")
 
@@ -182,14 +181,41 @@ class Unpacked(InFolder):
         empty = self.folder / "empty"
         shutil.copytree(UNPACKED / "libexec", empty / "opt")
         shutil.copy(ROOT / "examples/first.obf", empty)
-        for path in re.findall(r"(/\S+) \(0x", run("ldd", empty / "opt/ffosolve/x86-64-v2/ffosolve", text=True).stdout):
-            Path(f"{empty}{path}").parent.mkdir(parents=True, exist_ok=True)
-            shutil.copy(path, f"{empty}{path}")
+        libraries = re.findall(r"(/\S+) \(0x", run("ldd", empty / "opt/ffosolve/x86-64-v2/ffosolve", text=True).stdout)
+        run("cp", "--dereference", "--parents", *libraries, empty, check=True)
         words = ["/usr/sbin/chroot"] if os.getuid() == 0 else ["unshare", "-r", "/usr/sbin/chroot"]
         if run(*words, "/", "/bin/true").returncode:
             lack("a right to change the root")
         for level in LEVELS[:1 + is_v3()]:
             self.ends((0, FIRST, ""), *words, empty, f"/opt/ffosolve/{level}/ffosolve", "/first.obf", env={})
+
+    def test_an_empty_environment_needs_only_the_wheel(self):
+        wheel = FIRST_ONE / "out" / f"ffosolve-{PACKAGE}-py3-none-manylinux_2_34_x86_64.whl"
+        made("wheel", wheel, FIRST_ONE)
+        if run("/usr/bin/python3", "-m", "venv", "empty", timeout=300).returncode:
+            lack("venv for /usr/bin/python3 (Debian: python3-venv)")
+        run("empty/bin/pip", "--disable-pip-version-check", "install", "--no-index", "-q", wheel, timeout=300, check=True)
+        package, = Path("empty").glob("lib/*/site-packages/ffosolve")
+        for level in LEVELS:
+            needs_libc_alone(self, package / level / "libffosolve.so.1")
+        say = ("import importlib.metadata; from ffosolve import Position, Solver, __version__; solver = Solver(); "
+               "print(importlib.metadata.version('ffosolve'), __version__, solver.library_version, "
+               "solver.solve(Position.from_obf('-OXXXXX-XXXXXXXO' + 19 * 'X' + 'O' + 28 * 'X' + ' X;')).squares); "
+               "import re; print(re.findall('ffosolve/(.*)/libffosolve', open('/proc/self/maps').read())[0])")
+        wanted = f"{PACKAGE} {VERSION} {VERSION} ['H1']\n{{}}\n"
+        self.ends((0, wanted.format(LEVELS[is_v3()]), ""), "empty/bin/python", "-c", say, env={})
+        (package / LEVELS[1] / "libffosolve.so.1").unlink()  # as if the processor were of the lower level
+        self.ends((0, wanted.format(LEVELS[0]), ""), "empty/bin/python", "-c", say, env={})
+
+    def test_without_git_and_at_the_release_the_version_is_plain(self):
+        checkout = copied_checkout(self.folder / "plain")
+        name = f"out/ffosolve-{VERSION}-py3-none-manylinux_2_34_x86_64.whl"
+        for words in ((), (["init", "-q"], ["add", "-A"], ["commit", "-q", "-m", "all"])):
+            for each in words:
+                git(checkout, *each)
+            ran = make("wheel", checkout)
+            self.assertEqual((ran.returncode, ran.stdout), (0, f"made: {checkout / name}\n"), ran)
+            (checkout / name).unlink()
 
 
 class Refused(unittest.TestCase):
@@ -228,9 +254,9 @@ class Debian(InFolder):
         self.assertIn("no-symbols-control-file", ran.stdout)
 
     def test_its_version_is_later_than_the_release(self):
-        fields = run("dpkg-deb", "-f", self.package, "Version", "Provides", text=True).stdout
-        self.assertEqual(fields, f"Version: {PACKAGE}\nProvides: libffosolve1 (= {PACKAGE}), libffosolve-dev (= {PACKAGE}), "
-                                 f"python3-ffosolve (= {PACKAGE})\n")
+        provided = [f"{name} (= {PACKAGE})" for name in ("libffosolve1", "libffosolve-dev", "python3-ffosolve")]
+        fields = f"Version: {PACKAGE}\nProvides: {', '.join(provided)}\n"
+        self.ends((0, fields, ""), "dpkg-deb", "-f", self.package, "Version", "Provides")
         for less, greater in ((VERSION, PACKAGE), (f"{VERSION}+9.gfffffff", f"{VERSION}+10.g0000000")):
             self.assertEqual(run("dpkg", "--compare-versions", less, "lt", greater).returncode, 0)
 
@@ -284,33 +310,3 @@ class Debian(InFolder):
         run("dpkg-deb", "--build", "one", check=True)
         self.apart("dpkg", "-i", self.folder / "one.deb")
         self.apart("dpkg", "-P", "one")
-
-
-class Wheel(InFolder):
-    def test_an_empty_environment_needs_only_the_wheel(self):
-        wheel = FIRST_ONE / "out" / f"ffosolve-{PACKAGE}-py3-none-manylinux_2_34_x86_64.whl"
-        made("wheel", wheel, FIRST_ONE)
-        if run("/usr/bin/python3", "-m", "venv", "empty", timeout=300).returncode:
-            lack("venv for /usr/bin/python3 (Debian: python3-venv)")
-        run("empty/bin/pip", "--disable-pip-version-check", "install", "--no-index", "-q", wheel, timeout=300, check=True)
-        package, = Path("empty").glob("lib/*/site-packages/ffosolve")
-        for level in LEVELS:
-            needs_libc_alone(self, package / level / "libffosolve.so.1")
-        say = ("import importlib.metadata; from ffosolve import Position, Solver, __version__; solver = Solver(); "
-               "print(importlib.metadata.version('ffosolve'), __version__, solver.library_version, "
-               "solver.solve(Position.from_obf('-OXXXXX-XXXXXXXO' + 19 * 'X' + 'O' + 28 * 'X' + ' X;')).squares); "
-               "import re; print(re.findall('ffosolve/(.*)/libffosolve', open('/proc/self/maps').read())[0])")
-        wanted = f"{PACKAGE} {VERSION} {VERSION} ['H1']\n{{}}\n"
-        self.ends((0, wanted.format(LEVELS[is_v3()]), ""), "empty/bin/python", "-c", say, env={})
-        (package / LEVELS[1] / "libffosolve.so.1").unlink()  # as if the processor were of the lower level
-        self.ends((0, wanted.format(LEVELS[0]), ""), "empty/bin/python", "-c", say, env={})
-
-    def test_without_git_and_at_the_release_the_version_is_plain(self):
-        checkout = copied_checkout(self.folder / "plain")
-        name = f"out/ffosolve-{VERSION}-py3-none-manylinux_2_34_x86_64.whl"
-        for words in ((), (["init", "-q"], ["add", "-A"], ["commit", "-q", "-m", "all"])):
-            for each in words:
-                git(checkout, *each)
-            ran = make("wheel", checkout)
-            self.assertEqual((ran.returncode, ran.stdout), (0, f"made: {checkout / name}\n"), ran)
-            (checkout / name).unlink()

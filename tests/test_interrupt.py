@@ -6,49 +6,41 @@ import unittest
 from .support import ROOT, as_at_a_login, refuse_threads, run
 from .positions import need_modules
 
-# Each call would take years. A signal comes while it runs; then the next call runs beside those that were left.
+BOARD = "-OXXXXX-XXXXXXXOXXXXXXXXXXXXXXXXXXXOXXXXXXXXXXXXXXXXXXXXXXXXXXXX X;"
+# Calls of a solver that would take years.
+CALLS = [
+    "solve(start)", "confirm(start, Answer(0, Kind.MOVES, 1))", "move_scores(start)",
+    *(f"{name}_{call}, threads={threads})" for name in ("solve", "move_scores") for threads in (1, 2)
+      for call in ("all([start] * 2", "iter([start] * 2", "arrays(own, opp")),
+]
+# A signal comes during each call of the command line; then the next call runs beside those that were left.
 PROGRAM = """if True:
     import os, signal, sys, threading, numpy
     from ffosolve import Answer, Kind, Position, Solver
 
-    solver, start = Solver(max_empties=60), Position.start()
-    own, opp = numpy.array([start] * 2, numpy.uint64).T
-
     def out_of_time(*_):
         raise TimeoutError
 
-    def is_stopped(name, number, error, *arguments, **threads):
-        try:
-            threading.Timer(0.1, os.kill, (os.getpid(), number)).start()
-            found = getattr(solver, name)(*arguments, **threads)
-            print(name, "returned", *found)
-        except error:
-            print(name, "stopped", flush=True)
-
     signal.signal(signal.SIGALRM, out_of_time)
-    is_stopped("solve", signal.SIGALRM, TimeoutError, start)
-    ctrl_c = signal.SIGINT, KeyboardInterrupt
-    is_stopped("solve", *ctrl_c, start)
-    is_stopped("confirm", *ctrl_c, start, Answer(0, Kind.MOVES, 1))
-    is_stopped("move_scores", *ctrl_c, start)
-    for name in ("solve", "move_scores"):
-        for threads in (1, 2):
-            is_stopped(f"{name}_all", *ctrl_c, [start] * 2, threads=threads)
-            is_stopped(f"{name}_iter", *ctrl_c, [start] * 2, threads=threads)
-            is_stopped(f"{name}_arrays", *ctrl_c, own, opp, threads=threads)
+    solver, start = Solver(max_empties=60), Position.start()
+    own, opp = numpy.array([start] * 2, numpy.uint64).T
+    for number, call in (signal.SIGALRM, sys.argv[2]), *((signal.SIGINT, call) for call in sys.argv[2:]):
+        threading.Timer(0.1, os.kill, (os.getpid(), number)).start()
+        try:
+            print(call, "returned", *eval(f"lambda: solver.{call}")())
+        except (KeyboardInterrupt, TimeoutError) as error:
+            print(call, type(error).__name__, flush=True)
     print(solver.solve(Position.from_obf(sys.argv[1])))
 """
-BOARD = "-OXXXXX-XXXXXXXOXXXXXXXXXXXXXXXXXXXOXXXXXXXXXXXXXXXXXXXXXXXXXXXX X;"
 
 
 class Interrupted(unittest.TestCase):
     def test_each_call_is_interrupted_and_the_program_ends_beside_those_that_were_left(self):
         need_modules()
-        calls = ["solve"] * 2 + ["confirm", "move_scores"]
-        calls += [f"{name}_{how}" for name in ("solve", "move_scores") for _ in range(2) for how in ("all", "iter", "arrays")]
-        ran = run(sys.executable, "-c", PROGRAM, BOARD, cwd=ROOT / "python/src", preexec_fn=as_at_a_login)
-        wanted = "".join(f"{name} stopped\n" for name in calls) + "+62 H1\n"
-        self.assertEqual((ran.returncode, ran.stdout.decode(), ran.stderr), (0, wanted, b""))
+        words = (sys.executable, "-c", PROGRAM, BOARD, *CALLS)
+        ran = run(*words, cwd=ROOT / "python/src", preexec_fn=as_at_a_login, text=True)
+        stopped = ["solve(start) TimeoutError", *(f"{call} KeyboardInterrupt" for call in CALLS), "+62 H1"]
+        self.assertEqual((ran.returncode, ran.stdout.splitlines(), ran.stderr), (0, stopped, ""))
 
     def test_a_program_that_does_not_catch_the_interrupt_ends(self):
         code = "import os, threading, signal, sys; from ffosolve import Position, Solver\n"

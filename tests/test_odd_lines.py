@@ -23,16 +23,11 @@ def odd_line(chance, lines):
     return line
 
 
-def row(line):
-    """What a line of OBF says: masks, side and listed moves."""
-    listed = "".join(f" {move}:{score}" for move, score in line.listed)
-    return f"{line.own:016x} {line.opp:016x} {line.side}{listed}"
-
-
 def read(text):
-    """A row for each line that is not skipped: its number, and what it says or why it is refused."""
+    """Returns a row for each line that is not skipped: its number, and what it says or why it is refused."""
     refused, reader = [], ffosolve.parse_lines if isinstance(text, bytes) else ffosolve.read_lines
-    rows = {line.number: row(line) for line in reader(text, refused=refused.append)}
+    rows = {line.number: f"{line.own:016x} {line.opp:016x} {line.side}" + "".join(" %s:%s" % move for move in line.listed)
+            for line in reader(text, refused=refused.append)}
     rows.update((error.line, "refused: " + str(error).split(": ", 1)[1]) for error in refused)
     return [f"{number} {rows[number]}" for number in sorted(rows)]
 

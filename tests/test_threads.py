@@ -5,9 +5,8 @@ import signal
 import time
 from pathlib import Path
 
-from tests import support
-from tests.support import (ROOT, SECONDS, InFolder, as_at_a_login, built, limited, processes_in, refuse_threads, run,
-                           stored, wait_until, write)
+from tests.support import (ROOT, SECONDS, InFolder, as_at_a_login, built, limited, positions, processes_in,
+                           refuse_threads, run, stored, wait_until, write)
 
 RUNS = 100  # with 64 files and 64 workers
 OFTEN = 500  # runs: when a thread was not woken, one in fifteen hung
@@ -26,14 +25,8 @@ HARD_FILES = ["hard-0.obf", "hard-1.obf"]
 MANY_FILES = [f"{number}.obf" for number in range(64)]
 
 
-def positions(*words):
-    return support.positions(*words).splitlines(keepends=True)
-
-
 def threads_of(process):
-    """Returns the number of threads of a process, 0 if it has ended."""
-    with open(f"/proc/{process.pid}/status") as status:
-        return sum(int(line.split()[1]) for line in status if line.startswith("Threads:"))
+    return len(os.listdir(f"/proc/{process.pid}/task"))
 
 
 class Files(InFolder):
@@ -92,7 +85,7 @@ class Files(InFolder):
 
     def test_lines_that_take_a_millisecond_are_scored_on_threads_too(self):
         for empties in (10, 11, 12):
-            write("list.obf", b"".join(positions(40, empties, empties)) * 25)
+            write("list.obf", positions(40, empties, empties) * 25)
             with self.subTest(empties=empties):
                 _, most = self.run_of(built("ffoscores"), "--workers", 4, "--table", 0, "list.obf")
                 self.assertGreaterEqual(most, 3)
@@ -110,15 +103,15 @@ class Lines(InFolder):
                 self.ends((wanted.returncode, wanted.stdout, b""), built("ffoscores"), "--workers", workers, *names)
 
     def test_odd_and_deep_files_are_scored_the_same_on_threads(self):
-        deep, short = positions(24, 10, 13), positions(300, 1, 8)
-        kinds = stored("examples", "kinds.obf")
-        self.same([b"".join(deep)[:-1], b"", b"\n", kinds, deep[0], b"".join(short), kinds[:-1], b"".join(deep[9:])])
+        deep, kinds = positions(24, 10, 13), stored("examples", "kinds.obf")
+        one, *others = deep.splitlines(True)
+        self.same([deep[:-1], b"", b"\n", kinds, one, positions(300, 1, 8), kinds[:-1], b"".join(others[8:])])
 
     def test_lines_that_wait_for_a_hard_position_are_printed_in_order(self):
-        self.same([positions(1, 16, 16)[0] + EASY[0] * 9000 + b"".join(positions(8, 10, 12))])
+        self.same([positions(1, 16, 16) + EASY[0] * 9000 + positions(8, 10, 12)])
 
     def test_the_output_is_the_same_if_threads_or_their_memory_run_out(self):
-        write("list.obf", b"".join(positions(40, 7, 13)))
+        write("list.obf", positions(40, 7, 13))
         wanted = run(built("ffoscores"), "--workers", "0", "list.obf")
         for workers in WORKERS:
             for prepare in (refuse_threads, limited("RLIMIT_AS", 30_000 * 1024)):
@@ -133,7 +126,7 @@ class Lines(InFolder):
             self.assertEqual((found.returncode, found.stdout), (1, stored("examples", "kinds.scores")), f"run {number}")
 
     def test_shuffled_lines_are_scored_the_same_on_threads(self):
-        lines = positions(40, 1, 9) + positions(24, 10, 11) + positions(6, 12, 13)
+        lines = (positions(40, 1, 9) + positions(24, 10, 11) + positions(6, 12, 13)).splitlines(True)
         lines += [b"\n", b"% no position\n", b"XX\n", HOURS] * 3
         for seed in range(25):
             mixed = random.Random(seed).sample(lines, len(lines))
@@ -147,7 +140,7 @@ class Lines(InFolder):
     def test_a_line_is_printed_as_soon_as_it_and_those_before_are_scored(self):
         for workers in WORKERS:
             with self.subTest(workers=workers):
-                deep = positions(12, 8, 12)
+                deep = positions(12, 8, 12).splitlines(True)
                 program = self.begin(b"".join([EASY[0], *deep, b"% next\n", HOURS, EASY[0]]), "--workers", workers)
                 printed = [program.stdout.readline() for _ in range(14)]
                 self.assertEqual([line[:66] for line in printed], [line[:66] for line in (EASY[0], *deep, b"% next\n")])
@@ -155,7 +148,7 @@ class Lines(InFolder):
                 self.assertEqual((program.stdout.read(), program.wait(SECONDS)), (b"", -signal.SIGINT))
 
     def test_n_workers_score_n_plus_one_lines_at_once_and_0_workers_start_no_thread(self):
-        deep = positions(24, 10, 13)
+        deep = positions(24, 10, 13).splitlines(True)
         for workers in WORKERS:
             with self.subTest(workers=workers):
                 threads = 1 if workers == "0" else int(workers) + 2
@@ -167,7 +160,7 @@ class Lines(InFolder):
                 program.kill()
 
     def test_a_reader_that_leaves_ends_the_program_within_positions_that_take_hours(self):
-        text = EASY[0] + b"".join(positions(100, 14, 15)) + HOURS * 9
+        text = EASY[0] + positions(100, 14, 15) + HOURS * 9
         for workers in WORKERS[1:]:
             with self.subTest(workers=workers):
                 program = self.begin(text, "--workers", workers)
