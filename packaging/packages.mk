@@ -19,8 +19,7 @@ stage = $(MAKE) -s install CPU=x86-64-v2 DESTDIR="$$room" PREFIX=$2 $1 >/dev/nul
 # Writes README.md and PROVED into a folder: $(call texts,KIND,OTHER KIND,BIN,DOC,FOLDER).
 texts = sed -e '/^$2|/d; s/^$1|//; s|@BIN@|$3|g; s|@DOC@|$4|g; s/@PACKAGE@/$(package)/' packaging/README.md | $(call fill,/dev/stdin,"$5/README.md"); \
     { \
-        echo "ffosolve $(package), commit $$(git rev-parse HEAD), $$(rt version)"; \
-        echo; \
+        printf '%s\n\n' "ffosolve $(package), commit $$(git rev-parse HEAD), $$(rt version)"; \
         echo 'Each function of these crates was proved against its contract. Nothing else is built into:'; \
         for program in $(programs); do echo "bin/$$program:" $$(scripts/below $$program); done; \
         echo "lib/libffosolve.*:" $$(scripts/below ffosolve_c); \

@@ -92,10 +92,6 @@ class Build(InFolder):
         self.assertTrue(last.startswith("ffosolve: not built: ") and words in last, ran.stderr)
         self.assertEqual(ran.stderr.count("\n"), lines or ran.stderr.count("\n"), ran.stderr)
 
-    def nothing_is_left(self):
-        """Waits until no process is left in the checkout; the fake rt would stay for 45 seconds."""
-        wait_until(lambda: not processes_in(self.root), 30)
-
     def test_the_first_use_of_each_program_builds_it_and_later_ones_only_run_it(self):
         """The same through a symlink."""
         printed = self.ran(self.use("one", "a b"), 1, "<one><a b>", builds=1)
@@ -291,7 +287,7 @@ class Build(InFolder):
             for one in (waits, ran):
                 one.send_signal(number)
                 self.assertEqual((one.communicate(timeout=20)[0], one.returncode), ("", -number))
-            self.nothing_is_left()
+            wait_until(lambda: not processes_in(self.root), 30)  # the fake rt would stay for 45 seconds
         self.ran(self.use(), 1, builds=5)
 
     def on_a_terminal(self, keys, shown, go=False, columns=80):
@@ -307,7 +303,7 @@ class Build(InFolder):
     def test_on_a_terminal_one_line_that_fits_shows_the_progress_and_ctrl_c_ends_all(self):
         output, status = self.on_a_terminal(b"\x03", b" functions")
         self.assertEqual(status, 128 + signal.SIGINT, output)
-        self.nothing_is_left()
+        wait_until(lambda: not processes_in(self.root), 30)
         output, status = self.on_a_terminal(b"\x04", b" functions", go=True)
         self.assertIn("\r\x1b[Kffosolve: 0 min, crate 1 of 2, othello_rules: 34 of 83 functions\r\x1b[K", output)
         self.assertEqual(("made of 1" in output, status), (True, 3), output)
