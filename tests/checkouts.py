@@ -13,7 +13,7 @@ WITHOUT_GIT = {name: text for name, text in os.environ.items() if not name.start
 
 
 def names_of_files():
-    """Returns the names of the checkout's files, new ones too, but not of those that git ignores."""
+    """Returns the names of the checkout's files, including new ones that git does not ignore."""
     words = ("git", "-c", f"safe.directory={ROOT}", "-C", ROOT, "ls-files", "-zco", "--exclude-standard")
     names = run(*words, env=WITHOUT_GIT, check=True, text=True).stdout.split("\0")
     return [name for name in names if name and os.path.lexists(ROOT / name)]

@@ -61,7 +61,7 @@ class Prefix:
         return ran
 
     def compile(self, compiler, name, sources, *words):
-        """The path of a program in C or C++ that is linked with the archive."""
+        """Compiles a program in C or C++, linked with the archive, and returns its path."""
         need(compiler[0])
         libraries = words or ("-I", self.header.parent, "-x", "none", self.archive)
         self.make(*compiler, "-o", self.work / name, *sources, *libraries)
@@ -94,7 +94,7 @@ class Prefix:
         return self.make("cargo", verb, "--manifest-path", manifest / "Cargo.toml", *words, **how)
 
     def rust_client(self, name, source, **places):
-        """The path of a program that depends on the crate, built with these environment variables."""
+        """Builds a program that depends on the crate, with these environment variables, and returns its path."""
         self.write(f"{name}/src/main.rs", source)
         needs = f'[dependencies]\nffosolve = {{ path = "{self.crate}" }}\n[workspace]\n'
         self.write(f"{name}/Cargo.toml", f'[package]\nname = "{name}"\nversion = "1.0.0"\nedition = "2021"\n{needs}')
@@ -102,7 +102,7 @@ class Prefix:
         return self.work / "target/debug" / name
 
     def called(self, calls, **how):
-        """What tests/library_calls.c prints for each call."""
+        """Returns what tests/library_calls.c prints for each call."""
         program = self.compile(C, "calls", [TESTS / "library_calls.c"])
         return self.make(program, text="\n".join(calls), **how).stdout.splitlines()
 

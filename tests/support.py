@@ -198,7 +198,7 @@ def preload(folder):
 
 
 def refusals(folder, *words, **how):
-    """Runs a program until no request for memory is refused; in run n, its nth request is.
+    """Runs a program again and again; run n refuses its nth request for memory, until none is refused.
 
     Yields (n, the run, whether a request was refused)."""
     number, met, mark = 0, True, folder / "refused"

@@ -1,4 +1,4 @@
-"""ffosolve --book-out: which places it takes, that a book is written whole, and that no other file is overwritten.
+"""ffosolve --book-out: where it writes, that a book is written whole, and that no other file is overwritten.
 
 As root, tests of permissions drop root's rights.
 """
@@ -20,7 +20,7 @@ DENIED, IN_THE_WAY = "permission denied", "another file is in the way"
 
 
 def unwritten(cause, name="it.book", prints=False):
-    """How a run ends that can't write its book: the cause stands on a second line, if it is known."""
+    """Returns how a run ends that can't write its book; the cause, if it is known, is on a second line."""
     return 3, prints, "".join(f"ffosolve: {line}\n" for line in (f"cannot write {name}", cause) if line).encode()
 
 

@@ -80,7 +80,7 @@ class Build(InFolder):
         return self.starts.read_text().count("start")
 
     def ran(self, ran, text, words="<w>", builds=None):
-        """Asserts that a run printed what the program was made of, its words, its folder and its input; returns the rest."""
+        """Asserts that a run printed what the program was made of, its words, its folder and its input; returns its errors."""
         self.assertEqual((ran.returncode, ran.stdout), (3, f"made of {text}\n{words}/\nread\n"), ran.stderr)
         self.assertEqual(self.builds(), builds or self.builds())
         return ran.stderr
@@ -93,7 +93,7 @@ class Build(InFolder):
         self.assertEqual(ran.stderr.count("\n"), lines or ran.stderr.count("\n"), ran.stderr)
 
     def test_the_first_use_of_each_program_builds_it_and_later_ones_only_run_it(self):
-        """The same through a symlink."""
+        """They are also used through symlinks."""
         printed = self.ran(self.use("one", "a b"), 1, "<one><a b>", builds=1)
         self.assertTrue(all(line.startswith("ffosolve: ") for line in printed.splitlines()), printed)
         for words in ("minutes", "GB", str(self.log), "ffosolve: 0 min, crate 1 of 2, othello_rules\n"):

@@ -21,7 +21,7 @@ def setUpModule():
 
 
 def times(paths):
-    """Returns the time of each file that is no checksum of sources."""
+    """Returns when each file was changed, except those with the checksum of sources."""
     return {path: path.lstat().st_mtime_ns for path in paths if not path.is_dir() and path.suffix != ".sum"}
 
 

@@ -15,7 +15,7 @@ RIGHT, WRONG, NONE = (stored("examples/kinds.report").split(b"\n")[row].split()[
 
 
 def odd_line(chance, lines):
-    """One of the lines, with up to three odd pieces among its squares or after them."""
+    """Returns one of the lines, with up to three odd pieces among its squares or after them."""
     line = chance.choice(lines)
     for _ in range(chance.randrange(4)):
         at = chance.choice((chance.randrange(64), chance.randrange(64, 80)))
@@ -26,14 +26,14 @@ def odd_line(chance, lines):
 def read(text):
     """Returns a row for each line that is not skipped: its number, and what it says or why it is refused."""
     refused, reader = [], ffosolve.parse_lines if isinstance(text, bytes) else ffosolve.read_lines
-    rows = {line.number: f"{line.own:016x} {line.opp:016x} {line.side}" + "".join(" %s:%s" % move for move in line.listed)
+    rows = {line.number: f"{line.own:016x} {line.opp:016x} {line.side}" + "".join(" %s:%s" % it for it in line.listed)
             for line in reader(text, refused=refused.append)}
     rows.update((error.line, "refused: " + str(error).split(": ", 1)[1]) for error in refused)
     return [f"{number} {rows[number]}" for number in sorted(rows)]
 
 
 def read_in_c(text):
-    """The same rows, by ffosolve_read_line."""
+    """Yields the same rows, as ffosolve_read_line reads them."""
     cr = b"\r"
     printed = PREFIX.called(f"read_line 8 {line.removesuffix(cr).hex()}" for line in text.split(b"\n"))
     for number, (status, *words) in enumerate((line.split() for line in printed), 1):
@@ -72,7 +72,7 @@ class OddLines(unittest.TestCase):
             self.assertGreater(kinds[kind], 0, kinds)
 
     def reported(self, solver, row):
-        """The row of the report for a row of `read`."""
+        """Returns the row of the report for a row of `read`."""
         if "refused" in row:
             return row
         number, own, opp, _, *listed = row.split()
