@@ -4,7 +4,6 @@ import re
 import shutil
 import signal
 import subprocess
-import unittest
 from pathlib import Path
 
 from tests.support import ROOT, SECONDS, InFolder, as_at_a_login, need, processes_in, run, wait_until, write
@@ -108,8 +107,6 @@ class Check(InFolder):
             self.assertEqual(ran.stderr, "usage: .ci/run (no arguments): runs rt ci and then make check\n")
         self.assertFalse(Path("out").exists())
 
-
-class Sources(unittest.TestCase):
     def test_no_program_names_a_temporary_file_that_two_runs_would_share(self):
         for folder in ("bin", "scripts", "tests"):
             for path in ROOT.joinpath(folder).iterdir():

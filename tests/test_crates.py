@@ -21,8 +21,6 @@ class Crates(unittest.TestCase):
         expected = ROOT / "crates/crate_tests/src/tests/searches/counts.rt"
         self.assertIn(run(ROOT / "bench/run", "counts", text=True, check=True).stdout, expected.read_text())
 
-
-class Links(unittest.TestCase):
     def test_the_checkout_has_no_link_which_rt_ci_would_refuse(self):
         links = [path for path in ROOT.rglob("*") if path.is_symlink() and ".git" not in path.parts]
         self.assertEqual(links, [])

@@ -48,23 +48,17 @@ class Scores(InFolder):
         ran = run(built(), input=SCORES, check=True)
         self.assertEqual([row.split()[-1] for row in ran.stdout.splitlines()[1:-1]], [RIGHT] * 8)
 
-    def test_odd_texts_are_printed_again(self):
-        whole = LARGE // len(TWO)
-        for status, printed, text in (
-            (0, b"", b""),
-            (0, b"\n", b"\n"),
-            (0, b"%\n", b"%"),
-            (1, b"% refused: bad square at column 1: \xff\0\n", b"\xff\0"),
-            (1, SOLVED[:83] + b" % not read: \0, not read: \xff\xfe %\xff\n", BOARD + b"; \0 ;;\xff\xfe ;%\xff"),
-            (1, b"% refused: bad square at column 1: " + b"\0" * (LARGE - 1) + b"\n", b"\0" * (LARGE - 1)),
-            (0, SOLVED * whole, TWO * whole),
-        ):
-            with self.subTest(text=text[:80]):
-                self.ends((status, printed, b""), input=text)
-
-    def test_options_set_the_limit_the_table_and_the_scoring(self):
+    def test_odd_texts_are_printed_again_and_options_set_the_limit_the_table_and_the_scoring(self):
         over, scored = (text.split(b"\n")[6] for text in (KINDS, SCORES))
+        whole, wrong = LARGE // len(TWO), b"% refused: bad square at column 1: "
         for words, status, printed, text in (
+            ("", 0, b"", b""),
+            ("", 0, b"\n", b"\n"),
+            ("", 0, b"%\n", b"%"),
+            ("", 1, wrong + b"\xff\0\n", b"\xff\0"),
+            ("", 1, SOLVED[:83] + b" % not read: \0, not read: \xff\xfe %\xff\n", BOARD + b"; \0 ;;\xff\xfe ;%\xff"),
+            ("", 1, wrong + b"\0" * (LARGE - 1) + b"\n", b"\0" * (LARGE - 1)),
+            ("", 0, SOLVED * whole, TWO * whole),
             ("--max-empties 1", 1, b"% refused: 2 empties, limit 1: " + TWO, TWO),
             ("--max-empties=2", 0, SOLVED, TWO),
             ("--table 0", 1, SCORES, KINDS),
@@ -73,7 +67,7 @@ class Scores(InFolder):
             ("--scoring=discs", 1, b"%s X; --:+16; %% --:+32 is +16%s\n" % (over[:64], scored[75:]), over + b"\n"),
             ("--scoring sign", 1, BOARD + b"; A1:+01; H1:+01; % H1:+62 is +01, A1:+52 is +01 % listed right\n", TWO),
         ):
-            with self.subTest(words=words):
+            with self.subTest(words=words, text=text[:80]):
                 self.ends((status, printed, b""), *words.split(), input=text)
 
     def test_position_40_of_the_ffo_test_has_the_published_best_move_alone(self):
