@@ -74,8 +74,7 @@ def digest_of(lines: "hashlib._Hash") -> List[bytes]:
     """Four lines of OBF for the first 24 bits of a list's SHA-256, whose rows in a report of the list show these bits. A line
     stands for six bits: the number n is a finished game with n black squares, an empty one and 63 - n white ones. Each n has
     another score. Because of the empty square the scores are even under the scoring `winner` only."""
-    number = int.from_bytes(lines.digest()[:3], "big")
-    black = [number >> shift & 63 for shift in (18, 12, 6, 0)]
+    black = [int.from_bytes(lines.digest()[:3], "big") >> shift & 63 for shift in (18, 12, 6, 0)]
     return [b"X" * n + b"-" + b"O" * (63 - n) + b" X; %% digest, line %d of 4" % at for at, n in enumerate(black, 1)]
 
 
