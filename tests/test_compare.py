@@ -140,8 +140,7 @@ class Compare(Case):
                    err=UNREADABLE.format("cannot read none", "No such file or directory"))
 
     def test_rows_of_another_list_or_scoring_are_refused(self):
-        digest = [line.split()[:2] for line in self.report.splitlines()[6:-1]]
-        for number, score in digest:
+        for number, score in (line.split()[:2] for line in self.report.splitlines()[6:-1]):
             said = f"line {number} of the list is part of its digest, {score}, but {{}} in the report, which is of another list or scoring"
             for row, what in ((f"+{abs(int(score) - 1):02} --", f"has +{abs(int(score) - 1):02}"), ("+01 --", "has +01"), ("+08 H1", "has +08")):
                 self.unfit(self.listed, self.report.replace(f"{number} {score} --", f"{number} {row}"), said.format(what))

@@ -90,8 +90,7 @@ class Faults(Case):
         self.reads("\n".join(text for text, _ in lines).encode("latin-1"), out, *why, name="games", words=["--empties=58"])
 
     def test_only_a_pass_may_follow_the_end_of_a_game(self):
-        rng = random.Random(1)
-        game = squares_of(random_game(rng))
+        game = squares_of(random_game(random.Random(1)))
         end = player.line(*positions_of(game)[60 - len(game)])
         for more in (game[:1], game[-1:]):
             why = f", game 1, move {len(game) + 1}: {NAMES[more[0]]} is not a legal move: the game is over in {end}"

@@ -31,8 +31,7 @@ class Command(Case):
         name = b"\xff.WTB"
         with open(name, "wb") as file:
             file.write(wthor([record(self.game)], empties=20))
-        ran = run(sys.executable, PROGRAM, name)
-        self.assertIn(b"% \xff.WTB, game 1, theoretical score 33\n", ran.stdout)
+        self.assertIn(b"% \xff.WTB, game 1, theoretical score 33\n", run(sys.executable, PROGRAM, name).stdout)
 
     def test_names_in_messages_can_be_typed(self):
         for name in (b"\xff", b"new\nline", b"it's \x01 \\ \xc3\xa9", b"\xc2\xa0"):
