@@ -14,7 +14,7 @@ PROGRAM = CRATE / "out/crate_tests_tests"
 TESTS = (
     "written_lines::", "fault_texts::", "tables::", "searches::", "books::find::", "boards::limits::", "boards::memory::",
     "boards::steps::", "prints_a_front", "a_full_writer", "a_desk_on_one_thread", "a_clients_memory", "gives_a_book",
-    "clients_alone", "clients_are_refused", "gates_are_told", "a_refused_finish", "a_refused_submit",
+    "clients_alone", "clients_are_refused", "gates_are_called", "a_refused_finish", "a_refused_submit",
 )
 # Tests that each refused request ends, and the number of their requests, or None for any number: out of memory comes before all
 # other faults, and nothing is requested after the last step that can report it.

@@ -81,7 +81,7 @@ fn stops_so<R: Threads + Wait>(rt: &R, alloc: Global, calls_left: u32) -> Result
     };
     let ended = print_text(rt, alloc, &mut writer, TWO)?;
     let taken = TWO_PRINTED.len().min(calls_left as usize / 2);
-    let (sent, told) = if taken == TWO_PRINTED.len() {
+    let (sent, wanted) = if taken == TWO_PRINTED.len() {
         (taken, Ok(false))
     } else if taken >= FIRST {
         (FIRST, Err(ListFault::CannotWrite))
@@ -89,7 +89,7 @@ fn stops_so<R: Threads + Wait>(rt: &R, alloc: Global, calls_left: u32) -> Result
         (0, Err(ListFault::CannotWrite))
     };
     Ok(
-        ended == told
+        ended == wanted
             && writer.held.len() == taken
             && TWO_PRINTED.starts_with(&writer.held)
             && writer.flushed == sent,
@@ -122,7 +122,7 @@ impl Write for FullWriter {
 }
 
 #[test]
-fn tells_a_full_writer(rt: HostRuntime) -> Result<(), Fail> {
+fn a_full_writer_is_reported(rt: HostRuntime) -> Result<(), Fail> {
     let ended = print_text(&rt, rt.alloc(), &mut FullWriter, b"%\n")?;
     assert!(rt; ended == Err(ListFault::CannotWrite));
     Ok(())

@@ -1,4 +1,4 @@
-//! Lists of steps with the replies that the definitions give, and whether all is done after each.
+//! Lists of steps with the replies of the definitions, and whether all is done after each.
 
 use super::{
     CORNER_LEFT_OVER, EQUAL_CORNERS, FIRST, LAST_CORNER, SECOND, UNEQUAL_CORNERS, solved, task_by,
@@ -233,7 +233,7 @@ fn are_submitted(rt: &impl Abort, board: &mut Board) -> Result<bool, AllocError>
     Ok(true)
 }
 
-// The jobs that wait, as they are taken, but no more than so many.
+// At most this many of the waiting jobs, as they are taken.
 fn taken_jobs(alloc: Global, board: &mut Board, most: u32) -> Result<Vec<Job>, AllocError> {
     let mut jobs = Vec::new(alloc);
     for _ in 0..most {

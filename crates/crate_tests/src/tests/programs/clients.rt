@@ -59,7 +59,7 @@ const FIRST_JOB: JobId = JobId {
     number: 0,
 };
 
-// A job of another scoring is given back, and no gate is told of it.
+// A job of another scoring is given back, and no gate is called.
 #[test]
 fn clients_are_refused(rt: HostRuntime) -> Result<(), Fail> {
     let desk = Desk::new(rt.alloc(), 2)?;
@@ -72,20 +72,20 @@ fn clients_are_refused(rt: HostRuntime) -> Result<(), Fail> {
     Ok(())
 }
 
-// A sender and a job's number, and whether the job was found finished.
-type Told = (u32, u32, bool);
+// A call of a gate: the sender, the job's number, and whether the job was found finished.
+type Call = (u32, u32, bool);
 
-// Keeps what it is told. The desk shows whether a job that is left was finished: one that is still
+// Keeps its calls. The desk shows whether a job that is left was finished: one that is still
 // taken is given back.
 #[derive(Drop)]
 struct NotingGate<'a> {
     desk: &'a Desk,
-    told: Mutex<ArrayVec<Told, 8>>,
+    calls: Mutex<ArrayVec<Call, 8>>,
 }
 
 impl NotingGate<'_> {
-    fn note<R: Wait>(&self, rt: &R, told: Told) {
-        let _ = self.told.lock(rt).try_push(told);
+    fn note<R: Wait>(&self, rt: &R, call: Call) {
+        let _ = self.calls.lock(rt).try_push(call);
     }
 }
 
@@ -100,42 +100,42 @@ impl Gate for NotingGate<'_> {
     }
 }
 
-const TOLD: &[Told] = &[(1, 0, false), (1, 0, true), (1, 1, false), (1, 1, true)];
+const CALLS: &[Call] = &[(1, 0, false), (1, 0, true), (1, 1, false), (1, 1, true)];
 
-// A gate is told of the client's own jobs, and that one is left after its finish was answered.
+// A gate is called as each of the client's own jobs begins, and after its finish was answered.
 #[test]
-fn gates_are_told_of_each_job(rt: HostRuntime) -> Result<(), Fail> {
+fn gates_are_called_for_each_job(rt: HostRuntime) -> Result<(), Fail> {
     let alloc = rt.alloc();
     let desk = Desk::new(alloc, 2)?;
     let table = NoTable::new(Scoring::Winner);
     let gate = NotingGate {
         desk: &desk,
-        told: Mutex::new(ArrayVec::new()),
+        calls: Mutex::new(ArrayVec::new()),
     };
     let part = client_part(&rt, alloc, TWO_JOBS, 1, 20, &desk, &table, None, &gate)?;
-    assert!(rt; part.solved.len() == 2 && gate.told.into_inner().as_slice() == TOLD);
+    assert!(rt; part.solved.len() == 2 && gate.calls.into_inner().as_slice() == CALLS);
     Ok(())
 }
 
-// Gives back the first job that it is told of, so that its finish is refused. It counts the jobs
+// Gives back the first job that it enters, so that its finish is refused. It counts the jobs
 // whose finish was accepted.
 #[derive(Drop)]
 struct MeddlingGate<'a> {
     desk: &'a Desk,
-    told: CountingGate,
+    calls: CountingGate,
     finished: AtomicU32,
 }
 
 impl Gate for MeddlingGate<'_> {
     fn enter<R: Wait>(&self, rt: &R, sender: u32, number: u32) {
-        if self.told.counts() == (0, 0) {
+        if self.calls.counts() == (0, 0) {
             let _ = self.desk.give_back(rt, JobId { sender, number });
         }
-        self.told.enter(rt, sender, number);
+        self.calls.enter(rt, sender, number);
     }
 
     fn leave<R: Wait>(&self, rt: &R, sender: u32, number: u32) {
-        self.told.leave(rt, sender, number);
+        self.calls.leave(rt, sender, number);
     }
 
     fn finished<R: Wait>(&self, _rt: &R, _sender: u32, _number: u32) {
@@ -143,18 +143,18 @@ impl Gate for MeddlingGate<'_> {
     }
 }
 
-// The gate is told of the end of such a job too, and not that it is finished.
+// The gate leaves such a job too, and does not count it as finished.
 #[test]
 fn a_refused_finish_ends_the_part(rt: HostRuntime) -> Result<(), Fail> {
     let alloc = rt.alloc();
     let desk = Desk::new(alloc, 1)?;
     let gate = MeddlingGate {
         desk: &desk,
-        told: CountingGate::new(),
+        calls: CountingGate::new(),
         finished: AtomicU32::new(0),
     };
     let refused = is_mixed_part(&rt, alloc, &desk, &gate, TWO_JOBS, 0)?;
-    assert!(rt; refused && gate.told.counts() == (1, 1));
+    assert!(rt; refused && gate.calls.counts() == (1, 1));
     assert!(rt; gate.finished.load(Ordering::SeqCst) == 0);
     Ok(())
 }

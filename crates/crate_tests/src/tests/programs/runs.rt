@@ -9,10 +9,10 @@ use std::test::Fail;
 use std::thread::Threads;
 use suite_solver::{Gate, Outcome, Settings, run_serial};
 
-// What a gate was told: how often each of two jobs was entered and left, and whether the first
+// The calls of a gate: how often each of two jobs was entered and left, and whether the first
 // saw the second's end. They are the first two of a client, or the first ones of two.
 #[derive(Clone, Copy, PartialEq, Eq, Debug)]
-struct Told {
+struct Calls {
     entered: [u32; 2],
     left: [u32; 2],
     seen: bool,
@@ -21,13 +21,13 @@ struct Told {
 // Holds the first job until the second was left, for a limited number of turns.
 #[derive(Drop)]
 struct HoldingGate {
-    told: Mutex<Told>,
+    calls: Mutex<Calls>,
 }
 
 impl HoldingGate {
     fn new() -> HoldingGate {
         HoldingGate {
-            told: Mutex::new(Told {
+            calls: Mutex::new(Calls {
                 entered: [0, 0],
                 left: [0, 0],
                 seen: false,
@@ -37,9 +37,9 @@ impl HoldingGate {
 
     // Notes that the second job was left, if it was.
     fn sees<R: Wait>(&self, rt: &R) -> bool {
-        let mut told = self.told.lock(rt);
-        told.seen = told.left[1] != 0;
-        told.seen
+        let mut calls = self.calls.lock(rt);
+        calls.seen = calls.left[1] != 0;
+        calls.seen
     }
 
     fn hold<R: Wait>(&self, rt: &R) {
@@ -54,7 +54,7 @@ impl HoldingGate {
 impl Gate for HoldingGate {
     fn enter<R: Wait>(&self, rt: &R, sender: u32, number: u32) {
         let job = sender.saturating_add(number);
-        count_call(&mut self.told.lock(rt).entered, job as usize);
+        count_call(&mut self.calls.lock(rt).entered, job as usize);
         if job == 0 {
             self.hold(rt);
         }
@@ -62,7 +62,7 @@ impl Gate for HoldingGate {
 
     fn leave<R: Wait>(&self, rt: &R, sender: u32, number: u32) {
         let job = sender.saturating_add(number);
-        count_call(&mut self.told.lock(rt).left, job as usize);
+        count_call(&mut self.calls.lock(rt).left, job as usize);
     }
 }
 
@@ -89,13 +89,13 @@ pub(super) fn settings_of(workers: u8, table: u32) -> Settings {
     Settings::new(20, workers, table, Scoring::Winner).unwrap_or_default()
 }
 
-const TOLD: Told = Told {
+const BOTH_AT_ONCE: Calls = Calls {
     entered: [1, 1],
     left: [1, 1],
     seen: true,
 };
 
-// Whether two threads are at work on two jobs at once, and give these reports.
+// Whether two threads are at work on two jobs at once, and make these reports.
 fn solve_at_once<R: Threads + Wait + Sync>(
     rt: &R,
     alloc: Global,
@@ -107,7 +107,7 @@ fn solve_at_once<R: Threads + Wait + Sync>(
     let gate = HoldingGate::new();
     let outcome = suite_solver::run(rt, alloc, &files, &settings_of(workers, 16), None, &gate)?;
     let given = outcome.reports.concat(alloc)?;
-    Ok(given.as_slice() == reports && gate.told.into_inner() == TOLD)
+    Ok(given.as_slice() == reports && gate.calls.into_inner() == BOTH_AT_ONCE)
 }
 
 // A client and a worker.
@@ -150,7 +150,7 @@ pub(super) fn texts_of(alloc: Global, outcome: Outcome) -> Result<(Vec<u8>, Vec<
 }
 
 // A run on one thread over both texts, with the claims of the first one's book. If an allocation
-// is refused that the run can do without, it gives the same.
+// is refused that the run can do without, it returns the same.
 #[test]
 fn gives_a_book_serially(rt: HostRuntime) -> Result<(), Fail> {
     let alloc = rt.alloc();

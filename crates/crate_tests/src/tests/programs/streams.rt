@@ -13,13 +13,13 @@ use std::{fs, io};
 use suite_solver::program;
 
 // Whether the program that the line begins with ends with 3 and prints this on standard error.
-fn tells<T: Files + Clock + Threads + Wait + Sync, R: Read, W: Write>(
+fn fails_with<T: Files + Clock + Threads + Wait + Sync, R: Read, W: Write>(
     rt: &T,
     alloc: Global,
     line: &str,
     input: &mut R,
     output: &mut W,
-    told: &str,
+    error: &str,
 ) -> Result<bool, AllocError> {
     let words = words_of(alloc, line)?;
     let mut errors = Vec::new(alloc);
@@ -28,10 +28,10 @@ fn tells<T: Files + Clock + Threads + Wait + Sync, R: Read, W: Write>(
     } else {
         list_program(rt, alloc, &words, input, output, &mut errors)
     };
-    Ok(status == 3 && errors.as_slice() == told.as_bytes())
+    Ok(status == 3 && errors.as_slice() == error.as_bytes())
 }
 
-// A reader that gives one byte a call, and whose call fails when none is left.
+// A reader that returns one byte a call, and whose call fails when none is left.
 #[derive(Drop)]
 struct FailingReader<'a> {
     bytes: &'a [u8],
@@ -59,22 +59,22 @@ const UNREAD: &[(&str, &str)] = &[
 ];
 
 #[test]
-fn tells_failing_input(rt: HostRuntime) -> Result<(), Fail> {
-    for (line, told) in UNREAD {
+fn failing_input_is_reported(rt: HostRuntime) -> Result<(), Fail> {
+    for (line, error) in UNREAD {
         for calls_left in 0..8 {
             let mut input = FailingReader {
                 bytes: TWO,
                 calls_left,
             };
             let mut output = Vec::new(rt.alloc());
-            assert!(rt; tells(&rt, rt.alloc(), line, &mut input, &mut output, told)?);
+            assert!(rt; fails_with(&rt, rt.alloc(), line, &mut input, &mut output, error)?);
             assert!(rt; output.is_empty());
         }
     }
     Ok(())
 }
 
-// A writer that takes all, and fails where it is to pass it on.
+// A writer that takes all, and fails when it is to pass it on.
 #[derive(Drop)]
 struct HoldingWriter {}
 
@@ -106,10 +106,10 @@ const UNWRITTEN: &[(&str, &str)] = &[
 
 // No book is written.
 #[test]
-fn tells_unflushed_output(rt: HostRuntime) -> Result<(), Fail> {
-    for (line, told) in UNWRITTEN {
+fn unflushed_output_is_reported(rt: HostRuntime) -> Result<(), Fail> {
+    for (line, error) in UNWRITTEN {
         let (mut input, mut output) = (TWO, HoldingWriter {});
-        assert!(rt; tells(&rt, rt.alloc(), line, &mut input, &mut output, told)?);
+        assert!(rt; fails_with(&rt, rt.alloc(), line, &mut input, &mut output, error)?);
     }
     assert!(rt; !fs::exists(&rt, "unwritten.book")?);
     Ok(())

@@ -44,7 +44,7 @@ fn has_texts(alloc: Global, outcome: Result<Outcome, RunFault>, case: &Case) -> 
     Ok(files == texts.len() && given.as_slice() == reports && written.as_slice() == book)
 }
 
-// Whether both runs give the case's texts, by the claims of a book or by none.
+// Whether both runs return the case's texts, by the claims of a book or by none.
 fn is_run<R: Threads + Wait + Sync>(
     rt: &R,
     alloc: Global,

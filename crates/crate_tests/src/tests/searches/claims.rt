@@ -41,7 +41,7 @@ fn has_answer(solved: Solved, score: i8, best: Best) -> bool {
     solved.answer().score == score && solved.answer().best == best
 }
 
-// Whether `solve` and each claim give the answer.
+// Whether `solve` and each claim lead to the answer.
 fn is_answered<T: Bounds>(table: &T, task: Task, score: i8, best: Best) -> bool
     requires { task.scoring ≡ T.scoring table.now }
 {

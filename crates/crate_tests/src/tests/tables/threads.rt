@@ -49,13 +49,13 @@ fn threads_are_shown_only_what_is_true(rt: HostRuntime) -> Result<(), Fail> {
     let equal = Exact::of_equal_corners(&rt);
     for entries in [1, 2] {
         let table = BoundTable::new(rt.alloc(), entries, Scoring::Winner)?;
-        let told = thread::map_indices(
+        let shown = thread::map_indices(
             &rt,
             rt.alloc(),
             4,
             &|thread| { store_or_probe(&table, thread, &unequal, &equal) },
         )?;
-        assert!(rt; told.as_slice() == [true; 4].as_slice());
+        assert!(rt; shown.as_slice() == [true; 4].as_slice());
     }
     Ok(())
 }
