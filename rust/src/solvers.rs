@@ -81,8 +81,8 @@ impl Solver {
         Error::of_status(status, 0).map(|()| Answer::of_raw(answer))
     }
 
-    /// The answer for a position; a claimed answer is tested first. The claim may be wrong: it is right if the result equals
-    /// it. This is faster than `solve` if most claims are right, from 10 empty squares on and with a table.
+    /// The answer for a position; the claimed score is tested first. The claim may be wrong: it is right if the result equals
+    /// it. This is faster than `solve` if most claimed scores are right, from 6 empty squares on.
     ///
     /// # Errors
     /// Those of `solve`.

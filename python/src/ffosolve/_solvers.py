@@ -82,9 +82,9 @@ class Solver:
         return self._answer(self._library.ffosolve_solve, position)
 
     def confirm(self, position: Position, claim: Answer) -> Answer:
-        """The answer for a position; a claimed answer is tested first. The claim may be wrong: it is right if the result
-        equals it. This is faster than `solve` if most claims are right, from 10 empty squares on and with a table. Raises
-        the same as `solve`."""
+        """The answer for a position; the claimed score is tested first. The claim may be wrong: it is right if the result
+        equals it. This is faster than `solve` if most claimed scores are right, from 6 empty squares on. Raises the same
+        as `solve`."""
         if not isinstance(claim, Answer):
             raise TypeError(f"a claim is an Answer(score, kind, best), not {reprlib.repr(claim)}")
         return self._answer(self._library.ffosolve_confirm, position, CAnswer(*claim))
