@@ -1,11 +1,9 @@
 /* For each line of standard input, makes the call of ffosolve.h that it names, and prints the status and what was written.
    Memory that still has the bytes 99 was not. Compiled as C and as C++. Printed masks, and texts to read, are hexadecimal.
 
-       solve OWN OPP SCORING ENTRIES                  SCORE/KIND/BEST
-       confirm OWN OPP SCORING ENTRIES SCORE KIND BEST    likewise
-       solve_all SCORING ENTRIES ROOM OWN OPP ..      at INDEX, and each answer after its index
+       solve OWN OPP SCORING ENTRIES, confirm .. SCORE KIND BEST    SCORE/KIND/BEST
        move_scores OWN OPP SCORING ENTRIES            the mask, SQUARE:SCORE of each move, + how many squares have none
-       move_scores_all SCORING ENTRIES ROOM OWN OPP ..    likewise, each after its index
+       solve_all SCORING ENTRIES ROOM OWN OPP .., move_scores_all ..    at INDEX, and the same after each index
        moves OWN OPP, play OWN OPP SQUARE             masks
        read_line ROOM TEXT                            at INDEX, OWN OPP SIDE LISTED, and each listed KIND/SQUARE/SCORE
        long_line                                      a line of 8,000,000 listed moves

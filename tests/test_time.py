@@ -6,7 +6,7 @@ from .prefix import PREFIX, setUpModule
 from .support import InFolder, built, limited, run, stored
 from ffosolve import MOST_ENTRIES, Position
 from ffosolve._library import CAnswer, CMoveScores, load
-from ffosolve._masks import c_positions
+from ffosolve._rules import c_positions
 
 KINDS = stored("examples", "kinds.obf")
 HARD = b"-XXXXX----XOOX--XXXXOOOO-OXOOOO-OOXOOX--OOX-OOOOOXXXXXX-X----XXX O\n"  # 17 empty squares

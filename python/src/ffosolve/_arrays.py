@@ -7,7 +7,7 @@ import numpy
 
 from ._bulk import LIGHTEST, MOST_WEIGHT, in_order
 from ._library import CAnswer, CMoveScores, CPosition
-from ._masks import refusal_for
+from ._rules import refusal_for
 
 if TYPE_CHECKING:
     from ._solvers import Solver

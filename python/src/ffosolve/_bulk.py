@@ -6,8 +6,8 @@ from collections import deque
 from concurrent.futures import Future
 from typing import Any, Callable, Deque, Iterable, Iterator, List, NamedTuple, Optional, Sequence, Tuple, TypeVar
 
-from ._masks import not_a_position, refusal_for, size_of
 from ._refusals import Refused, checked_number
+from ._rules import not_a_position, refusal_for, size_of
 
 A = TypeVar("A")
 B = TypeVar("B")

@@ -7,9 +7,8 @@ from typing import Any, BinaryIO, Callable, Iterable, Iterator, List, Mapping, N
 from ._answers import Answer, Kind
 from ._boards import OTHER, Board, checked_side
 from ._library import CAnswer, loaded
-from ._masks import c_position
 from ._refusals import BadSide, BadSquare, LineRefused, NoMemory, NoMove, NoPosition, ShortBoard
-from ._rules import accept, illegal_move, moves, play
+from ._rules import accept, c_position, illegal_move, moves, play
 from ._scoring import Scoring, scoring_of
 from ._squares import NAMES, square_names
 from ._transcripts import PASSES, words_of

@@ -11,10 +11,9 @@ from ._boards import OTHER
 from ._bulk import MOST_SECONDS, MOST_WEIGHT, Part, checked_threads, in_order, interruptible, parts_of
 from ._games import Game, Player
 from ._library import MOST_EMPTIES, MOST_ENTRIES, CAnswer, CMoveScores, load
-from ._masks import c_positions, empties_of, refusal_for
 from ._positions import Position
 from ._refusals import Refused, TooManyEntries, checked_number
-from ._rules import accept, moves, play
+from ._rules import accept, c_positions, empties_of, moves, play, refusal_for
 from ._scoring import Scoring, scoring_of
 from ._squares import NAMES
 
