@@ -43,7 +43,9 @@ class Command(Case):
             self.games("--empties=20", name, status=3, err=UNREADABLE.format(f"cannot read {shown}", "No such file or directory"))
 
     def test_files_that_cannot_be_read_are_reported(self):
+        """The status is the greatest of those of the files."""
         err = UNREADABLE.format("cannot read none", "No such file or directory")
+        self.games("none", "text", status=3, out="", err=f"{err}ffosolve-games: text is a text: its games need --empties N\n")
         err += UNREADABLE.format("cannot read .", "Is a directory")
         self.games("--empties=20", "none", ".", "text", status=3, out=self.line.format("text"), err=err)
 
