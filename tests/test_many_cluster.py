@@ -1,4 +1,4 @@
-"""bin/ffosolve-many on a Dask cluster of this machine: whatever happens there, it prints what one run of ffosolve does."""
+"""bin/ffosolve-many on a Dask cluster of this machine: whatever happens, it prints what one run of ffosolve does."""
 import concurrent.futures
 import os
 import random
@@ -13,7 +13,8 @@ from unittest import mock
 
 from tests import many
 from tests.many import ACTING, Case, install
-from tests.support import SECONDS, InFolder, as_at_a_login, change_many, lack, processes_in, run, wait_until, write
+from tests.support import (SECONDS, InFolder, as_at_a_login, change_many, lack, limited, processes_in, run, wait_until,
+                           write)
 
 PYTHON = next((python for python in (sys.executable, "/usr/bin/python3")
                if run(python, "-c", "import distributed").returncode == 0), None)
@@ -31,45 +32,47 @@ def setUpModule():
     change_many(HASTY, "engine", "(1 if is_terminal else 60)", "1")
 
 
+class Client:
+    """A client of a later version of Dask, whose scheduler has two workers and says that none can have the first part."""
+
+    status, loop = "running", types.SimpleNamespace(add_callback=lambda call, *words, **how: call(*words, **how))
+    calls, keys = [], []
+
+    def __init__(self, **words):
+        self.calls.append(words)
+
+    def register_plugin(self, plugin, name):
+        self.calls.append(name)
+
+    def run_on_scheduler(self, function, name, left_out):
+        return name in self.calls, {"h1": (None, 2, "h1", 2, []), "h2": (None, None, "h2", 7, [])}, self.keys[:1]
+
+    def get_executor(self, **words):
+        self.calls.append(words)
+        return self
+
+    def submit(self, *words, key, workers):
+        self.keys.append(key)
+        return concurrent.futures.Future()
+
+
 class Interfaces(InFolder):
     def test_the_calls_of_later_versions_of_dask_are_used(self):
-        calls, sent = [], []
-
-        class Client:
-            status, loop = "running", types.SimpleNamespace(add_callback=lambda call, *words, **how: call(*words, **how))
-
-            def __init__(self, **words):
-                calls.append(words)
-
-            def register_plugin(self, plugin, name):
-                calls.append(name)
-
-            def run_on_scheduler(self, function, *words):
-                return name in calls, {"h1": (None, 2, "h1", 2, []), "h2": (None, None, "h2", 7, [])}, sent[:1]
-
-            def get_executor(self, **words):
-                calls.append(words)
-                return self
-
-            def submit(self, *words, key, workers):
-                sent.append(key)
-                return concurrent.futures.Future()
-
         fakes = {"distributed": types.SimpleNamespace(Client=Client, WorkerPlugin=object),
                  "cloudpickle": types.SimpleNamespace(register_pickle_by_value=lambda module: None)}
+        for name in ("logging.disable", "warnings.simplefilter"):
+            self.enterContext(mock.patch(name))
         with mock.patch.dict(sys.modules, fakes):
             sys.modules.pop("ffosolve._many.cluster", None)
             from ffosolve._many import cluster
-            with mock.patch.multiple("logging", disable=mock.DEFAULT), mock.patch.multiple("warnings", simplefilter=mock.DEFAULT):
-                one = cluster.Cluster("h1:8786", types.SimpleNamespace(task={}, folder=self.folder, text=str))
+            one = cluster.Cluster("h1:8786", types.SimpleNamespace(task={}, folder=self.folder, text=str))
             sys.modules.pop("ffosolve._many.cluster")
-        name = one.name
         self.assertEqual([one.look(), one.room(), one.look(), one.room()], [{}, 6, {}, 6])
         future = one.submit(0, ())
-        one.look()  # finds that no worker can have it
+        one.look()
         self.assertTrue(future.cancelled())
-        self.assertEqual(calls, [{"address": "h1:8786", "timeout": 30, "set_as_default": False},
-                                 {"pure": False, "resources": {name: 1}}, name])
+        self.assertEqual(Client.calls, [{"address": "h1:8786", "timeout": 30, "set_as_default": False},
+                                        {"pure": False, "resources": {one.name: 1}}, one.name])
 
 
 class Cluster(Case):
@@ -82,7 +85,8 @@ class Cluster(Case):
 
     def daemon(self, name, *words, **places):
         """Starts a process of the cluster in a session of its own, and ends it with the test."""
-        settings = {"DASK_DISTRIBUTED__SCHEDULER__WORKER_TTL": f"{TTL}s", "DASK_DISTRIBUTED__COMM__TIMEOUTS__CONNECT": "3s"}
+        dask = "DASK_DISTRIBUTED__"
+        settings = {f"{dask}SCHEDULER__WORKER_TTL": f"{TTL}s", f"{dask}COMM__TIMEOUTS__CONNECT": "3s"}
         command = [PYTHON, "-m", f"distributed.cli.dask_{name.rstrip('123')}", *words, "--no-dashboard"]
         if name != "scheduler":  # a worker that was given up ends
             command = ["sh", "-c", 'while :; do "$@"; sleep 0.1; done', "sh", *command]
@@ -94,7 +98,8 @@ class Cluster(Case):
 
     def start_scheduler(self):
         Path("scheduler.json").unlink(missing_ok=True)
-        self.scheduler = self.daemon("scheduler", "--host=127.0.0.1", f"--port={self.port}", "--scheduler-file=scheduler.json")
+        words = ("--host=127.0.0.1", f"--port={self.port}", "--scheduler-file=scheduler.json")
+        self.scheduler = self.daemon("scheduler", *words)
         wait_until(lambda: Path("scheduler.json").exists() and "tcp://" in Path("scheduler.json").read_text())
         self.port = Path("scheduler.json").read_text().partition("tcp://127.0.0.1:")[2].partition('"')[0]
 
@@ -102,7 +107,8 @@ class Cluster(Case):
         """Starts workers of one thread each, and waits until the scheduler knows them."""
         before = self.known()
         for name in names:
-            self.workers[name] = self.daemon(name, f"127.0.0.1:{self.port}", "--nthreads=1", f"--local-directory={name}", **places)
+            words = (f"127.0.0.1:{self.port}", "--nthreads=1", f"--local-directory={name}")
+            self.workers[name] = self.daemon(name, *words, **places)
         wait_until(lambda: self.known() >= before + len(names))
 
     def known(self):
@@ -120,8 +126,8 @@ class Cluster(Case):
                               env={**os.environ, **places}, preexec_fn=as_at_a_login)
 
     def ended(self, ran, *names):
-        """Asserts that a run prints what one run of ffosolve does, and that no program is left on these workers, by default on
-        any; returns its messages."""
+        """Asserts that a run prints what one run of ffosolve does, and that no program is left on these workers, by
+        default on any; returns its messages."""
         output, _ = ran.communicate(timeout=2 * SECONDS)
         self.assertEqual((ran.returncode, output), (0, self.one), self.messages())
         self.same_book()
@@ -215,7 +221,7 @@ class Cluster(Case):
                 self.signal(signal.SIGKILL, *self.workers)
                 self.start_workers("worker1", PAUSE="0.5")
         self.assertEqual((ran.communicate(timeout=SECONDS)[0], ran.returncode), (b"", 3))
-        self.assertRegex(self.messages(), r"\n.*: the scheduler .* is lost; the same command goes on with what is solved\n$")
+        self.assertRegex(self.messages(), r" scheduler .* is lost; the same command goes on with what is solved\n$")
         self.start_scheduler()
         self.start_workers("worker1")
         self.ended(self.begin())
@@ -238,11 +244,23 @@ class Cluster(Case):
             self.assertNotIn("Traceback", self.messages())
         self.ended(self.begin())
 
+    def test_a_full_disk_ends_the_run_and_it_goes_on_when_there_is_room(self):
+        self.start_workers("worker1", "worker2")
+        words = (many.MANY, "--scheduler=scheduler.json", *self.WORDS)
+        self.many("--cut", *self.WORDS)
+        full = {"preexec_fn": limited("RLIMIT_FSIZE", len(self.one) // 15 + 400)}  # some records are shorter
+        self.ends(3, b"", "ffosolve-many: cannot write work: File too large\n", *words, by=PYTHON, **full)
+        wait_until(lambda: not self.programs())
+        self.same(*words, by=PYTHON, message=f"in 15 parts, {self.done()} of them solved before")
+        self.same_book()
+
     def test_a_scheduler_that_cannot_be_reached_is_named(self):
         self.scheduler.kill()
-        change = install("impatient")
-        change_many(change, "cluster", "LOST_SECONDS = 30", "LOST_SECONDS = 1")
+        by = install("impatient")
+        change_many(by, "cluster", "LOST_SECONDS = 30", "LOST_SECONDS = 1")
         for address in (f"tcp://127.0.0.1:{self.port}", "nonsense"):
-            self.ends(3, b"", f"cannot reach the scheduler {address}: ", change, "--scheduler", address, "work", "list.obf", by=PYTHON)
-        self.refused(4, "--scheduler needs Python's package distributed (No module named ", many.MANY, "--scheduler=h1:8786",
-                     "other", "list.obf", by=write("python", f'#!/bin/sh\nexec "{PYTHON}" -S "$@"\n').absolute())
+            words = (by, "--scheduler", address, "work", "list.obf")
+            self.ends(3, b"", f"cannot reach the scheduler {address}: ", *words, by=PYTHON)
+        without_packages = write("python", f'#!/bin/sh\nexec "{PYTHON}" -S "$@"\n').absolute()
+        self.refused(4, "--scheduler needs Python's package distributed (No module named ", many.MANY,
+                     "--scheduler=h1:8786", "other", "list.obf", by=without_packages)

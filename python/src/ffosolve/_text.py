@@ -20,7 +20,7 @@ def text_lines(file: BinaryIO, name: str, may_have_nul: bool = False) -> Iterato
     while line:
         if len(line) > MOST_BYTES:
             raise NotText(f"cannot read {name}: its line {number} has more than {MOST_BYTES} bytes")
-        if b"\0" in line and not may_have_nul:
+        if not may_have_nul and b"\0" in line:
             raise NotText(f"cannot read {name}: its line {number} has a NUL byte, so it is not a text")
         yield line
         number, line = number + 1, file.readline(MOST_BYTES + 1)

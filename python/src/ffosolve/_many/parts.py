@@ -13,7 +13,7 @@ from .solve import HEAD, digest_of, write_whole
 HEADER = "% ffobook 2 {}\n"  # the first line of a book, with its scoring
 UNKNOWN = 255  # instead of the status of an unsolved part
 SKIPPED = re.compile(rb"[ \t]*(?:%.*|\r?)", re.DOTALL)
-ROW = re.compile(rb"(\d{1,9}) ([+-]\d\d (?:[A-H][1-8](?:,[A-H][1-8])*|PS|--) [a-z]+|refused: [^\0\n]+)\n")
+ROW = re.compile(rb"(\d+) ([+-]\d\d (?:[A-H][1-8](?:,[A-H][1-8])*|PS|--) [a-z]+|refused: [^\0\n]+)\n")
 
 
 def cut_list(path, lines, name):
@@ -51,14 +51,16 @@ def report_lines(rows):
 
 
 def rows_of(report):
-    """The rows of a report, each a pair of the line's number and the rest."""
-    return [(int(number), rest) for number, rest in ROW.findall(report)]
+    """The rows of a complete report, each a pair of the line's number and the rest."""
+    return ((int(number), rest) for number, _, rest in (row.partition(b" ") for row in report.split(b"\n")[1:-2]))
 
 
 def is_report(text, numbers):
     """Whether a text is the complete report of lines with these numbers."""
-    rows = rows_of(text)
-    return [number for number, _ in rows] == list(numbers) and b"".join(report_lines(rows)) == text
+    rows = ROW.findall(text)
+    refused = sum(rest[:1] == b"r" for _, rest in rows)
+    whole = b"[1]\n%bsolved %d refused %d\n" % (b"".join(map(b"%b %b\n".__mod__, rows)), len(rows) - refused, refused)
+    return text == whole and [number for number, _ in rows] == [b"%d" % number for number in numbers]
 
 
 class Run:

@@ -7,13 +7,14 @@ from .parts import asked_lines
 
 LONG_SECONDS = 600  # after which a part is named
 GROWTH = 2.5  # of the work, with each empty square
+POWERS = [GROWTH ** count for count in range(65)]
 
 
 def weight_of(text, most):
     """The work of lines with at most `most` empty squares, in units of a line without any."""
     fronts = [line.lstrip()[:64] for line in asked_lines(text).values()]
     empties = [front.count(b"-") + front.count(b".") for front in fronts]
-    return sum(GROWTH ** count if count <= most else 1 for count in empties)
+    return sum(POWERS[count] if count <= most else 1 for count in empties)
 
 
 def span_of(seconds):
