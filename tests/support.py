@@ -51,7 +51,7 @@ def worked(name):
 
 
 def run(*words, **how):
-    """Runs a command and captures its output as bytes; its standard input is empty unless `input` or `stdin` is given."""
+    """Runs a command and captures its output as bytes; it reads nothing unless `input` or `stdin` is given."""
     if how.get("input") is None:
         how.setdefault("stdin", subprocess.DEVNULL)
     how = {"stdout": subprocess.PIPE, "stderr": subprocess.PIPE, "timeout": SECONDS, **how}
@@ -98,7 +98,7 @@ def shorter_than(size):
 
 @functools.cache
 def built(name="ffosolve"):
-    """Returns the path of a program, from the folder TEST_PROGRAMS if that is set; otherwise bin/ builds it if needed."""
+    """Returns the path of a program: in the folder TEST_PROGRAMS if that is set; otherwise bin/ builds it if needed."""
     if "TEST_PROGRAMS" in os.environ:
         return Path(os.environ["TEST_PROGRAMS"], name)
     run(ROOT / "bin" / name, "/dev/null", stderr=None, timeout=None, check=True)

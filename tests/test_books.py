@@ -7,8 +7,8 @@ import shutil
 import stat
 from pathlib import Path
 
-from tests.support import (MOST_BYTES, NOBODY, SECONDS, InFolder, built, lay_many, module_folder, need, positions, preload,
-                           run, shorter_than, stored, write)
+from tests.support import (MOST_BYTES, NOBODY, SECONDS, InFolder, built, lay_many, module_folder, need, positions,
+                           preload, run, shorter_than, stored, write)
 
 TEXT = stored("examples", "first.obf")
 BOOK = stored("examples", "first.book")

@@ -50,6 +50,7 @@ class Interrupted(unittest.TestCase):
         self.assertEqual((ran.returncode, ran.stderr.splitlines()[-1]), (-signal.SIGINT, b"KeyboardInterrupt"))
 
     def test_a_call_is_made_without_a_thread_if_none_can_be_started(self):
-        code = "import sys; from ffosolve import Position, Solver; print(Solver().solve_all([Position.from_obf(sys.argv[1])] * 4097)[-1])"
+        code = "import sys; from ffosolve import Position, Solver\n"
+        code += "print(Solver().solve_all([Position.from_obf(sys.argv[1])] * 4097)[-1])"
         ran = run(sys.executable, "-c", code, BOARD, cwd=ROOT / "python/src", preexec_fn=refuse_threads)
         self.assertEqual((ran.returncode, ran.stdout, ran.stderr), (0, b"+62 H1\n", b""))

@@ -1,7 +1,7 @@
 """Out of memory in `ffosolve`: run n refuses its nth request for memory, until none is refused.
 
-Each run has to print `ffosolve: out of memory` with status 1, nothing else, and leave no book; or to do everything as a run
-without refusals, if a thread could not start for lack of memory.
+Each run has to print `ffosolve: out of memory` with status 1, nothing else, and leave no book; or, if a thread could
+not start for lack of memory, to do everything as a run without refusals.
 """
 import os
 from pathlib import Path
@@ -35,8 +35,8 @@ class OutOfMemory(InFolder):
                 goes_on, done = [], self.ended(run(built(), *words, input=TEXT))
                 for number, ran, met in refusals(self.folder, built(), *words, input=TEXT, preexec_fn=prepare):
                     ended = self.ended(ran)
-                    self.assertIn(ended, (done, (OUT_OF_MEMORY, None)) if met else (done,), f"with request {number} refused")
+                    self.assertIn(ended, (done, (OUT_OF_MEMORY, None))[:1 + met], f"request {number} is refused")
                     goes_on += [number] * (met and ended == done)
                 self.assertGreater(number, 10 * threads)
                 if prepare:  # otherwise the number of the request that starts a thread varies from run to run
-                    self.assertEqual(len(goes_on), threads + 1, f"of {number - 1} requests these did not end the run: {goes_on}")
+                    self.assertEqual(len(goes_on), threads + 1, f"the run goes on without the requests {goes_on}")

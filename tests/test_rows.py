@@ -14,7 +14,8 @@ PROGRAMS = ("ffosolve", "ffoscores")
 NOTHING = b"[1]\nsolved 0 refused 0\n"
 HEADER = b"% ffobook 2 winner\n"
 SEVEN = b"X" * 56
-LEFT, LAST, EQUAL = SEVEN + b"XOOOOO-- X; G8:+64;\n", SEVEN + b"XOOOOOO- X; H8:+64;\n", SEVEN + b"-OOXXOO- X; A8:+64; H8:+64;\n"
+LEFT, LAST = SEVEN + b"XOOOOO-- X; G8:+64;\n", SEVEN + b"XOOOOOO- X; H8:+64;\n"
+EQUAL = SEVEN + b"-OOXXOO- X; A8:+64; H8:+64;\n"
 # Texts of books, by the error about them.
 BOOKS = {
     "": (b"", HEADER, b"% ffobook 2 discs\r\n", b"% ffobook 2 sign", b" % ffobook 2 sign", b"% ffobook",
@@ -83,7 +84,8 @@ class Rows(InFolder):
         for number in os.openpty():
             self.addCleanup(os.close, number)
         name = os.ttyname(number)
-        self.ends((3, b"", f"ffosolve: cannot read {name}\nffosolve: it is neither a file nor a pipe\n".encode()), built(), "--book-in", name, timeout=20)
+        error = f"ffosolve: cannot read {name}\nffosolve: it is neither a file nor a pipe\n"
+        self.ends((3, "", error), built(), "--book-in", name, timeout=20)
         for lines, error in (("yes ?", "1: bad square at column 1"), ("yes ? | tr -d '\\n'", "1: bad square at column 1"),
                             ("(echo '% ffobook 3 winner'; yes %)", "1: unknown header"),
                             (f"(echo; yes '{'X' * 64}')", "2: bad side at column 65")):

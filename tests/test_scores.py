@@ -99,12 +99,12 @@ class Scores(InFolder):
         self.ends((3, b"", b"ffoscores: cannot read standard input\n"), stdin=folder)
 
     def test_each_refused_request_for_memory_is_reported_or_not_needed(self):
-        """A run that reports it has printed only the beginning of the output; any other prints all. Nine of ten report it."""
+        """A run that reports it has printed the beginning of the output; any other, all. Nine of ten report it."""
         reported = 0
         for number, ran, met in refusals(self.folder, built("ffoscores"), "--table", "100", input=KINDS):
             found = ran.returncode, ran.stderr
             is_reported = met and found == (3, b"ffoscores: out of memory\n") and SCORES.startswith(ran.stdout)
-            self.assertTrue(is_reported or found == (1, b"") and ran.stdout == SCORES, f"request {number} is refused: {ran}")
+            self.assertTrue(is_reported or found == (1, b"") and ran.stdout == SCORES, f"request {number}: {ran}")
             reported += is_reported
         self.assertGreater(number, 1)
         self.assertGreater(10 * reported, 9 * (number - 1), f"{number - 1} requests refused, and {reported} reported")

@@ -1,4 +1,4 @@
-"""Threads of the programs: how many run, that any number of them prints the same, and that they end with the program."""
+"""Threads of the programs: how many run, that any number prints the same, and that they end with the program."""
 import os
 import random
 import signal

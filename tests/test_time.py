@@ -1,4 +1,4 @@
-"""The memory and the time that a run or a call takes, with tables of some sizes and with a book, which change no answer."""
+"""The memory and the time that runs and calls take, with tables of some sizes and with a book."""
 import ctypes
 import resource
 
@@ -8,12 +8,12 @@ from ffosolve import MOST_ENTRIES, Position
 from ffosolve._library import CAnswer, CMoveScores, load
 from ffosolve._rules import c_positions
 
-KINDS = stored("examples", "kinds.obf")
+KINDS = stored("examples", "kinds.obf").decode()
 HARD = b"-XXXXX----XOOX--XXXXOOOO-OXOOOO-OOXOOX--OOX-OOOOOXXXXXX-X----XXX O\n"  # 17 empty squares
-ADVISED = b"-XOOOO-X-XOOOOX--OOXOOXX-OOXXOXO-OXOXXO-OOOXOOX-OOXOOO--OX--O--- X\n"  # with a right book it takes a third of the time
+ADVISED = b"-XOOOO-X-XOOOOX--OOXOOXX-OOXXOXO-OXOXXO-OOOXOOX-OOXOOO--OX--O--- X\n"  # in a third of the time with a book
 AGAIN = 8  # times that a position comes
 LIMIT = 64 << 20  # bytes of memory: enough for the default table, not for the greatest
-OUT_OF_MEMORY = {"ffosolve": (1, b"", b"ffosolve: out of memory\n"), "ffoscores": (3, b"", b"ffoscores: out of memory\n")}
+OUT_OF_MEMORY = {"ffosolve": (1, "", "ffosolve: out of memory\n"), "ffoscores": (3, "", "ffoscores: out of memory\n")}
 
 
 def spent():
@@ -35,8 +35,8 @@ class Runs(InFolder):
         for name, refused in OUT_OF_MEMORY.items():
             with self.subTest(name=name):
                 words, little = (built(name), "--workers", "0"), limited("RLIMIT_AS", LIMIT)
-                usual = run(*words, input=KINDS)
-                self.ends((usual.returncode, usual.stdout, b""), *words, input=KINDS, preexec_fn=little)
+                usual = run(*words, input=KINDS, text=True)
+                self.ends((usual.returncode, usual.stdout, ""), *words, input=KINDS, preexec_fn=little)
                 self.ends(refused, *words, "--table", MOST_ENTRIES, input=KINDS, preexec_fn=little)
 
     def test_a_right_book_saves_time_with_workers_and_with_progress(self):
