@@ -280,7 +280,7 @@ def places_of(place: str, names: Sequence[str]) -> Dict[str, str]:
 
 
 def opened_again(name: str) -> io.BufferedReader:
-    """A WTHOR file that a list names. Raises Stop."""
+    """Opens a WTHOR file that a list names. Raises Stop."""
     try:
         if not stat.S_ISREG(os.stat(name).st_mode):
             raise Stop(f"{shown(name)}, which the list names, is not a regular file")
@@ -296,7 +296,7 @@ def lines_of(name: str) -> Iterator[bytes]:
 
 @contextlib.contextmanager
 def opened(name: str) -> Iterator[io.BufferedReader]:
-    """A file that is read, or standard input for `-`. Its faults are raised as FileRefused."""
+    """Opens a file, or standard input for `-`. What is wrong with it is raised as FileRefused."""
     try:
         with open(0 if name == "-" else name, "rb", closefd=name != "-") as file:
             yield file
