@@ -3,7 +3,6 @@
 Each run has to pass or to report out of memory. Another error, a crash, a run without an end or a wrong answer fails.
 """
 import re
-from pathlib import Path
 
 from tests.support import ROOT, InFolder, need, refusals, run
 
@@ -46,23 +45,19 @@ class OutOfMemoryInCrates(InFolder):
         names = re.findall(r"^tests::(\S+): test$", listed, re.M)
         self.assertEqual([part for part in TESTS if not any(part in name for name in names)], [])
         tests = [f"tests::{name}" for name in names if any(part in name for part in TESTS)]
-        requests = 0
+        requests, room = 0, self.folder / "room"
+        room.mkdir()
         for test in tests:
             with self.subTest(test=test):
-                requests += self.requests_of(test)
+                ended = 0
+                for number, ran, met in refusals(self.folder, PROGRAM, test, text=True, cwd=room):
+                    errors = re.findall(r"^\w+: (.*)$", ran.stderr, re.M)
+                    is_named = len(errors) == 1 and errors[0] in NAMED
+                    self.assertTrue(ran.returncode == 0 or is_named and met, f"with request {number} refused: {ran}")
+                    ended += ran.returncode != 0
+                    for path in room.iterdir():
+                        path.unlink()
+                if test in ENDED:
+                    self.assertEqual((number - 1, ended), (ENDED[test] or number - 1,) * 2)
+                requests += number - 1
         self.assertGreater(requests, 0)
-
-    def requests_of(self, test):
-        """Refuses each request of a test in turn, and returns their number."""
-        ended, room = 0, Path("room")
-        room.mkdir(exist_ok=True)
-        for number, ran, met in refusals(self.folder, PROGRAM, test, text=True, cwd=room):
-            errors = re.findall(r"^\w+: (.*)$", ran.stderr, re.M)
-            is_named = len(errors) == 1 and errors[0] in NAMED
-            self.assertTrue(ran.returncode == 0 or is_named and met, f"with request {number} refused: {ran}")
-            ended += ran.returncode != 0
-            for path in room.iterdir():
-                path.unlink()
-        if test in ENDED:
-            self.assertEqual((number - 1, ended), (ENDED[test] or number - 1,) * 2)
-        return number - 1
