@@ -96,9 +96,10 @@ class Check(InFolder):
             (1, "14 passed, 1 failed", all_pass, (all_pass[0], 2)),
             (1, "14 passed, 1 failed", (all_pass[0], 1), all_pass),
         ):
-            for name, (text, ends) in (("rt", ci), ("make", check)):
+            for name, (text, ends) in (("rt", ci), ("make", check), ("apt-get", ("", 0))):
                 write(f"tools/{name}", f'#!/bin/sh\n[ "$CI" = true ] || exit 9\necho "{name} $*"; printf "{text}\\n"; exit {ends}\n')
-            self.ends(status, last, "rt ci\n", "make check", words=(".ci/run",), PATH=f"{self.folder}/tools:{os.environ['PATH']}")
+            path = f"{self.folder}/tools:{os.environ['PATH']}"
+            self.ends(status, last, "apt-get -q install", "rt ci\n", "make check", words=(".ci/run",), PATH=path)
 
     def test_any_argument_of_ci_run_is_refused(self):
         for words in (["--help"], [""], ["ci", "check"]):
