@@ -54,14 +54,12 @@ def write(path, lines):
 
 def race(*commands, cores=None):
     """Runs programs at once, on one core unless `cores` are given; returns each one's output and processor seconds."""
-    both = []
-    for command in commands:
-        out = tempfile.TemporaryFile()
-        bind = {"preexec_fn": lambda: os.sched_setaffinity(0, cores or {CORE})}
-        both.append((subprocess.Popen([*map(str, command)], stdin=subprocess.DEVNULL, stdout=out, **bind), out))
+    outputs = [tempfile.TemporaryFile() for _ in commands]
+    how = {"stdin": subprocess.DEVNULL, "preexec_fn": lambda: os.sched_setaffinity(0, cores or {CORE})}
+    started = [subprocess.Popen([*map(str, command)], stdout=out, **how) for command, out in zip(commands, outputs)]
+    ended = [os.wait4(ran.pid, 0) for ran in started]
     results = []
-    for ran, out in both:
-        _, status, usage = os.wait4(ran.pid, 0)
+    for ran, out, (_, status, usage) in zip(started, outputs, ended):
         ran.returncode = os.waitstatus_to_exitcode(status)
         if ran.returncode:
             sys.exit(f"{' '.join(ran.args)} ended with {ran.returncode}")
