@@ -86,7 +86,7 @@ class Cluster:
         warnings.simplefilter("ignore")
         for module in ("solve", "cluster"):  # which workers do not have
             cloudpickle.register_pickle_by_value(sys.modules[f"{__package__}.{module}"])
-        files = {path.name: path.read_bytes() for path in run.folder.glob("*-*") if path.is_file()}  # programs and book
+        files = {path.name: path.read_bytes() for name in ("program-?", "book-in") for path in run.folder.glob(name)}
         self.address, self.run, self.name, self.count = address, run, f"ffosolve-{os.urandom(6).hex()}", 0
         self.program, self.heard = Program(self.name, run.task, files), time.monotonic()
         self.ready, self.flying, self.left_out, self.fails = {}, {}, set(), collections.Counter()

@@ -2,13 +2,11 @@
 import contextlib
 import os
 import sys
-import threading
 
 from .._text import shown
 
 NAME = "ffosolve-many"
 DONE, UNSOLVED, REFUSED, UNREADABLE, UNBUILT = range(5)
-PRINTING = threading.RLock()
 
 
 class Refusal(Exception):
@@ -30,14 +28,14 @@ def counted(count, name):
 
 def say(text):
     """Prints a line on standard error. On a terminal it replaces the one that is shown there."""
-    with PRINTING, contextlib.suppress(OSError):
+    with contextlib.suppress(OSError):
         show("")
         print(f"{NAME}: {text}", file=sys.stderr, flush=True)
 
 
 def show(text):
     """Shows a line on a terminal until the next one, and leaves out the end of one that is too long."""
-    with PRINTING, contextlib.suppress(OSError):
+    with contextlib.suppress(OSError):
         columns = os.get_terminal_size(sys.stderr.fileno()).columns or 80
         line = f"{NAME}: {text}" if text else ""
         while len(line) >= columns:

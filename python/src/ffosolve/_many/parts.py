@@ -141,5 +141,7 @@ class Run:
 
     def sweep(self):
         """Removes what killed runs left."""
-        for path in list(self.folder.rglob("*.????????.new")):
-            path.unlink() if path.is_file() else shutil.rmtree(path)
+        for folder in (self.folder, self.folder / "results"):
+            for entry in os.scandir(folder):  # one by one: there may be a million
+                if re.search(r"\.\w{8}\.new$", entry.name):
+                    shutil.rmtree(entry) if entry.is_dir() else os.unlink(entry)
