@@ -10,8 +10,8 @@ from unittest import mock
 from tests.support import InFolder, built, lay_many, module_folder, positions, run, write
 
 BOARD = b"-OXXXXX-XXXXXXXOXXXXXXXXXXXXXXXXXXXOXXXXXXXXXXXXXXXXXXXXXXXXXXXX"  # two empty squares
-# Stands before a program. Appends its words to the file $WORDS. Unless it is asked for the known line, it dies or fails as the
-# part says, or as $FAILS says, and takes $PAUSE seconds, or 45 once $LAST parts are solved; $SPOIL changes its output.
+# Stands before a program. Appends its words to the file $WORDS. Unless it is asked for the known line, it dies or fails
+# as the part says, and takes $PAUSE seconds, or 45 once $LAST parts are solved; $SPOIL changes its output.
 ACTING = """\
 #!@python@ -IS
 import os, signal, subprocess, sys, time
@@ -21,15 +21,16 @@ if "WORDS" in places:
 if b"H1:+62; A1:+52;" not in text and text.strip(b"-") != b" X;" and text:
     if b"DIE" in text:
         os.kill(os.getpid(), signal.SIGKILL)
-    if b"FAIL" in text or "FAILS" in places and os.path.exists(places["FAILS"]):
+    if b"FAIL" in text:
         sys.exit("ffosolve: out of memory")
-    is_last = "LAST" in places and len([name for name in os.listdir("results") if "." not in name]) >= int(places["LAST"])
-    time.sleep(45 if is_last else float(places.get("PAUSE", 0)))
+    solved = [name for name in os.listdir("results") if "." not in name] if "LAST" in places else []
+    time.sleep(45 if len(solved) >= int(places.get("LAST", 1)) else float(places.get("PAUSE", 0)))
     spoil = places.get("SPOIL")
 else:
     spoil = places.get("SPOIL_KNOWN")
 if spoil:
-    sys.stdout.buffer.write(eval(spoil)(subprocess.run([real, *sys.argv[1:]], input=text, stdout=subprocess.PIPE).stdout))
+    ran = subprocess.run([real, *sys.argv[1:]], input=text, stdout=subprocess.PIPE)
+    sys.stdout.buffer.write(eval(spoil)(ran.stdout))
     sys.exit()
 file = os.memfd_create("text")
 os.write(file, text)
@@ -40,7 +41,7 @@ os.execv(real, [real, *sys.argv[1:]])
 
 
 def install(name, script=None):
-    """Installs ffosolve-many with both programs, or with a script in the place of each that can run it; returns its path."""
+    """Installs ffosolve-many with both programs, or with a script that can run each; returns its path."""
     many = lay_many(BASE / name)
     for program in ("ffosolve", "ffoscores"):
         place = shutil.copy(built(program), many.with_name(f"real-{program}" if script else program))
@@ -98,7 +99,8 @@ class Case(InFolder):
 
     def files(self):
         """The contents and permissions of all files of the test's folder, by their paths."""
-        return {path: (path.is_file() and path.read_bytes(), stat.S_IMODE(path.lstat().st_mode)) for path in Path(".").rglob("*")}
+        return {path: (path.is_file() and path.read_bytes(), stat.S_IMODE(path.lstat().st_mode))
+                for path in Path(".").rglob("*")}
 
     def refused(self, status, message, *words, **how):
         """Asserts that a run ends with a status and one line on standard error, and changes no file or folder."""
@@ -108,7 +110,3 @@ class Case(InFolder):
         self.assertEqual(self.files(), before)
         if status == 2:
             self.assertRegex(lines[0], "Try 'ffosolve-many --help'|use |name |merged|no part can hold it")
-
-    def place(self, name=""):
-        """A file of the run in the folder `work`."""
-        return Path("work", name)

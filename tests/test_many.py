@@ -27,14 +27,15 @@ class Results(Case):
         write("list.obf", many.SMALL.splitlines(keepends=True)[0])
         self.same("work", "list.obf", message=": 1 line in 1 part, 0 of them", text=self.solve("list.obf"))
 
-    def test_a_checkout_has_the_program_behind_a_wrapper(self):
+    def test_a_checkout_has_the_program_that_its_wrapper_runs(self):
         self.same("work", "list.obf", by=ROOT / "bin/ffosolve-many")
-        self.assertIn(stored("out/ffosolve"), [path.read_bytes() for path in self.place().glob("program-*")])
+        self.assertIn(stored("out/ffosolve"), [path.read_bytes() for path in Path("work").glob("program-*")])
 
-    def test_the_program_is_found_behind_a_link_and_names_may_have_blanks(self):
+    def test_the_program_is_found_through_a_link_and_names_may_have_blanks(self):
         os.symlink(many.ACTS, "link")
         os.rename("list.obf", "a  list;$x'.obf")
-        self.same("--lines=30", "a folder ;'$y", "a  list;$x'.obf", "--book-out", "a book;'", by=Path("link").absolute())
+        words = ("--lines=30", "a folder ;'$y", "a  list;$x'.obf", "--book-out", "a book;'")
+        self.same(*words, by=Path("link").absolute())
         self.same_book("a book;'")
 
     def test_options_stand_anywhere_and_reach_the_program_of_each_part(self):
@@ -44,12 +45,13 @@ class Results(Case):
             real = many.MANY.with_name(program)
             text = run(real, *words.split(), "list.obf").stdout
             mode = ["--scores"] if program == "ffoscores" else []
-            self.same(*mode, f"work {words}", "--lines=20", "list.obf", *words.split(), "--jobs", 2, text=text, by=many.ACTS,
-                      places={"WORDS": f"{self.folder}/words"})
+            self.same(*mode, f"work {words}", "--lines=20", "list.obf", *words.split(), "--jobs", 2, text=text,
+                      by=many.ACTS, places={"WORDS": f"{self.folder}/words"})
             first, *rest = Path("words").read_text().splitlines()
             self.assertEqual(first, f"{given} /dev/stdin")  # with a line that is refused, whose row has the limit
             most = re.search(rb"limit (\d+)", run(real, *words.split(), input=programs.NO_DISCS).stdout)[1].decode()
-            self.assertEqual(rest, [given if "max" in given else f"--max-empties={most} {given}"] * 4)  # also of a known line
+            wanted = given if "max" in given else f"--max-empties={most} {given}"
+            self.assertEqual(rest, [wanted] * 4)  # also of a known line
             Path("words").unlink()
         os.rename("list.obf", "-x")
         self.one = self.solve("--scoring=sign", "--", "-x")
@@ -57,7 +59,8 @@ class Results(Case):
         self.same_book()
 
     def test_the_limit_of_empty_squares_is_by_default_that_of_the_program(self):
-        by = install("other", '#!/bin/sh\ncase "$*" in *max-emp*) ;; *) set -- --max-empties=3 "$@" ;; esac\nexec "@real@" "$@"\n')
+        three = 'case "$*" in *max-emp*) ;; *) set -- --max-empties=3 "$@" ;; esac'
+        by = install("other", f'#!/bin/sh\n{three}\nexec "@real@" "$@"\n')
         self.one = self.solve("--max-empties=3", "list.obf")
         self.same(*self.WORDS, by=by)
         self.same_book()
@@ -79,7 +82,8 @@ class Results(Case):
             self.same_book()
 
     def test_scores_and_status_are_those_of_one_run(self):
-        remarked, kinds = many.SMALL + b"% remark\r\n\n" + many.SMALL.rstrip(b"\n"), stored("examples/kinds.obf") + many.SMALL
+        remarked = many.SMALL + b"% remark\r\n\n" + many.SMALL.rstrip(b"\n")
+        kinds = stored("examples/kinds.obf") + many.SMALL
         for status, count, text, *words in (0, 3, remarked), (1, 2, kinds, "--complete"):
             write("list.obf", text)
             one = run(many.MANY.with_name("ffoscores"), *words, "list.obf")
@@ -90,12 +94,12 @@ class Results(Case):
 
     def test_each_cut_part_is_solved_by_a_command_that_needs_only_python(self):
         line = "3 parts, {} of them solved; python3 {}/solve.py NAME solves one, from 0000000 to 0000002\n"
-        self.assertEqual(self.many("--cut", *self.WORDS).stdout.decode(), line.format(0, self.place()))
-        command = (sys.executable, "-IS", self.place("solve.py").absolute())
+        self.assertEqual(self.many("--cut", *self.WORDS).stdout.decode(), line.format(0, "work"))
+        command = (sys.executable, "-IS", Path("work", "solve.py").absolute())
         for name in ("0000000", "0000002"):
             ran = run(*command, name, cwd="/", env={"PATH": "/usr/bin:/bin"})
             self.assertEqual((ran.returncode, ran.stdout, ran.stderr), (0, b"", b""))
-        self.assertEqual(self.many("--cut", *self.WORDS).stdout.decode(), line.format(2, self.place()))
+        self.assertEqual(self.many("--cut", *self.WORDS).stdout.decode(), line.format(2, "work"))
         self.same(*self.WORDS, message="in 3 parts, 2 of them solved before")
         self.same_book()
         for words in (("0000003",), ("3",), (), ("0000000", "0000001")):
@@ -151,7 +155,8 @@ class Results(Case):
         for words in (("list.obf",), ("--help",), ("--merge-books", "one.book")):
             self.cannot_write(many.MANY, "--quiet", *words)
         ran = run("sh", "-c", 'ulimit -f 1; PYTHONUNBUFFERED=1 exec "$0" --quiet list.obf >short', many.MANY)
-        self.assertEqual((ran.returncode, ran.stderr), (3, b"ffosolve-many: cannot write standard output: File too large\n"))
+        message = b"ffosolve-many: cannot write standard output: File too large\n"
+        self.assertEqual((ran.returncode, ran.stderr), (3, message))
         self.same("list.obf", message=", 1 of them solved before")
         for place, streams in enumerate(("<&- 2>&-", "2>/dev/full", "2>&-")):
             self.same("-c", f'exec "{many.MANY}" {place} list.obf {streams}', by="sh")
@@ -170,7 +175,8 @@ class Words(Case):
             write(os.fsdecode(name), many.SMALL)
         os.symlink("kept", "link")
         os.symlink("/proc/self/fd/1", "out")
-        read = "one.book is read and would be overwritten: write --book-out NEW, then ffosolve-many --merge-books one.book NEW"
+        read = ("one.book is read and would be overwritten: write --book-out NEW, then ffosolve-many --merge-books "
+                "one.book NEW")
         for status, message, *words in (
                 (2, "no list is named"),
                 (2, "'two.obf' is one word too many", "work", "list.obf", "two.obf"),
@@ -288,7 +294,8 @@ class Merging(Case):
         names, few = [f"{number}.book" for number in range(80)], {"preexec_fn": limited("RLIMIT_NOFILE", 40)}
         for number, name in enumerate(names):
             write(name, header + entries[number % len(entries)])
-        self.same("--merge-books", *names, text=b"".join([header, *entries]), by=many.ACTS, places={"WORDS": "words"}, **few)
+        whole = b"".join([header, *entries])
+        self.same("--merge-books", *names, text=whole, by=many.ACTS, places={"WORDS": "words"}, **few)
         self.assertEqual(Path("words").read_text().count("--book-in="), 1)
         other = header + b"% X\n" + entries[30][:64] + entries[30][64:].translate(bytes.maketrans(b"+-", b"-+"))
         self.refused(3, "- line 3 and 30.book line 2 disagree: ", "--merge-books", *names, "-", input=other, **few)
@@ -313,14 +320,16 @@ class Merging(Case):
     def test_books_that_cannot_be_merged_are_named(self):
         write("discs.book", b"% ffobook 2 discs\r\n")
         for others in (["discs.book"], ["discs.book", "one.book"]):
-            self.refused(2, "one.book has the scoring winner and discs.book discs", "--merge-books", "one.book", *others)
+            message = "one.book has the scoring winner and discs.book discs"
+            self.refused(2, message, "--merge-books", "one.book", *others)
         self.same("--merge-books", "discs.book", "discs.book", text=b"% ffobook 2 discs\n")
         first, lying = ROOT / "examples/first.book", ROOT / "examples/lying.book"
         self.refused(3, f"{first} line 2 and {lying} line 2 disagree: -XOOOOO-", "--merge-books", first, lying)
         header, *entries = Path("one.book").read_bytes().splitlines(keepends=True)
         for text, message in ((entries[1] + entries[0], "3: not in order"), (entries[0] * 2, "3: not in order"),
                               (b"?\n", "2: bad square at column 1"), (entries[0][:66] + b"\n", "2: no moves"),
-                              (entries[0].replace(b" X;", b" O;"), "2: not canonical"), (b"% X\n-\n", "3: board has 1 of 64")):
+                              (entries[0].replace(b" X;", b" O;"), "2: not canonical"),
+                              (b"% X\n-\n", "3: board has 1 of 64")):
             write("bad.book", header + text)
             self.refused(3, f"bad.book: book line {message}", "--merge-books", "one.book", "bad.book")
         write("bad.book", b"% ffobook 3 winner\n")
@@ -424,7 +433,7 @@ class Progress(InFolder):
         whole = "54%, 8 h 19 min left, 1 machine at work, parts 659 of 1200"
         self.assertEqual(one.text(), whole)
         for columns, line in ((80, whole), (50, "54%, 8 h 19 min left"), (200, whole)):
-            size = mock.patch.object(os, "get_terminal_size", lambda _, columns=columns: os.terminal_size((columns, 24)))
+            size = mock.patch.object(os, "get_terminal_size", return_value=os.terminal_size((columns, 24)))
             with size, mock.patch.object(sys, "stderr", mock.Mock()), mock.patch("builtins.print") as printed:
                 messages.show(whole)
             self.assertEqual(printed.call_args[0][0], f"\r\033[Kffosolve-many: {line}")
@@ -433,4 +442,5 @@ class Progress(InFolder):
         one = self.progress(4, 3)
         one.update({0: "h1", 1: "h2"})
         self.now = 720.0
-        self.assertEqual(one.text(), "0%, 2 machines at work, parts 0 of 4; part 0000000 (lines 1 to 3) runs for 12 min on h1")
+        line = "0%, 2 machines at work, parts 0 of 4; part 0000000 (lines 1 to 3) runs for 12 min on h1"
+        self.assertEqual(one.text(), line)

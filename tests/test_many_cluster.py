@@ -33,7 +33,7 @@ def setUpModule():
 
 
 class Client:
-    """A client of a later version of Dask, whose scheduler has two workers and says that none can have the first part."""
+    """A client of a later version of Dask. Its scheduler has two workers; none can have the first part that is sent."""
 
     status, loop = "running", types.SimpleNamespace(add_callback=lambda call, *words, **how: call(*words, **how))
     calls, keys = [], []

@@ -13,8 +13,8 @@ from unittest import mock
 
 from tests import many
 from tests.many import Case, install, set_up_module as setUpModule
-from tests.support import (MOST_BYTES, SECONDS, InFolder, as_at_a_login, change_many, limited, processes_in, run, wait_until,
-                           write)
+from tests.support import (MOST_BYTES, SECONDS, InFolder, as_at_a_login, change_many, limited, processes_in, run,
+                           wait_until, write)
 
 from ffosolve._many import command, folder, parts, solve
 
@@ -61,9 +61,8 @@ class Functions(InFolder):
 
     def test_the_lock_of_a_run_that_ends_is_waited_for(self):
         folder.lock_folder(Path("work"))
-        lock = max(int(name) for name in os.listdir("/proc/self/fd"))
-        lock = next(file for file in range(lock, 2, -1) if os.path.realpath(f"/proc/self/fd/{file}").endswith("work/" + folder.LOCK))
-        threading.Timer(0.5, os.close, [lock]).start()
+        (lock,) = (path for path in Path("/proc/self/fd").iterdir() if path.resolve().name == folder.LOCK)
+        threading.Timer(0.5, os.close, [int(lock.name)]).start()
         folder.lock_folder(Path("work"))
 
 
@@ -83,7 +82,7 @@ class Resuming(Case):
     def test_a_part_whose_results_are_not_complete_is_solved_again(self):
         self.begin()
         self.again(3)
-        path, task = self.place("results/0000001"), json.loads(self.place("task.json").read_text())
+        path, task = Path("work", "results/0000001"), json.loads(Path("work", "task.json").read_text())
         whole = path.read_bytes()
         head, _, results = whole.partition(b"\n")
         report, book = results[:int(head.split()[1])], results[int(head.split()[1]):]
@@ -99,8 +98,8 @@ class Resuming(Case):
         of_others_too = record(report, book)
         task["options"]["--complete"] = None
         for spoiled in (None, b"", whole[:-1], whole[:whole[:-1].rindex(b"\n") + 1], bytes(len(whole)), whole + b"\n",
-                        whole.replace(b"+", b"-", 1), self.place("results/0000000").read_bytes(), of_others, of_others_too,
-                        record(report, book, status=1), record(report.replace(b"\n1 ", b"\n2 "), book),
+                        whole.replace(b"+", b"-", 1), Path("work/results/0000000").read_bytes(), of_others,
+                        of_others_too, record(report, book, status=1), record(report.replace(b"\n1 ", b"\n2 "), book),
                         record(report, book.replace(b"winner", b"discs")), record(report, b"")):
             path.unlink() if spoiled is None else path.write_bytes(spoiled)
             self.again(2)
@@ -108,30 +107,31 @@ class Resuming(Case):
 
     def test_removed_results_are_solved_again(self):
         self.begin()
-        shutil.rmtree(self.place("results"))
+        shutil.rmtree(Path("work", "results"))
         self.again(0)
-        self.place("task.json").unlink()
+        Path("work", "task.json").unlink()
         self.again(3)
 
     def test_the_folder_keeps_the_program_that_it_was_begun_with(self):
         self.begin()
-        before = self.place("program-0").read_bytes()
-        self.place("results/0000001").unlink()
+        before = Path("work", "program-0").read_bytes()
+        Path("work", "results/0000001").unlink()
         self.again(2, by=many.ACTS)
-        self.assertEqual(self.place("program-0").read_bytes(), before)
+        self.assertEqual(Path("work", "program-0").read_bytes(), before)
 
     def test_damaged_files_of_the_run_are_written_again(self):
         read = "--book-in=one.book"
         self.begin(read)
         names = ("list", "program-0", "book-in", "solve.py", "task.json")
-        before = {path: path.read_bytes() for path in map(self.place, names)}
+        before = {path: path.read_bytes() for path in map(Path("work").joinpath, names)}
         for path, whole in before.items():
             path.write_bytes(whole[:-5])
         self.again(3, read)
         self.assertEqual({path: path.read_bytes() for path in before}, before)
 
     def test_other_options_are_refused_by_name(self):
-        words = ("--lines=20", "--scoring=discs", "--max-empties=07", "--complete", "--book-in=one.book", "work", "list.obf")
+        places = ("work", "list.obf")
+        words = ("--lines=20", "--scoring=discs", "--max-empties=07", "--complete", "--book-in=one.book", *places)
         write("other.book", b"% ffobook 2 winner\n")
         self.one = self.solve("--scoring=discs", "list.obf")
         digest = hashlib.sha256(Path("one.book").read_bytes()).hexdigest()
@@ -146,19 +146,21 @@ class Resuming(Case):
             self.refused(2, f"work was begun {how}: use another folder, or the same options",
                          *(new if word == old else word for word in words))
         self.refused(2, "begun with --lines 20 and with --scoring discs and with --max-empties 7 and without --scores "
-                        f"and with --complete and with --book-in of SHA-256 {digest}: use another folder", "--scores", "work", "list.obf")
+                        f"and with --complete and with --book-in of SHA-256 {digest}: use another folder", "--scores",
+                     *places)
         self.same(*words, "--table=9", "--workers=1", "--jobs=3", message=", 3 of them solved before")
 
     def test_the_folder_of_an_earlier_version_is_refused(self):
         for name in ("lock", "asked.json", "run-0123456789ab/list"):
             write(Path("work", name), "the work of ffosolve-many, form 1")
-        self.refused(2, "work has files that are not ffosolve-many's, or those of an earlier version, such as asked.json: name a "
-                        "new or an empty folder", *self.WORDS)
+        self.refused(2, "work has files that are not ffosolve-many's, or those of an earlier version, such as "
+                        "asked.json: name a new or an empty folder", *self.WORDS)
 
     def test_a_list_that_grew_at_its_end_goes_on(self):
         self.begin()
         for text, message in ((many.SMALL[:68 * 30], "90 lines in 5 parts, 3 of them"),
-                              (many.SMALL[:68 * 30] + b"% more" + many.SMALL[:68 * 40], "130 lines in 7 parts, 4 of them")):
+                              (many.SMALL[:68 * 30] + b"% more" + many.SMALL[:68 * 40],
+                               "130 lines in 7 parts, 4 of them")):
             write("list.obf", many.SMALL + text)
             self.one = self.solve("list.obf")
             self.same(*self.WORDS, message=message)
@@ -179,25 +181,26 @@ class Resuming(Case):
         write("list.obf", many.SMALL + b"% FAIL\n" + many.SMALL + b"% DIE\n")
         self.one = self.solve("list.obf")
         for _ in range(2):
-            ran = self.ends(1, b"", "not solved: 2 of 7 parts: part 0000003 (lines 61 to 80), part 0000006 (lines 121 to 122). "
-                                    "The same command solves only these\n", *self.WORDS, by=many.ACTS)
+            message = ("not solved: 2 of 7 parts: part 0000003 (lines 61 to 80), part 0000006 (lines 121 to 122). "
+                       "The same command solves only these\n")
+            ran = self.ends(1, b"", message, *self.WORDS, by=many.ACTS)
             self.assertIn(b": this machine failed part 0000003 (lines 61 to 80): ffosolve: out of memory\n", ran.stderr)
             self.assertIn(b": this machine failed part 0000006 (lines 121 to 122): killed by SIGKILL\n", ran.stderr)
-            self.assertEqual((Path("joined.book").exists(), len([*self.place("results").glob("000000[36]*")])), (False, 0))
-        self.place("program-0").unlink()
+            self.assertEqual([*Path("work/results").glob("000000[36]*"), *Path(".").glob("joined.book")], [])
+        Path("work", "program-0").unlink()
         self.same(*self.WORDS, message=", 5 of them solved before")
         self.same_book()
         self.ends(3, b"", "not solved: 2 of 7 parts: ", "--scores", "--lines=20", "work2", "list.obf", by=many.ACTS)
 
     def test_what_killed_runs_left_is_removed_and_nothing_else(self):
         self.begin()
-        self.place("results/0000002").unlink()
-        strays = [self.place(name) for name in ("results/0000001.0123abcd.new", "task.json.0123abcd.new", "book.01_3abcd.new/1.book")]
-        kept = [self.place(name) for name in ("results/mine.txt", "notes", "copy", "notes.new")]
+        Path("work", "results/0000002").unlink()
+        strays = ["work/results/0000001.0123abcd.new", "work/task.json.0123abcd.new", "work/book.01_3abcd.new/1.book"]
+        kept = ["work/results/mine.txt", "work/notes", "work/copy", "work/notes.new"]
         for path in strays + kept:
             write(path, "?")
         self.again(2)
-        self.assertEqual([path.exists() for path in strays + kept], [False] * 3 + [True] * 4)
+        self.assertEqual([os.path.exists(path) for path in strays + kept], [False] * 3 + [True] * 4)
 
     def test_a_full_disk_ends_the_run_and_it_goes_on_when_there_is_room(self):
         by = install("full")
@@ -216,7 +219,8 @@ class Files(Case):
     def test_a_list_on_standard_input(self):
         self.same("--lines=20", "work", "-", message="-: 60 lines in 3 parts", input=many.SMALL)
         self.same("--lines=20", "work", "/dev/stdin", message=", 3 of them solved before", input=many.SMALL)
-        self.assertEqual({path.name for path in Path("work").iterdir()}, {folder.LOCK, "list", "program-0", "results", "solve.py", "task.json"})
+        names = [folder.LOCK, "list", "program-0", "results", "solve.py", "task.json"]
+        self.assertEqual(sorted(os.listdir("work")), names)
         with open("list.obf", "rb") as file:
             self.same("--lines=20", "work", "-", message=", 3 of them solved before", stdin=file)
         self.refused(2, "- is not the list that work was begun with, from line 1 on", "--lines=20", "work", "-",
@@ -226,9 +230,10 @@ class Files(Case):
                          (3, b"", b"ffosolve-many: cannot read -: standard input is closed\n"))
 
     def test_a_piped_list_and_book_are_read(self):
-        self.same("-c", '"$0" work <(cat list.obf) --book-in <(cat one.book) --book-out joined.book', many.MANY, by="bash")
+        command = '"$0" work <(cat list.obf) --book-in <(cat one.book) --book-out joined.book'
+        self.same("-c", command, many.MANY, by="bash")
         self.same_book()
-        self.assertEqual(self.place("book-in").read_bytes(), Path("one.book").read_bytes())
+        self.assertEqual(Path("work", "book-in").read_bytes(), Path("one.book").read_bytes())
         self.assertEqual(os.listdir(many.BASE / "tmp"), [])
 
     def test_texts_that_are_not_lists_are_refused(self):
@@ -251,26 +256,27 @@ class Files(Case):
         Path("empty").mkdir()
         for name in ("a/b/work", "empty"):
             self.refused(3, f"cannot read -: its line 1 {most}\n", name, "-", input=b"%" * (MOST_BYTES + 1))
-            self.refused(2, f"part 0000001 (from line 3 of - on) {most}: use fewer lines, such as --lines 1\n", "--lines=2", name,
-                         "-", input=b"\n\n" + (b"%" + half) * 2)
+            self.refused(2, f"part 0000001 (from line 3 of - on) {most}: use fewer lines, such as --lines 1\n",
+                         "--lines=2", name, "-", input=b"\n\n" + (b"%" + half) * 2)
         self.assertEqual(self.many("--cut", "--lines=2", "work", "-", input=half * 4).stdout[:8], b"2 parts,")
 
     def test_a_list_that_changes_while_it_is_read_is_solved_as_it_was_copied(self):
         by = install("changing")
         copied = '    copy(source, folder / "list")\n'
-        change_many(by, "folder", copied, f'    source.write_bytes(source.read_bytes()[:68 * 50])\n{copied}    source.write_bytes(b"?")\n')
+        write_source = "    source.write_bytes(source.read_bytes()[:{}])\n"
+        change_many(by, "folder", copied, write_source.format(68 * 50) + copied + write_source.format(9))
         write("fifty.obf", many.SMALL[:68 * 50])
         self.same("--lines=7", "work", "list.obf", by=by, message=" 50 lines in 8 parts", text=self.solve("fifty.obf"))
 
     def test_a_folder_with_other_files_is_refused_and_untouched(self):
-        message = "name a new or an empty folder"
+        message = "such as a.new: name a new or an empty folder"
         for names in ("copy", "lock copy", "a.new", "results/0000000 task.json list"):
             for name in names.split():
                 write(Path(names, name), "mine")
-            self.refused(2, message, names, "list.obf")
-        self.refused(2, f"a.new has files that are not ffosolve-many's, or those of an earlier version, such as a.new: {message}",
+            self.refused(2, message.partition(": ")[2], names, "list.obf")
+        self.refused(2, f"a.new has files that are not ffosolve-many's, or those of an earlier version, {message}",
                      "a.new", "list.obf")
-        self.refused(2, message, ".", "list.obf")
+        self.refused(2, f"or those of an earlier version, {message}", ".", "list.obf")
 
     def test_a_folder_that_is_empty_or_was_just_begun_is_used(self):
         for names in ((), (folder.LOCK,), (folder.LOCK, "list.0123abcd.new"), (folder.LOCK, "task.json")):
@@ -345,7 +351,8 @@ class Signals(Case):
 
     def test_an_interrupt_at_the_start_prints_no_traceback(self):
         by = install("starting")
-        change_many(by, "command", "import contextlib\n", "import contextlib, time\nopen('begun', 'w').close()\ntime.sleep(40)\n")
+        slow = "import contextlib, time\nopen('begun', 'w').close()\ntime.sleep(40)\n"
+        change_many(by, "command", "import contextlib\n", slow)
         ran = self.open(by)
         wait_until(Path("begun").exists)
         ran.send_signal(signal.SIGINT)

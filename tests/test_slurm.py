@@ -53,7 +53,8 @@ class Slurm(InFolder):
         wait_until(lambda: b"idle" in run("sinfo", "-h", "-o", "%T").stdout)
 
         self.enterContext(mock.patch.dict(os.environ, PATH=f"/usr/bin:{os.environ['PATH']}"))  # with Debian's dask
-        self.scripts = re.findall(r"```sh\n(#!/bin/sh\n#SBATCH.*?)```", stored("docs/many-machines.md").decode(), re.DOTALL)
+        document = stored("docs/many-machines.md").decode()
+        self.scripts = re.findall(r"```sh\n(#!/bin/sh\n#SBATCH.*?)```", document, re.DOTALL)
         write("list.obf", positions(60, 1, 5))
         shutil.copy(built(), lay_many(".").parent)
         self.one = run("bin/ffosolve", "--book-out", "one.book", "list.obf").stdout
