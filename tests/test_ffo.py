@@ -6,12 +6,12 @@ from tests.support import ROOT, SECONDS, InFolder, built, run, stored, write
 
 HEAD = "position\tempties\tscore\tmoves\tseconds\tprogram\tprocessor\tentries\n"
 KEPT = "41\t22\t+00\tH4\t2.00\tffosolve 1.0.0\tsome processor\t4000000\n"
-LONGEST = 5 * SECONDS  # for a position with 20 empty squares on a busy machine
+LONGEST = 5 * SECONDS  # that a run may take for a position with 20 empty squares on a busy machine
 
 
 class Results(InFolder):
     def ffo(self, *words, programs=None, kept=HEAD + KEPT):
-        """Runs bench/ffo over kept results; returns the run, and what is kept then."""
+        """Runs bench/ffo with `kept` as its file of results; returns the run, and the text of the file after it."""
         Path("kept.tsv").write_text(kept)
         programs = programs or built().parent
         ran = run("env", "RESULTS=kept.tsv", f"PROGRAMS={programs}", ROOT / "bench/ffo", *words, text=True, timeout=LONGEST)

@@ -1,4 +1,4 @@
-"""Games that Python reads, and positions that ffosolve-games prints, are those of the plain player of bench/player.py."""
+"""The games that Python reads and the positions that ffosolve-games prints agree with those of bench/player.py."""
 import contextlib
 import gzip
 import inspect
@@ -20,7 +20,7 @@ from ffosolve import Position, Solver
 
 
 def expected(name, games, empties, more=""):
-    """Returns the output for complete games, and the messages about those that end before the position."""
+    """Returns the output for `games`, and the messages about those that never reach `empties` empty squares."""
     lines, err = "", ""
     for number, (squares, positions) in enumerate(games, 1):
         if empties in positions:
@@ -33,7 +33,7 @@ def expected(name, games, empties, more=""):
 
 
 class RandomGames(Case):
-    """Complete games; some have a pass, and some are short."""
+    """Random games played to their end: some have passes, and some end early."""
 
     @classmethod
     def setUpClass(cls):
@@ -59,10 +59,10 @@ class RandomGames(Case):
 
 
 class Faults(Case):
-    """Each refused game is reported in one line; the others are printed."""
+    """Faults of games and of files: each is reported in one line, and what can be read is printed."""
 
     def reads(self, content, out, *why, name="it.wtb", words=(), status=None):
-        """Compares the output for one file, and the messages, each after the file's name."""
+        """Asserts the status and what is printed for a file: `out`, and for each of `why` its name and that text."""
         write(name, content)
         err = "".join(f"ffosolve-games: {name}{it}\n" for it in why)
         self.games(*words, name, status=len(why) > 0 if status is None else status, out=out, err=err)
@@ -208,7 +208,7 @@ class ReadByPython(InFolder):
         return [position.to_obf() for position in positions]
 
     def expected(self, game):
-        """Returns the plain player's positions, from the start on."""
+        """Returns the plain player's positions in a game as lines, from the start on."""
         at = positions_of(squares_of(game))
         return [player.line(*at[empties]) for empties in sorted(at, reverse=True)]
 
@@ -265,7 +265,7 @@ class ReadByPython(InFolder):
         (self.folder / "it.wtb").write_bytes(wthor([record(self.played[0])], empties=0))
         self.assertEqual([it.empties for it in ffosolve.read_games("it.wtb")], [None])
 
-    def test_the_docstring_finds_wrong_theoretical_scores(self):
+    def test_the_example_of_read_games_finds_wrong_theoretical_scores(self):
         games = [game for game in self.played if 6 in positions_of(squares_of(game))][:20]
         exact = [discs_of_black(positions_of(squares_of(game))[6]) for game in games]
         published = [it ^ (at in (3, 11)) for at, it in enumerate(exact)]

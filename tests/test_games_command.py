@@ -18,7 +18,7 @@ class Command(Case):
         self.listed = line_of(positions_of(self.game)[20], "x.wtb, game 1, theoretical score 30")
         write("listed", with_digest(self.listed))
 
-    def test_standard_input_is_a_hyphen(self):
+    def test_a_hyphen_or_no_file_means_standard_input(self):
         for words in ((), ("-",)):
             self.games("--empties=20", *words, input=transcript(self.game).encode(), out=self.line.format("-"), err="")
         out = self.line.format("-").rstrip() + ", theoretical score 33\n"
@@ -43,7 +43,7 @@ class Command(Case):
             self.games("--empties=20", name, status=3, err=UNREADABLE.format(f"cannot read {shown}", "No such file or directory"))
 
     def test_files_that_cannot_be_read_are_reported(self):
-        """The status is the greatest of those of the files."""
+        """The program ends with the highest of the statuses that its files cause."""
         err = UNREADABLE.format("cannot read none", "No such file or directory")
         self.games("none", "text", status=3, out="", err=f"{err}ffosolve-games: text is a text: its games need --empties N\n")
         err += UNREADABLE.format("cannot read .", "Is a directory")

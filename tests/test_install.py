@@ -1,4 +1,4 @@
-"""make install and make uninstall, from a built copy of the checkout, and the texts that they install."""
+"""make install and make uninstall in a built copy of the checkout, and the installed manual pages and completions."""
 import ctypes
 import os
 import re
@@ -21,7 +21,7 @@ def setUpModule():
 
 
 def times(paths):
-    """Returns when each file was changed, except those with the checksum of sources."""
+    """Returns {path: time of the last change} for files, except for *.sum, which have the checksums of sources."""
     return {path: path.lstat().st_mtime_ns for path in paths if not path.is_dir() and path.suffix != ".sum"}
 
 
@@ -46,7 +46,7 @@ class Case(InFolder):
         return {str(path.relative_to(self.root)) for path in self.root.rglob("*") if path.is_symlink() or not path.is_dir()}
 
     def refused(self, ran, words):
-        """Asserts that a target failed with one line, which may be followed by one of make."""
+        """Asserts that a target failed with `words` in a line on standard error; a line from make itself may follow."""
         self.assertEqual((ran.returncode, ran.stdout), (2, ""), ran)
         self.assertIn(words, ran.stderr.splitlines()[0])
         self.assertLessEqual(ran.stderr.count("\n"), 2, ran.stderr)
@@ -72,7 +72,7 @@ class Install(Case):
             self.assertEqual(re.findall("@[A-Z]+@", (self.root / name).read_text()), [])
 
     def test_in_other_folders_everything_is_found(self):
-        """The scripts find their package, and pkg-config and CMake header and library."""
+        """The scripts find their package, and the files for pkg-config and CMake name the folder of the header."""
         need("pkg-config")
         self.install("BINDIR=/b", "LIBDIR=/usr/lib/x86_64-linux-gnu", "INCLUDEDIR=/usr/include", "MANDIR=/m", prefix="/usr")
         for name in ("b/ffosolve", "usr/lib/x86_64-linux-gnu/libffosolve.a", "usr/include/ffosolve.h", "m/man1/ffosolve.1"):
@@ -284,7 +284,7 @@ def plain(text):
 
 
 class Texts(Case):
-    """Manual pages and completions. A TAB after bin/ffosolve in a checkout starts no build."""
+    """Manual pages and completions. A TAB after bin/ffosolve does not run it, since that may start a build."""
 
     def setUp(self):
         super().setUp()
@@ -323,7 +323,7 @@ class Texts(Case):
         self.assertRegex(page.split('.SH "STATUS"')[1], r"with compare: a(.|\n)*REPORT does not belong to it")
 
     def offered(self, shell, script, name, *words):
-        """Returns the first words of the lines that a shell offers."""
+        """Returns the completions that a shell offers for the last of `words`, without their descriptions."""
         need(shell)
         ran = run(shell, *script, name, *words, cwd="examples", text=True)
         self.assertEqual((ran.returncode, ran.stderr), (0, ""))
@@ -355,7 +355,7 @@ class Texts(Case):
         self.assertEqual(self.offered("fish", script, "ffosolve", "--scoring=d"), ["--scoring=discs"])
 
     def test_zsh_completes_options_values_and_files(self):
-        """Its own line editor completes each line on a terminal."""
+        """On a terminal, zsh's own line editor completes each line."""
         need("zsh")
         lines = {"ffosolve --sco": "ffosolve --scoring", "ffosolve --scoring=d": "ffosolve --scoring=discs",
                  "ffoscores --scoring w": "ffoscores --scoring winner", "bin/ffosolve --sco": "bin/ffosolve --scoring",

@@ -1,4 +1,4 @@
-"""Ctrl-C interrupts a Python program while the library solves, and so does a handler of any other signal."""
+"""Ctrl-C interrupts a Python program while the library solves; so does any signal whose handler raises an exception."""
 import signal
 import sys
 import unittest
@@ -7,13 +7,13 @@ from .support import ROOT, as_at_a_login, refuse_threads, run
 from .positions import need_modules
 
 BOARD = "-OXXXXX-XXXXXXXOXXXXXXXXXXXXXXXXXXXOXXXXXXXXXXXXXXXXXXXXXXXXXXXX X;"
-# Calls of a solver that would take years.
+# Calls of a solver's methods, each of which would take years.
 CALLS = [
     "solve(start)", "confirm(start, Answer(0, Kind.MOVES, 1))", "move_scores(start)",
     *(f"{name}_{call}, threads={threads})" for name in ("solve", "move_scores") for threads in (1, 2)
       for call in ("all([start] * 2", "iter([start] * 2", "arrays(own, opp")),
 ]
-# A signal comes during each call of the command line; then the next call runs beside those that were left.
+# Makes each call that the command line names. A signal interrupts it, but its thread works on beside the next ones.
 PROGRAM = """if True:
     import os, signal, sys, threading, numpy
     from ffosolve import Answer, Kind, Position, Solver
@@ -35,7 +35,7 @@ PROGRAM = """if True:
 
 
 class Interrupted(unittest.TestCase):
-    def test_each_call_is_interrupted_and_the_program_ends_beside_those_that_were_left(self):
+    def test_each_call_is_interrupted_and_the_program_ends_though_their_threads_work_on(self):
         need_modules()
         words = (sys.executable, "-c", PROGRAM, BOARD, *CALLS)
         ran = run(*words, cwd=ROOT / "python/src", preexec_fn=as_at_a_login, text=True)

@@ -21,8 +21,8 @@ int main(void) { return ffosolve_version() != FFOSOLVE_VERSION || ffosolve_statu
 # The texts of the header that Python does not have.
 TEXTS_OF_LINES = {"SKIPPED": "no position: the line is blank or a comment", "SHORT_BOARD": "fewer than 64 squares",
                   "BAD_SQUARE": "bad square", "BAD_SIDE": "bad side"}
-# The values of the names in tests/library_calls.txt: positions with two empty squares, before a pass, at the end of a game,
-# and refused ones.
+# The values of the names in tests/library_calls.txt: positions with two empty squares, before a pass, at the end of a
+# game, and refused ones; boards, numbers and texts.
 NAMES = {
     "CORNERS": "0xfffffff7ffff7f7c 0x0000000800008002", "PASSED": "0x0000000800008002 0xfffffff7ffff7f7c",
     "PASS": "0x7e 0xffffffffffffff80", "OVER": "0xffffffff 0xffff000000000000", "EMPTY": "0 0xffffffffffffffff",
@@ -48,7 +48,7 @@ fn main() {
 
 
 def named(text):
-    """Returns a text in which each name is replaced by its value."""
+    """Returns the text with each @NAME@ replaced by that name's value in NAMES."""
     return re.sub(r"@(\w+)@", lambda name: str(NAMES[name[1]]), text)
 
 
@@ -103,7 +103,7 @@ class Header(unittest.TestCase):
         self.assertEqual(library.ffosolve_limit(library.FFOSOLVE_LIMIT_ENTRIES), library.FFOSOLVE_MOST_ENTRIES)
 
     def test_a_compiler_warns_if_a_status_is_ignored(self):
-        """Tries every call that returns a status, and the inline functions."""
+        """Tries every function of the header that returns a status, whether a call of the library or inline."""
         declared = re.findall(r"^(?:static __inline__ )?int32_t (ffosolve_\w+)\(([^)]*)\)", PREFIX.text, re.MULTILINE)
         names = {name for name, _ in declared}
         self.assertLessEqual({"ffosolve_solve", "ffosolve_solve_all_or_null", "ffosolve_read_line_or_null"}, names)
@@ -124,8 +124,8 @@ class Header(unittest.TestCase):
 
 class Calls(unittest.TestCase):
     def setUp(self):
-        """Reads tests/library_calls.txt. A row has a call, and what the header says that it writes. A word may have several
-        forms with `|` between them; each combination is a call."""
+        """Reads tests/library_calls.txt. A row has a call and, after ` = `, what it writes according to the header. A
+        word may have alternatives with `|` between them; each combination is a call of its own."""
         self.calls, self.wanted = [], ""
         for row in (TESTS / "library_calls.txt").read_text().splitlines():
             call, wanted = row.rsplit(" = ", 1)
@@ -137,7 +137,7 @@ class Calls(unittest.TestCase):
                 self.wanted += f"{named(wanted)}\n"
 
     def printed(self, compiler, header, folder):
-        """Returns what programs compiled with this header, in a folder, print about the inline functions and the calls."""
+        """Compiles library_nulls.c and library_calls.c with `header` in `folder`; returns what each of them prints."""
         words = ("-I", header.parent), ("-I", header.parent, "-x", "none", PREFIX.archive)
         nulls, calls = (PREFIX.compile(compiler, folder / name, [TESTS / f"library_{name}.c"], *more)
                         for name, more in zip(("nulls", "calls"), words))
@@ -149,7 +149,7 @@ class Calls(unittest.TestCase):
                 self.assertEqual(self.printed(compiler, PREFIX.header, PREFIX.work), (NULLS, self.wanted))
 
     def test_each_wrong_header_is_noticed(self):
-        """Adds one to a number, exchanges members or parameters, or passes on a null pointer."""
+        """A wrong header has a number too great, or members or parameters exchanged, or passes on a null pointer."""
         wrong = [
             PREFIX.text[:found.start()] + (new(found) if callable(new) else found.expand(new)) + PREFIX.text[found.end():]
             for pattern, new in (
@@ -182,8 +182,8 @@ class Calls(unittest.TestCase):
         self.assertEqual(printed, ["7"] * 6 + ["0 62/0/80"])
 
     def test_the_stack_that_the_header_names_is_enough(self):
-        """Calls with 14 empty squares end on the smaller stack. On the larger one a game's first position is searched for two
-        seconds."""
+        """Calls with 14 empty squares return on a stack of 32 KiB. On one of 128 KiB, a game's first position is still
+        being solved after two seconds."""
         self.assertTrue("32 KiB are enough for 14 empty squares and 128 KiB for 60" in re.sub(r"\s+", " ", PREFIX.text))
         calls = [call.format(f"{own:#x} {opp:#x}") for own, opp in random_positions(20, [14])
                  for call in ("solve {} 0 1024", "confirm {} 1 0 0 0 1", "move_scores {} 2 1024", "solve_all 0 1024 1 {}")]
@@ -195,7 +195,7 @@ class Calls(unittest.TestCase):
 
 class Statuses(unittest.TestCase):
     def test_a_status_has_one_name_number_and_text_in_each_language(self):
-        """The program in Rust is linked with a library whose calls return 1, 2, 3 and so on."""
+        """The Rust program is linked with a library in which each call returns 1 at first, then 2, 3 and so on."""
         listed = re.findall(r"FFOSOLVE_(\w+) = (\d+)", PREFIX.text.split("enum ffosolve_status {")[1].split("}")[0])
         self.assertEqual(listed, [(it.name, str(it.value)) for it in ffosolve.Status])
         source = "".join(f"int {name}(void) {{ static int status; return ++status; }}\n" for name in PREFIX.calls)
@@ -206,7 +206,7 @@ class Statuses(unittest.TestCase):
         for number, in_rust in enumerate(PREFIX.make(program).stdout.splitlines(), 1):
             refusal, other = refusal_of(number), f"refused with status {number}"
             text, is_of_line = refusal.reason, isinstance(refusal, ffosolve.LineRefused)
-            # The crate has no name for 3, adds the index to 5, and may run out of memory, 7, in both calls.
+            # The crate has no text for 3, adds an index to that of 5, and reports 7, out of memory, from both calls.
             special = {3: (other, other), 5: (f"position at index 0: {text}", other), 7: (text, text)}
             solved, read = special.get(number, (other, text) if is_of_line else (text, other))
             self.assertEqual(in_rust, f"{solved}; {read}")

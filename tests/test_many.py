@@ -1,4 +1,4 @@
-"""bin/ffosolve-many: it prints what ffosolve prints for a list."""
+"""bin/ffosolve-many: its output, which is that of one run of ffosolve, its command line, merged books and progress."""
 import io
 import os
 import re
@@ -48,10 +48,10 @@ class Results(Case):
             self.same(*mode, f"work {words}", "--lines=20", "list.obf", *words.split(), "--jobs", 2, text=text,
                       by=many.ACTS, places={"WORDS": f"{self.folder}/words"})
             first, *rest = Path("words").read_text().splitlines()
-            self.assertEqual(first, f"{given} /dev/stdin")  # with a line that is refused, whose row has the limit
+            self.assertEqual(first, f"{given} /dev/stdin")  # for a line that is refused: its row has the limit
             most = re.search(rb"limit (\d+)", run(real, *words.split(), input=programs.NO_DISCS).stdout)[1].decode()
             wanted = given if "max" in given else f"--max-empties={most} {given}"
-            self.assertEqual(rest, [wanted] * 4)  # also of a known line
+            self.assertEqual(rest, [wanted] * 4)  # for a known line and three parts
             Path("words").unlink()
         os.rename("list.obf", "-x")
         self.one = self.solve("--scoring=sign", "--", "-x")
@@ -130,7 +130,7 @@ class Results(Case):
         write("joined.book", "% ffobook 2 winner\n", 0o444)
         self.refused(3, "cannot write joined.book: permission denied\n", *self.WORDS, **NOBODY)
         Path("joined.book").unlink()
-        by = install("slow", ACTING)  # may not be written once the parts are solved
+        by = install("slow", ACTING)  # once the parts are solved, makes a book that may not be written
         change_many(by, "command", "    run.sweep()\n", "    run.sweep()\n"
                     "    open('joined.book', 'w').close(), os.chmod('joined.book', 0o444)\n")
         self.ends(3, self.one, "cannot write joined.book: Permission denied\n", *self.WORDS, by=by, **NOBODY)
@@ -146,7 +146,7 @@ class Results(Case):
             self.assertEqual(Path("report").read_bytes(), self.one)
             lines = (ran.stderr or ran.stdout).decode()
             counts = [int(found[1]) for found in line.finditer(lines)]
-            is_one_line = "\033" in lines and lines.count("\n") == 1  # after the first, over and over
+            is_one_line = "\033" in lines and lines.count("\n") == 1  # the first, then all others in one place
             self.assertEqual((counts, is_one_line), (sorted(counts), place == "terminal"))
             self.assertGreater(len(set(counts)), 2, lines)
         self.assertEqual(self.same("--quiet", "--lines=6", "list.obf", by=by, places={"PAUSE": "0.3"}), "")
@@ -168,7 +168,7 @@ class Results(Case):
 
 
 class Words(Case):
-    """Each refusal is a line that names the word."""
+    """Command lines that are refused before anything is solved, and the options `--help` and `--version`."""
 
     def test_wrong_command_lines_are_refused(self):
         for name in ("two.obf", "kept", b"not\xff"):
@@ -274,7 +274,7 @@ class Words(Case):
 
 
 class Merging(Case):
-    """Books of one scoring merged into one."""
+    """--merge-books merges books of the same scoring into one, and refuses others."""
 
     def test_merged_books_are_the_book_of_all(self):
         whole = Path("one.book").read_bytes()
@@ -347,9 +347,9 @@ class Merging(Case):
 
 
 class Progress(InFolder):
-    """Progress and the time that is left, by a clock of the test."""
+    """Progress and the time left, measured with a fake clock that each test sets."""
 
-    # Seconds that bench/peer.rs took for the parts of six lines of 264 positions of 8 to 18 empty squares.
+    # Seconds that bench/peer.rs took for each part, of six positions, of a list of 264 with 8 to 18 empty squares.
     TOOK = (0.010, 0.278, 0.010, 0.223, 0.028, 0.331, 0.060, 0.105, 0.138, 1.174, 0.240, 0.010, 0.173, 0.014, 0.264,
             0.031, 0.364, 0.055, 0.342, 0.058, 0.181, 0.220, 0.007, 0.177, 0.009, 0.164, 0.016, 0.148, 0.026, 0.172,
             0.156, 0.481, 0.305, 0.008, 0.222, 0.007, 0.472, 0.008, 0.220, 0.029, 0.158, 0.201, 0.105, 0.263)
@@ -360,7 +360,7 @@ class Progress(InFolder):
         self.enterContext(mock.patch.object(time, "monotonic", lambda: self.now))
 
     def progress(self, count, lines=1, weights=None):
-        """The progress of a run over unsolved parts, all of the same number of lines, with these weights."""
+        """Returns the Progress of `count` parts, each of `lines` lines. A part weighs 1 unless `weights` is given."""
         a_run = parts.Run.__new__(parts.Run)
         a_run.lines, a_run.all_lines, a_run.parts = lines, count * lines, count
         with mock.patch.object(progress, "weight_of", lambda number, _: weights[number] if weights else 1.0):
@@ -395,7 +395,7 @@ class Progress(InFolder):
         one.end(0, 30)
         one.end(3, 30)
         one.update({1: "h1", 2: "h2"})
-        self.assertEqual(one.left(), 270)  # and not 150, as for work that can be shared
+        self.assertEqual(one.left(), 270)  # not 150, which it would be if two machines could share a part
 
     def test_a_part_of_a_lost_machine_waits_again(self):
         one = self.progress(4)
@@ -417,7 +417,7 @@ class Progress(InFolder):
         for empty in (b"-", b"."):
             text = (BOARD + b" X\n\n% -----\n" + b"-" * 30 + b"X" * 34 + b" X\n").replace(b"-", empty)
             self.assertEqual(progress.weight_of(text, 20), growth ** 2 + 1)
-        for empties, seconds in ((6, 0.666 / 0.0042), (8, 8.76 / 0.0042)):  # 20 and 22 empty squares, and 14
+        for empties, seconds in ((6, 0.666 / 0.0042), (8, 8.76 / 0.0042)):  # 20 and 22 empty squares against 14
             self.assertTrue(0.5 < growth ** empties / seconds < 2)
 
     def test_times_are_shown_in_words(self):

@@ -1,4 +1,4 @@
-"""bin/ffosolve-many on a Dask cluster of this machine: whatever happens, it prints what one run of ffosolve does."""
+"""bin/ffosolve-many on a Dask cluster of this machine prints what one run of ffosolve does, or says why it can't."""
 import concurrent.futures
 import os
 import random
@@ -18,7 +18,7 @@ from tests.support import (SECONDS, InFolder, as_at_a_login, change_many, lack, 
 
 PYTHON = next((python for python in (sys.executable, "/usr/bin/python3")
                if run(python, "-c", "import distributed").returncode == 0), None)
-TTL = 5  # seconds until the scheduler gives up a worker that is silent
+TTL = 5  # seconds until the scheduler gives up a silent worker
 
 
 def setUpModule():
@@ -33,7 +33,7 @@ def setUpModule():
 
 
 class Client:
-    """A client of a later version of Dask. Its scheduler has two workers; none can have the first part that is sent."""
+    """A client like that of a later version of Dask. Its scheduler says that no worker can take the first part."""
 
     status, loop = "running", types.SimpleNamespace(add_callback=lambda call, *words, **how: call(*words, **how))
     calls, keys = [], []
@@ -84,11 +84,11 @@ class Cluster(Case):
         self.start_scheduler()
 
     def daemon(self, name, *words, **places):
-        """Starts a process of the cluster in a session of its own, and ends it with the test."""
+        """Starts the scheduler or a worker in its own session until the test ends. A worker that ends starts again."""
         dask = "DASK_DISTRIBUTED__"
         settings = {f"{dask}SCHEDULER__WORKER_TTL": f"{TTL}s", f"{dask}COMM__TIMEOUTS__CONNECT": "3s"}
         command = [PYTHON, "-m", f"distributed.cli.dask_{name.rstrip('123')}", *words, "--no-dashboard"]
-        if name != "scheduler":  # a worker that was given up ends
+        if name != "scheduler":  # a worker ends when the scheduler gives it up
             command = ["sh", "-c", 'while :; do "$@"; sleep 0.1; done', "sh", *command]
         with open(f"{name}.log", "ab") as log:
             ran = subprocess.Popen(command, stdin=subprocess.DEVNULL, stdout=log, stderr=log, start_new_session=True,
@@ -104,7 +104,7 @@ class Cluster(Case):
         self.port = Path("scheduler.json").read_text().partition("tcp://127.0.0.1:")[2].partition('"')[0]
 
     def start_workers(self, *names, **places):
-        """Starts workers of one thread each, and waits until the scheduler knows them."""
+        """Starts workers with one thread each, and waits until the scheduler knows them."""
         before = self.known()
         for name in names:
             words = (f"127.0.0.1:{self.port}", "--nthreads=1", f"--local-directory={name}")
@@ -115,19 +115,19 @@ class Cluster(Case):
         return Path("scheduler.log").read_text().count("Register worker")
 
     def signal(self, number, *names):
-        """Sends a signal to all processes of workers."""
+        """Sends a signal to all processes of the workers of these names."""
         for name in names:
             os.killpg(self.workers[name].pid, number)
 
     def begin(self, *words, by=None, **places):
-        """Starts the command, with its messages in the file `messages`."""
+        """Starts ffosolve-many on the cluster; what it says on standard error goes to the file `messages`."""
         with open("messages", "wb") as log:
             return self.start(PYTHON, by or HASTY, "--scheduler", "scheduler.json", *(words or self.WORDS), stderr=log,
                               env={**os.environ, **places}, preexec_fn=as_at_a_login)
 
     def ended(self, ran, *names):
-        """Asserts that a run prints what one run of ffosolve does, and that no program is left on these workers, by
-        default on any; returns its messages."""
+        """Waits for a run. Asserts that its report and its book are those of one run of ffosolve, and that no program
+        is left on the workers of these names, or on any worker if no name is given. Returns the run's messages."""
         output, _ = ran.communicate(timeout=2 * SECONDS)
         self.assertEqual((ran.returncode, output), (0, self.one), self.messages())
         self.same_book()
@@ -138,7 +138,7 @@ class Cluster(Case):
         return Path("messages").read_text()
 
     def programs(self, *names):
-        """The process numbers of the programs on these workers, by default on all."""
+        """Returns the numbers of the processes that solve on the workers of these names, by default on all of them."""
         return [number for name in names or self.workers for number in processes_in(self.folder / name)]
 
     def done(self):

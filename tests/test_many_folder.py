@@ -1,4 +1,4 @@
-"""bin/ffosolve-many: it continues after any interruption, and takes only complete results."""
+"""bin/ffosolve-many continues after any interruption, and uses only complete results."""
 import contextlib
 import hashlib
 import json
@@ -22,7 +22,7 @@ KILLS = int(os.environ.get("KILLS", 10))  # runs that are killed at random momen
 
 
 class Functions(InFolder):
-    """Tests of what no output shows: faults of programs and disks, and the order in which files are written."""
+    """What no output shows: how faults of programs and disks are noticed, and the order in which files are written."""
 
     def test_signals_after_the_first_are_ignored(self):
         with mock.patch.object(signal, "signal") as handled, self.assertRaises(KeyboardInterrupt):
@@ -67,14 +67,14 @@ class Functions(InFolder):
 
 
 class Resuming(Case):
-    """Nothing is lost, and only complete results are taken."""
+    """The same command keeps the parts that have complete results, and solves the others."""
 
     def begin(self, *words):
         self.same(*self.WORDS, *words)
         Path("joined.book").unlink()
 
     def again(self, solved, *words, **how):
-        """Asserts that the same command solves only the other parts, and prints what one run does."""
+        """Asserts that the same command finds `solved` parts solved, and then prints what one run of ffosolve does."""
         self.same(*self.WORDS, *words, message=f"in 3 parts, {solved} of them solved before;", **how)
         self.same_book()
         Path("joined.book").unlink()
@@ -89,7 +89,7 @@ class Resuming(Case):
         seconds, text = float(head.split()[3]), b"".join(many.SMALL.splitlines(keepends=True)[20:40])
 
         def record(report, book, part=1, status=0):
-            """A record with a right digest."""
+            """Returns a record of results that has the right digest."""
             head = b"%d %d %d %.3f" % (status, len(report), len(book), seconds)
             return b"%b %b\n%b%b" % (head, solve.digest_of(task, part, head, text, report + book), report, book)
         self.assertEqual(record(report, book), whole)
@@ -214,7 +214,7 @@ class Resuming(Case):
 
 
 class Files(Case):
-    """Lists that are read, also from a pipe, and folders that are used."""
+    """Which lists are read, from files and from pipes, and which folders are used."""
 
     def test_a_list_on_standard_input(self):
         self.same("--lines=20", "work", "-", message="-: 60 lines in 3 parts", input=many.SMALL)
@@ -244,7 +244,7 @@ class Files(Case):
             write("other.obf", text)
             self.refused(3, f"cannot read other.obf: {message}", "other.obf")
             self.refused(3, f"cannot read -: {message}", "work", "-", input=text)
-        write("list.obf", many.SMALL.partition(b"\n")[0].rstrip() + b"\r")  # a line that lacks the end of its end
+        write("list.obf", many.SMALL.partition(b"\n")[0].rstrip() + b"\r")  # its only line ends with CR but no LF
         self.same("list.obf", text=self.solve("list.obf"))
 
     def test_a_pipe_for_which_there_is_no_room(self):
@@ -289,17 +289,17 @@ class Files(Case):
 
 
 class Signals(Case):
-    """A signal ends all of a run."""
+    """A signal ends every process of a run, and no solved part is lost."""
 
     WORDS = ("--jobs=2", "--lines=5", *Case.WORDS[1:])
 
     def open(self, *program, last="", **how):
-        """Starts the command, in a session of its own; each part takes 45 seconds once `last` are solved."""
+        """Starts the command in its own session. With `many.ACTS`, a part takes 45 seconds once `last` are solved."""
         places = {**os.environ, "PAUSE": "0.15", "LAST": str(last or 99)}
         return self.start(*program, *self.WORDS, start_new_session=True, preexec_fn=as_at_a_login, env=places, **how)
 
     def at_work(self, done):
-        """Starts a run of twelve parts, and returns it once `done` are solved and two others are at work."""
+        """Starts a run of twelve parts, and returns it once `done` are solved and two others are being solved."""
         ran = self.open(many.ACTS, last=done)
         wait_until(lambda: self.done() >= done and len(self.programs()) == 2)
         self.assertIsNone(ran.poll(), "it ended too early")
@@ -310,20 +310,20 @@ class Signals(Case):
         return len(list(Path("work/results").glob("[0-9]" * 7)))
 
     def workers(self):
-        """Returns {number: command line} of the processes in the test's folder."""
+        """Returns {process number: command line} of the processes that run in the test's folder."""
         return processes_in(str(self.folder))
 
     def programs(self):
         return [number for number, words in self.workers().items() if "program-0" in words]
 
     def whole_at_last(self, message=""):
-        """Asserts that the command prints what one run does, and removes the folder."""
+        """Asserts that the command ends with the report and book of one run of ffosolve, and removes its files."""
         self.same(*self.WORDS, by=many.ACTS, message=message)
         self.same_book()
         shutil.rmtree("work")
         Path("joined.book").unlink()
 
-    def test_signals_end_all_of_it_within_a_second_and_it_goes_on(self):
+    def test_a_signal_ends_all_processes_within_a_second_and_the_command_goes_on(self):
         for at, number in enumerate((signal.SIGTERM, signal.SIGINT, signal.SIGHUP, signal.SIGKILL), 1):
             ran = self.at_work(2 * at)
             ran.send_signal(number)
@@ -370,7 +370,7 @@ class Signals(Case):
         self.assertEqual((ran.communicate(timeout=SECONDS)[0], ran.returncode), (self.one, 0))
 
     def test_kills_at_random_moments_lose_nothing(self):
-        """Kills the program, its group, or one process that works for it."""
+        """Kills the program, its process group, or one of its processes."""
         rng = random.Random(1)
         for _ in range(KILLS):
             ran = self.open(many.ACTS)

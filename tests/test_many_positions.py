@@ -15,7 +15,7 @@ SHARED, WIDE = Position(3, 2), Position(1, 6)
 
 
 class Meeting:
-    """A library whose calls wait until a number of them are at work at once. It keeps the scoring and the entries of each."""
+    """A library whose calls wait until `count` of them run at once. `asked` lists their scorings and table entries."""
 
     def __init__(self, real, count):
         self.real, self.at_once, self.asked = real, threading.Barrier(count), []
@@ -38,7 +38,7 @@ class Lists(unittest.TestCase):
         cls.scores = [cls.solver.move_scores(position) for position in cls.positions]
 
     def test_all_calls_find_what_single_ones_find_in_order(self):
-        """The first position takes long and keeps its place. Some ten parts follow."""
+        """The first position takes long, but its result comes first. The others are solved in several parts."""
         long = random_positions(1, [13])
         positions = long + 5 * self.positions
         answers = [self.solver.solve(*long), *5 * self.answers]
@@ -69,7 +69,7 @@ class Lists(unittest.TestCase):
             self.assertEqual(list(answers), self.answers[1:50])
 
     def test_as_many_threads_as_asked_call_at_once(self):
-        """Each gets the scoring and the number of table entries of the solver."""
+        """Each call gets the solver's scoring and its number of table entries."""
         for threads in (3, 6):
             solver, positions = Solver(scoring=2, entries=7), random_positions(threads, [16])  # each is a part of its own
             answers, scores = solver.solve_all(positions), solver.move_scores_all(positions)
@@ -106,7 +106,7 @@ class Lists(unittest.TestCase):
         self.assertLessEqual(len(calls), 4)
 
     def test_few_positions_are_read_ahead_of_one_that_takes_long(self):
-        """Meanwhile another thread solves those after it."""
+        """Meanwhile another thread solves the positions after it."""
         begun, taken, solver = itertools.count(), itertools.count(), Solver()
 
         def solve_all(*words):
@@ -131,7 +131,7 @@ class Lists(unittest.TestCase):
                 self.assertEqual((found, refused.exception.index), (wanted[:place], place))
 
     def test_a_list_is_refused_before_anything_is_solved(self):
-        """The first position would take hours. It is in the same part as the refused one, or in another."""
+        """The first position would take hours. The refused one is in the same part of the list, or in a later one."""
         solver, hopeless = Solver(max_empties=34), random_positions(1, [34])
         for (bad, error), threads, before, call in itertools.product(
             ((SHARED, ffosolve.SharedSquare), (WIDE, ffosolve.TooManyEmpties)), (1, 2),
@@ -154,7 +154,7 @@ class Arrays(unittest.TestCase):
         self.own, self.opp = numpy.array(self.positions, numpy.uint64).T
 
     def as_lists(self, solver, positions, threads):
-        """Returns what the calls for arrays find, in the form of those for lists."""
+        """Returns what `solve_arrays` and `move_scores_arrays` find, in the form that the calls for lists return."""
         own, opp = numpy.array(positions, numpy.uint64).reshape(-1, 2).T
         answers, scores = (call(own, opp, threads=threads) for call in (solver.solve_arrays, solver.move_scores_arrays))
         self.assertEqual([str(array.dtype) for array in (*answers, scores)], ["int32", "int32", "uint64", "int8"])
@@ -164,7 +164,7 @@ class Arrays(unittest.TestCase):
             for row in scores.tolist()]
 
     def test_arrays_hold_what_lists_hold(self):
-        """Tries one thread and several, each scoring, and no position."""
+        """Tries each scoring, one thread and several, and arrays without a position."""
         for scoring, threads, count in (*((scoring, 1, 90) for scoring in ffosolve.Scoring), (0, 3, 400), (0, 2, 0)):
             solver, positions = Solver(scoring=scoring), self.positions[:count]
             wanted = solver.solve_all(positions), solver.move_scores_all(positions)

@@ -1,6 +1,6 @@
-"""Random positions: each call of Python, and ffoscores, find what plain minimax finds.
+"""Each call of Python finds what plain minimax finds in random positions, and so does ffoscores.
 
-POSITIONS in the environment says how many there are with up to MOST empty squares; 40 with 7 or 8 follow.
+POSITIONS positions have at most MOST empty squares; both are variables of the environment. 40 more have 7 or 8.
 """
 import itertools
 import os
@@ -18,7 +18,7 @@ POSITIONS, MOST, DEEP = int(os.environ.get("POSITIONS", 2000)), int(os.environ.g
 
 
 def solved(position):
-    """Returns a row for each scoring, by plain minimax: the position, the scoring, the answer, and each move's square and score."""
+    """Returns a row for each scoring: position, scoring, answer, and (square, score) of each move, by plain minimax."""
     own, opp = position
     children = {square.bit_length() - 1: player.values(*player.after(own, opp, square))
                 for square in player.squares_in(player.moves(own, opp))}
@@ -44,7 +44,7 @@ class RandomPositions(unittest.TestCase):
         return [(ffosolve.square_number(name), score) for name, score in scores.items()]
 
     def compare(self, number, row):
-        """Checks a row by each call for one position. A third of the claims to confirm are right."""
+        """Asserts that each call for one position finds what the row has. `confirm` gets right and wrong claims."""
         (position, _, wanted, scores), solver = row, self.solver(row[1], (0, 1, 64, 1024)[number % 4])
         claim = (wanted._replace(score=wanted.score + number % 5), wanted._replace(best=wanted.best ^ number), wanted)[number % 3]
         found = solver.solve(position), solver.confirm(position, claim), self.by_number(solver.move_scores(position))
@@ -54,7 +54,7 @@ class RandomPositions(unittest.TestCase):
             self.assertRaises(ffosolve.NoMove, solver.play, position, square)
 
     def test_python_finds_what_minimax_finds(self):
-        """Tries eight threads at once, and lists."""
+        """Calls for one position are made on eight threads at once; calls for lists follow."""
         self.assertEqual(len(self.rows), 3 * (POSITIONS + DEEP))
         with ThreadPoolExecutor(8) as pool:
             self.assertEqual(len(list(pool.map(self.compare, range(len(self.rows)), self.rows))), len(self.rows))
@@ -64,7 +64,7 @@ class RandomPositions(unittest.TestCase):
             self.assertEqual([*map(self.by_number, self.solver(scoring).move_scores_all(positions))], list(scores))
 
     def test_ffoscores_prints_what_minimax_finds(self):
-        """The highest score comes first; equal ones are in the order of the squares."""
+        """Moves come in descending order of their scores, and those with the same score in the order of the squares."""
         for scoring in ffosolve.Scoring:
             rows = self.rows[scoring::3]
             text = "".join(f"{position.to_obf()}\n" for position, *_ in rows)

@@ -1,4 +1,4 @@
-"""Lines of OBF text, worked and odd ones, as Python, C and the program read them."""
+"""Lines of OBF text, from tests/rows and with random faults: Python, C and ffosolve read them alike."""
 import collections
 import random
 import re
@@ -15,7 +15,7 @@ RIGHT, WRONG, NONE = (stored("examples/kinds.report").split(b"\n")[row].split()[
 
 
 def odd_line(chance, lines):
-    """Returns one of the lines, with up to three odd pieces among its squares or after them."""
+    """Returns one of `lines`, with up to three of PIECES inserted at random, or put in place of some bytes."""
     line = chance.choice(lines)
     for _ in range(chance.randrange(4)):
         at = chance.choice((chance.randrange(64), chance.randrange(64, 80)))
@@ -24,7 +24,7 @@ def odd_line(chance, lines):
 
 
 def read(text):
-    """Returns a row for each line that is not skipped: its number, and what it says or why it is refused."""
+    """Returns a row for each line that Python does not skip: its number, and what it says or why it is refused."""
     refused, reader = [], ffosolve.parse_lines if isinstance(text, bytes) else ffosolve.read_lines
     rows = {line.number: f"{line.own:016x} {line.opp:016x} {line.side}" + "".join(" %s:%s" % it for it in line.listed)
             for line in reader(text, refused=refused.append)}
@@ -33,7 +33,7 @@ def read(text):
 
 
 def read_in_c(text):
-    """Yields the same rows, as ffosolve_read_line reads them."""
+    """Yields rows in the form of `read`, with what ffosolve_read_line finds in each line."""
     cr = b"\r"
     printed = PREFIX.called(f"read_line 8 {line.removesuffix(cr).hex()}" for line in text.split(b"\n"))
     for number, (status, *words) in enumerate((line.split() for line in printed), 1):
@@ -72,7 +72,7 @@ class OddLines(unittest.TestCase):
             self.assertGreater(kinds[kind], 0, kinds)
 
     def reported(self, solver, row):
-        """Returns the row of the report for a row of `read`."""
+        """Returns the row that ffosolve's report must have, worked out from a row of `read`."""
         if "refused" in row:
             return row
         number, own, opp, _, *listed = row.split()

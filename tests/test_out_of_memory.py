@@ -1,7 +1,7 @@
-"""Out of memory in `ffosolve`: run n refuses its nth request for memory, until none is refused.
+"""ffosolve out of memory: the nth request for memory of run n is refused, until a run makes fewer than n requests.
 
-Each run has to print `ffosolve: out of memory` with status 1, nothing else, and leave no book; or, if a thread could
-not start for lack of memory, to do everything as a run without refusals.
+A run has to print only `ffosolve: out of memory`, end with status 1 and leave no book. If the refused request was to
+start a thread, it has to do what a run without refusals does.
 """
 import os
 from pathlib import Path
@@ -16,14 +16,14 @@ OUT_OF_MEMORY = (1, b"", b"ffosolve: out of memory\n")
 
 class OutOfMemory(InFolder):
     def ended(self, ran):
-        """Returns how a run ended and the book that it left, which is removed."""
+        """Returns (status, output, messages) of a run, and the book that it left, or None. Removes the book."""
         book = Path("it.book").read_bytes() if os.path.exists("it.book") else None
         self.assertLessEqual(set(os.listdir()), {"it.book", "preload.so"})
         Path("it.book").unlink(missing_ok=True)
         return (ran.returncode, ran.stdout, ran.stderr), book
 
     def test_each_refused_request_ends_the_run_unless_it_starts_a_thread(self):
-        """The request that makes room for all words of the command line at once does not end it either."""
+        """One other request does not end the run: that for room for all words of the command line at once."""
         self.assertEqual(self.ended(run(built(), input=TEXT)), ((0, PRINTED, b""), None))
         for words, threads, prepare in (
             ((), 3, refuse_threads),

@@ -1,6 +1,6 @@
-"""Out of memory in the crates: run n of a test refuses its nth request for memory, until none is refused.
+"""Tests of the crates out of memory: the nth request for memory of run n is refused, until none is.
 
-Each run has to pass or to report out of memory. Another error, a crash, a run without an end or a wrong answer fails.
+Each run has to pass or to report that it is out of memory. Another error, a crash and a run without an end are faults.
 """
 import re
 
@@ -9,14 +9,14 @@ from tests.support import ROOT, InFolder, need, refusals, run
 NAMED = ("AllocError", "AllocFailed { .. }", "Kind(OutOfMemory)", "Memory")
 CRATE = ROOT / "crates/crate_tests"
 PROGRAM = CRATE / "out/crate_tests_tests"
-# The tests that a refused request ends or does not change. The others handle it themselves, or need two threads at work.
+# Parts of the names of tests that a refused request ends or does not change. Others handle it, or need two threads.
 TESTS = (
     "written_lines::", "fault_texts::", "tables::", "searches::", "books::find::", "boards::limits::", "boards::memory::",
     "boards::steps::", "prints_a_front", "a_full_writer", "a_desk_on_one_thread", "a_clients_memory", "gives_a_book",
     "clients_alone", "clients_are_refused", "gates_are_called", "a_refused_finish", "a_refused_submit",
 )
-# Tests that each refused request ends, and the number of their requests, or None for any number: out of memory comes before all
-# other faults, and nothing is requested after the last step that can report it.
+# Tests that each refused request ends, and the number of their requests, or None for any number: out of memory is
+# reported before all other faults, and nothing is requested after the last step that can report it.
 ENDED = {
     "tests::boards::desks::a_clients_memory_comes_first": 3,
     "tests::boards::memory::no_step_after_the_last_submit_takes_memory": None,
@@ -24,13 +24,13 @@ ENDED = {
 
 
 def is_built():
-    """Returns whether the tests' program is newer than all sources."""
+    """Returns whether PROGRAM, which runs the tests, is as new as all sources of the crates."""
     sources = [path.stat().st_mtime for path in ROOT.glob("crates/*/src/**/*.rt")]
     return PROGRAM.exists() and PROGRAM.stat().st_mtime >= max(sources)
 
 
 def setUpModule():
-    """Builds the tests' program by proving it, which takes minutes, unless `rt ci` or `rt test` has left it."""
+    """Builds PROGRAM unless `rt ci` or `rt test` has left it up to date. It is proved first, which takes minutes."""
     if is_built():
         return
     need("rt")

@@ -1,4 +1,4 @@
-"""Position in Python: its rules are those of the plain player of bench/player.py; boards as text and as pictures."""
+"""Position in Python: its rules are those of the plain player, bench/player.py; boards are text or pictures."""
 import io
 import itertools
 import os
@@ -16,7 +16,7 @@ from .positions import PIL, need_modules, numpy, random_positions
 import ffosolve
 from ffosolve import Position, Scoring, Solver
 
-# White has no move in the first; in the second neither side has one, and 16 squares are empty.
+# In the first position White has no move; in the second neither side has one, and 16 squares are empty.
 AT_PASS = "-OOOOOOXXXXXXXXXXXXXXXXXXXXXXXXXXXXXXXXXXXXXXXXXXXXXXXXXXXXXXXXX O;"
 FINISHED = "XXXXXXXXXXXXXXXXXXXXXXXXXXXXXXXX----------------OOOOOOOOOOOOOOOO X;"
 BOARD = "--XXXXX--OOOXX-O-OOOXXOX-OXOXOXXOXXXOXXX--XOXOXX-XXXOOO--OOOOO-- X;"
@@ -163,7 +163,7 @@ class Boards(unittest.TestCase):
             self.assertRaisesRegex(error, f"^{why}$", Position.from_obf(BOARD).show, scores, side)
 
     def picture(self, svg):
-        """Returns a function of a place, in pixels from the left and from the top, which returns the colour there."""
+        """Returns a function of x and y, in pixels from the left and from the top, that returns the colour there."""
         need_modules()
         need("rsvg-convert")
         xml.etree.ElementTree.fromstring(svg)
@@ -172,7 +172,7 @@ class Boards(unittest.TestCase):
         return lambda x, y: "".join(f"{part:02x}" for part in picture.getpixel((x, y)))
 
     def test_a_picture_has_discs_scores_and_marks_in_their_squares(self):
-        """A square is 44 pixels wide, and the margin 22. Its middle shows the disc, and a corner the square itself."""
+        """A square is 44 pixels wide, and the margin 22. A disc covers the middle of its square, but no corner."""
         position, corners = Position.from_obf(BOARD), [(22 + 44 * (at % 8), 22 + 44 * (at // 8)) for at in range(64)]
         self.assertEqual("".join(re.findall(r">(\w)</text>", position._repr_svg_())), "A1B2C3D4E5F6G7H8")
         black, white, green, yellow = "111111", "fafafa", "2f8f5b", "ffd54a"
@@ -196,8 +196,8 @@ class MostEmpties(unittest.TestCase):
         default = re.search(r"--max-empties.*?\[default: (\d+)\]", text, re.DOTALL)[1]
         self.assertEqual(Solver().max_empties, int(default))
 
-    def test_more_are_refused_before_anything_is_solved(self):
-        """The first position would take hours, if it was solved."""
+    def test_more_empty_squares_are_refused_before_anything_is_solved(self):
+        """The first position of a list would take hours if it were solved."""
         need_modules()
         solver, hopeless = Solver(max_empties=33), random_positions(1, [33])
         (wide,) = random_positions(1, [34])

@@ -1,7 +1,7 @@
-"""Worked rows, books that are read or refused, and streams that end or fail.
+"""Output worked out from the rules, books that are read or refused, and streams that end or fail.
 
-A table in tests/rows/PROGRAM has, before each line, what the program prints for it with the options at the head of the
-column, if anything. That is worked out from the rules; no program printed it.
+A row of a table in tests/rows/PROGRAM ends with a line of a list. Before it are cells with what the program prints for
+that line with the options at the head of the column, if anything. No program printed them.
 """
 import os
 from pathlib import Path
@@ -16,7 +16,7 @@ HEADER = b"% ffobook 2 winner\n"
 SEVEN = b"X" * 56
 LEFT, LAST = SEVEN + b"XOOOOO-- X; G8:+64;\n", SEVEN + b"XOOOOOO- X; H8:+64;\n"
 EQUAL = SEVEN + b"-OOXXOO- X; A8:+64; H8:+64;\n"
-# Texts of books, by the error about them.
+# Texts of books, by the error that ffosolve reports; those of "" are read.
 BOOKS = {
     "": (b"", HEADER, b"% ffobook 2 discs\r\n", b"% ffobook 2 sign", b" % ffobook 2 sign", b"% ffobook",
          b"%ffobook 2 sign", b"\n% ffobook 2 sign\n", b"% ffobook 2 sign\n% ffobook 3 x\n", LEFT + LAST + EQUAL,
@@ -42,7 +42,7 @@ def whole_lines(lines):
 
 
 def report(cells):
-    """Returns the report of ffosolve that has these cells; an empty one has no row."""
+    """Returns the report in which the rows of lines 1, 2 and so on have these cells; an empty cell means no row."""
     rows = [b"%d %s" % row for row in enumerate(cells, 1) if row[1]]
     refused = sum(b" refused: " in row for row in rows)
     return whole_lines([b"[1]", *rows, b"solved %d refused %d" % (len(rows) - refused, refused)])
@@ -63,7 +63,7 @@ class Rows(InFolder):
                             self.ends((status, printed, b""), built(name), "--max-empties", "20", *words.split(), **how)
 
     def reads(self, text, error):
-        """Asserts that a text is read as a book, or refused with an error."""
+        """Asserts that a text is read as a book or, if `error` is not empty, refused with that error."""
         Path("it.book").write_bytes(text)
         wanted = (3, b"", f"ffosolve: book line {error}\n".encode()) if error else (0, NOTHING, b"")
         with self.subTest(text=text[-100:]):

@@ -1,4 +1,4 @@
-"""The job array of docs/many-machines.md under Slurm: one node of Debian's slurm-wlm, for root."""
+"""The two jobs in docs/many-machines.md, run by Debian's slurm-wlm on one node. Needs root."""
 import os
 import re
 import shutil
@@ -31,7 +31,7 @@ PartitionName=all Nodes=ALL Default=YES
 
 
 def free_ports():
-    """Two ports that nothing listens on."""
+    """Returns two ports that nothing listens on."""
     with socket.create_server(("127.0.0.1", 0)) as one, socket.create_server(("127.0.0.1", 0)) as other:
         return one.getsockname()[1], other.getsockname()[1]
 

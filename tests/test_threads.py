@@ -1,4 +1,4 @@
-"""Threads of the programs: how many run, that any number prints the same, and that they end with the program."""
+"""Threads of the programs: how many run, that any number gives the same output, and that they end with the program."""
 import os
 import random
 import signal
@@ -9,11 +9,11 @@ from tests.support import (ROOT, SECONDS, InFolder, as_at_a_login, built, limite
                            refuse_threads, run, stored, wait_until, write)
 
 RUNS = 100  # with 64 files and 64 workers
-OFTEN = 500  # runs: when a thread was not woken, one in fifteen hung
+OFTEN = 500  # runs; one in fifteen hung while a fault left a thread asleep
 WORKERS = ("0", "1", "3", "64")
 HOURS = b"-" * 27 + b"OX------XO" + b"-" * 27 + b" X;\n"
 HARD = b"-XXXXX----XOOX--XXXXOOOO-OXOOOO-OOXOOX--OOX-OOOOOXXXXXX-X----XXX O\n"  # 17 empty squares, 0.2 seconds
-# Positions with two empty squares; the first one's score.
+# Positions with two empty squares, and the first one with its scores.
 EASY = [
     b"-OXXXXX-XXXXXXXOXXXXXXXXXXXXXXXXXXXOXXXXXXXXXXXXXXXXXXXXXXXXXXXX X;\n",
     b"-OXXXXX-XXXXXXXOXXXXXXXXXXXXXXXXXXXOXXXXXXXXXXXXXXXXXXXXXXXXXXXX O\n",
@@ -38,7 +38,7 @@ class Files(InFolder):
             write(name, b"".join([HARD][number:] + EASY + [HARD]))
 
     def run_of(self, *words, prepare=None, is_watched=True):
-        """Returns what a program printed, and the most threads that it was seen with if it was watched."""
+        """Returns what a program printed and, if `is_watched`, the greatest number of threads that it was seen with."""
         most, end = 0, time.monotonic() + SECONDS
         with open("printed", "wb") as printed:
             process = self.start(*words, stdout=printed, preexec_fn=prepare)
@@ -49,7 +49,7 @@ class Files(InFolder):
         return Path("printed").read_bytes(), most
 
     def solve(self, *words, **how):
-        """Returns what ffosolve printed with the book that it wrote, and its most threads."""
+        """Returns (what ffosolve printed, the book that it wrote), and the number of threads that `run_of` returns."""
         printed, most = self.run_of(built(), "--book-out", "out.book", *words, **how)
         book = Path("out.book").read_bytes()
         Path("out.book").unlink()
@@ -93,7 +93,7 @@ class Files(InFolder):
 
 class Lines(InFolder):
     def same(self, lists, seeds=(None,)):
-        """Asserts that runs with each number of workers print the same and have the same status."""
+        """Asserts that ffoscores prints the same and ends with the same status with each number of workers."""
         names = [write(f"{number}.obf", text) for number, text in enumerate(lists)]
         wanted = run(built("ffoscores"), "--workers", "0", *names)
         self.assertIn(wanted.returncode, (0, 1), wanted.stderr)
@@ -155,7 +155,7 @@ class Lines(InFolder):
                 program = self.begin(b"".join(deep) + HOURS * 70, "--workers", workers)
                 self.assertEqual([program.stdout.readline()[:66] for _ in deep], [line[:66] for line in deep])
                 wait_until(lambda: threads_of(program) >= threads)
-                time.sleep(1)  # time for one too many to start
+                time.sleep(1)  # in which one thread too many could start
                 self.assertEqual(threads_of(program), threads)
                 program.kill()
 

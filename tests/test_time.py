@@ -1,4 +1,4 @@
-"""The memory and the time that runs and calls take, with tables of some sizes and with a book."""
+"""The memory and the time that programs and the library's calls take, with tables of several sizes and with a book."""
 import ctypes
 import resource
 
@@ -10,19 +10,19 @@ from ffosolve._rules import c_positions
 
 KINDS = stored("examples", "kinds.obf").decode()
 HARD = b"-XXXXX----XOOX--XXXXOOOO-OXOOOO-OOXOOX--OOX-OOOOOXXXXXX-X----XXX O\n"  # 17 empty squares
-ADVISED = b"-XOOOO-X-XOOOOX--OOXOOXX-OOXXOXO-OXOXXO-OOOXOOX-OOXOOO--OX--O--- X\n"  # in a third of the time with a book
-AGAIN = 8  # times that a position comes
+ADVISED = b"-XOOOO-X-XOOOOX--OOXOOXX-OOXXOXO-OXOXXO-OOOXOOX-OOXOOO--OX--O--- X\n"  # a third of the time with a book
+AGAIN = 8  # how often a position is repeated
 LIMIT = 64 << 20  # bytes of memory: enough for the default table, not for the greatest
 OUT_OF_MEMORY = {"ffosolve": (1, "", "ffosolve: out of memory\n"), "ffoscores": (3, "", "ffoscores: out of memory\n")}
 
 
 def spent():
-    """Returns the processor seconds of this process and its runs so far."""
+    """Returns the processor time in seconds that this process and the commands that it ran have taken so far."""
     return sum(sum(resource.getrusage(who)[:2]) for who in (resource.RUSAGE_SELF, resource.RUSAGE_CHILDREN))
 
 
 def seconds(call):
-    """Returns the processor seconds of a call, the least of three."""
+    """Makes a call three times, and returns the least processor time that it took, in seconds."""
     at = [spent()]
     for _ in range(3):
         call()
