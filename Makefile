@@ -13,7 +13,7 @@ LIBDIR = $(PREFIX)/lib
 INCLUDEDIR = $(PREFIX)/include
 MANDIR = $(PREFIX)/share/man
 LIST =
-# The level of processors to build for: by default the best one that this machine runs.
+# The level of processors to build for: by default the best one that this machine has.
 CPU := $(shell /lib64/ld-linux-x86-64.so.2 --help 2>&1 | grep -q 'x86-64-v3 .supported' && echo x86-64-v3 || echo x86-64-v2)
 tell = 2# the descriptor to which a build reports its progress
 
@@ -29,7 +29,7 @@ $(if $(filter $(levels),$(CPU)),,$(error CPU is $(CPU), but has to be one of: $(
 all: $(programs:%=out/%) library ## proves and builds the programs and the library for C
 	echo "built: $(programs:%=out/%), which bin/ runs; out/library"
 
-# What rt makes. Make does not notice a change with an older time, or a removed file; find does, by status times.
+# What rt makes. Unlike make, find notices a removed file, and a change that keeps an old time, by its status time.
 changed = $(if $(shell find crates crates.txt -name out -prune -o -name must-fail -prune -o -cnewer $1.sum -print -quit 2>&1),always)
 level = $(notdir $(@D))
 objects := $(foreach level,$(levels),$(programs:%=out/$(level)/%.o))
@@ -40,7 +40,7 @@ $(objects): $$(call changed,$$@)
 $(levels:%=out/%/libffosolve_c.a): $$(call changed,$$@)
 	exec scripts/prove $@ ffosolve_c lib $(level) $(tell)
 
-# What is linked from those: under another name at first, since another make may be running.
+# What is linked from that. It gets another name at first, since another make may be running.
 kit = $$(dirname "$$(rt doc)")
 new = $@.$$$$
 needs.x86-64-v2 = 2
@@ -53,7 +53,7 @@ $(objects:.o=): %: %.o packaging/level.s
 	rm $(new).o
 	mv -f $(new) $@
 
-# One object with the toolchain's malloc and free, which exports only the calls of the header.
+# The library as one object, with the kit's malloc and free. It exports only the functions of the header.
 $(levels:%=out/%/libffosolve.o): out/%/libffosolve.o: out/%/libffosolve_c.a
 	ld -r -o $(new).o --whole-archive $< --no-whole-archive "$(kit)/c/liblibc_c.a"
 	objcopy --wildcard --keep-global-symbol='$(exported)' $(new).o $(new)
@@ -73,7 +73,7 @@ $(levels:%=out/%/libffosolve.so): %.so: %.o VERSION
 $(programs:%=out/%): out/%: out/$(CPU)/% always
 	cmp -s $< $@ || { cp $< $(new) && mv -f $(new) $@; }
 
-# Copies a file, with the version, the greatest table and folders filled in: $(call fill,FILE,TO).
+# $(call fill,FILE,TO) copies FILE to TO and fills in the version, the size of the largest table, and folders.
 number = $(shell echo $(version) | awk -F . '{ print 10000 * $$1 + 100 * $$2 + $$3 }')
 constant = $(shell awk -F '[ ;]+' '/const $1:/ { print $$(NF - 1) }' $2)
 entries = $(call constant,MOST_ENTRIES,crates/bound_table/src/bound_table.rt)
@@ -92,7 +92,7 @@ levels: $(programs:%=out/%) library $(objects:.o=) $(foreach level,$(levels),out
 comma = ,
 settings = crates/program_settings/src/*.rt
 constants: empties = $(call constant,DEFAULT_EMPTIES,$(settings))
-constants: ## writes the version, the greatest table and the default of --max-empties where they are repeated
+constants: ## writes the version, the size of the largest table and the default of --max-empties where they are repeated
 	sed -i -E 's/^(pub const VERSION: &str = ").*"/\1$(version)"/; s/^(pub const VERSION_NUMBER: .* = ).*;/\1$(shell echo $(number) | sed 's/...$$/_&/');/' $(settings)
 	sed -i -E 's/^(pub const DEFAULT_EMPTIES_TEXT: &str = ").*"/\1$(empties)"/' $(settings)
 	sed -i -E 's/^(version = ").*"/\1$(version)"/' rust/Cargo.toml
@@ -120,17 +120,17 @@ look: ## solves three positions in about a minute, with nothing proved; LIST=FIL
 check: levels ## tests everything; the last line counts what passed
 	$(MAKE) -f tests/check.mk
 
-# `install` replaces a file by a new one, so a running program keeps its own.
+# The command `install` makes a new file in place of an old one, so a running program keeps its own.
 lib = "$(DESTDIR)$(LIBDIR)
 share = "$(DESTDIR)$(PREFIX)/share
 doc = $(share)/doc/ffosolve
 documents = README.md LICENSE CHANGELOG.md VERSION \
     $(shell find docs examples python rust crates/*/specs \( -name __pycache__ -o -name '.*' -o -name target -o -name Cargo.lock \) -prune -o -type f -print)
-# The package that the scripts run. The documents have it too, but some systems leave documents out.
+# The package for Python that the scripts use. It is among the documents, too, but some systems leave these out.
 modules = VERSION $(shell find python/src \( -name __pycache__ -o -name '.*' \) -prune -o -type f -print)
 absolute = case "$(PREFIX)" in /*) ;; *) echo "PREFIX is $(PREFIX), but has to begin with a slash" >&2; exit 1 ;; esac
 
-# Completions read the --help of the installed program, so a TAB after bin/ffosolve in a checkout builds nothing.
+# Completions call the installed program for its --help, so TAB after bin/ffosolve in a checkout builds nothing.
 install: $(programs:%=out/$(CPU)/%) $(foreach level,$(levels),out/$(level)/libffosolve.a out/$(level)/libffosolve.so) ## installs programs, library, manual pages, completions and documents under PREFIX (/usr/local), in DESTDIR
 	$(absolute)
 	install -D -t "$(DESTDIR)$(BINDIR)" $(programs:%=out/$(CPU)/%)

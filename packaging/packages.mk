@@ -1,7 +1,7 @@
-# Makes packages from a clean checkout, with programs and libraries for both levels of processors. They are put together in a
-# temporary folder, since rt refuses links in a checkout.
+# Makes packages from a clean checkout, with programs and libraries for both levels of processors. They are put together
+# in a temporary folder, since rt refuses a checkout with links.
 
-# The version of a package: VERSION and, if commits came after the one that set it, their number and the last one.
+# The version of a package: VERSION and, if commits came after its last change, their number and the last commit.
 later = $(shell git rev-list --count "$$(git log -1 --format=%H -- VERSION)..HEAD" 2>/dev/null)
 package = $(version)$(patsubst %,+%.g$(shell git rev-parse HEAD | cut -c 1-7),$(filter-out 0,$(later)))
 archive = ffosolve-$(package)-linux-x86-64
@@ -9,14 +9,14 @@ clean = change=$$(git status --porcelain | head -n 1) || exit; [ -z "$$change" ]
 room = room=$$(mktemp -d); trap 'rm -rf "$$room"' EXIT; umask 022
 seconds = $$(git log -1 --format=%ct)
 
-# Installs into $$room: $(call stage,WORDS,PREFIX). The programs in bin/ start those of the best level.
+# $(call stage,WORDS,PREFIX) installs into $$room. Each program in bin/ starts the one for the best level that runs.
 stage = $(MAKE) -s install CPU=x86-64-v2 DESTDIR="$$room" PREFIX=$2 $1 >/dev/null; \
     for program in $(programs); do \
         for level in $(levels); do install -D "out/$$level/$$program" "$$room$2/libexec/ffosolve/$$level/$$program"; done; \
         install packaging/start "$$room$2/bin/$$program"; \
     done
 
-# Writes README.md and PROVED into a folder: $(call texts,KIND,OTHER KIND,BIN,DOC,FOLDER).
+# $(call texts,KIND,OTHER KIND,BIN,DOC,FOLDER) writes README.md and PROVED into FOLDER.
 texts = sed -e '/^$2|/d; s/^$1|//; s|@BIN@|$3|g; s|@DOC@|$4|g; s/@PACKAGE@/$(package)/' packaging/README.md | $(call fill,/dev/stdin,"$5/README.md"); \
     { \
         printf '%s\n\n' "ffosolve $(package), commit $$(git rev-parse HEAD), $$(rt version)"; \
@@ -40,7 +40,7 @@ dist: levels ## makes out/ffosolve-VERSION-linux-x86-64.tar.gz, which runs where
 	(cd out && sha256sum $(archive).tar.gz >$(archive).tar.gz.sha256)
 	echo "made: $$PWD/out/$(archive).tar.gz"
 
-# The package for Python is where Debian's Python looks for it, as if installed by pip; but pip can't remove it.
+# The package for Python is where Debian's Python looks for it, as if pip had installed it; but pip can't remove it.
 deb: levels ## makes out/ffosolve_VERSION_amd64.deb, a package for Debian
 	$(clean)
 	$(room)

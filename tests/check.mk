@@ -1,5 +1,6 @@
-# Runs each module of tests/, as many at once as -j says, by default one for each processor. Prints how many tests of each
-# passed, the output of a module that failed, and last the sum. One more test: `git status` is the same afterwards.
+# Runs the modules of tests/, as many at once as -j says, by default one per processor. Prints how many tests of each
+# module passed, what a module that failed printed, and last the sums. One more test: `git status` says the same
+# afterwards.
 #
 #     make -f tests/check.mk                          all, as `make check` does after building
 #     make -f tests/check.mk TESTS='books many'       tests/test_books.py and tests/test_many.py
@@ -7,7 +8,7 @@ ifeq ($(filter -j% --jobserver%,$(MAKEFLAGS)),)
 MAKEFLAGS += -j$(shell nproc)
 endif
 TESTS = $(patsubst tests/test_%.py,%,$(wildcard tests/test_*.py))
-TEST_SECONDS = 3000# the longest that a module may run
+TEST_SECONDS = 3000# that a module may take before it is ended
 PYTHON = python3
 modules = $(TESTS:%=test_%)
 at = out/tests/$(@:test_%=%)

@@ -1,4 +1,4 @@
-"""Built copies of the checkout, for tests that install from one, and search paths that lack a tool."""
+"""Built copies of the checkout, for tests that install from one, and search paths without a tool."""
 import os
 import shutil
 from pathlib import Path
@@ -9,18 +9,18 @@ FIRST = stored("examples", "first.report").decode()
 VERSION = stored("VERSION").decode().strip()
 NUMBER = sum(int(part) * 100 ** place for place, part in enumerate(VERSION.split(".")[::-1]))
 LEVELS = ["x86-64-v2", "x86-64-v3"]
-WITHOUT_GIT = {name: text for name, text in os.environ.items() if not name.startswith("GIT_")}  # which a git hook sets
+WITHOUT_GIT = {name: text for name, text in os.environ.items() if not name.startswith("GIT_")}  # a git hook sets those
 
 
 def names_of_files():
-    """Returns the names of the checkout's files, including new ones that git does not ignore."""
+    """Returns the paths of the checkout's files: those in git, and new ones that git does not ignore."""
     words = ("git", "-c", f"safe.directory={ROOT}", "-C", ROOT, "ls-files", "-zco", "--exclude-standard")
     names = run(*words, env=WITHOUT_GIT, check=True, text=True).stdout.split("\0")
     return [name for name in names if name and os.path.lexists(ROOT / name)]
 
 
 def copied_checkout(folder):
-    """Builds the programs, and copies them and the checkout, with the times of the files, readable by everybody."""
+    """Builds all, and copies the checkout and out/ into `folder`, with the files' times and readable by everybody."""
     run("make", "-s", "-C", ROOT, "levels", stderr=None, timeout=None, check=True)
     for name in names_of_files():
         (folder / name).parent.mkdir(parents=True, exist_ok=True)
@@ -31,7 +31,7 @@ def copied_checkout(folder):
 
 
 def path_without(tool, folder):
-    """Returns the search path without a tool: a folder that has it is replaced by one with links to everything else."""
+    """Returns the search path, with each folder that has `tool` replaced by one with links to its other files."""
     places = []
     for at, place in enumerate(os.environ["PATH"].split(":")):
         if os.path.lexists(os.path.join(place, tool)):

@@ -1,6 +1,6 @@
 """Games for tests: transcripts, records of WTHOR files, and lists with their reports.
 
-A position is one of the plain player: the discs of the mover and of the other side, and whether Black moves.
+A position is (own, opp, is_black): the masks of the mover's and the other side's discs, and whether Black is the mover.
 """
 import functools
 import hashlib
@@ -14,7 +14,7 @@ from .support import ROOT, InFolder, run
 PROGRAM = ROOT / "bin/ffosolve-games"
 UNREADABLE = "ffosolve-games: {}: {}\n"
 NAMES = [column + row for row in "12345678" for column in "ABCDEFGH"]
-SQUARE_BYTES = [10 * row + column for row in range(1, 9) for column in range(1, 9)]  # A1, B1, .. H8 in a WTHOR file
+SQUARE_BYTES = [10 * row + column for row in range(1, 9) for column in range(1, 9)]  # for A1, B1, .. H8 in a WTHOR file
 
 
 def passed(position):
@@ -27,12 +27,12 @@ def can_move(position):
 
 
 def random_game(rng):
-    """Returns a complete game: its squares, and None for each pass."""
+    """Returns the moves of a random game up to its end: squares from 0 (A1) to 63 (H8), and None for each pass."""
     return [move.bit_length() - 1 if move else None for *_, move in player.random_game(rng)][1:]
 
 
 def positions_of(squares):
-    """Returns the first position at each number of empty squares, up to the first illegal move."""
+    """Returns {number of empty squares: position} for the start and after each move, up to the first illegal one."""
     at = (*player.START, True)
     found = {60: at}
     for square in squares:
@@ -45,7 +45,7 @@ def positions_of(squares):
 
 
 def score(position):
-    """Returns the mover's exact score, with the empty squares to the winner."""
+    """Returns the exact score for the mover, in discs; the winner also gets the squares that stay empty."""
     return player.values(*position[:2])[0]
 
 
@@ -55,7 +55,7 @@ def discs_of_black(position):
 
 @functools.cache
 def real_score(squares):
-    """Returns Black's discs at the end of a game, or 40 if the game is not over."""
+    """Returns Black's discs after a game, with the empty squares to the winner, or 40 if the game is not over."""
     positions = positions_of(squares)
     last = positions[min(positions)]
     return 40 if can_move(last) or can_move(passed(last)) else discs_of_black(last)
@@ -70,7 +70,7 @@ def transcript(game):
 
 
 def record(game, theoretical=33, real=None):
-    """Returns a game of a WTHOR file. By default its real score is that of its moves."""
+    """Returns the record of a game in a WTHOR file. By default, its real score is the one that its moves lead to."""
     squares = squares_of(game)
     real = real_score(tuple(squares)) if real is None else real
     return struct.pack("<HHHBB", 7, 300, 301, real, theoretical) + bytes(map(SQUARE_BYTES.__getitem__, squares)).ljust(60, b"\0")
@@ -86,7 +86,7 @@ def line_of(position, comment):
 
 
 def with_digest(lines):
-    """Returns lines of a list and, if one has a theoretical score, their digest: 24 bits of SHA-256, six in each line."""
+    """Returns `lines` and, if one has a theoretical score, their digest: 4 lines, each with 6 bits of a SHA-256 sum."""
     if ", theoretical score " not in lines:
         return lines
     games = [line for line in lines.splitlines(True) if line.strip() and not line.startswith("%")]
@@ -96,7 +96,7 @@ def with_digest(lines):
 
 
 def report_of(listed, refused=None):
-    """Returns the report of a list by the plain player, without moves. `refused` has reasons by the numbers of lines."""
+    """Returns the report of a list, with scores by bench/player and `--` as moves. `refused` is {line number: why}."""
     rows, refused = [], refused or {}
     for number, line in enumerate(listed.splitlines(), 1):
         if line and line[0] != "%":
@@ -111,7 +111,7 @@ class Case(InFolder):
     maxDiff = 2000
 
     def games(self, *words, status=0, out=None, err=None, **how):
-        """Runs ffosolve-games, compares what it prints with `out` and its digest, and returns output and messages."""
+        """Runs ffosolve-games, and asserts its status, `out` with its digest, and `err`. Returns (output, errors)."""
         ran = run(sys.executable, PROGRAM, *words, **how)
         self.assertNotIn(b"Traceback", ran.stderr)
         if err is not None:

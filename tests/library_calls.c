@@ -1,13 +1,13 @@
-/* For each line of standard input, makes the call of ffosolve.h that it names, and prints the status and what was written.
-   Memory that still has the bytes 99 was not. Compiled as C and as C++. Printed masks, and texts to read, are hexadecimal.
-
+/* Makes the call of ffosolve.h that each line of standard input names. Prints its status, and then what it wrote:
+   memory is filled with bytes 99, and what still has them was not written. Printed masks and TEXT are hexadecimal.
+   Compiled as C and as C++. Each line, and what is printed after the status:
        solve OWN OPP SCORING ENTRIES, confirm .. SCORE KIND BEST    SCORE/KIND/BEST
-       move_scores OWN OPP SCORING ENTRIES            the mask, SQUARE:SCORE of each move, + how many squares have none
-       solve_all SCORING ENTRIES ROOM OWN OPP .., move_scores_all ..    at INDEX, and the same after each index
-       moves OWN OPP, play OWN OPP SQUARE             masks
-       read_line ROOM TEXT                            at INDEX, OWN OPP SIDE LISTED, and each listed KIND/SQUARE/SCORE
-       long_line                                      a line of 8,000,000 listed moves
-       names                                          the values of the header's constants, and the text of each status */
+       move_scores OWN OPP SCORING ENTRIES     the mask of moves, SQUARE:SCORE of each, + how many squares have no score
+       solve_all SCORING ENTRIES ROOM OWN OPP .., move_scores_all ..    at INDEX, then INDEX: and the same for each
+       moves OWN OPP, play OWN OPP SQUARE      masks
+       read_line ROOM TEXT                     at INDEX, OWN OPP SIDE LISTED, and KIND/SQUARE/SCORE of each listed move
+       long_line                               the same for a line of 8,000,000 listed moves
+       names                                   the values of the header's constants, and the text of each status */
 #include "ffosolve.h"
 
 #include <inttypes.h>

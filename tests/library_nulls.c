@@ -1,10 +1,10 @@
-/* Calls the inline functions of ffosolve.h over stand-ins for the library's own: no null pointer may reach these, and any other
-   pointer is passed on. Prints the numbers that reached a stand-in, what became of each pointer, and the status. */
+/* Calls the inline functions of ffosolve.h, with stand-ins for the functions of the library that they call. Prints the
+   numbers that a stand-in gets, whether each pointer that it gets is null, the caller's or another, and the status. */
 #include "ffosolve.h"
 
 #include <stdio.h>
 
-/* Which pointers are not null, and how many elements each points to or has room for. */
+/* For each call: which pointers are not null, and how many elements they point to or have room for. */
 static const struct {
     size_t has_from, count, has_to, room, has_at;
 } ways[] = {{0, 0, 0, 0, 0}, {1, 1, 1, 1, 1}, {0, 0, 1, 1, 1}, {1, 1, 0, 0, 1}, {1, 0, 1, 0, 1}};

@@ -1,4 +1,4 @@
-"""What the tests of ffosolve-many share: where it is installed, and how it is run."""
+"""Helpers of the tests of ffosolve-many: they install it, run it, and compare what it prints and leaves."""
 import os
 import shutil
 import stat
@@ -10,8 +10,10 @@ from unittest import mock
 from tests.support import InFolder, built, lay_many, module_folder, positions, run, write
 
 BOARD = b"-OXXXXX-XXXXXXXOXXXXXXXXXXXXXXXXXXXOXXXXXXXXXXXXXXXXXXXXXXXXXXXX"  # two empty squares
-# Stands before a program. Appends its words to the file $WORDS. Unless it is asked for the known line, it dies or fails
-# as the part says, and takes $PAUSE seconds, or 45 once $LAST parts are solved; $SPOIL changes its output.
+# Takes the place of the program @real@ and runs it. Appends its arguments to the file $WORDS. If the input is a part of
+# a list, and not a line that only tests the program, first dies or fails if it has DIE or FAIL, and sleeps $PAUSE
+# seconds, or 45 once $LAST parts are solved. The function $SPOIL, or $SPOIL_KNOWN for a line that tests, changes the
+# output.
 ACTING = """\
 #!@python@ -IS
 import os, signal, subprocess, sys, time
@@ -41,7 +43,7 @@ os.execv(real, [real, *sys.argv[1:]])
 
 
 def install(name, script=None):
-    """Installs ffosolve-many with both programs, or with a script that can run each; returns its path."""
+    """Installs ffosolve-many in a folder, with both programs or with a `script` that runs them; returns its path."""
     many = lay_many(BASE / name)
     for program in ("ffosolve", "ffoscores"):
         place = shutil.copy(built(program), many.with_name(f"real-{program}" if script else program))
@@ -51,12 +53,12 @@ def install(name, script=None):
 
 
 def set_up_module():
-    """Makes what the tests of a module share."""
+    """Installs ffosolve-many plainly (MANY) and with ACTING (ACTS), and makes SMALL, a list; for setUpModule."""
     global BASE, MANY, ACTS, SMALL
     BASE = module_folder()
     for name in ("tmp", "python"):
         (BASE / name).mkdir()
-    os.symlink(sys.executable, BASE / "python/python3")  # at once, even if python3 on the path is a wrapper
+    os.symlink(sys.executable, BASE / "python/python3")  # not the python3 on the path, which may be a slow wrapper
     places = {"TMPDIR": f"{BASE}/tmp", "PATH": f"{BASE}/python:{os.environ['PATH']}"}
     unittest.enterModuleContext(mock.patch.dict(os.environ, places))
     MANY, ACTS = install("plain"), install("acting prefix", ACTING)
@@ -64,7 +66,7 @@ def set_up_module():
 
 
 class Case(InFolder):
-    """A test in a folder of its own, with a list of 60 positions and what ffosolve prints for it."""
+    """A test in a folder with `list.obf`, which has 60 positions; `self.one` is what ffosolve prints for them."""
 
     WORDS = ("--lines=20", "work", "list.obf", "--book-out", "joined.book")
 
@@ -74,36 +76,36 @@ class Case(InFolder):
         self.one = self.solve("list.obf")
 
     def solve(self, *words):
-        """What one run of ffosolve prints, with the book in `one.book`."""
+        """Returns what one run of ffosolve prints; the run writes its book to `one.book`."""
         ran = run(MANY.with_name("ffosolve"), "--book-out", "one.book", *words)
         self.assertEqual((ran.returncode, ran.stderr), (0, b""))
         return ran.stdout
 
     def many(self, *words, by=None, places={}, **how):
-        """Runs the command with these variables in its environment."""
+        """Runs ffosolve-many, or its copy at `by`, with the variables `places` added to the environment."""
         return run(by or MANY, *words, env={**os.environ, **places}, **how)
 
     def ends(self, status, output, message, *words, **how):
-        """Asserts the status and the output of a run, and a message among others; returns the run."""
+        """Runs ffosolve-many, asserts its status, its output, and that `message` is in its errors; returns the run."""
         ran = self.many(*words, **how)
         self.assertEqual((ran.returncode, ran.stdout), (status, output), ran.stderr.decode())
         self.assertIn(message, ran.stderr.decode())
         return ran
 
     def same(self, *words, text=None, message="", **how):
-        """Asserts that a run prints what one run of ffosolve does; returns its messages."""
+        """Asserts that ffosolve-many prints `text`, or by default what one run of ffosolve does; returns its errors."""
         return self.ends(0, self.one if text is None else text, message, *words, **how).stderr.decode()
 
     def same_book(self, name="joined.book"):
         self.assertEqual(Path(name).read_bytes(), Path("one.book").read_bytes())
 
     def files(self):
-        """The contents and permissions of all files of the test's folder, by their paths."""
+        """Returns {path: (content, permissions)} for all in the test's folder; the content of a folder is False."""
         return {path: (path.is_file() and path.read_bytes(), stat.S_IMODE(path.lstat().st_mode))
                 for path in Path(".").rglob("*")}
 
     def refused(self, status, message, *words, **how):
-        """Asserts that a run ends with a status and one line on standard error, and changes no file or folder."""
+        """Asserts that a run prints one line, an error with advice if `status` is 2, and changes no file or folder."""
         before = self.files()
         lines = self.ends(status, b"", message, *words, **how).stderr.decode().splitlines()
         self.assertEqual((len(lines), lines[0].startswith("ffosolve-many: ")), (1, True), lines)

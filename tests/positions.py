@@ -1,4 +1,4 @@
-"""What tests of the package for Python share: the library that it loads, random positions, and modules that it may use."""
+"""Helpers of the Python package's tests: the library that it loads, random positions, and modules that it may use."""
 import os
 import random
 
@@ -22,7 +22,7 @@ def need_modules():
 
 
 def random_positions(count, empties, seed=1):
-    """Positions of random games, with these numbers of empty squares in turn."""
+    """Returns `count` positions of random games. Their numbers of empty squares are those in `empties`, in turn."""
     rng, found = random.Random(seed), []
     while len(found) < count:
         discs = 64 - empties[len(found) % len(empties)]

@@ -1,6 +1,6 @@
-"""The library and its packages as users have them: an installed prefix, away from the checkout, and programs over it.
+"""The library and its packages as users have them: installed under a prefix, with programs outside the checkout.
 
-TEST_PREFIX in the environment names the prefix; without it, `make install` makes one.
+TEST_PREFIX in the environment names the prefix; if it is not set, `make install` installs one for the tests.
 """
 import functools
 import importlib.util
@@ -17,7 +17,7 @@ STRICT = ["-Wall", "-Wextra", "-Wpedantic", "-Wshadow", "-Wconversion", "-Werror
 C = ["cc", "-std=c11", *STRICT, "-O1"]
 CXX = ["c++", "-std=c++11", *STRICT, "-O1", "-x", "c++"]
 PIP = [sys.executable, "-m", "pip", "--disable-pip-version-check", "install", "--quiet", "--no-index"]
-LONGEST = 300  # seconds of a command, since on a busy machine compilers and solvers take a while
+LONGEST = 300  # seconds that a command may take, since compilers and solvers are slow on a busy machine
 
 
 def need_module(name):
@@ -26,7 +26,7 @@ def need_module(name):
 
 
 class Prefix:
-    """An installed prefix, and the folder in which programs over it are built; both for the tests of one module."""
+    """The files under a prefix, and the folder `work` for programs that use them; `install` makes both for a module."""
 
     def install(self):
         vars(self).clear()
@@ -54,26 +54,26 @@ class Prefix:
         return run(*words, input=text, text=True, **how)
 
     def make(self, *words, **how):
-        """Runs a command that has to succeed, such as a compiler."""
+        """Runs a command, such as a compiler, and raises AssertionError if it fails."""
         ran = self.run(*words, **how)
         if ran.returncode != 0:
             raise AssertionError(f"{' '.join(map(str, words))}\n{ran.stdout}{ran.stderr}")
         return ran
 
     def compile(self, compiler, name, sources, *words):
-        """Compiles a program in C or C++, linked with the archive, and returns its path."""
+        """Compiles a program in C or C++ and returns its path. By default, `words` link it with libffosolve.a."""
         need(compiler[0])
         libraries = words or ("-I", self.header.parent, "-x", "none", self.archive)
         self.make(*compiler, "-o", self.work / name, *sources, *libraries)
         return self.work / name
 
     def write(self, name, text):
-        """Writes a file in the folder of the programs, and returns its path."""
+        """Writes a file into the folder `work`, and returns its path."""
         return write(self.work / name, text)
 
     @functools.cached_property
     def site(self):
-        """The folder into which pip installs the package for Python, without a network."""
+        """The folder into which pip has installed the package for Python, without a network."""
         need_module("pip")
         shutil.copytree(self.shipped / "python", self.work / "python", dirs_exist_ok=True)
         for name in ("VERSION", "LICENSE"):
@@ -83,7 +83,7 @@ class Prefix:
 
     @functools.cached_property
     def crate(self):
-        """The folder of the crate for Rust, with the examples beside it."""
+        """A copy of the crate for Rust, as a folder; the examples are copied next to it."""
         shutil.copy2(self.shipped / "VERSION", self.work)
         need("cargo")
         for name in ("rust", "examples"):
@@ -94,7 +94,7 @@ class Prefix:
         return self.make("cargo", verb, "--manifest-path", manifest / "Cargo.toml", *words, **how)
 
     def rust_client(self, name, source, **places):
-        """Builds a program that depends on the crate, with these environment variables, and returns its path."""
+        """Builds a program that uses the crate, with `places` added to the environment, and returns its path."""
         self.write(f"{name}/src/main.rs", source)
         needs = f'[dependencies]\nffosolve = {{ path = "{self.crate}" }}\n[workspace]\n'
         self.write(f"{name}/Cargo.toml", f'[package]\nname = "{name}"\nversion = "1.0.0"\nedition = "2021"\n{needs}')
@@ -102,7 +102,7 @@ class Prefix:
         return self.work / "target/debug" / name
 
     def called(self, calls, **how):
-        """Returns what tests/library_calls.c prints for each call."""
+        """Returns the line that tests/library_calls.c prints for each of `calls`; its comment says what these are."""
         program = self.compile(C, "calls", [TESTS / "library_calls.c"])
         return self.make(program, text="\n".join(calls), **how).stdout.splitlines()
 

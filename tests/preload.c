@@ -1,5 +1,6 @@
-// For LD_PRELOAD: a machine that fails. Request for memory number REFUSED is refused, and then the file REFUSED_FILE created.
-// Each sync and rename appends `sync ` or `rename ` to the file WATCHED. If NO_SYNC is set, a sync fails, as on a broken disk.
+// For LD_PRELOAD: makes calls fail as on a bad machine. Refuses request REFUSED for memory, counted from 1, and then
+// creates the file REFUSED_FILE. Each sync or rename appends `sync ` or `rename ` to the file WATCHED, if that is set;
+// if NO_SYNC is set too, each sync fails.
 #define _GNU_SOURCE
 #include <dlfcn.h>
 #include <errno.h>

@@ -1,4 +1,4 @@
-"""What the tests share: files of the checkout, the built programs, commands with a time limit, and processes."""
+"""Helpers of all tests: for files of the checkout, the built programs, commands with a time limit, and processes."""
 import contextlib
 import functools
 import os
@@ -13,35 +13,34 @@ import unittest
 from pathlib import Path
 
 ROOT = Path(__file__).resolve().parent.parent
-NOBODY = {"user": 65534, "group": 65534, "extra_groups": []} if os.getuid() == 0 else {}  # drops the rights of root
-SECONDS = 55  # the longest wait, unless a test sets its own
-MOST_BYTES = 1_048_576  # in a file that the programs read, as users are promised
+NOBODY = {"user": 65534, "group": 65534, "extra_groups": []} if os.getuid() == 0 else {}  # drops root's rights
+SECONDS = 55  # the time limit of a command or a wait, unless a test sets its own
+MOST_BYTES = 1_048_576  # the size of the largest file that the programs read, as documented
 sys.path.insert(0, str(ROOT / "python/src"))  # for `import ffosolve`
 
 
 def lack(what):
-    """Skips the test, or in setUpModule the module, because something is missing; fails it if CI=true."""
+    """Skips the test, or in setUpModule all tests of the module, since `what` is missing; fails instead if CI=true."""
     if os.environ.get("CI") == "true":
         raise AssertionError(f"{what} is missing")
     raise unittest.SkipTest(f"{what} is missing")
 
 
 def need(*tools):
-    """Skips or fails the test, as `lack` does, unless these tools are installed."""
+    """Calls `lack` for the first of these tools that is not installed, if there is one."""
     for tool in tools:
         if shutil.which(tool) is None:
             lack(tool)
 
 
 def stored(*path):
-    """Returns the bytes of a file of the checkout."""
+    """Returns the bytes of a file of the checkout; `path` is its path there, in one or more parts."""
     return ROOT.joinpath(*path).read_bytes()
 
 
 def worked(name):
-    """Returns the lines of a table in tests/rows, and its other columns as {head: cells}.
-
-    In a cell, `~` stands for the line's board and side."""
+    """Reads tests/rows/NAME.tsv. Returns its last column, which has lines of lists, and the others as {heading: cells}.
+    Where a cell in the file has `~`, it gets the board and the side of its row's line."""
     heads, *rows = stored("tests/rows", f"{name}.tsv").removesuffix(b"\n").split(b"\n")
     *heads, _ = heads.decode().split("\t")
     *columns, lines = zip(*(row.split(b"\t", len(heads)) for row in rows))
@@ -51,7 +50,7 @@ def worked(name):
 
 
 def run(*words, **how):
-    """Runs a command and captures its output as bytes; it reads nothing unless `input` or `stdin` is given."""
+    """Runs a command, by default without input, with its output captured and SECONDS as its time limit."""
     if how.get("input") is None:
         how.setdefault("stdin", subprocess.DEVNULL)
     how = {"stdout": subprocess.PIPE, "stderr": subprocess.PIPE, "timeout": SECONDS, **how}
@@ -59,7 +58,7 @@ def run(*words, **how):
 
 
 def write(path, text, mode=None):
-    """Writes a file, and makes its folder; a script becomes executable unless `mode` is given."""
+    """Writes a file, makes its folder if needed, and returns its path. By default, only scripts are executable."""
     path, text = Path(path), text if isinstance(text, bytes) else text.encode()
     path.parent.mkdir(parents=True, exist_ok=True)
     path.write_bytes(text)
@@ -69,36 +68,36 @@ def write(path, text, mode=None):
 
 @functools.cache
 def positions(*words):
-    """Returns the lines of random positions that bench/positions prints."""
+    """Returns what bench/positions prints for these arguments: lines of random positions."""
     return run(sys.executable, ROOT / "bench/positions", *words, check=True).stdout
 
 
 def module_folder(place=None):
-    """Returns a folder that everybody may read and that is removed after the module's tests; for setUpModule."""
+    """Returns a new folder in `place`, readable by everybody and removed after the module's tests; for setUpModule."""
     folder = Path(unittest.enterModuleContext(tempfile.TemporaryDirectory(prefix="ffosolve-tests-", dir=place)))
     folder.chmod(0o755)
     return folder
 
 
 def is_v3():
-    """Returns whether this machine runs programs of the level x86-64-v3."""
+    """Returns whether this machine runs programs for processors of the level x86-64-v3."""
     return b"x86-64-v3 (supported" in run("/lib64/ld-linux-x86-64.so.2", "--help").stdout
 
 
 def limited(what, size):
-    """Returns a `preexec_fn` that sets a limit such as RLIMIT_FSIZE."""
+    """Returns a `preexec_fn` that sets the limit `what`, such as "RLIMIT_FSIZE", to `size`."""
     return lambda: resource.setrlimit(getattr(resource, what), (size, size))
 
 
 def shorter_than(size):
-    """Makes a write fail that would make a file longer than this, as on a full disk; for `preexec_fn`."""
+    """Lets every write fail that takes a file past `size` bytes, as on a full disk; for `preexec_fn`."""
     signal.signal(signal.SIGXFSZ, signal.SIG_IGN)
     limited("RLIMIT_FSIZE", size)()
 
 
 @functools.cache
 def built(name="ffosolve"):
-    """Returns the path of a program: in the folder TEST_PROGRAMS if that is set; otherwise bin/ builds it if needed."""
+    """Returns a program's path in the folder TEST_PROGRAMS or, if that is not set, in out/, after bin/ has built it."""
     if "TEST_PROGRAMS" in os.environ:
         return Path(os.environ["TEST_PROGRAMS"], name)
     run(ROOT / "bin" / name, "/dev/null", stderr=None, timeout=None, check=True)
@@ -106,7 +105,7 @@ def built(name="ffosolve"):
 
 
 def lay_many(root):
-    """Copies ffosolve-many and its package to a folder, arranged as in a checkout; returns the program's path."""
+    """Copies ffosolve-many and its package into a folder, placed as in a checkout; returns the program's path."""
     shutil.copytree(ROOT / "python/src", Path(root, "python/src"), ignore=shutil.ignore_patterns("__pycache__"))
     Path(root, "bin").mkdir(exist_ok=True)
     for name in ("VERSION", "bin/ffosolve-many"):
@@ -115,16 +114,16 @@ def lay_many(root):
 
 
 def change_many(many, module, old, new):
-    """Replaces a text that occurs once in a module of a copy of ffosolve-many that `lay_many` made."""
+    """Replaces the text `old`, which occurs once, in a module of the copy of ffosolve-many that `lay_many` made."""
     path = many.parent.parent / f"python/src/ffosolve/_many/{module}.py"
     text = path.read_text()
     if text.count(old) != 1:
-        raise AssertionError(f"{path} has {text.count(old)} times: {old}")
+        raise AssertionError(f"{path} has this {text.count(old)} times, not once: {old}")
     path.write_text(text.replace(old, new))
 
 
 class InFolder(unittest.TestCase):
-    """A test whose current folder is empty at first, its own, and readable by everybody."""
+    """A test that runs in a new folder of its own, which everybody may read."""
 
     def setUp(self):
         self.folder = Path(self.enterContext(tempfile.TemporaryDirectory(prefix="ffosolve-test-")))
@@ -133,19 +132,19 @@ class InFolder(unittest.TestCase):
         self.enterContext(contextlib.chdir(self.folder))
 
     def ends(self, wanted, *words, **how):
-        """Asserts a command's status, standard output and standard error, as text or as bytes."""
+        """Runs a command and asserts that its (status, standard output, standard error) is `wanted`."""
         ran = run(*words, **{"text": isinstance(wanted[1], str), **how})
         self.assertEqual((ran.returncode, ran.stdout, ran.stderr), wanted, words)
 
     def start(self, *words, **how):
-        """Starts a command with its output captured, and kills it when the test ends."""
+        """Starts a command with its output captured, and returns the process, which is killed when the test ends."""
         how = {"stdin": subprocess.DEVNULL, "stdout": subprocess.PIPE, "stderr": subprocess.PIPE, **how}
         ran = subprocess.Popen(list(map(str, words)), **how)
         self.addCleanup(lambda: (ran.poll() is None and ran.kill(), ran.communicate()))
         return ran
 
     def cannot_write(self, *words):
-        """Asserts that a command reports a full or closed standard output, and that SIGPIPE ends it if no reader is left."""
+        """Asserts that a command reports a full or closed standard output, and that SIGPIPE ends it if no one reads."""
         for output, why in ((">/dev/full", "No space left on device"), (">&-", "it is closed")):
             ran = run("sh", "-c", f'exec "$0" "$@" {output}', *words)
             error = f"{Path(words[0]).name}: cannot write standard output: {why}\n"
@@ -158,31 +157,31 @@ class InFolder(unittest.TestCase):
 
 
 def wait_until(holds, seconds=SECONDS):
-    """Waits until a call returns something true; fails after these seconds."""
+    """Calls `holds` again and again until it returns something true; fails after so many `seconds`."""
     end = time.monotonic() + seconds
     while not holds():
         if time.monotonic() > end:
-            raise AssertionError(f"that did not come in {seconds} seconds: {holds}")
+            raise AssertionError(f"this did not happen within {seconds} seconds: {holds}")
         time.sleep(0.01)
 
 
 def as_at_a_login():
-    """Restores the signals that end a program, which a caller in the background may ignore; for `preexec_fn`."""
+    """Gives the signals that end a program their default action, even if the tests ignore some; for `preexec_fn`."""
     for number in (signal.SIGINT, signal.SIGTERM, signal.SIGHUP, signal.SIGQUIT):
         signal.signal(number, signal.SIG_DFL)
 
 
 def refuse_threads():
-    """Makes every thread fail to start, since its stack would take more memory than is allowed; for `preexec_fn`."""
+    """Makes every start of a thread fail, since its stack would take more memory than is allowed; for `preexec_fn`."""
     for limit, size in ((resource.RLIMIT_STACK, 1_000_000_000 << 10), (resource.RLIMIT_AS, 500_000_000 << 10)):
         resource.setrlimit(limit, (size, resource.getrlimit(limit)[1]))
 
 
 def processes_in(place):
-    """Returns {number: command line} of the other processes whose current folder is this one or below it."""
+    """Returns {process number: command line} for the other processes whose current folder is `place` or below it."""
     found = {}
     for number in set(filter(str.isdigit, os.listdir("/proc"))) - {str(os.getpid())}:
-        with contextlib.suppress(OSError):  # it has ended, or is another user's
+        with contextlib.suppress(OSError):  # the process has ended, or is another user's
             if os.readlink(f"/proc/{number}/cwd").startswith(str(place)):
                 words = Path(f"/proc/{number}/cmdline").read_bytes()
                 found[int(number)] = words.decode(errors="replace").replace("\0", " ")
@@ -191,16 +190,15 @@ def processes_in(place):
 
 @functools.cache
 def preload(folder):
-    """Compiles tests/preload.c to a library for LD_PRELOAD in a folder, and returns its path."""
+    """Compiles tests/preload.c into a library for LD_PRELOAD, in `folder`, and returns its path."""
     need("cc")
     run("cc", "-shared", "-fPIC", "-O1", "-o", folder / "preload.so", ROOT / "tests/preload.c", "-ldl", check=True)
     return str(folder / "preload.so")
 
 
 def refusals(folder, *words, **how):
-    """Runs a program again and again; run n refuses its nth request for memory, until none is refused.
-
-    Yields (n, the run, whether a request was refused)."""
+    """Runs a program again and again, for n = 1, 2, .., until a run makes fewer than n requests for memory.
+    In run n, the nth request is refused. Yields (n, the ended run, whether a request was refused) after each."""
     number, met, mark = 0, True, folder / "refused"
     while met:
         number += 1

@@ -1,6 +1,6 @@
-"""ffosolve --book-out: where it writes, that a book is written whole, and that no other file is overwritten.
+"""ffosolve --book-out: where it writes, that a book is written whole or not at all, and that no other file is lost.
 
-As root, tests of permissions drop root's rights.
+If root runs them, the tests of permissions run ffosolve without root's rights.
 """
 import os
 import shutil
@@ -14,13 +14,13 @@ TEXT = stored("examples", "first.obf")
 BOOK = stored("examples", "first.book")
 OLD = BOOK + b"% an old book, longer than the new one\n" * 99
 NOTES = b"notes, not a book\n"
-# How a run ends: its status, whether it prints a report, and its error. A place is refused before anything is solved.
+# How a run ends: (status, whether it prints a report, error). A place for a book is refused before anything is solved.
 DONE = (0, True, b"")
 DENIED, IN_THE_WAY = "permission denied", "another file is in the way"
 
 
 def unwritten(cause, name="it.book", prints=False):
-    """Returns how a run ends that can't write its book; the cause, if it is known, is on a second line."""
+    """Returns how a run ends if it can't write its book; the cause, if known, is on a second line."""
     return 3, prints, "".join(f"ffosolve: {line}\n" for line in (f"cannot write {name}", cause) if line).encode()
 
 
@@ -39,18 +39,18 @@ def content(name):
 
 class Books(InFolder):
     def solves(self, wanted, name="it.book", *words, **how):
-        """Asserts how a run with this place for its book ends."""
+        """Runs ffosolve for TEXT with `--book-out NAME`, and asserts that it ends as `wanted` says."""
         ran = run(PROGRAM, "--book-out", name, *words, input=TEXT, **how)
         self.assertTrue(ran.stdout == b"" or ran.stdout.startswith(b"[1]\n"), ran)
         self.assertEqual((ran.returncode, ran.stdout != b"", ran.stderr), wanted)
 
     def left(self, files):
-        """Asserts that the folder has exactly these files, and removes them."""
+        """Asserts that the folder has exactly `files`, which is {name: content}, and removes them."""
         self.assertEqual({name: content(name) for name in os.listdir()}, files)
         for name in files:
             os.remove(name)
 
-    def test_a_book_has_the_scoring_asked_for_whatever_book_was_read_or_stood_there(self):
+    def test_a_book_has_the_scoring_of_its_run_and_not_that_of_the_book_that_is_read(self):
         list_of_one = b"--OOOOO" + b"X" * 57 + b" X\n"
         for scoring, score in (("discs", b"+63"), ("winner", b"+64"), ("sign", b"+01")):
             with self.subTest(scoring=scoring):
@@ -79,8 +79,8 @@ class Books(InFolder):
         for place, folder_mode, file_mode, wanted in (
             ("it.book", 0o555, 0o666, unwritten(DENIED)),
             ("it.book", 0o777, 0o444, unwritten(DENIED)),
-            ("there", 0o777, 0o444, unwritten(DENIED)),  # by a link
-            ("it.book", 0o777, 0o222, UNREAD),  # it might not be a book
+            ("there", 0o777, 0o444, unwritten(DENIED)),  # the target of a link
+            ("it.book", 0o777, 0o222, UNREAD),  # what can't be read might not be a book
             *[("it.book", 0o1777, 0o666, unwritten(DENIED, prints=True))] * (os.getuid() == 0),  # only root may replace root's file
         ):
             with self.subTest(place=place, folder=oct(folder_mode), file=oct(file_mode)):
@@ -93,7 +93,7 @@ class Books(InFolder):
                 self.left({place: OLD, "it.book": OLD})
 
     def watched(self, **more):
-        """Returns an environment in which syncs and renames are recorded in the file WATCHED (tests/preload.c)."""
+        """Returns an environment with the variables `more`, in which tests/preload.c notes syncs and renames."""
         place = Path(PROGRAM).parent
         return {**os.environ, "LD_PRELOAD": preload(place), "WATCHED": str(place / "watched"), **more}
 
@@ -125,8 +125,8 @@ class Books(InFolder):
         self.left({"it.book": BOOK, **others})
 
     def changed_meanwhile(self, place, change, cause):
-        """Makes a change while a run prints its report, and asserts that the run then can't write its book."""
-        write("list", TEXT * 2000)  # whose report is more than a pipe holds
+        """Calls `change` while a run prints its report, and asserts that the run then can't write its book."""
+        write("list", TEXT * 2000)  # its report is more than a pipe holds
         program = self.start(PROGRAM, "--book-out", place, "list", **NOBODY)
         begun = program.stdout.read(1)
         change()
@@ -189,7 +189,7 @@ class Books(InFolder):
     def test_a_full_device_is_reported_and_another_can_be_both_list_and_book(self):
         full = unwritten("no space left", "full", prints=True)
         for name, number, lists, wanted in (("full", 7, [], full), ("null", 3, ["null"], DONE)):
-            if os.getuid() == 0:  # who could replace a device of the machine
+            if os.getuid() == 0:  # root might replace the machine's own device
                 os.mknod(name, stat.S_IFCHR | 0o666, os.makedev(1, number))
             else:
                 os.symlink(f"/dev/{name}", name)
@@ -207,7 +207,7 @@ class Books(InFolder):
                     self.solves(unwritten("it is in use", name), name, *lists)
                     self.assertEqual((content("list"), sorted(os.listdir())), (TEXT, ["link", "list", "other", "twin"]))
 
-    def test_files_with_one_inode_number_on_two_file_systems_are_two(self):
+    def test_files_with_one_inode_number_on_two_file_systems_are_two_files(self):
         if os.geteuid() != 0:
             self.skipTest("only root mounts file systems")
         need("unshare")
@@ -218,7 +218,7 @@ class Books(InFolder):
         ran = run("unshare", "--mount", "sh", "-ec", script, PROGRAM)
         self.assertEqual((ran.returncode, ran.stdout), (0, BOOK), ran.stderr)
 
-    def test_the_book_is_read_before_the_lists_and_these_before_anything_is_printed(self):
+    def test_the_book_is_read_before_the_lists_and_the_lists_before_anything_is_printed(self):
         write("list", TEXT)
         write("bad.book", b"?\n")
         write("large.book", b" " * (MOST_BYTES + 1) + b"\n?")
@@ -236,12 +236,12 @@ class Books(InFolder):
             with self.subTest(words=words):
                 self.ends((3, b"", f"ffosolve: {error}\n".encode()), PROGRAM, *words.split(), stdin=folder)
 
-    def test_files_are_counted_and_measured_then_the_place_is_tried_then_positions_are_solved(self):
+    def test_files_are_counted_and_measured_then_the_place_of_the_book_is_tried_then_positions_are_solved(self):
         write("list", TEXT)
         write("notes", NOTES)
         write("large", b" " * (MOST_BYTES + 1))
-        write("long", b"-" * 27 + b"OX" + b"-" * 6 + b"XO" + b"-" * 27 + b" X\n")  # would never be solved
-        os.mkfifo("pipe")  # would never end
+        write("long", b"-" * 27 + b"OX" + b"-" * 6 + b"XO" + b"-" * 27 + b" X\n")  # solving it would take too long
+        os.mkfifo("pipe")  # reading it would never end
         self.addCleanup(os.close, os.open("pipe", os.O_RDWR))
         too_large = b"ffosolve: file 2 is larger than %d bytes\n" % MOST_BYTES
         for place, error in (("", b"cannot write "), ("no/it.book", b"cannot write no/it.book"),

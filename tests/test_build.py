@@ -1,4 +1,4 @@
-"""What `bin/ffosolve` and make build and when, and what they report, in a small checkout with a fake kit."""
+"""`bin/ffosolve` and make in a small checkout with a fake kit: what they build and when, and what they report."""
 import os
 import re
 import signal
@@ -11,7 +11,8 @@ from tests.checkouts import path_without
 from tests.support import (NOBODY, ROOT, SECONDS, InFolder, as_at_a_login, is_v3, lack, need, processes_in, run,
                            wait_until, write)
 
-# Writes its starts, its descriptors and its standard input to files, and waits, fails or changes a source if the environment says so.
+# A fake rt. Writes its arguments, descriptors and standard input to files, and waits, fails or changes a source if the
+# environment says so. The program that it builds prints what it was made of, its words, its folder and its input.
 RT = r"""#!/bin/sh
 ls -l /proc/$$/fd >>"$STARTS.rt"
 case $1 in
@@ -49,7 +50,7 @@ def setUpModule():
 
 
 class Build(InFolder):
-    """Tests in a small checkout, whose name has a blank."""
+    """Tests in a small checkout. The name of its folder has a blank."""
 
     def setUp(self):
         super().setUp()
@@ -69,31 +70,31 @@ class Build(InFolder):
         self.enterContext(mock.patch.dict(os.environ, places, clear=True))
 
     def use(self, *words, who={}, **environment):
-        """Runs the program to its end."""
+        """Runs `self.script`, by default bin/ffosolve, with these words, as the user `who`, and waits for its end."""
         return run(self.script, *(words or ("w",)), input="read\n", env={**os.environ, **environment}, **HOW, **who)
 
     def begin(self, **environment):
-        """Starts the program. With WAITS, rt waits for the file STARTS.go."""
+        """Starts `self.script`. If `environment` has WAITS, the fake rt waits until there is a file `starts.go`."""
         return self.start(self.script, "w", env={**os.environ, **environment}, **HOW)
 
     def builds(self):
         return self.starts.read_text().count("start")
 
     def ran(self, ran, text, words="<w>", builds=None):
-        """Asserts that a run printed what the program was made of, its words, its folder and its input; returns its errors."""
+        """Asserts that a program made of `text` ran with these words, after `builds` builds; returns its errors."""
         self.assertEqual((ran.returncode, ran.stdout), (3, f"made of {text}\n{words}/\nread\n"), ran.stderr)
         self.assertEqual(self.builds(), builds or self.builds())
         return ran.stderr
 
     def refused(self, ran, words, lines=None):
-        """Asserts that a run ended with status 4 and printed one line after those about the build."""
+        """Asserts that a run ended with status 4, and that the last of its `lines` of errors says why, with `words`."""
         last = ran.stderr.splitlines()[-1]
         self.assertEqual((ran.returncode, ran.stdout), (4, ""), ran)
         self.assertTrue(last.startswith("ffosolve: not built: ") and words in last, ran.stderr)
         self.assertEqual(ran.stderr.count("\n"), lines or ran.stderr.count("\n"), ran.stderr)
 
     def test_the_first_use_of_each_program_builds_it_and_later_ones_only_run_it(self):
-        """They are also used through symlinks."""
+        """The programs are started by their paths, through symlinks, and by sh in the folder bin/."""
         printed = self.ran(self.use("one", "a b"), 1, "<one><a b>", builds=1)
         self.assertTrue(all(line.startswith("ffosolve: ") for line in printed.splitlines()), printed)
         for words in ("minutes", "GB", str(self.log), "ffosolve: 0 min, crate 1 of 2, othello_rules\n"):
@@ -124,8 +125,8 @@ class Build(InFolder):
         self.assertEqual((self.builds(), Path(f"{self.starts}.read").read_text()), (2, ""))
 
     def test_each_change_of_a_source_builds_again_and_a_new_time_does_not(self):
-        """Changes are new text, an older text with its old time, a new, renamed or removed file, and a lower crate. If nothing
-        changed, no source is read."""
+        """The changes are new text, older text with its old time, a new, renamed or removed file, and another file of a
+        crate that is used. If nothing was changed, no source is read."""
         for name in ("out/kept.rt", "must-fail/one.rt"):
             write(self.root / "crates/ffosolve" / name, "")
         self.use()
@@ -133,7 +134,7 @@ class Build(InFolder):
         old = os.stat(self.source)
         write(self.source, "2\n")
         self.ran(self.use(), 2, builds=2)
-        self.assertIn("made of 1", (self.folder / "old").read_text())  # a program that is running keeps its file
+        self.assertIn("made of 1", (self.folder / "old").read_text())  # a running program keeps its file
         write(self.source, "1\n")
         os.utime(self.source, ns=(old.st_atime_ns, old.st_mtime_ns))
         self.ran(self.use(), 1, builds=3)
@@ -144,7 +145,7 @@ class Build(InFolder):
         for builds, change in enumerate(changes, 4):
             change()
             self.ran(self.use(), 1, builds=builds)
-        time.sleep(2.1)  # until the times of the sources are older than the build
+        time.sleep(2.1)  # until the sources are clearly older than the build
         self.use()
         for name in ("out/two.rt", "must-fail/two.rt"):
             write(self.root / "crates/ffosolve" / name, "")
@@ -158,7 +159,7 @@ class Build(InFolder):
         self.ran(self.use(), 1, builds=9)
 
     def test_a_change_within_the_same_second_builds_again(self):
-        """A file's time may lag behind by less than a second."""
+        """A file's time may be up to a second behind the clock."""
         write(self.tools / "date", '#!/bin/sh\necho $(($(/usr/bin/date "$@") + 1))\n')
         self.use()
         write(self.source, "2\n")
@@ -240,14 +241,14 @@ class Build(InFolder):
         kept = self.root / "out" / LEVEL / "ffosolve.o"
         self.refused(self.use(), f"{kept} can't be written")
         self.assertEqual([name for name in os.listdir(kept.parent) if ".new" in name], [])
-        write(self.tools / "mv", '#!/bin/sh\n/usr/bin/mv "$@"\nexit 1\n')  # as if it were ended after that
+        write(self.tools / "mv", '#!/bin/sh\n/usr/bin/mv "$@"\nexit 1\n')  # as if make were ended after the move
         self.refused(self.use(), f"{kept} can't be written")
         (self.tools / "mv").unlink()
         write(self.source, "1\n")
         self.ran(self.use(), 1, builds=4)
 
     def test_a_full_disk_is_reported_and_the_next_run_builds(self):
-        """The disk of out/ is full from the start, or the program fills it."""
+        """The disk that out/ is on is full from the start, or too small for the program."""
         small = 'mount -t tmpfs -o size=40k none out && head -c "$1" /dev/zero >out/filled; shift; exec "$@"'
         (self.root / "out").mkdir()
         space = ["unshare", "-m"] if os.getuid() == 0 else ["unshare", "-r", "-m"]
@@ -260,7 +261,7 @@ class Build(InFolder):
         self.ran(self.use(), 1)
 
     def test_in_a_checkout_of_another_user_a_built_program_runs_and_no_other_is_built(self):
-        """A touched source, or one that can't be read, does not matter."""
+        """The program also runs if a source has a new time, or can't be read."""
         def closed(*changes):
             for *words, name in (("-R", "a-w", "."), *changes):
                 run("chmod", *words, self.root / name, check=True)
@@ -287,11 +288,11 @@ class Build(InFolder):
             for one in (waits, ran):
                 one.send_signal(number)
                 self.assertEqual((one.communicate(timeout=20)[0], one.returncode), ("", -number))
-            wait_until(lambda: not processes_in(self.root), 30)  # the fake rt would stay for 45 seconds
+            wait_until(lambda: not processes_in(self.root), 30)  # the fake rt would wait for 45 seconds
         self.ran(self.use(), 1, builds=5)
 
     def on_a_terminal(self, keys, shown, go=False, columns=80):
-        """Returns the output on a terminal, on which the keys are typed once this text is shown, and the status."""
+        """Runs the script on a terminal, types `keys` once `shown` is printed, and returns (output, status)."""
         words = ["script", "-qec", f"stty cols {columns}; exec '{self.script}' w", "/dev/null"]
         ran = self.start(*words, stdin=subprocess.PIPE, env={**os.environ, "WAITS": "yes"}, **{**HOW, "text": False})
         output, end = b"", time.monotonic() + SECONDS
@@ -317,7 +318,7 @@ class Build(InFolder):
         return run("make", "-s", "-C", self.root, *words, **HOW)
 
     def test_each_level_is_proved_once_and_a_new_version_only_links_the_library_again(self):
-        """A failed link is reported: a tool fails, or a call is undefined."""
+        """If the library can't be linked, because a tool fails or a function is undefined, that is reported."""
         need("cc", "ar", "objcopy", "readelf")
         (self.kit / "c").mkdir()
         crate = "extern int heap_call(void);\nint ffosolve_moves(void) { return heap_call(); }\n"

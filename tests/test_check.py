@@ -1,4 +1,4 @@
-"""How make check runs and counts the modules, and .ci/run adds the gate, in a small checkout with a stand-in for rt."""
+"""How `make check` runs modules and counts tests, and how .ci/run adds the counts of `rt ci`, in a small checkout."""
 import os
 import re
 import shutil
@@ -31,7 +31,7 @@ class Check(InFolder):
         write(f"tests/test_{name}.py", MODULE + tests)
 
     def ends(self, status, last, *texts, words=MAKE, **variables):
-        """Asserts a command's status, its last line, and texts that it prints."""
+        """Runs a command, by default make, and asserts its status, its last line, and that it prints all `texts`."""
         ran = run(*words, env={**self.environment, **variables}, text=True)
         self.assertEqual((ran.returncode, ran.stdout.splitlines()[-1:]), (status, [last]), ran)
         for text in texts:
@@ -39,7 +39,7 @@ class Check(InFolder):
 
     def test_passes_and_failures_are_counted_and_failures_are_shown(self):
         self.ends(2, "0 passed, 0 failed")
-        self.module("check", PASSES)  # the name of a target of make
+        self.module("check", PASSES)  # a module with the name of a target of make
         for tests, passed, failed, shown in (
             (PASSES + PASSES.replace("_a", "_c"), 2, 0, "tests.test_one: 2 passed, 0 failed, in "),
             (PASSES + FAILS + FAILS.replace("_b", "_c"), 1, 2, "AssertionError: 'b' != 2"),

@@ -1,4 +1,4 @@
-"""Programs over the library, as their authors build them, and the packages for Python and Rust."""
+"""Programs that use the library, built as their authors do that, and the packages for Python and Rust."""
 import email
 import inspect
 import os
@@ -15,7 +15,7 @@ from .prefix import CXX, PIP, PREFIX, C, setUpModule
 from .support import ROOT, built, lack, need, run, stored
 import ffosolve
 
-SMALL, LARGE = 9, 10  # positions of examples/masks.txt, without the one of 20 empty squares and with it
+SMALL, LARGE = 9, 10  # positions of examples/masks.txt, without the last, which has 20 empty squares, and with it
 CMAKE = """cmake_minimum_required(VERSION 3.16)
 project(clients C CXX)
 add_executable(program answers.c)
@@ -27,7 +27,7 @@ target_link_libraries(in_cxx ffosolve::ffosolve)
 
 
 def shown(language, *names):
-    """Returns the one code block in a language of the documents, and the output that its comments show."""
+    """Returns the only code block in `language` of some documents, and the output that comments in it show."""
     texts = "".join((ROOT / name).read_text() for name in names or ("README.md", "docs/library.md"))
     (block,) = re.findall(rf"^```{language}\n(.*?)^```$", texts, re.MULTILINE | re.DOTALL)
     return block, "".join(f"{line}\n" for line in re.findall(r"(?:  # |// )(.*)$", block, re.MULTILINE))
@@ -35,7 +35,7 @@ def shown(language, *names):
 
 class Examples(unittest.TestCase):
     def answers(self, *command, count=LARGE):
-        """Checks what an example prints for positions of examples/masks.txt, one with two best moves, and a refused one."""
+        """Asserts what an example prints for `count` positions of masks.txt, for two best moves, and for a refusal."""
         masks, answers = ((ROOT / "examples" / name).read_text().splitlines(True) for name in ("masks.txt", "answers.txt"))
         ran = PREFIX.run(*command, text="".join(masks[:count]))
         self.assertEqual((ran.returncode, ran.stdout), (0, "".join(answers[:count] + answers[LARGE:])), ran.stderr)
@@ -45,7 +45,7 @@ class Examples(unittest.TestCase):
         self.assertEqual((ran.returncode, ran.stdout), (1, ""))
         self.assertIn("position 2: the masks share a square", ran.stderr)
 
-    def test_those_in_c_and_cxx_are_built_by_pkg_config(self):
+    def test_examples_in_c_and_cxx_are_built_by_pkg_config(self):
         need("pkg-config")
         self.assertEqual(PREFIX.make("pkg-config", "--modversion", "ffosolve").stdout.strip(), VERSION)
         flags = shlex.split(PREFIX.make("pkg-config", "--cflags", "--libs", "ffosolve").stdout)
@@ -55,8 +55,8 @@ class Examples(unittest.TestCase):
                 program = PREFIX.compile(compiler, "by-pkg-config", [*words, source], "-x", "none", *flags)
                 self.answers(program, count=count)
 
-    def test_those_in_c_and_cxx_are_built_by_cmake(self):
-        """Takes the CMakeLists.txt of docs/library.md, with either library. A newer version is not found."""
+    def test_examples_in_c_and_cxx_are_built_by_cmake(self):
+        """Uses the CMake code in docs/library.md, with the static and the shared library. Finds no newer version."""
         need("cmake")
         (first, second, _), (block, _) = VERSION.split("."), shown("cmake")
         for name in ("answers.c", "answers.cpp"):
@@ -73,12 +73,12 @@ class Examples(unittest.TestCase):
         self.assertNotEqual(ran.returncode, 0)
         self.assertIn(VERSION, ran.stderr)
 
-    def test_the_one_in_python_runs(self):
+    def test_the_example_in_python_runs(self):
         script = [PREFIX.site and sys.executable, PREFIX.shipped / "examples/python/answers.py"]
         self.answers(*script)
         self.answers(*script, PREFIX.shared, count=SMALL)
 
-    def test_the_one_in_rust_runs(self):
+    def test_the_example_in_rust_runs(self):
         self.assertTrue(PREFIX.crate)
         PREFIX.cargo("build", PREFIX.work / "examples/rust", "--quiet")
         self.answers(PREFIX.work / "target/debug/answers")
@@ -109,7 +109,7 @@ class PythonPackage(unittest.TestCase):
             self.assertTrue(is_refused if why else ran.returncode == 0, ran)
 
     def built(self, source, *kinds):
-        """Returns the paths of the archives that the hooks in a source folder build."""
+        """Builds archives of these kinds, such as "sdist", by the hooks in the folder `source`; returns their paths."""
         hooks = "import sys, ffosolve_wheel as made; [print(getattr(made, f'build_{it}')(sys.argv[1])) for it in sys.argv[2:]]"
         names = PREFIX.make(sys.executable, "-Bc", hooks, PREFIX.work, *kinds, cwd=source / "backend").stdout.split()
         return [PREFIX.work / name for name in names]
@@ -157,7 +157,7 @@ class RustCrate(unittest.TestCase):
                 self.assertGreater(len(passed), 2, ran.stdout)
 
     def test_the_compiler_that_the_manifests_name_takes_crate_and_example(self):
-        for name in ("rust", "examples"):  # without what another cargo has made
+        for name in ("rust", "examples"):  # copies without what another cargo has made
             shutil.copytree(PREFIX.shipped / name, PREFIX.work / "oldest" / name)
         for crate in (PREFIX.work / "oldest/rust", PREFIX.work / "oldest/examples/rust"):
             oldest = re.search(r'^rust-version = "(.+)"$', (crate / "Cargo.toml").read_text(), re.MULTILINE)[1]
@@ -171,7 +171,7 @@ class RustCrate(unittest.TestCase):
         shutil.copytree(PREFIX.libraries, PREFIX.work / "libraries", symlinks=True)
         places = {**PREFIX.environment, "PKG_CONFIG_PATH": "", "FFOSOLVE_LIB_DIR": str(PREFIX.work / "libraries")}
         PREFIX.cargo("test", PREFIX.crate, "--quiet", "--test", "calls", env=places)
-        nowhere = {**PREFIX.environment, "FFOSOLVE_LIB_DIR": "/nowhere"}  # which goes before what pkg-config says
+        nowhere = {**PREFIX.environment, "FFOSOLVE_LIB_DIR": "/nowhere"}  # this has precedence over pkg-config
         ran = PREFIX.run("cargo", "check", "--manifest-path", PREFIX.crate / "Cargo.toml", env=nowhere)
         self.assertNotEqual(ran.returncode, 0)
         why = "/nowhere/libffosolve.a is missing: install ffosolve, or set FFOSOLVE_LIB_DIR to the folder of it"

@@ -1,4 +1,4 @@
-"""What the programs print for --help, --version and command lines that they refuse, before they read anything."""
+"""What the programs print, before they read anything, for --help, --version and command lines that they refuse."""
 import re
 
 from tests.support import ROOT, SECONDS, InFolder, built, run, stored, write
@@ -17,7 +17,7 @@ def unknown(word, option="[OPTIONS]"):
     return f"unexpected argument '{word}' found\n\n  tip: to pass '{word}' as a value, use '-- {word}'" + usage(option)
 
 
-# Command lines, and the errors of the crate clap.
+# Command lines, and for each the error, in the words of the crate clap.
 REFUSED = [
     ("--best", unknown("--best")),
     ("-x", unknown("-x")),
@@ -60,7 +60,7 @@ REFUSED_BY_ONE = {
 class CommandLines(InFolder):
     def setUp(self):
         super().setUp()
-        self.pipe = self.start("sleep", SECONDS).stdout  # that stays empty: a program that read it would wait
+        self.pipe = self.start("sleep", SECONDS).stdout  # stays empty, so a program that reads it waits
 
     def ends(self, wanted, name, *words):
         super().ends(wanted, built(name), *words, stdin=self.pipe)

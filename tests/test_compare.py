@@ -1,4 +1,4 @@
-"""ffosolve-games compare: wrong theoretical scores of a list, and with --fix new WTHOR files with the exact ones."""
+"""ffosolve-games compare: prints the wrong theoretical scores of a list; --fix writes corrected WTHOR files."""
 import os
 import random
 import re
@@ -14,7 +14,8 @@ from .support import ROOT, SECONDS, as_at_a_login, built, limited, run, stored, 
 
 
 class Compare(Case):
-    """Positions of examples/kinds.obf, whose scores are +62, -64 and +32; the first and the last also with exchanged colours."""
+    """Tests with positions of examples/kinds.obf, whose scores are +62, -64 and +32. The first is also listed with the
+    colours exchanged, and the last with the other side to move."""
 
     TWO = "-OXXXXX-XXXXXXXOXXXXXXXXXXXXXXXXXXXOXXXXXXXXXXXXXXXXXXXXXXXXXXXX"
     PASS = "-OOOOOOXXXXXXXXXXXXXXXXXXXXXXXXXXXXXXXXXXXXXXXXXXXXXXXXXXXXXXXXX"
@@ -36,7 +37,7 @@ class Compare(Case):
         self.listed, self.report = self.complete(self.GAMES, self.ROWS)
 
     def complete(self, games, rows):
-        """Returns a list of games with its digest, and a report with these rows and those of the digest."""
+        """Returns `games` followed by their digest, and a whole report of `rows` followed by those of the digest."""
         listed = with_digest(games)
         rows += "".join(line for line in report_of(listed).splitlines(True)[1:-1] if int(line.split()[0]) > games.count("\n"))
         refused = rows.count(" refused: ")
@@ -99,7 +100,7 @@ class Compare(Case):
         self.compare(listed, f"{rows}solved 18 refused 0\n", out="compared 8 differ 0 refused 0 unscored 2\n", err="")
 
     def test_the_report_of_another_game_is_refused(self):
-        """Tries 100 lists of one game, each with the reports of the others."""
+        """Tries 100 lists of one game each, with the reports of all. Each is compared only with its own."""
         from ffosolve._published import Comparison, Unfit
 
         rng, lists = random.Random(8), []
@@ -171,13 +172,13 @@ class Fix(Case):
         self.err = f"new.wtb: theoretical scores changed 2 of {len(self.exact)}, not compared 0"
 
     def write_source(self, content, *words, skipped=()):
-        """Writes it.wtb, and the list and the report of the files that are named."""
+        """Writes `content` into it.wtb, and then the list and the report as `write_list` does."""
         self.whole = content
         write("it.wtb", content)
         self.write_list(*words, skipped=skipped)
 
     def write_list(self, *words, skipped=()):
-        """Writes the list that ffosolve-games prints, and its report, in which the skipped lines are refused."""
+        """Writes the list that ffosolve-games prints for `words`, and its report, which refuses the lines `skipped`."""
         write("list", run(PROGRAM, *words).stdout)
         self.write_report(skipped)
 
@@ -185,7 +186,8 @@ class Fix(Case):
         write("report", report_of(Path("list").read_text(), dict.fromkeys(skipped, "5 empties, limit 4")))
 
     def fix(self, status, err, *words, place="new.wtb", wanted=None, **how):
-        """Runs the program, which may write the new file and no other, and leaves its source unchanged."""
+        """Runs compare --fix and returns its output. Asserts its status, its error, and that it writes only `place`, as
+        `wanted` if that is given, or no file if its status is 3."""
         before = set(os.listdir())
         out, _ = self.games("compare", "list", "report", "--fix", place, *words, status=status, err=f"ffosolve-games: {err}\n", **how)
         self.assertEqual(set(os.listdir()), before | ({place} if status < 3 else set()))
@@ -205,7 +207,7 @@ class Fix(Case):
         self.fix(0, again, place="again.wtb", wanted=self.wanted)
 
     def test_games_that_are_not_compared_stay_as_they_are(self):
-        """One is refused in the report; one has an illegal move, and so is not in the list."""
+        """One game is refused in the report. Another has an illegal move, so it is not in the list."""
         self.records[0] = self.records[0][:8] + b"\x63" + self.records[0][9:]
         self.write_source(wthor(self.records, empties=5), "it.wtb", skipped=[2])
         self.records[5] = self.exact_records[5]
@@ -217,7 +219,7 @@ class Fix(Case):
         self.fix(1, self.err, wanted=self.wanted.removesuffix(b"more"))
 
     def test_real_scores_are_changed_only_if_asked(self):
-        """The first real score is wrong, the second game stops before its end, and the third has an illegal move."""
+        """The first game's real score is wrong, the second game has no end, and the third has an illegal move."""
         self.records[0] = record(self.games_of_file[0], self.published[0], real=70)
         self.records[1] = record(self.games_of_file[1][:-1], self.published[1], real=1)
         self.records[2] = self.records[2][:6] + b"\1" + self.records[2][7:67] + b"\x63"
@@ -245,7 +247,7 @@ class Fix(Case):
         self.assertEqual(os.listdir("new"), ["one.wtb"])
 
     def test_several_files_are_written_all_or_none(self):
-        """The second file is not that of the list, or does not fit on the disk."""
+        """The second file is not the one that the list names, or its copy does not fit on the disk."""
         write("other/two.wtb", self.whole)
         os.mkdir("new")
         self.write_list("it.wtb", "other/two.wtb")
@@ -286,7 +288,7 @@ class Fix(Case):
         self.fix(3, "cannot write '': No such file or directory", place="")
 
     def test_a_file_system_without_hard_links_gets_the_file(self):
-        """The file is on the disk before it gets its name."""
+        """The file is synced to the disk before it gets its name, and it replaces no other file."""
         from ffosolve._fix_wthor import write_new
 
         def sync(file):
@@ -341,7 +343,7 @@ class Fix(Case):
         self.assertEqual(sorted(os.listdir()), ["it.wtb", "list", "new.wtb", "report"])
 
     def test_an_interrupted_run_leaves_no_file_under_the_name(self):
-        """After Ctrl-C it leaves none at all. The same command then writes it."""
+        """After Ctrl-C, it leaves no other file either. The same command then writes the file."""
         write("it.wtb", wthor(self.records, empties=5, count=10 ** 8))
         os.truncate("it.wtb", 16 + 68 * 10 ** 8)
         for number in (signal.SIGINT, signal.SIGKILL):

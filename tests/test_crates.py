@@ -1,4 +1,4 @@
-"""The tests of the crates, unproved, with all runtime checks of `rt try`. The gate proves them."""
+"""Runs the crates' own tests by `rt try`: unproved, but with all runtime checks. `rt ci` proves them."""
 import re
 import unittest
 
@@ -6,7 +6,7 @@ from tests.support import ROOT, need, run
 
 
 class Crates(unittest.TestCase):
-    def test_all_are_in_one_crate_and_pass(self):
+    def test_all_tests_of_crates_are_in_one_crate_and_pass(self):
         need("rt")
         sources = {path: path.read_text().count("#[test]") for path in ROOT.glob("crates/*/src/**/*.rt")}
         crate = ROOT / "crates/crate_tests"
@@ -16,7 +16,7 @@ class Crates(unittest.TestCase):
         self.assertIn("run=ended status=0 ", printed)
         self.assertEqual(len(re.findall(r"^test \S+ \.\.\. ok$", printed, re.M)), sum(sources.values()), printed)
 
-    def test_the_search_in_plain_rust_has_the_counts_that_they_expect(self):
+    def test_the_search_in_plain_rust_has_the_counts_that_those_tests_expect(self):
         need("rustc")
         expected = ROOT / "crates/crate_tests/src/tests/searches/counts.rt"
         self.assertIn(run(ROOT / "bench/run", "counts", text=True, check=True).stdout, expected.read_text())

@@ -1,4 +1,4 @@
-"""make dist and make deb: the packages are reproducible, complete, and work without rt as their READMEs show."""
+"""make dist, deb and wheel: packages are complete and work without rt; two checkouts make the same archive."""
 import hashlib
 import os
 import re
@@ -19,7 +19,7 @@ def git(folder, *words):
 
 
 def git_checkout(folder):
-    """Returns a built copy of this checkout, with one commit that sets the version, and another with the rest."""
+    """Copies the built checkout into a repository of two commits, VERSION and then all the rest; returns its folder."""
     folder = copied_checkout(folder)
     for words in (["init", "-q"], ["add", "VERSION"], ["commit", "-q", "-m", "one"], ["add", "-A"], ["commit", "-q", "-m", "all"]):
         git(folder, *words)
@@ -31,14 +31,14 @@ def make(target, folder, *before, **places):
 
 
 def made(target, file, *where, **places):
-    """Makes a target, and asserts that it prints only the name of its file."""
+    """Makes a target, and asserts that make prints only that it made `file`."""
     ran = make(target, *where, **places)
     if (ran.returncode, ran.stdout, ran.stderr) != (0, f"made: {file}\n", ""):
         raise AssertionError(ran)
 
 
 def needs_libc_alone(test, path):
-    """Asserts that a program or a library needs no other library than the C library, of version 2.34 or older."""
+    """Asserts that a program or library needs only the C library, and no version of that after 2.34."""
     need("readelf")
     versions = re.findall(r"GLIBC_([\d.]+)", run("readelf", "-V", path, text=True).stdout)
     test.assertLessEqual(max(tuple(map(int, version.split("."))) for version in versions), (2, 34), path)
@@ -47,7 +47,7 @@ def needs_libc_alone(test, path):
 
 
 def setUpModule():
-    """Makes the archive in two checkouts, which differ in path, times, umask, locale and time zone."""
+    """Makes the archive in two checkouts that differ in path, times, umask, locale and time zone, and unpacks one."""
     global FIRST_ONE, SECOND_ONE, PACKAGE, NAME, UNPACKED, WITHOUT_RT
     need("make", "git", "rt")
     work = module_folder()
@@ -116,7 +116,7 @@ class Archive(unittest.TestCase):
                 self.assertNotIn(os.fsencode(place), path.read_bytes())
 
     def test_files_that_texts_name_are_there(self):
-        """Documents may also name tests, benchmarks and proofs of the checkout, but no command that they show uses one."""
+        """Files in docs/ may also name tests, benchmarks and proofs of the checkout, but their commands use none."""
         files = [path for path in UNPACKED.rglob("*") if path.is_file()]
         for path in files:
             if path.suffix not in (".md", ".py", ".c", ".rs", ".h", ".toml", ".pc") and path.parent.name != "man1":
@@ -135,7 +135,7 @@ class Archive(unittest.TestCase):
 
 
 def shows(test, readme, count, start):
-    """Runs each command of a package's README and compares its output with what the README shows."""
+    """Runs the `count` commands that a package's README shows by `start`, and asserts the reports that they print."""
     need("cc", "pkg-config", "man")
     text = readme.read_text()
     test.assertLessEqual(len(text.split()), 400)
@@ -230,7 +230,7 @@ class Refused(unittest.TestCase):
         self.assertFalse(archive(SECOND_ONE).exists())
 
 
-# Mounts a layer over each folder that a package is installed into, and runs a command. The mounts end with it.
+# Mounts a layer over each folder into which packages are installed, and runs a command. The mounts end with it.
 APART = """
 room=$1; shift
 for folder in usr etc var; do
@@ -273,7 +273,7 @@ class Debian(InFolder):
         self.ends((0, FIRST, ""), *(Path("root", word) for word in words), env=WITHOUT_RT)
 
     def apart(self, *words, check=True):
-        """Runs a command on this system with layers over its folders, which keep what is written for the next command."""
+        """Runs a command with layers over the system's folders. They get what it writes, and later commands see it."""
         ran = run("unshare", "--mount", "sh", "-euc", APART, "sh", self.folder / "layers", *words, text=True, timeout=None,
                   env={"PATH": "/usr/sbin:/usr/bin:/sbin:/bin", "DEBIAN_FRONTEND": "noninteractive"})
         self.assertFalse(check and ran.returncode, ran)
@@ -301,7 +301,7 @@ class Debian(InFolder):
         self.assertFalse(Path("/usr/bin/ffosolve").exists())
 
     def needed_by_another_package(self):
-        """Installs a package that needs the library, with the dependency that Debian's tools find for a program."""
+        """Asserts that Debian's tools find a program's need of the library, and installs a package with such a need."""
         needs = f"libffosolve1 (>= {PACKAGE})"
         for name, text in (("debian/control", "Source: one\n\nPackage: one\nArchitecture: any\n"),
                            ("one/DEBIAN/control", f"Package: one\nVersion: 1\nArchitecture: all\nMaintainer: A <a@b>\nDescription: a\n"

@@ -1,8 +1,8 @@
-"""What the documents show is what is printed, and what they name is there.
+"""The commands in the documents print what is shown, and the files and names in them exist.
 
-In a fenced block `console`, a command follows `$ `, its further lines `> `, and then comes what it prints on standard
-output and standard error. The commands of a document run in one folder with links to the checkout's files. A block `sh`
-isn't run: it is for another machine, or takes long. Git has to ignore every file that the commands of either leave.
+In a fenced block `console`, `$ ` is before a command, and `> ` before its further lines. Then comes what it prints, on
+standard output and standard error. All commands of a document run in one folder, with links to the checkout's files. A
+block `sh` is not run, since it is for another machine or takes long. Git has to ignore all files that the blocks make.
 """
 import os
 import re
@@ -14,7 +14,7 @@ from tests.support import ROOT, InFolder, built, run, stored
 DOCUMENTS = ["README.md", "CONTRIBUTING.md", *sorted(f"docs/{path.name}" for path in ROOT.glob("docs/*.md"))]
 TEXTS = {name: stored(name).decode() for name in DOCUMENTS}
 END = "\x01end\x01"
-LONGEST = 600  # seconds for the commands of a document, some of which solve hard positions
+LONGEST = 600  # seconds that the commands of a document may take, since some solve hard positions
 
 
 def blocks_of(text, language):
@@ -22,32 +22,32 @@ def blocks_of(text, language):
 
 
 def commands_in(text):
-    """Returns (command, lines shown below it) for each command of the blocks `console`."""
+    """Returns a list of (command, lines shown below it) for the commands in the blocks `console` of a document."""
     found = re.findall(r"^\$ (.*\n(?:> .*\n)*)((?:(?!\$ ).*\n)*)", "".join(blocks_of(text, "console")), re.M)
     return [(command.replace("\n> ", "\n"), stripped(shown)) for command, shown in found]
 
 
 def stripped(text):
-    """Returns the lines of a text without the blanks and CR at their ends, which documents don't keep."""
+    """Returns the lines of a text without blanks and CR at their ends, since documents don't show these."""
     return [line.rstrip() for line in text.splitlines()]
 
 
 def made_by_blocks(text):
-    """Returns the files that the commands of blocks `sh` would make: after `-o` or `>`, or as a folder of ffosolve-many."""
+    """Returns the files that blocks `sh` would make, with relative paths: words after `-o`, `>` or ffosolve-many."""
     block = "\n".join(blocks_of(text, "sh"))
     found = re.findall(r"(?: -o |[^<>&\d]>|bin/ffosolve-many (?:--scheduler \S+ )?)([\w./-]+)", block)
     return [name for name in found if not name.startswith("/")]
 
 
 def is_ignored(name):
-    """Returns whether git ignores a name in the top folder; without git, whether it is `out`."""
+    """Returns whether git ignores a name in the top folder or, in a checkout without git, whether it is `out`."""
     if not (ROOT / ".git").exists():
         return name == "out"
     return run("git", "-C", ROOT, "check-ignore", "-q", "--no-index", name).returncode == 0
 
 
 def printed_by(commands):
-    """Returns what each command prints, run by one shell with an empty standard input."""
+    """Runs commands in one shell, without input. Returns what each prints and, if all have ended, an empty text."""
     end = f"}} </dev/null; status=$?; echo; echo '{END}'; (exit $status)\n"
     words = ("timeout", LONGEST, "bash", "-c", "".join(f"{{ {command}{end}" for command in commands))
     ran = run(*words, timeout=LONGEST + 60, stderr=subprocess.STDOUT, text=True, errors="replace")
@@ -70,7 +70,7 @@ class Commands(InFolder):
     def shows(self, text):
         commands = commands_in(text)
         printed = printed_by([command for command, _ in commands])
-        self.assertEqual(len(printed), len(commands) + 1, f"no end after: {commands[len(printed) - 1:][:1]}")
+        self.assertEqual(len(printed), len(commands) + 1, f"the shell hung at: {commands[len(printed) - 1:][:1]}")
         for (command, shown), output in zip(commands, printed):
             with self.subTest(command=command):
                 self.assertEqual(stripped(output), shown)
@@ -87,7 +87,7 @@ class Commands(InFolder):
 
 
 def defines(sources, word):
-    """Returns whether a file declares a word as a definition, field, function, constant, type or variant."""
+    """Returns whether one of `sources` declares `word`: a definition, field, function, constant, type or variant."""
     kinds = "record|data|fn|const|struct|enum|trait|type"
     forms = rf"(?:[\w()]+ )*{word} *:", rf"(?:[\w()]+ )*(?:{kinds}) {word}\b", rf"{word}[,({{]", rf"pub use [^;]*\b{word}\b"
     declared = re.compile(rf"^ *(?:{'|'.join(forms)})", re.M)
@@ -108,7 +108,7 @@ class Names(unittest.TestCase):
             self.assertEqual([to for to in lost if not re.search(r"/out(/|$)|^share/doc/", to)], [], name)
 
     def test_qualified_names_are_declared(self):
-        """Tests names such as `Rules.flips` of a definition, and `laws::books_are_one` or `Task::new` of code."""
+        """Such names are `Rules.flips`, of a definition, and `laws::books_are_one` or `Task::new`, of code."""
         sources = {path: path.read_text() for path in ROOT.glob("crates/*/src/**/*.rt")}
         for name in ("definitions.md", "guarantees.md", "architecture.md"):
             for owner, mark, word in re.findall(r"`([A-Z]\w*(?=\.)|\w+(?=::))(\.(?!antt|md)|::)(\w+)`", TEXTS[f"docs/{name}"]):
@@ -118,7 +118,7 @@ class Names(unittest.TestCase):
                 self.assertTrue(defines(files, word), f"{name}: {owner}{mark}{word}")
 
     def test_other_names_of_definitions_occur_in_sources(self):
-        """Tests names such as `AreRanked` and `lists_text` in definitions.md."""
+        """Such names in definitions.md are `AreRanked` and `lists_text`."""
         sources = [*ROOT.glob("crates/*/specs/*.antt"), *ROOT.glob("crates/*/src/**/*.rt")]
         words = set(re.findall(r"\w+", "\n".join(source.read_text() for source in sources)))
         named = re.findall(r"`([A-Z]\w*[a-z][A-Z]\w*|[a-z]+_\w+)`", TEXTS["docs/definitions.md"])
