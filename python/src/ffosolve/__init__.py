@@ -1,6 +1,6 @@
 """Exact answers for Othello endgames, by a solver whose answers are proved.
 
-A Position knows the rules. It does not change: each move returns another one.
+A Position knows the rules. It does not change: each move returns a new one.
 
     >>> from ffosolve import Position, Solver
     >>> Position.start().play("F5").legal_moves
@@ -19,18 +19,18 @@ A Solver solves one position, or many. Scores are for the side to move.
     >>> [answer.score for answer in solver.solve_all([position, position.play("A1")], threads=2)]
     [62, -52]
 
-`Solver(max_empties=24)` takes positions with up to 24 empty squares, more than by default. Two more empty squares take some
-3 to 16 times as long.
+By default, a Solver takes positions with up to 20 empty squares; `Solver(max_empties=24)` takes up to 24. A position
+with two more empty squares takes some 3 to 16 times as long.
 
 `read_lines("list.obf")` reads positions from a file of OBF lines, and `read_games("WTH_2001.wtb")` reads games; the positions
 of a game are `solver.positions(game)`. `compare_scores` says how far an evaluation's scores are from those of `ffoscores`.
 
-A notebook shows a position as a picture, also with scores: `position.show(solver.move_scores(position))`.
+A notebook shows a position as a picture. `position.show(solver.move_scores(position))` adds the scores of its moves.
 
-On the main thread, Ctrl-C interrupts every call, and so does any exception of a signal handler. The library can't stop: the
-call goes on in the background until it is done or the program ends. Any threads may call at the same time.
+On the main thread, Ctrl-C interrupts every call, and so does an exception that the handler of another signal raises.
+The library can't stop: it goes on until it is done or the program ends. Several threads may call at the same time.
 
-The shared library libffosolve.so.1 is in the wheel of `make wheel`. Otherwise install it, or give its path:
+The wheel that `make wheel` builds has the shared library libffosolve.so.1. Otherwise install it, or give its path:
 `Solver("FOLDER/libffosolve.so")`. Reading, writing and showing positions needs no library.
 """
 import os

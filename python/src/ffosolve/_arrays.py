@@ -1,4 +1,4 @@
-"""Many positions in arrays. Only this module needs NumPy; the calls with arrays import it."""
+"""Solves positions in NumPy arrays. Only this module needs NumPy; the methods of Solver for arrays import it."""
 import ctypes
 from collections import deque
 from typing import TYPE_CHECKING, Any, List, NamedTuple, Tuple
@@ -12,11 +12,11 @@ from ._rules import refusal_for
 if TYPE_CHECKING:
     from ._solvers import Solver
 
-SIZES = numpy.array([bin(byte).count("1") for byte in range(256)], numpy.uint8)
+SIZES = numpy.array([bin(byte).count("1") for byte in range(256)], numpy.uint8)  # the number of bits in each byte
 
 
 class Answers(NamedTuple):
-    """Many answers: an array for each member, of int32, int32 and uint64."""
+    """The answers for many positions: three arrays of the same length, of int32, int32 and uint64."""
 
     score: Any
     kind: Any
@@ -24,18 +24,19 @@ class Answers(NamedTuple):
 
 
 def masks_of(own: Any, opp: Any) -> Any:
-    """The positions as the library reads them. Raises TypeError and ValueError for other arrays."""
+    """Returns an array with a row (own, opp) for each position, as the library reads them. Raises TypeError unless both
+    arrays are of uint64, and ValueError unless they have one dimension and equal lengths."""
     own, opp = numpy.asarray(own), numpy.asarray(opp)
     if own.dtype != numpy.uint64 or opp.dtype != numpy.uint64:
         raise TypeError("the masks are arrays of uint64")
     if own.ndim != 1 or own.shape != opp.shape:
-        raise ValueError("the masks are two arrays of one dimension and of one length")
+        raise ValueError("the masks are two arrays of one dimension and of equal length")
     return numpy.stack((own, opp), axis=1)
 
 
 def runs_of(solver: "Solver", masks: Any, threads: int) -> List[Tuple[int, int, int]]:
-    """Cuts positions into parts for a number of threads: the indices of each first position and of the one after the last, and
-    the most empty squares. Raises the refusal of the first refused position."""
+    """Cuts positions into parts. Returns for each part the index of its first position, the index after its last one,
+    and the greatest number of empty squares in it. Raises the refusal of the first refused position."""
     own, opp = masks[:, 0], masks[:, 1]
     empties = 64 - SIZES[(own | opp).view(numpy.uint8)].reshape(-1, 8).sum(axis=1, dtype=numpy.int64)
     for index in numpy.flatnonzero((own & opp != 0) | (empties > solver.max_empties)).tolist():
@@ -47,7 +48,7 @@ def runs_of(solver: "Solver", masks: Any, threads: int) -> List[Tuple[int, int, 
 
 
 def found_by(solver: "Solver", call: Any, record: Any, masks: Any, threads: int) -> Any:
-    """What a call writes for each position: an array of the library's `record`."""
+    """Makes a call of the library for positions, and returns an array of what it writes, a `record` for each."""
     found: Any = numpy.empty(len(masks), record)
 
     def call_for(run: Tuple[int, int, int]) -> None:

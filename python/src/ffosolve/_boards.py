@@ -1,4 +1,4 @@
-"""Pictures of boards."""
+"""Shows boards as pictures and as text."""
 import numbers
 import reprlib
 from typing import Dict, Iterator, Mapping, Optional
@@ -20,12 +20,12 @@ def checked_side(side: str) -> str:
 
 
 class Board:
-    """A position to look at: a picture in a notebook, a text when it is printed.
+    """A board that a notebook shows as a picture, and that prints as text.
 
-    `own` and `opp` are the masks of the discs of the side to move and of the other side. `side` is the colour of the side
-    to move, "X" for Black or "O" for White, and `state` follows its name below the board. `scores` has scores by squares'
-    names; they are written into their squares, and the highest are marked. Raises ValueError for another side and for a
-    score in a square that is not empty, and TypeError for a score that is not a number."""
+    `own` and `opp` are the masks of the discs of the side to move and of the other side. `side` is the colour of the
+    side to move, "X" for Black or "O" for White; it is named below the board, followed by `state`. `scores` maps the
+    names of empty squares to scores, which are written into them; the highest are marked. Raises ValueError for another
+    side and for a score whose square is not empty, and TypeError for a score that is not a number."""
 
     def __init__(self, own: int, opp: int, side: str, scores: Optional[Mapping[str, float]] = None,
                  state: str = "is to move") -> None:
@@ -53,7 +53,7 @@ class Board:
     __repr__ = __str__
 
     def _text(self, at: int) -> str:
-        """The text of a square: a letter, or its score, with a star if that is the best one."""
+        """The text of a square: its score, with a star if none is higher, or else `X`, `O` or `-`."""
         if at not in self.scores:
             return self.letters[at]
         return f"{self.scores[at]:+}" + "*" * (self.scores[at] == self.best)
@@ -88,7 +88,8 @@ class Board:
 
 
 def lines(number: int) -> Iterator[str]:
-    """The two lines before a column and a row, and the names of these; after the last ones, only the lines."""
+    """Yields SVG for the line left of a column and the line above a row, and for their labels. For number 8 there are
+    only the lines, which close the board."""
     at, end = MARGIN + number * SQUARE, MARGIN + BOARD
     yield f'<path d="M{at} {MARGIN}V{end}M{MARGIN} {at}H{end}" stroke="{LINES}"/>'
     if number < 8:

@@ -1,4 +1,4 @@
-"""Solves many positions: cuts them into parts, solves these on threads, and yields the results in order."""
+"""Solves many positions: cuts them into parts, solves the parts on threads, and yields the results in order."""
 import queue
 import threading
 import time
@@ -12,26 +12,26 @@ from ._rules import not_a_position, refusal_for, size_of
 A = TypeVar("A")
 B = TypeVar("B")
 
-# A part of this weight is solved in some hundredths of a second. A position weighs 1 up to 8 empty squares, and twice as
-# much with each further one, so from 16 on it has a part of its own.
+# Positions of this weight together are solved in some hundredths of a second. A position with up to 8 empty squares
+# weighs 1, and each further empty square doubles that, so one with 16 is heavy enough for a part of its own.
 MOST_WEIGHT, LIGHTEST = 256, 8
-MOST_SECONDS = 0.01  # the longest wait for more positions before a part is solved
-AHEAD = 32  # parts for each thread, so that a part that takes long does not hold up the other threads
-# A call is brief for one position with 14 empty squares, which takes at most 0.15 s, and for 4 times as many positions with
-# each square less, down to 8.
+MOST_SECONDS = 0.01  # a position that comes later than this after the start of its part is the last one in it
+AHEAD = 32  # parts that are read ahead for each thread, so that a long one does not hold up the other threads
+# A call is brief if it solves one position with 14 empty squares, which takes at most 0.15 s, or 4 times as many
+# positions for each empty square less, down to 8.
 BRIEF = 4096
 
 
 class Part(NamedTuple):
     start: int  # the index of its first position
-    empties: int  # the most empty squares of a position
+    empties: int  # the greatest number of empty squares in a position
     positions: List[Sequence[int]]
-    refusal: Optional[Refused] = None  # of the position after them, with which the parts end
+    refusal: Optional[Refused] = None  # of the position after them; then there are no further parts
 
 
 def parts_of(positions: Iterable[Sequence[int]], max_empties: int, most_weight: float = MOST_WEIGHT,
              most_seconds: float = MOST_SECONDS) -> Iterator[Part]:
-    """Cuts positions into parts, up to the first refused one."""
+    """Yields positions in parts. If one is refused, the part of those before it is the last, and has the refusal."""
     clock = time.monotonic
     start, most, weight, part, end = 0, 0, 0, [], clock() + most_seconds  # type: ignore[var-annotated]
     for position in positions:
@@ -59,7 +59,7 @@ def checked_threads(threads: int) -> int:
 
 
 def in_order(call: Callable[[A], B], parts: Iterable[A], threads: int) -> Iterator[B]:
-    """Yields what a call returns for each part, in their order, each as soon as it is known."""
+    """Yields what `call` returns for each part, in the order of the parts; up to `threads` threads make the calls."""
     if threads == 1:
         yield from map(call, parts)
         return
@@ -85,21 +85,21 @@ def in_order(call: Callable[[A], B], parts: Iterable[A], threads: int) -> Iterat
 
 
 def interruptible(call: Callable[..., A], count: int, empties: int, *arguments: Any) -> A:
-    """What a call of the library returns for `count` positions with at most `empties` empty squares. Unless it is brief, the
-    main thread lets another one make it: so Ctrl-C can raise an exception at once, while the call itself goes on."""
+    """Makes a call of the library for `count` positions with at most `empties` empty squares, and returns its result.
+    Another thread makes the longer calls of the main thread, so that Ctrl-C can raise an exception while they go on."""
     is_brief = count << 2 * max(0, empties - LIGHTEST) <= BRIEF
     if is_brief or threading.current_thread() is not threading.main_thread():
         return call(*arguments)
     future: "Future[A]" = Future()
     try:
         start_worker([(future, arguments)], lambda them: call(*them))
-    except RuntimeError:  # the system has no thread left
+    except RuntimeError:  # no further thread can be started
         return call(*arguments)
     return future.result()
 
 
 def start_worker(tasks: Iterable[Tuple["Future[B]", A]], call: Callable[[A], B]) -> None:
-    """Starts a thread that makes a call for each task. The process ends without waiting for it."""
+    """Starts a daemon thread, which makes a call for each (Future, argument) and puts the result into the Future."""
 
     def work() -> None:
         for future, part in tasks:

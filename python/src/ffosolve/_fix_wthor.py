@@ -1,4 +1,4 @@
-"""WTHOR files with exact scores, written as new files."""
+"""Writes copies of WTHOR files, with exact scores."""
 import contextlib
 import os
 from typing import BinaryIO, Dict, Iterable, Iterator, List, Mapping, Optional
@@ -10,9 +10,9 @@ from ._published import Compared, Unfit
 
 
 class Fixed:
-    """The bytes of a WTHOR file with the exact scores of the games that were compared, and if `with_real` with the real scores
-    that the moves have. A header without a number of empty squares gets that of the positions. No other byte is changed.
-    Iterating raises Unfit if this is not the file of the comparison."""
+    """Iterates over the bytes of a WTHOR file, with the exact theoretical scores of the compared games and, if
+    `with_real`, with the real scores that follow from the moves. A header without the number of empty squares gets that
+    of the compared positions. No other byte changes. Raises Unfit if this is not the file that was compared."""
 
     def __init__(self, name: str, file: BinaryIO, compared: List[Compared], player: Player, with_real: bool) -> None:
         self._name, self._file, self._player, self._with_real = name, file, player, with_real
@@ -20,7 +20,7 @@ class Fixed:
         self._games = self._changed = self._real_changed = self._real_unknown = 0
 
     def summary(self) -> str:
-        """Says how many scores were changed and how many not compared; call it after all bytes were read."""
+        """Returns text that counts the scores that were changed and those not compared. Call it after the iteration."""
         others = self._games - len(self._compared)
         real = f"; real scores changed {self._real_changed}, not checked {self._real_unknown}" if self._with_real else ""
         return f"theoretical scores changed {self._changed} of {self._games}, not compared {others}{real}"
@@ -42,7 +42,7 @@ class Fixed:
         yield from iter(lambda: self._file.read(1 << 20), b"")
 
     def _exact_header(self, header: bytearray, empties: int) -> bytearray:
-        """The header with the number of empty squares of all positions that were compared."""
+        """Returns the header with the compared positions' number of empty squares. Raises Unfit unless all agree."""
         for it in self._compared.values():
             compared = it.position.empties
             if compared != (empties := empties or compared):
@@ -51,7 +51,7 @@ class Fixed:
         return header
 
     def _exact(self, record: bytearray) -> bytearray:
-        """The next game of the file with its exact scores. Raises Unfit if it is not the one that was compared."""
+        """Returns a game's record with the known exact scores. Raises Unfit if it is not the game that was compared."""
         game, it = game_of(self._games, bytes(record)), self._compared.get(self._games)
         if it is not None:
             played = self._played(game, it.position.empties)
@@ -80,9 +80,9 @@ class Fixed:
 
 
 def write_new(files: Mapping[str, Iterable[bytes]]) -> None:
-    """Writes new files, each under its path, once all of them are complete and on the disk. Raises FileExistsError if one is
-    there, and OSError; the error's `filename` is the path."""
-    complete: Dict[str, str] = {}  # a file next to each path
+    """Writes new files: `files` maps each path to its content. No file appears before all contents are on the disk.
+    Raises FileExistsError if a path exists, and OSError; the error's `filename` is the path."""
+    complete: Dict[str, str] = {}  # for each path, a temporary file next to it
     try:
         for path, pieces in files.items():
             complete[path] = f"{path}.{os.urandom(4).hex()}.new"
@@ -92,7 +92,7 @@ def write_new(files: Mapping[str, Iterable[bytes]]) -> None:
                 os.fsync(file.fileno())
         for path, written in complete.items():
             try:
-                os.link(written, path)  # which never replaces another file
+                os.link(written, path)  # never replaces a file, unlike os.rename
             except FileExistsError:
                 raise
             except OSError:  # a file system without hard links

@@ -1,4 +1,4 @@
-"""Games: reads transcripts and WTHOR files, and plays games by the library's rules."""
+"""Reads games from transcripts and WTHOR files, and plays them by the library's rules."""
 import contextlib
 import ctypes
 import io
@@ -16,21 +16,21 @@ from ._transcripts import PASSES, words_of
 
 PASS, NO_SQUARE = 64, 255  # instead of a square's number
 WORDS = {**{name.lower(): number for number, name in enumerate(NAMES)}, **dict.fromkeys(PASSES, PASS)}
-HEADER = struct.Struct("<4x I H 2x B B B x")  # games, another number, size of the board, kind, empty squares
-EMPTIES_BYTE = 14  # of the header: the empty squares
-RECORD, REAL, SCORE, FIRST_MOVE = 68, 6, 7, 8  # bytes of a game, and places in it
+HEADER = struct.Struct("<4x I H 2x B B B x")  # games, other records, size of the board, kind, empty squares
+EMPTIES_BYTE = 14  # in the header: the number of empty squares
+RECORD, REAL, SCORE, FIRST_MOVE = 68, 6, 7, 8  # the length of a game's record in bytes, and offsets in it
 MOST_DISCS = 64
-# Squares by their bytes in a WTHOR file: ten times the row, plus the column.
+# The number of the square that each byte stands for in a WTHOR file: ten times the row plus the column, both from 1.
 SQUARES = bytes(WORDS.get(f"{chr(96 + byte % 10)}{byte // 10}", NO_SQUARE) for byte in range(256))
-TEXT = bytes([*b"\t\n\v\f\r", *range(32, 256)])  # first bytes of a text; that of a WTHOR file, the century, is another
+TEXT = bytes([*b"\t\n\v\f\r", *range(32, 256)])  # a text begins with one of these; a WTHOR file begins with the century
 
 
 class NotGames(NotText):
-    """A file is neither a text nor a WTHOR file of games."""
+    """The file is neither a text nor a WTHOR file of games."""
 
 
 class GameRefused(ValueError):
-    """A game can't be read or played. `game` is its number, and `move` the number of the wrong move, from 1, or None."""
+    """A game can't be read or played. `game` and `move` are numbers from 1; `move` is None without a wrong move."""
 
     def __init__(self, reason: str, game: int, move: Optional[int] = None) -> None:
         super().__init__(f"game {game}" + ("" if move is None else f", move {move}") + f": {reason}")
@@ -41,55 +41,55 @@ class GameRefused(ValueError):
 
 
 class Game(NamedTuple):
-    """A game as it is in a file, right or wrong.
+    """A game as a file has it; its moves may be illegal and its scores wrong.
 
-    `number` counts from 1: it is the game's line in a text, or its place in a WTHOR file. The scores of a WTHOR file are
-    Black's discs, 0 to 64; the winner gets the empty squares. `score` is the theoretical score: perfect play from the
-    position with `empties` empty squares on. That is None if the file does not say it. `real` is the score of the game as
-    it was played.
+    `number` counts from 1: it is the game's line in a text, or its place in a WTHOR file. Only a WTHOR file has scores.
+    They are Black's discs, 0 to 64, where the winner gets the empty squares. `score` is the theoretical score, after
+    perfect play from the position with `empties` empty squares; `empties` is None if the file does not say it. `real`
+    is the score of the game as it was played.
     """
 
     number: int
     moves: Sequence[int] = ()  # squares' numbers, PASS or NO_SQUARE
-    words: Sequence[object] = ()  # each move as it is written
+    words: Sequence[object] = ()  # each move as the file has it: a word in small letters, or a byte
     score: Optional[int] = None
     real: Optional[int] = None
-    fault: Optional[str] = None  # why it can't be read
+    fault: Optional[str] = None  # why it can't be read, or None
     empties: Optional[int] = None
 
     @classmethod
     def of_text(cls, text: str, number: int = 1) -> "Game":
-        """The game of a transcript: its squares, such as `f5d6c3` or `1. F5 2. D6`, with blanks, commas, hyphens or nothing
-        between them, and with or without move numbers. A pass is left out, or written `pass`, `ps`, `pa` or `--`. A result
-        at the end, such as `33-31`, is skipped, and so is everything from `%` on."""
+        """The game of a transcript such as `f5d6c3` or `1. F5 2. D6`: squares with blanks, commas, hyphens or nothing
+        between them, and with or without move numbers. A pass may be left out, or written `pass`, `ps`, `pa` or `--`. A
+        result at the end, such as `33-31`, is skipped, and so is everything from `%` on."""
         words = words_of(text)
         return cls(number, [WORDS.get(word, NO_SQUARE) for word in words], words)
 
     @property
     def squares(self) -> List[str]:
-        """The names of the squares that were moved to, "F5", "D6", .., without passes. A word that is not a square stays
-        as it is written."""
+        """The names of the squares that were played, "F5", "D6", .., without passes. A word that is not a square is
+        kept, in small letters."""
         names = zip(self.moves, self.words)
         return [str(word) if move == NO_SQUARE else square_name(move) for move, word in names if move != PASS]
 
 
 class Played(NamedTuple):
-    """A game that was played to its end."""
+    """What `Player.play` finds in a game."""
 
     position: Position  # the first one with the wanted number of empty squares
-    discs: Optional[int]  # Black's at the end, with the empty squares to the winner; None if the moves stop before
+    discs: Optional[int]  # Black's at the end, where the winner gets the empty squares; None if the moves stop earlier
 
 
 def read_games(
     source: "Union[str, os.PathLike[str], io.BufferedIOBase, io.RawIOBase]",
     refused: Optional[Callable[[GameRefused], object]] = None,
 ) -> Iterator[Game]:
-    """The games of a file, in their order. `source` is its path, or the file itself, opened for bytes. It is a WTHOR file, or
-    a text with a game in each line, in any form that `Game.of_text` reads; lines without a move are skipped.
+    """Yields the games of a file in their order. `source` is its path, or the file opened for bytes. It is a WTHOR
+    file, or a text with a game in each line, in any form that `Game.of_text` reads; lines without a move are skipped.
 
-    GameRefused is raised if a WTHOR file is cut off, or goes on after its last game. If `refused` is given, it is called
-    with the error instead. Illegal moves are refused by `Solver.positions`. Raises OSError, and ValueError for a file of
-    another kind. This prints the games with wrong theoretical scores:
+    Raises GameRefused if a WTHOR file ends too early or goes on after its last game; if `refused` is given, it is
+    called with the error instead. An illegal move is refused only by `Solver.positions`. Raises OSError, ValueError for
+    a file of another kind, and TypeError for another source. This prints the games with wrong theoretical scores:
 
         solver = Solver(max_empties=24)
         for game in read_games("WTH_2001.wtb"):
@@ -119,8 +119,8 @@ def read_games(
 
 
 def games_in(file: Any, name: str) -> Tuple[Iterator[Game], Optional[int]]:
-    """The games of a file, and how many squares are empty at its theoretical scores: 0 if a WTHOR file does not say it, None
-    for a text. Raises NotGames, and NotText while the games are read."""
+    """Returns the games of a file, and how many squares are empty in the positions of their theoretical scores: 0 if a
+    WTHOR file does not say it, None for a text. Raises NotGames; iterating over the games may raise NotText."""
     if not name.lower().endswith(".wtb") and file.peek(1)[:1].strip(TEXT) == b"":
         return transcripts(file, name), None
     try:
@@ -131,7 +131,7 @@ def games_in(file: Any, name: str) -> Tuple[Iterator[Game], Optional[int]]:
 
 
 def transcripts(file: BinaryIO, name: str) -> Iterator[Game]:
-    """The games of a text, one for each line with a move. Raises NotText."""
+    """Yields the game of each line of a text that has a move. Raises NotText."""
     for number, line in enumerate(text_lines(file, name), 1):
         game = Game.of_text(line.decode("utf-8", "replace"), number)
         if game.moves:
@@ -139,8 +139,8 @@ def transcripts(file: BinaryIO, name: str) -> Iterator[Game]:
 
 
 def read_header(file: BinaryIO) -> Tuple[int, int]:
-    """The number of games in the header of a WTHOR file, and that of empty squares at their theoretical scores. Raises
-    NotGames."""
+    """Reads the header of a WTHOR file. Returns the number of games, and the number of empty squares in the positions
+    of their theoretical scores, or 0 if the header does not say it. Raises NotGames."""
     head = file.read(HEADER.size)
     if len(head) < HEADER.size:
         raise NotGames(f"it ends within its header of {HEADER.size} bytes" if head else "it is empty")
@@ -158,7 +158,7 @@ def read_header(file: BinaryIO) -> Tuple[int, int]:
 
 
 def records(file: BinaryIO, count: int, empties: int) -> Iterator[Game]:
-    """The games of a WTHOR file, after its header."""
+    """Yields the games that follow the header of a WTHOR file. If there are not `count`, the last one has a fault."""
     counts = f"its header counts {count} game{'s' * (count != 1)}"
     for number in range(1, count + 1):
         record = file.read(RECORD)
@@ -172,19 +172,19 @@ def records(file: BinaryIO, count: int, empties: int) -> Iterator[Game]:
 
 
 def game_of(number: int, record: bytes) -> Game:
-    """The game with a number in a WTHOR file, from its bytes."""
+    """The game with a number in a WTHOR file, from the bytes of its record."""
     written = record[FIRST_MOVE:].rstrip(b"\0")
     return Game(number, written.translate(SQUARES), written, record[SCORE], record[REAL])
 
 
 def final_score(own: int, opp: int) -> int:
-    """The mover's score of a finished game: discs minus the other side's; the winner gets the empty squares."""
+    """The score of a finished game for the mover: `own` discs minus `opp` discs; the winner gets the empty squares."""
     mine, theirs = bin(own).count("1"), bin(opp).count("1")
     return mine - theirs + (64 - mine - theirs) * ((mine > theirs) - (mine < theirs))
 
 
 def discs_of_black(score: int, side: str) -> int:
-    """Black's discs by the score of the mover, who is "X" (black) or "O" (white)."""
+    """The number of Black's discs, given the score for the mover, who is "X" (Black) or "O" (White)."""
     return 32 + (score if side == "X" else -score) // 2
 
 
@@ -195,8 +195,8 @@ class Player:
         self._library, self._play, self._moves = library, library.ffosolve_play, library.ffosolve_moves
 
     def play(self, game: Game, empties: int) -> Played:
-        """A game's first position with a number of empty squares, and how the game ends. It is played to its end, since an
-        illegal move shows that an earlier one may be wrong. Raises GameRefused."""
+        """Plays a whole game. Returns its first position with `empties` empty squares, and the discs at the end. Raises
+        GameRefused if there is no such position, and for any illegal move: an earlier one may then be wrong, too."""
         found = self._played(game)
         last = position_of(*found[-1])
         if last.empties > empties:
@@ -213,7 +213,7 @@ class Player:
         return [position_of(*it) for it in self._played(game)]
 
     def _played(self, game: Game) -> List[Tuple[CPosition, str]]:
-        """The positions of a game, each with the side to move. Raises GameRefused."""
+        """The positions of a game, as `positions` returns them, each with the side to move. Raises GameRefused."""
         if game.fault is not None:
             raise GameRefused(game.fault, game.number)
         play, at, side = self._play, CPosition(*START), START.side

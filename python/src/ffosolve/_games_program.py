@@ -73,7 +73,7 @@ DONE, REMARKED, MISUSED, UNREADABLE, NO_LIBRARY, INTERRUPTED = 0, 1, 2, 3, 4, 13
 
 
 class Stop(Exception):
-    """Ends the program with a line on standard error and a status."""
+    """Ends the program, with the text as a line on standard error, and with `status`."""
 
     def __init__(self, reason: str, status: int = UNREADABLE) -> None:
         super().__init__(reason)
@@ -81,16 +81,16 @@ class Stop(Exception):
 
 
 class FileRefused(Stop):
-    """Ends the reading of one file; the others are still read."""
+    """A file is refused. `print_games` reports it and goes on with the next file; `compare` ends."""
 
 
 class Output:
-    """Standard output, and the digest of the games that were printed. Raises Stop if it can't be written."""
+    """Standard output, and a digest of the games that were printed. Raises Stop if standard output can't be written."""
 
     def __enter__(self) -> "Output":
         if sys.stdout is None:
             raise Stop("cannot write standard output: it is closed")
-        sys.stdout = open(1, "w", closefd=False)  # that of PYTHONUNBUFFERED loses what a write on a full disk left over
+        sys.stdout = open(1, "w", closefd=False)  # PYTHONUNBUFFERED's loses the rest of a partial write
         self._games, self._has_scores = hashlib.sha256(), False
         return self
 
@@ -101,7 +101,7 @@ class Output:
             raise unwritable("standard output", error) from None
 
     def game(self, name: str, game: Game, position: Position) -> None:
-        name = shown(name) if any(letter < " " for letter in name) else name  # by which `compare --fix` opens the file
+        name = shown(name) if any(letter < " " for letter in name) else name  # `compare --fix` opens it
         score = "" if game.score is None else f", theoretical score {game.score}"
         line = os.fsencode(f"{position.to_obf()} % {name}, game {game.number}{score}")
         self.line(line)
@@ -109,7 +109,7 @@ class Output:
         self._has_scores |= game.score is not None
 
     def end(self) -> None:
-        """Prints the digest, if a line has a theoretical score."""
+        """Prints the digest, if a printed game has a theoretical score."""
         for line in digest_of(self._games) if self._has_scores else ():
             self.line(line)
 
@@ -117,7 +117,7 @@ class Output:
         try:
             sys.stdout.flush()
         except OSError as error:
-            os.dup2(os.open(os.devnull, os.O_WRONLY), 1)  # for the rest, which Python would try to write when it ends
+            os.dup2(os.open(os.devnull, os.O_WRONLY), 1)  # takes the rest, which Python tries to write when it ends
             raise unwritable("standard output", error) from None
 
 
@@ -128,7 +128,7 @@ def number_of_empties(word: str) -> int:
 
 
 def options_of(words: List[str]) -> argparse.Namespace:
-    """The options in the words of the command line. If the first word is `compare`, `files` are LIST and REPORT."""
+    """The options on the command line. If it begins with `compare`, `compares` is true and `files` has two files."""
     parser = argparse.ArgumentParser(
         NAME, usage=USAGE, description=WHAT, epilog=MORE, formatter_class=argparse.RawDescriptionHelpFormatter,
         allow_abbrev=False)
@@ -160,7 +160,7 @@ def options_of(words: List[str]) -> argparse.Namespace:
 
 def main(find: Callable[[], Optional[str]] = lambda: None) -> int:
     """Runs the program with this process's command line, and returns its status. `find` returns the path of the library, or
-    None if the package has to look for it."""
+    None if the package is to look for it."""
     signal.signal(signal.SIGPIPE, signal.SIG_DFL)  # if nothing reads the output any more, the program ends silently
     try:
         with Output() as output:
@@ -187,7 +187,8 @@ def print_games(options: argparse.Namespace, find: Callable[[], Optional[str]], 
 
 
 def print_file(name: str, file: io.BufferedReader, wanted: Optional[int], player: Player, output: Output) -> int:
-    """Prints the line of each game of a file, and reports on standard error each game without one, and wrong scores."""
+    """Prints a line for each game of a file, or reports on standard error why it has none. Reports wrong scores, too.
+    The positions have `wanted` empty squares, or if that is None, as many as the file says. Returns the status."""
     status = DONE
     games, of_scores = games_in(file, shown(name))
     empties = of_scores if wanted is None else wanted
@@ -211,7 +212,7 @@ def print_file(name: str, file: io.BufferedReader, wanted: Optional[int], player
 
 
 def wrong_scores(game: Game, played: Played) -> Iterator[str]:
-    """Yields the faults in the scores of a WTHOR game that its moves show."""
+    """Yields a message for each score of a game that is out of range, does not fit its moves, or can't be checked."""
     for kind, score in (("theoretical", game.score), ("real", game.real)):
         if score is not None and score > MOST_DISCS:
             yield f"its {kind} score is {score}, more than {MOST_DISCS} discs"
@@ -222,7 +223,7 @@ def wrong_scores(game: Game, played: Played) -> Iterator[str]:
 
 
 def compare(options: argparse.Namespace, find: Callable[[], Optional[str]], output: Output) -> int:
-    """Prints the wrong theoretical scores of a list, after writing the WTHOR files with --fix."""
+    """Prints the wrong theoretical scores of a list; with --fix, writes the WTHOR files first. Returns the status."""
     listed, solved = options.files
     try:
         found = Comparison(lines_of(listed), lines_of(solved))
@@ -241,7 +242,7 @@ def compare(options: argparse.Namespace, find: Callable[[], Optional[str]], outp
 
 
 def fix(place: str, compared: Sequence[Compared], player: Player, with_real: bool) -> None:
-    """Writes the WTHOR files of a comparison with exact scores."""
+    """Writes copies of the compared WTHOR files, with exact scores, to a new file or into a folder."""
     of_files: Dict[str, List[Compared]] = {}
     for it in compared:
         of_files.setdefault(it.file, []).append(it)
@@ -267,7 +268,7 @@ def fix(place: str, compared: Sequence[Compared], player: Player, with_real: boo
 
 
 def places_of(place: str, names: Sequence[str]) -> Dict[str, str]:
-    """The WTHOR files of a list by the paths of their fixed copies."""
+    """Maps the path of each copy that --fix writes to the name of its WTHOR file. Raises Stop if not all fit."""
     if os.path.isdir(place):
         places = {os.path.join(place, os.path.basename(name)): name for name in names}
     elif len(names) == 1:
@@ -280,7 +281,7 @@ def places_of(place: str, names: Sequence[str]) -> Dict[str, str]:
 
 
 def opened_again(name: str) -> io.BufferedReader:
-    """Opens a WTHOR file that a list names. Raises Stop."""
+    """Opens a WTHOR file that a list names. Raises Stop if it can't be read or is not a regular file."""
     try:
         if not stat.S_ISREG(os.stat(name).st_mode):
             raise Stop(f"{shown(name)}, which the list names, is not a regular file")
@@ -296,7 +297,7 @@ def lines_of(name: str) -> Iterator[bytes]:
 
 @contextlib.contextmanager
 def opened(name: str) -> Iterator[io.BufferedReader]:
-    """Opens a file, or standard input for `-`. What is wrong with it is raised as FileRefused."""
+    """Opens a file, or standard input for `-`. Turns OSError and NotText, also while it is read, into FileRefused."""
     try:
         with open(0 if name == "-" else name, "rb", closefd=name != "-") as file:
             yield file
@@ -315,7 +316,7 @@ def unwritable(name: str, error: OSError) -> Stop:
 
 
 def report(reason: object, status: int) -> int:
-    """Prints a line on standard error, if that can be written, and returns the status."""
+    """Prints a line on standard error, if that can be written, and returns `status`."""
     with contextlib.suppress(OSError):
         print(f"{NAME}: {reason}", file=sys.stderr or io.StringIO(), flush=True)
     return status

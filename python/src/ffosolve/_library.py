@@ -29,9 +29,9 @@ class CMoveScores(ctypes.Structure):
 
 
 def places() -> List[str]:
-    """Where to look for the library if no path is given, in order: the path in the environment variable FFOSOLVE_LIBRARY, or
-    else this package, if it was installed with the library, for the best level of processors that loads; the search path
-    of the system's loader; `lib` of this Python; /usr/local/lib."""
+    """Returns where to look for the library if no path is given: only the path in the environment variable
+    FFOSOLVE_LIBRARY, if that is set; otherwise the libraries in this package, that for newer processors first; NAME,
+    which the system's loader looks up; `lib` of this Python; and /usr/local/lib."""
     named = os.environ.get("FFOSOLVE_LIBRARY")
     if named:
         return [named]
@@ -41,7 +41,7 @@ def places() -> List[str]:
 
 
 def load(path: Union[str, "os.PathLike[str]", None] = None) -> ctypes.CDLL:
-    """Loads the library with a path, or else the first that is found. Raises LibraryNotFound."""
+    """Loads the library at `path`, or if that is None, the first of `places()` that loads. Raises LibraryNotFound."""
     errors = []
     for place in [os.path.abspath(path)] if path is not None else places():
         try:
@@ -53,7 +53,7 @@ def load(path: Union[str, "os.PathLike[str]", None] = None) -> ctypes.CDLL:
 
 
 def loaded() -> ctypes.CDLL:
-    """A library that is loaded already, or else the first that is found. All of them play by the same rules."""
+    """Returns the library that was loaded first, or loads one. All libraries play by the same rules."""
     return _loaded[0] if _loaded else load()
 
 

@@ -32,11 +32,11 @@ class Masks(NamedTuple):
 class Position(Masks):
     """The masks of the discs of the side to move (`own`) and of the other side (`opp`), and the colour of the side to move.
 
-    Square A1 is bit 0 of a mask and H8 bit 63. Any two numbers make a Position; the rules and a Solver refuse impossible
-    ones. `side` is "X" (black) or "O" (white). Positions are printed and shown in their colours, but no answer depends on
-    them: positions with equal masks are equal. Raises ValueError for another side.
+    Square A1 is bit 0 of a mask and H8 bit 63. The masks are checked only by the rules and by a Solver, not when a
+    Position is made. `side` is "X" (Black) or "O" (White). Positions are printed and shown in their colours, but no
+    answer depends on them: positions with equal masks are equal. Raises ValueError for another side.
 
-    A position does not change: `play`, `play_all` and `passed` return another one. The shared library knows the rules, so
+    A position does not change: `play`, `play_all` and `passed` return a new one. The shared library knows the rules, so
     `legal_moves`, `must_pass`, `is_over`, `play`, `play_all` and `score` raise LibraryNotFound without it. They raise
     SharedSquare if the masks share a square.
     """
@@ -56,8 +56,8 @@ class Position(Masks):
 
     @classmethod
     def from_obf(cls, text: Union[str, bytes]) -> "Line":
-        """The position of a line of OBF text, with the moves that it lists. The line has 64 squares from A1 on, the side
-        to move, and fields such as `H1:+62;`.
+        """The position of a line of OBF text, with the moves that the line lists. The line has 64 squares from A1 on,
+        the side to move, and fields such as `H1:+62;`.
 
         Black is one of `X x * B b`, white one of `O o W w`, and an empty square `-` or `.`. Blanks before the squares and
         before the side are skipped. Raises NoPosition, ShortBoard, BadSquare and BadSide, which are ValueErrors, and
@@ -91,13 +91,13 @@ class Position(Masks):
         return not self.legal_moves and not self.passed().legal_moves
 
     def play(self, square: Union[int, str]) -> "Position":
-        """The position after a move to a square, which is a name such as "F5" or a number from 0 to 63. Then the other
-        side is to move. Raises NoMove, which is a ValueError."""
+        """The position after a move, in which the other side is to move. `square` is a name such as "F5" or a number
+        from 0 to 63. Raises NoMove, which is a ValueError, and ValueError for another name."""
         return Position(*play(loaded(), self, square), OTHER[self.side])
 
     def play_all(self, squares: Union[str, Iterable[Union[int, str]]]) -> "Position":
         """The position after the moves of a transcript such as "f5d6c3", in any form that `Game.of_text` reads, or of a
-        list of squares. A pass may be written or left out. Raises NoMove, which names the move's number."""
+        list of squares. A pass may be written or left out. Raises NoMove, whose text has the number of the move."""
         if not hasattr(squares, "__iter__"):
             raise TypeError(f"moves are a transcript or a list of squares, not {reprlib.repr(squares)}")
         position = self
@@ -126,10 +126,10 @@ class Position(Masks):
 
     def show(self, scores: Union[Mapping[str, float], Answer, None] = None, side: Optional[str] = None) -> Board:
         """The board, which a notebook shows as a picture and print() as text. `scores` from `Solver.move_scores` are
-        written into their squares, and the best ones are marked. An Answer's score is written into each best move, or
-        below the board for a pass or a finished game. The side to move has its own colour, or the one that `side` names.
-        Raises ValueError for another side and for a score in a square that is not empty, and TypeError for other
-        scores."""
+        written into their squares, and the best ones are marked. An Answer's score is written into the squares of the
+        best moves, or below the board for a pass or a finished game. The side to move has its own colour, or that of
+        `side`. Raises ValueError for another side and for a score in a square that is not empty, and TypeError for
+        other scores."""
         state = "is to move"
         if isinstance(scores, Answer):
             state = STATES.get(scores.kind, state).format(scores.score)
@@ -165,9 +165,9 @@ START = Position(0x0000000810000000, 0x0000001008000000)  # Black, on E4 and D5,
 class Line(Position):
     """The position of a line of OBF text, and what else the line says.
 
-    `listed` has the moves that the line lists, in their order, each with its score from -64 to 64:
-    `(("H1", 62), ("A1", 52))`. "PS" is a pass, and "--" the end of the game. They are as they are in the line, right or
-    wrong. `number` is the line's number, from 1, if `read_lines` read it, and otherwise None.
+    `listed` has the moves that the line lists, in their order, each with its score from -64 to 64, such as
+    `(("H1", 62), ("A1", 52))`. "PS" is a pass, and "--" the end of the game. The moves may be illegal and the scores
+    wrong. `number` is the line's number, from 1, if `read_lines` or `parse_lines` read it, and otherwise None.
     """
 
     listed: Tuple[Tuple[str, int], ...] = ()
@@ -175,7 +175,7 @@ class Line(Position):
 
 
 def read_line(text: Union[str, bytes], number: Optional[int]) -> Line:
-    """Reads a line. A refusal has the line's number."""
+    """Reads a line of OBF text. The Line gets `number`, and so does a LineRefused, which is raised for a wrong line."""
     try:
         found: Any = LINE.match(without_end(text))
         _, letters, _, side, rest = found.groups()
@@ -193,7 +193,7 @@ def read_line(text: Union[str, bytes], number: Optional[int]) -> Line:
 
 
 def fault_of(found: "re.Match[bytes]", number: Optional[int]) -> LineRefused:
-    """The first reason, from the left, why a line holds no position."""
+    """The refusal of a line that holds no position, for the first fault from the left; `found` is its match of LINE."""
     content, squares = found.string[found.end(1):], len(found[2])
     if not content or content.startswith(b"%"):
         return NoPosition(0, number)
@@ -217,8 +217,8 @@ def without_end(text: Union[str, bytes]) -> bytes:
 
 
 def read_lines(source: Source, refused: Optional[Callable[[LineRefused], object]] = None) -> Iterator[Line]:
-    """The positions of many lines of OBF text, in their order. `source` is the path of a file, or an iterable of lines such
-    as an open file. Blank lines and comments are skipped. A line that holds no position raises ShortBoard, BadSquare or
+    """Yields the positions of lines of OBF text, in their order. `source` is a path, or an iterable of lines such as an
+    open file. Blank lines and comments are skipped. Any other line without a position raises ShortBoard, BadSquare or
     BadSide, whose `line` is its number. If `refused` is given, it is called with the error instead, and reading goes on:
 
         wrong = []
@@ -230,7 +230,7 @@ def read_lines(source: Source, refused: Optional[Callable[[LineRefused], object]
 
 
 def parse_lines(text: Union[str, bytes], refused: Optional[Callable[[LineRefused], object]] = None) -> Iterator[Line]:
-    """The positions of the lines of a text, as `read_lines` reads those of a file."""
+    """Yields the positions of the lines of a text, as `read_lines` does for a file."""
     return positions_in(bytes_of(text).split(b"\n"), refused)
 
 
@@ -249,7 +249,7 @@ def positions_in(lines: Lines, refused: Optional[Callable[[LineRefused], object]
 
 
 def lines_of(source: Source) -> Lines:
-    """The lines of a source. A file is opened at once, and closed after its last line."""
+    """The lines of a path's file or of an iterable. The file is opened at once, and closed after its last line."""
     is_text = isinstance(source, (bytes, bytearray)) or isinstance(source, str) and "\n" in source
     if is_text or not isinstance(source, (str, os.PathLike)) and not hasattr(source, "__iter__"):
         what = "a text, which parse_lines reads" if is_text else reprlib.repr(source)

@@ -1,4 +1,4 @@
-"""Published scores: a list of ffosolve-games is compared with the report of its solved positions."""
+"""Compares the published scores in a list of ffosolve-games with the exact ones in the report of its positions."""
 import hashlib
 import os
 import re
@@ -15,24 +15,24 @@ DIGEST = re.compile(rb"[XO-]{64} X; % digest, line [1-4] of 4")
 
 
 class BadList(Exception):
-    """A list can't be compared."""
+    """A list has no theoretical score or a refused line, or was changed."""
 
 
 class Unfit(Exception):
-    """A list does not belong to a report or to a WTHOR file."""
+    """A report is incomplete or is not that of the list, or a WTHOR file is not the one that the list names."""
 
 
 class Listed(NamedTuple):
-    """A line of a list: its position and what the comment says, which is nothing for a line of the digest."""
+    """A line of a list: its position and what its comment says. A line of the digest names no file and no game."""
 
     position: Line
     file: str = ""
     game: int = 0
-    score: Optional[int] = None  # the theoretical one: Black's discs, with the empty squares to the winner
+    score: Optional[int] = None  # the theoretical one: Black's discs, where the winner gets the empty squares
 
 
 class Compared(NamedTuple):
-    """A theoretical score and the exact one, in Black's discs."""
+    """A position of a game, with its theoretical score as it was published and the exact one, in Black's discs."""
 
     position: Line
     file: str
@@ -42,7 +42,8 @@ class Compared(NamedTuple):
 
 
 class Comparison:
-    """The theoretical scores of a list beside the exact ones of its report. Raises BadList and Unfit."""
+    """The theoretical scores of a list, and the exact ones of its report. `refused` counts the games with a theoretical
+    score that the report refuses, and `unscored` those without one. Raises BadList and Unfit."""
 
     def __init__(self, listed: Iterable[bytes], report: Iterable[bytes]) -> None:
         lines, rows = read_list(listed), read_report(report)
@@ -71,16 +72,16 @@ class Comparison:
 
 
 def digest_of(lines: "hashlib._Hash") -> List[bytes]:
-    """Four lines of OBF for the first 24 bits of a list's SHA-256, whose rows in a report of the list show these bits. A line
-    stands for six bits: the number n is a finished game with n black squares, an empty one and 63 - n white ones. Each n has
-    another score. Because of the empty square the scores are even under the scoring `winner` only."""
+    """Returns four lines of OBF for the first 24 bits of a list's SHA-256; their scores in a report show these bits. A
+    line stands for six bits, a number n: it is a finished game with n black discs, an empty square and 63 - n white
+    discs. Each n gives a different score; the empty square makes it even under the scoring `winner` only."""
     black = [int.from_bytes(lines.digest()[:3], "big") >> shift & 63 for shift in (18, 12, 6, 0)]
     return [b"X" * n + b"-" + b"O" * (63 - n) + b" X; %% digest, line %d of 4" % at for at, n in enumerate(black, 1)]
 
 
 def read_list(lines: Iterable[bytes]) -> Dict[int, Listed]:
-    """The positions of a list by the numbers of their lines. A digest follows, of all lines since the previous digest, so lists
-    may be joined. Raises BadList."""
+    """Returns the positions of a list, the digest included, by the numbers of their lines. Lists may be joined, since a
+    digest is that of all positions after the previous one. Raises BadList."""
     found: Dict[int, Listed] = {}
     awaited: List[bytes] = []
     covered, uncovered = hashlib.sha256(), 0
@@ -110,7 +111,7 @@ def read_list(lines: Iterable[bytes]) -> Dict[int, Listed]:
 
 
 def read_listed(text: bytes) -> Listed:
-    """The position and the comment of a line, without its end."""
+    """Reads a line of a list; the text does not have the line's end."""
     position = Position.from_obf(text)
     match = COMMENT.fullmatch(os.fsdecode(text))
     if match is None:
@@ -120,7 +121,7 @@ def read_listed(text: bytes) -> Listed:
 
 
 def read_report(lines: Iterable[bytes]) -> Dict[int, Optional[int]]:
-    """The scores for the mover in a report of one list, by the numbers of the list's lines; None for refused lines."""
+    """The scores for the mover in a report of one list, by the line numbers of the list; None for a refused line."""
     texts = [os.fsdecode(line.rstrip(b"\r\n")) for line in lines]
     if not texts or texts[0] != "[1]":
         raise Unfit("the report does not begin with the line `[1]`" if texts else "the report is empty")

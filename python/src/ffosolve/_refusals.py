@@ -1,4 +1,4 @@
-"""Refusals of calls. A refused call changes nothing."""
+"""The errors of refused calls and refused lines. A refused call changes nothing."""
 import copyreg
 import enum
 import reprlib
@@ -13,7 +13,7 @@ __all__ = [
 
 
 class Status(enum.IntEnum):
-    """What a call of the library returns, with the names of ffosolve.h."""
+    """The statuses that calls of the library return, with their names in ffosolve.h."""
 
     DONE = 0
     UNKNOWN_SCORING = 1
@@ -29,11 +29,11 @@ class Status(enum.IntEnum):
     BAD_SIDE = 11
 
 
-REFUSALS: Dict[int, Type["Refused"]] = {}  # by their statuses
+REFUSALS: Dict[int, Type["Refused"]] = {}  # the class of each status
 
 
 class Refused(Exception):
-    """A call was refused. If it was for a list, `index` is that of the refused position, from 0; otherwise None."""
+    """A call was refused. If one position of a list was the reason, `index` is its index, from 0; otherwise None."""
 
     status: int  # a Status, except for an OtherRefusal
     reason: str
@@ -50,17 +50,17 @@ class Refused(Exception):
         self.index = index
 
     def __reduce__(self) -> Tuple[Any, ...]:
-        """Pickles the members, since `args` does not hold them all."""
+        """Pickles all attributes, since `args` does not hold them all."""
         return copyreg.__newobj__, (type(self), *self.args), vars(self)  # type: ignore[attr-defined]
 
 
 class UnknownScoring(Refused, ValueError, status=Status.UNKNOWN_SCORING, reason="no scoring has the number"):
-    """The scoring is no Scoring, number or name of one."""
+    """The scoring is neither a Scoring nor the number or name of one."""
 
 
 class TooManyEntries(Refused, ValueError, status=Status.TOO_MANY_ENTRIES,
                      reason=f"more than {MOST_ENTRIES} table entries"):
-    """The table is too large."""
+    """The table would have more than MOST_ENTRIES entries."""
 
 
 class UnequalLengths(Refused, ValueError, status=Status.UNEQUAL_LENGTHS, reason="not as many answers as positions"):
@@ -68,7 +68,7 @@ class UnequalLengths(Refused, ValueError, status=Status.UNEQUAL_LENGTHS, reason=
 
 
 class SharedSquare(Refused, ValueError, status=Status.SHARED_SQUARE, reason="the masks share a square"):
-    """A square has a disc of both sides."""
+    """A square is in both masks, as if each side had a disc on it."""
 
 
 class TooManyEmpties(Refused, ValueError, status=Status.TOO_MANY_EMPTIES,
@@ -77,7 +77,7 @@ class TooManyEmpties(Refused, ValueError, status=Status.TOO_MANY_EMPTIES,
 
 
 class NoMove(Refused, ValueError, status=Status.NO_MOVE, reason="illegal move"):
-    """The move is not legal. The text names the move, the side to move, and the board as an OBF line."""
+    """The move is not legal. The text names the move and the side to move, and shows the board as an OBF line."""
 
 
 class NoMemory(Refused, MemoryError, status=Status.NO_MEMORY, reason="out of memory"):
@@ -85,7 +85,7 @@ class NoMemory(Refused, MemoryError, status=Status.NO_MEMORY, reason="out of mem
 
 
 class OtherRefusal(Refused):
-    """A status of a newer library, which this package does not know."""
+    """The library returned a status that this package does not know: the library is newer."""
 
     def __init__(self, status: int) -> None:
         self.status, self.reason = status, f"refused with status {status}"
@@ -93,8 +93,8 @@ class OtherRefusal(Refused):
 
 
 class LineRefused(Refused, ValueError):
-    """A line of OBF text was refused. If many were read, `line` is its number, from 1; otherwise None. `at` is the
-    column, from 1 in bytes, for BadSquare and BadSide, and the number of squares for ShortBoard."""
+    """A line of OBF text was refused. `line` is its number, from 1, or None if the line was read alone. For BadSquare
+    and BadSide, `at` is the column, counted in bytes from 1; for ShortBoard, it is the number of squares."""
 
     def __init__(self, at: int = 0, line: Optional[int] = None) -> None:
         self.at, self.line, self.reason = at, line, self.reason.format(at)
@@ -104,7 +104,7 @@ class LineRefused(Refused, ValueError):
 
     @property
     def column(self) -> Optional[int]:
-        """The column of the wrong byte, or of the end of the line, from 1 in bytes; None if there is none."""
+        """The column of the wrong byte or of the line's end, in bytes from 1; None except for BadSquare and BadSide."""
         return self.at if self.status in (Status.BAD_SQUARE, Status.BAD_SIDE) else None
 
 
@@ -113,11 +113,11 @@ class NoPosition(LineRefused, status=Status.SKIPPED, reason="no position: the li
 
 
 class ShortBoard(LineRefused, status=Status.SHORT_BOARD, reason="board has {} of 64 squares"):
-    """The line ends within the squares."""
+    """The line ends before its 64th square."""
 
 
 class BadSquare(LineRefused, status=Status.BAD_SQUARE, reason="bad square at column {}"):
-    """A byte among the squares is not a square."""
+    """A byte in the place of a square does not stand for one."""
 
 
 class BadSide(LineRefused, status=Status.BAD_SIDE, reason="bad side at column {}"):
@@ -125,12 +125,12 @@ class BadSide(LineRefused, status=Status.BAD_SIDE, reason="bad side at column {}
 
 
 def refusal_of(status: int, *arguments: Any) -> Refused:
-    """The refusal for a status, with the arguments of its class."""
+    """The refusal for a status; if this package knows the status, its class is called with `arguments`."""
     return REFUSALS[status](*arguments) if status in REFUSALS else OtherRefusal(status)
 
 
 def checked_number(name: str, value: int, least: int) -> int:
-    """A whole number, at least `least`. Raises TypeError and ValueError with the argument's name."""
+    """Returns `value`. Raises TypeError unless it is a whole number, and ValueError if it is less than `least`."""
     if not hasattr(value, "__index__"):
         raise TypeError(f"{name} is a whole number, not {reprlib.repr(value)}")
     if value < least:

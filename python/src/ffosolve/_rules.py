@@ -1,4 +1,4 @@
-"""The rules of the game by the library, and positions as it reads them."""
+"""Makes the library's calls for the rules of the game, and converts positions for it."""
 import array
 import ctypes
 import itertools
@@ -21,7 +21,7 @@ def not_a_position(it: object) -> TypeError:
 
 
 def empties_of(position: Sequence[int]) -> int:
-    """How many squares are empty. Raises TypeError for anything but a position."""
+    """How many squares of a position are empty. Raises TypeError for any other object."""
     try:
         own, opp = position
         return 64 - size_of(own | opp)
@@ -30,7 +30,8 @@ def empties_of(position: Sequence[int]) -> int:
 
 
 def refusal_for(position: Sequence[int], max_empties: int, index: Optional[int] = None) -> Refused:
-    """The refusal of a position that is not to be solved. Raises ValueError for a mask that is out of range."""
+    """The refusal of a position whose masks share a square, or else that has too many empty squares. Raises ValueError
+    for a mask that is out of range."""
     c_position(position)
     own, opp = position
     if own & opp:
@@ -39,13 +40,13 @@ def refusal_for(position: Sequence[int], max_empties: int, index: Optional[int] 
 
 
 def c_position(position: Sequence[int]) -> CPosition:
-    empties_of(position)  # refuses another object
+    empties_of(position)  # raises TypeError for any other object
     found: CPosition = c_positions([position])[0]
     return found
 
 
 def c_positions(positions: Sequence[Sequence[int]]) -> Any:
-    """The positions as the library reads them. Raises ValueError for a mask that is out of range."""
+    """Returns the positions in an array for the library. Raises ValueError for a mask that is out of range."""
     try:
         masks = array.array("Q", itertools.chain.from_iterable(positions))
     except OverflowError:
@@ -61,7 +62,7 @@ def moves(library: ctypes.CDLL, position: Sequence[int]) -> int:
 
 
 def play(library: ctypes.CDLL, position: Sequence[int], square: Union[int, str]) -> Tuple[int, int]:
-    """The masks after a move to a square; the other side is then to move. Raises SharedSquare and NoMove."""
+    """Returns the masks after a move, first that of the side then to move. Raises SharedSquare and NoMove."""
     number = number_of(square)
     is_square, after = 0 <= number < 64, CPosition()
     status = library.ffosolve_play(c_position(position), number if is_square else NO_SQUARE, after)
@@ -72,7 +73,7 @@ def play(library: ctypes.CDLL, position: Sequence[int], square: Union[int, str])
 
 
 def illegal_move(library: ctypes.CDLL, position: Sequence[int], move: str) -> NoMove:
-    """The refusal of a move. It names the side to move, and shows the board as an OBF line."""
+    """The refusal of an illegal move. It names `move` and the side to move, and shows the board as an OBF line."""
     (own, opp), side = position, getattr(position, "side", "X")
     why = f" for {SIDES[side]}"
     if not moves(library, position):

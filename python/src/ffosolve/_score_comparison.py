@@ -11,7 +11,7 @@ Number = Union[int, float]
 
 
 class WrongScore(NamedTuple):
-    """A listed score that is not the exact one. `line` is the number of its line, from 1."""
+    """A score in a list that is not the exact one. `line` is the number of its line in the list, from 1."""
 
     line: int
     move: str
@@ -28,11 +28,11 @@ class ScoreComparison(NamedTuple):
 
     lines: int  # positions with exact scores
     moves: int  # listed scores of legal moves
-    wrong: List[WrongScore]  # those that are not exact, in the list's order
-    mean_error: float  # over all `moves`; 0.0 without any
+    wrong: List[WrongScore]  # those that are not exact, in the order of the list
+    mean_error: float  # over all `moves`; 0.0 if there are none
     greatest_error: Number
-    refused: int  # lines
-    illegal: int  # listed moves
+    refused: int  # lines that `ffoscores` refused
+    illegal: int  # listed scores of illegal moves
     unread: int  # other pieces between semicolons
 
     def __str__(self) -> str:
@@ -41,9 +41,9 @@ class ScoreComparison(NamedTuple):
 
 
 def compare_scores(listed: Source, scored: Source) -> ScoreComparison:
-    """Compares the scores of a list with the exact ones in the output of `ffoscores` for it. Each is a path, an open file
-    or an iterable of lines. A listed score may be any decimal number, such as +61.5. Raises ValueError if a line of the
-    output is not for the same line of the list.
+    """Compares the scores of a list with the exact ones, which `ffoscores` printed for the list. Each of the two is a
+    path, an open file or an iterable of lines. A listed score may be any decimal number, such as +61.5. Raises
+    ValueError if a line of `scored` is not what `ffoscores` prints for the same line of `listed`.
 
         ffoscores list.obf >list.scores
 
@@ -74,8 +74,8 @@ def compare_scores(listed: Source, scored: Source) -> ScoreComparison:
 
 
 def pairs_of(listed: Source, scored: Source) -> Iterator[Tuple[int, Any, Any]]:
-    """Yields each line of the list that is not skipped: its number, its text, and the line that `ffoscores` printed for it,
-    or None if it is refused."""
+    """Yields (number, text, answer) for each line of the list that is neither blank nor a comment. `answer` is the Line
+    that `ffoscores` printed for it, or None if it was refused. Raises ValueError for the answer to another line."""
     both = itertools.zip_longest(lines_of(listed), lines_of(scored), fillvalue=b"")
     for number, (text, answer) in enumerate(both, 1):
         line, exact = found_in(text, number), found_in(answer, number)

@@ -18,7 +18,7 @@ class Scoring(enum.IntEnum):
 
 
 def scoring_of(value: Union[Scoring, int, str]) -> Scoring:
-    """The scoring with a name or a number. Raises UnknownScoring."""
+    """The Scoring that `value` is, or of which it is the number or name. Raises UnknownScoring."""
     try:
         return Scoring(value)  # type: ignore[arg-type]
     except ValueError:

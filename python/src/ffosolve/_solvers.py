@@ -20,14 +20,14 @@ from ._squares import NAMES
 if TYPE_CHECKING:
     from ._arrays import Answers
 
-NO_SCORE = 127  # in an array of scores, at a square that is not a legal move
+NO_SCORE = 127  # in an array of scores, for a square that is not a legal move
 KINDS = tuple(Kind)
-ANSWER, MOVE_SCORES = struct.Struct("iiQ"), struct.Struct("64bQ")  # CAnswer and CMoveScores
+ANSWER, MOVE_SCORES = struct.Struct("iiQ"), struct.Struct("64bQ")  # the layouts of CAnswer and CMoveScores
 
 
 def table_entries(empties: int) -> int:
-    """A suitable number of table entries, of 32 bytes each, for positions with this many empty squares. It changes how long
-    an answer takes, never the answer."""
+    """A suitable number of table entries, of 32 bytes each, for positions with `empties` empty squares. The size of a
+    table changes how long an answer takes, never the answer."""
     for most, entries in ((10, 0), (14, 4_096), (22, 65_536)):
         if empties <= most:
             return entries
@@ -37,12 +37,12 @@ def table_entries(empties: int) -> int:
 class Solver:
     """Solves positions under a scoring. Each call searches with a new table.
 
-    `library` is the path of the shared library. Without it, the path in the environment variable FFOSOLVE_LIBRARY is
-    taken, or else the first library in this package, the system's places, and `lib` of this Python and of /usr/local.
-    `scoring` is a Scoring, its number, or its name such as "winner". `entries` is the size of the table, 0 to MOST_ENTRIES;
-    without it, `table_entries` chooses one by the empty squares. Positions with more than `max_empties` empty squares,
-    0 to MOST_EMPTIES, are refused, since they may take hopelessly long; the default is that of the programs. Raises
-    LibraryNotFound, UnknownScoring, TooManyEntries and ValueError.
+    `library` is the path of the shared library. Without it, the environment variable FFOSOLVE_LIBRARY has the path; if
+    that is not set either, the first library is loaded that is found in this package, in the system's places, or in
+    `lib` of this Python or of /usr/local. `scoring` is a Scoring, its number, or its name such as "winner". `entries`
+    is the size of the table, 0 to MOST_ENTRIES; without it, `table_entries` chooses one by the empty squares. Positions
+    with more empty squares than `max_empties`, 0 to MOST_EMPTIES, are refused, since they may take hopelessly long; the
+    default is that of the programs. Raises LibraryNotFound, UnknownScoring, TooManyEntries, ValueError and TypeError.
 
     A solver keeps nothing between calls. Several threads may use one at the same time.
     """
@@ -66,7 +66,7 @@ class Solver:
 
     @property
     def max_empties(self) -> int:
-        """The most empty squares of a position that this solver solves."""
+        """The greatest number of empty squares in a position that this solver takes."""
         return self._max_empties
 
     @property
@@ -77,56 +77,55 @@ class Solver:
 
     def solve(self, position: Position) -> Answer:
         """The answer for a position. Raises SharedSquare, TooManyEmpties and NoMemory, ValueError for a mask that is not a
-        number from 0 to 2**64 - 1, and TypeError for another object than a position."""
+        number from 0 to 2**64 - 1, and TypeError for an object that is not a position."""
         return self._answer(self._library.ffosolve_solve, position)
 
     def confirm(self, position: Position, claim: Answer) -> Answer:
-        """The answer for a position; the claimed score is tested first. The claim may be wrong: it is right if the result
-        equals it. This is faster than `solve` if most claimed scores are right, from 6 empty squares on. Raises the same
-        as `solve`."""
+        """The answer for a position, found by testing the claimed score first. The claim may be wrong: it is right if
+        the result equals it. From 6 empty squares on, this is faster than `solve` if most claimed scores are right.
+        Raises the same as `solve`, and TypeError for a claim that is not an Answer."""
         if not isinstance(claim, Answer):
             raise TypeError(f"a claim is an Answer(score, kind, best), not {reprlib.repr(claim)}")
         return self._answer(self._library.ffosolve_confirm, position, CAnswer(*claim))
 
     def move_scores(self, position: Position) -> Dict[str, int]:
-        """The score of each legal move for the side to move, by the square's name, in the order A1, B1, .. H8. It is
-        empty if there is no legal move. One table serves all moves. Raises the same as `solve`."""
+        """Returns a dict with the score of each legal move for the side to move, by the square's name, in the order A1,
+        B1, .. H8. It is empty if there is no legal move. One table serves all moves. Raises the same as `solve`."""
         found, _ = self._score_part(Part(0, self._checked_empties(position), [position]))
         return found[0]
 
     def solve_all(self, positions: Iterable[Position], *, threads: int = 1) -> List[Answer]:
         """The answers for positions, in their order. One thread uses one table; several use one for each part of the
-        list. Raises the same as `solve`, before anything is solved. The `index` of SharedSquare and TooManyEmpties is that
-        of the first position that is refused."""
+        list. Raises the same as `solve`; all positions are checked before any is solved, and `index` of SharedSquare
+        and TooManyEmpties is that of the first refused position."""
         limits = (math.inf, math.inf) if checked_threads(threads) == 1 else (MOST_WEIGHT, MOST_SECONDS)
         return list(one_by_one(in_order(self._solve_part, self._all_parts(positions, *limits), threads)))
 
     def solve_iter(self, positions: Iterable[Position], *, threads: int = 1) -> Iterator[Answer]:
-        """Yields the answers for positions, in their order, each as soon as it and those before it are found. Reads some
-        positions ahead. A refusal comes after the answers before it, with the position's index. Raises the same as
-        `solve`."""
+        """Yields the answers for positions, in their order, and reads only some positions ahead. Raises the same as
+        `solve`; a refusal comes after the answers for the positions before the refused one, and has its `index`."""
         return one_by_one(in_order(self._solve_part, parts_of(positions, self._max_empties), checked_threads(threads)))
 
     def move_scores_all(self, positions: Iterable[Position], *, threads: int = 1) -> List[Dict[str, int]]:
-        """The `move_scores` of positions, in their order. Raises the same as `solve_all`."""
+        """The `move_scores` of each position, in their order. Raises the same as `solve_all`."""
         return list(one_by_one(in_order(self._score_part, self._all_parts(positions), checked_threads(threads))))
 
     def move_scores_iter(self, positions: Iterable[Position], *, threads: int = 1) -> Iterator[Dict[str, int]]:
-        """Yields the `move_scores` of positions as `solve_iter` yields answers."""
+        """Yields the `move_scores` of each position, as `solve_iter` yields answers."""
         return one_by_one(in_order(self._score_part, parts_of(positions, self._max_empties), checked_threads(threads)))
 
     def solve_arrays(self, own: Any, opp: Any, *, threads: int = 1) -> "Answers":
-        """The answers for positions whose masks are two arrays of uint64: three arrays of the same length, `score` and
-        `kind` of int32 and `best` of uint64. Needs NumPy. Raises the same as `solve_all`, and TypeError and ValueError for
-        other arrays."""
+        """The answers for positions whose masks are in two arrays of uint64. The result has three arrays of the same
+        length: `score` and `kind` of int32, and `best` of uint64. Needs NumPy. Raises the same as `solve_all`, and
+        TypeError and ValueError for other arrays."""
         from . import _arrays
 
         return _arrays.solve(self, own, opp, checked_threads(threads))
 
     def move_scores_arrays(self, own: Any, opp: Any, *, threads: int = 1) -> Any:
-        """The scores of all moves of positions whose masks are two arrays of uint64: an array of int8 with a row of 64
-        scores for each position, in the order of the squares, with NO_SCORE for an illegal move. Needs NumPy and raises the
-        same as `solve_arrays`."""
+        """The scores of all moves in positions whose masks are in two arrays of uint64. The result is an array of int8
+        with a row of 64 scores for each position, in the order A1, B1, .. H8, with NO_SCORE for an illegal move. Needs
+        NumPy. Raises the same as `solve_arrays`."""
         from . import _arrays
 
         return _arrays.move_scores(self, own, opp, checked_threads(threads))
@@ -141,8 +140,8 @@ class Solver:
 
     def positions(self, game: Union[Game, str]) -> List[Position]:
         """The positions of a game or of a transcript: the start, and the one after each move. So the one at index n has
-        60 - n empty squares. A pass adds none: the position is the one before it. Raises GameRefused for an illegal move
-        and for a word that is not a square."""
+        60 - n empty squares. A pass adds no position. Raises GameRefused for a game that can't be read, for an illegal
+        move and for a word that is not a square, and TypeError for another object."""
         game = Game.of_text(game) if isinstance(game, str) else game
         if not isinstance(game, Game):
             raise TypeError(f"a game is a Game or the text of a transcript, not {reprlib.repr(game)}")
@@ -152,7 +151,7 @@ class Solver:
         return table_entries(empties) if self._entries is None else self._entries
 
     def _checked_empties(self, position: Sequence[int]) -> int:
-        """How many squares of a position are empty. Raises its refusal if it is not to be solved."""
+        """How many squares of a position are empty. Raises its refusal if they are too many or the masks share one."""
         empties, (own, opp) = empties_of(position), position
         if own & opp or empties > self._max_empties:
             raise refusal_for(position, self._max_empties)
@@ -178,20 +177,21 @@ class Solver:
         return self._call_for(part, self._library.ffosolve_move_scores_all, CMoveScores, scores_in)
 
     def _call_for(self, part: Part, call: Any, record: Any, read: "Callable[[Any], List[A]]") -> "Results[A]":
-        """The results of a call for the positions of a part. It writes a record for each, which `read` reads."""
+        """Makes a call that writes a record for each position of a part. Returns what `read` makes of the records, and
+        the part's refusal or None."""
         found = (record * len(part.positions))()
         self._fill(found, call, c_positions(part.positions), part.empties)
         return read(found), part.refusal
 
     def _fill(self, found: Any, call: Any, asked: Any, empties: int) -> None:
-        """Makes a call that writes to `found` for each position, of which none has more empty squares than `empties`."""
+        """Makes a call that writes a record to `found` for each position; none has over `empties` empty squares."""
         count = len(asked)
         more = asked, count, self._scoring, self._entries_for(empties), found, count, ctypes.c_size_t()
         accept(interruptible(call, count, empties, *more))
 
 
 A = TypeVar("A")
-Results = Tuple[List[A], Optional[Refused]]  # of the positions of a part, and the refusal of the next one
+Results = Tuple[List[A], Optional[Refused]]  # for the positions of a part, and the refusal of the position after them
 
 
 def answers_in(found: Any) -> List[Answer]:
@@ -199,7 +199,7 @@ def answers_in(found: Any) -> List[Answer]:
 
 
 def scores_in(found: Any) -> List[Dict[str, int]]:
-    """The scores of each position's moves, by the squares' names."""
+    """Returns a dict for each position, with the scores of its legal moves by the squares' names."""
     rows = MOVE_SCORES.iter_unpack(found)
     return [{name: score for name, score in zip(NAMES, row) if score != NO_SCORE} for row in rows]
 

@@ -14,7 +14,7 @@ def square_name(number: int) -> str:
 
 
 def square_number(name: str) -> int:
-    """The number, 0 to 63, of the square with a name, in either case. Raises ValueError for any other name."""
+    """The number, 0 to 63, of the square with a name such as "F5" or "f5". Raises ValueError for any other name."""
     try:
         return NAMES.index(name.upper())
     except (AttributeError, ValueError):
@@ -22,13 +22,13 @@ def square_number(name: str) -> int:
 
 
 def number_of(square: Union[int, str]) -> int:
-    """The number of a square, which may be a name or a number."""
+    """The number of a square, given by its name or by any number. Raises TypeError and ValueError otherwise."""
     if not isinstance(square, str) and not hasattr(square, "__index__"):
         raise TypeError(f"a square is a name such as 'F5' or a number from 0 to 63, not {reprlib.repr(square)}")
     return square_number(square) if isinstance(square, str) else operator.index(square)
 
 
 def square_names(mask: int) -> List[str]:
-    """The names of the squares of a mask, in the order of their numbers."""
+    """The names of the squares in a mask, in the order of their numbers."""
     mask = operator.index(mask)
     return [NAMES[number] for number in range(64) if mask >> number & 1]

@@ -1,17 +1,18 @@
-"""Reads the lines of texts, and shows the names of files."""
+"""Reads lines of text, and shows the names of files in messages."""
 import os
 from typing import BinaryIO, Iterator, Union
 
-MOST_BYTES = 1_048_576  # of a line with its end, as of a whole list of ffosolve
-MARKS = (b"\xef\xbb\xbf", b"\xff\xfe", b"\xfe\xff")  # of UTF-8 and UTF-16
+MOST_BYTES = 1_048_576  # in a line with its end; ffosolve takes as many in a whole list
+MARKS = (b"\xef\xbb\xbf", b"\xff\xfe", b"\xfe\xff")  # byte-order marks of UTF-8 and UTF-16
 
 
 class NotText(ValueError):
-    """A text is refused. The message names it."""
+    """A file is not a text that can be read. The message names the file."""
 
 
 def text_lines(file: BinaryIO, name: str, may_have_nul: bool = False) -> Iterator[bytes]:
-    """The lines of a text, each with its end. Raises NotText; reads at most one byte more than MOST_BYTES of a line."""
+    """Yields the lines of a text, each with its end. Raises NotText with the text's `name` if it has a byte-order mark,
+    line ends of CR alone, a line of more than MOST_BYTES bytes, or a NUL byte, unless it may have one."""
     number, line = 1, file.readline(MOST_BYTES + 1)
     if line.startswith(MARKS):
         raise NotText(f"cannot read {name}: it begins with a byte-order mark")
@@ -27,9 +28,9 @@ def text_lines(file: BinaryIO, name: str, may_have_nul: bool = False) -> Iterato
 
 
 def shown(name: Union[str, "os.PathLike[str]"]) -> str:
-    """A file's name in a message: in bash's quotes if it has control characters or is not UTF-8."""
+    """A file's name for a message: in bash's quotes if it is empty, has control characters or is not UTF-8."""
     name = os.fspath(name)
     if name.isprintable():
         return name or "''"
-    quoted = repr(os.fsencode(name) + b'"')  # in single quotes, since it has a double one
+    quoted = repr(os.fsencode(name) + b'"')  # in single quotes, since there is a double one in it
     return f"${quoted[1:-2]}'"

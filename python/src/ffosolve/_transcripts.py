@@ -3,8 +3,8 @@ import re
 from typing import List
 
 PASSES = ("--", "pass", "ps", "pa")
-# A run of hyphens is a pass, but a single one stands between moves. A number without a point is set off from the move before
-# it. So is a result, which comes last.
+# Several hyphens are a pass, but a single one separates moves. A blank or comma separates a number without a point from
+# the move before it, and also a result, which comes last.
 TOKEN = re.compile(
     r"""
     ( [a-h]\s*[1-8] | pass | --+ )
@@ -18,13 +18,13 @@ TOKEN = re.compile(
 
 
 def words_of(text: str) -> List[str]:
-    """The moves of a text, in small letters: squares, passes, and what is neither. Skips whatever else a transcript has:
-    blanks, commas, a hyphen between moves, move numbers such as `1.` and `12`, a result at the end such as `33-31` or
-    `+2`, and everything from `%` on."""
+    """The words of a transcript in its moves' places, in small letters: squares, passes, and words that are neither.
+    Skips blanks, commas, a hyphen between moves, move numbers such as `1.` and `12`, a result at the end such as
+    `33-31` or `+2`, and everything from `%` on."""
     words = [move or other for move, other in TOKEN.findall(text.partition("%")[0].lower()) if move or other]
     return [word if len(word) < 3 else plain(word) for word in words]
 
 
 def plain(word: str) -> str:
-    """A square without its inner blank; a run of hyphens as `--`, a pass."""
+    """Returns `--` for several hyphens, a square without the blanks in it, and any other pass as it is."""
     return "--" if word[0] == "-" else word if word in PASSES else word[0] + word[-1]
