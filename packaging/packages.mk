@@ -9,7 +9,7 @@ clean = change=$$(git status --porcelain | head -n 1) || exit; [ -z "$$change" ]
 room = room=$$(mktemp -d); trap 'rm -rf "$$room"' EXIT; umask 022
 seconds = $$(git log -1 --format=%ct)
 
-# $(call stage,WORDS,PREFIX) installs into $$room. Each program in bin/ starts the one for the best level that runs.
+# $(call stage,WORDS,PREFIX) installs into $$room. Each program in bin/ starts the one for the processor's level.
 stage = $(MAKE) -s install CPU=x86-64-v2 DESTDIR="$$room" PREFIX=$2 $1 >/dev/null; \
     for program in $(programs); do \
         for level in $(levels); do install -D "out/$$level/$$program" "$$room$2/libexec/ffosolve/$$level/$$program"; done; \

@@ -1,6 +1,5 @@
 # Runs the modules of tests/, as many at once as -j says, by default one per processor. Prints how many tests of each
-# module passed, what a module that failed printed, and last the sums. One more test: `git status` says the same
-# afterwards.
+# module passed, the output of a module that failed, and last the sums. One more test: `git status` stays the same.
 #
 #     make -f tests/check.mk                          all, as `make check` does after building
 #     make -f tests/check.mk TESTS='books many'       tests/test_books.py and tests/test_many.py

@@ -111,7 +111,7 @@ class Case(InFolder):
     maxDiff = 2000
 
     def games(self, *words, status=0, out=None, err=None, **how):
-        """Runs ffosolve-games, and asserts its status, `out` with its digest, and `err`. Returns (output, errors)."""
+        """Runs ffosolve-games; asserts its status, `out` with its digest, and `err`. Returns (output, errors)."""
         ran = run(sys.executable, PROGRAM, *words, **how)
         self.assertNotIn(b"Traceback", ran.stderr)
         if err is not None:

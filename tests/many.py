@@ -7,7 +7,7 @@ import unittest
 from pathlib import Path
 from unittest import mock
 
-from tests.support import InFolder, built, lay_many, module_folder, positions, run, write
+from tests.support import InFolder, built, copy_many, module_folder, positions, run, write
 
 BOARD = b"-OXXXXX-XXXXXXXOXXXXXXXXXXXXXXXXXXXOXXXXXXXXXXXXXXXXXXXXXXXXXXXX"  # two empty squares
 # Takes the place of the program @real@ and runs it. Appends its arguments to the file $WORDS. If the input is a part of
@@ -44,7 +44,7 @@ os.execv(real, [real, *sys.argv[1:]])
 
 def install(name, script=None):
     """Installs ffosolve-many in a folder, with both programs or with a `script` that runs them; returns its path."""
-    many = lay_many(BASE / name)
+    many = copy_many(BASE / name)
     for program in ("ffosolve", "ffoscores"):
         place = shutil.copy(built(program), many.with_name(f"real-{program}" if script else program))
         if script:
@@ -105,7 +105,7 @@ class Case(InFolder):
                 for path in Path(".").rglob("*")}
 
     def refused(self, status, message, *words, **how):
-        """Asserts that a run prints one line, an error with advice if `status` is 2, and changes no file or folder."""
+        """Asserts that a run prints only an error of one line, with advice if `status` is 2, and changes no file."""
         before = self.files()
         lines = self.ends(status, b"", message, *words, **how).stderr.decode().splitlines()
         self.assertEqual((len(lines), lines[0].startswith("ffosolve-many: ")), (1, True), lines)

@@ -83,7 +83,7 @@ class Prefix:
 
     @functools.cached_property
     def crate(self):
-        """A copy of the crate for Rust, as a folder; the examples are copied next to it."""
+        """The folder of a copy of the crate for Rust; the examples are copied into a folder next to it."""
         shutil.copy2(self.shipped / "VERSION", self.work)
         need("cargo")
         for name in ("rust", "examples"):

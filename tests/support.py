@@ -39,8 +39,8 @@ def stored(*path):
 
 
 def worked(name):
-    """Reads tests/rows/NAME.tsv. Returns its last column, which has lines of lists, and the others as {heading: cells}.
-    Where a cell in the file has `~`, it gets the board and the side of its row's line."""
+    """Reads tests/rows/NAME.tsv. Returns the lines in its last column, and its other columns as {heading: cells}.
+    In each cell, `~` is replaced by the board and the side of the row's line."""
     heads, *rows = stored("tests/rows", f"{name}.tsv").removesuffix(b"\n").split(b"\n")
     *heads, _ = heads.decode().split("\t")
     *columns, lines = zip(*(row.split(b"\t", len(heads)) for row in rows))
@@ -58,7 +58,7 @@ def run(*words, **how):
 
 
 def write(path, text, mode=None):
-    """Writes a file, makes its folder if needed, and returns its path. By default, only scripts are executable."""
+    """Writes a file, makes its folder if needed, and returns its path. By default, only a script is executable."""
     path, text = Path(path), text if isinstance(text, bytes) else text.encode()
     path.parent.mkdir(parents=True, exist_ok=True)
     path.write_bytes(text)
@@ -104,8 +104,8 @@ def built(name="ffosolve"):
     return ROOT / "out" / name
 
 
-def lay_many(root):
-    """Copies ffosolve-many and its package into a folder, placed as in a checkout; returns the program's path."""
+def copy_many(root):
+    """Copies ffosolve-many and its package into a folder, as they are in a checkout; returns the program's path."""
     shutil.copytree(ROOT / "python/src", Path(root, "python/src"), ignore=shutil.ignore_patterns("__pycache__"))
     Path(root, "bin").mkdir(exist_ok=True)
     for name in ("VERSION", "bin/ffosolve-many"):
@@ -114,7 +114,7 @@ def lay_many(root):
 
 
 def change_many(many, module, old, new):
-    """Replaces the text `old`, which occurs once, in a module of the copy of ffosolve-many that `lay_many` made."""
+    """Replaces the text `old`, which occurs once, in a module of the copy of ffosolve-many that `copy_many` made."""
     path = many.parent.parent / f"python/src/ffosolve/_many/{module}.py"
     text = path.read_text()
     if text.count(old) != 1:
@@ -137,7 +137,7 @@ class InFolder(unittest.TestCase):
         self.assertEqual((ran.returncode, ran.stdout, ran.stderr), wanted, words)
 
     def start(self, *words, **how):
-        """Starts a command with its output captured, and returns the process, which is killed when the test ends."""
+        """Starts a command with its output captured, and returns its process, which is killed when the test ends."""
         how = {"stdin": subprocess.DEVNULL, "stdout": subprocess.PIPE, "stderr": subprocess.PIPE, **how}
         ran = subprocess.Popen(list(map(str, words)), **how)
         self.addCleanup(lambda: (ran.poll() is None and ran.kill(), ran.communicate()))
@@ -157,7 +157,7 @@ class InFolder(unittest.TestCase):
 
 
 def wait_until(holds, seconds=SECONDS):
-    """Calls `holds` again and again until it returns something true; fails after so many `seconds`."""
+    """Calls `holds` again and again until it returns something true; fails if that takes longer than `seconds`."""
     end = time.monotonic() + seconds
     while not holds():
         if time.monotonic() > end:

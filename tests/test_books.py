@@ -7,7 +7,7 @@ import shutil
 import stat
 from pathlib import Path
 
-from tests.support import (MOST_BYTES, NOBODY, SECONDS, InFolder, built, lay_many, module_folder, need, positions,
+from tests.support import (MOST_BYTES, NOBODY, SECONDS, InFolder, built, copy_many, module_folder, need, positions,
                            preload, run, shorter_than, stored, write)
 
 TEXT = stored("examples", "first.obf")
@@ -196,7 +196,7 @@ class Books(InFolder):
             self.solves(wanted, name, *lists)
             self.assertTrue(stat.S_ISCHR(os.stat(name).st_mode))
 
-    def test_a_list_that_is_read_is_not_overwritten_by_any_of_its_names(self):
+    def test_a_list_that_is_read_is_not_overwritten_under_any_of_its_names(self):
         for name in ("list", "other"):
             write(name, TEXT)
         os.link("list", "twin")
@@ -288,7 +288,7 @@ class Books(InFolder):
                     self.solves((3, False, error.encode()), name, "--book-in", book)
                     self.assertEqual((content("it.book"), len(os.listdir())), (read, 3))
         self.solves(DONE, "new", "--book-in", "it.book")
-        many = lay_many("many")
+        many = copy_many("many")
         shutil.copy(PROGRAM, many.parent)
         merged = run(many, "--merge-books", "it.book", "new", check=True).stdout
         self.assertEqual(set(merged.splitlines()), set(BOOK.splitlines() + read.splitlines()))

@@ -87,7 +87,7 @@ class Build(InFolder):
         return ran.stderr
 
     def refused(self, ran, words, lines=None):
-        """Asserts that a run ended with status 4, and that the last of its `lines` of errors says why, with `words`."""
+        """Asserts that a run ended with status 4, and that its errors (of `lines` lines, if given) end with `words`."""
         last = ran.stderr.splitlines()[-1]
         self.assertEqual((ran.returncode, ran.stdout), (4, ""), ran)
         self.assertTrue(last.startswith("ffosolve: not built: ") and words in last, ran.stderr)
@@ -292,7 +292,7 @@ class Build(InFolder):
         self.ran(self.use(), 1, builds=5)
 
     def on_a_terminal(self, keys, shown, go=False, columns=80):
-        """Runs the script on a terminal, types `keys` once `shown` is printed, and returns (output, status)."""
+        """Returns (output, status) of the script on a terminal; after `shown`, lets rt end if `go`, and types `keys`."""
         words = ["script", "-qec", f"stty cols {columns}; exec '{self.script}' w", "/dev/null"]
         ran = self.start(*words, stdin=subprocess.PIPE, env={**os.environ, "WAITS": "yes"}, **{**HOW, "text": False})
         output, end = b"", time.monotonic() + SECONDS

@@ -1,4 +1,4 @@
-"""Programs that use the library, built as their authors do that, and the packages for Python and Rust."""
+"""Programs that use the library, built as their authors would build them, and the packages for Python and Rust."""
 import email
 import inspect
 import os
@@ -35,7 +35,7 @@ def shown(language, *names):
 
 class Examples(unittest.TestCase):
     def answers(self, *command, count=LARGE):
-        """Asserts what an example prints for `count` positions of masks.txt, for two best moves, and for a refusal."""
+        """Asserts an example's output for `count` positions of masks.txt, one with two best moves and a refused one."""
         masks, answers = ((ROOT / "examples" / name).read_text().splitlines(True) for name in ("masks.txt", "answers.txt"))
         ran = PREFIX.run(*command, text="".join(masks[:count]))
         self.assertEqual((ran.returncode, ran.stdout), (0, "".join(answers[:count] + answers[LARGE:])), ran.stderr)
@@ -56,7 +56,7 @@ class Examples(unittest.TestCase):
                 self.answers(program, count=count)
 
     def test_examples_in_c_and_cxx_are_built_by_cmake(self):
-        """Uses the CMake code in docs/library.md, with the static and the shared library. Finds no newer version."""
+        """Uses the CMake code of docs/library.md, with both libraries. If it asks for a newer version, CMake fails."""
         need("cmake")
         (first, second, _), (block, _) = VERSION.split("."), shown("cmake")
         for name in ("answers.c", "answers.cpp"):
@@ -109,7 +109,7 @@ class PythonPackage(unittest.TestCase):
             self.assertTrue(is_refused if why else ran.returncode == 0, ran)
 
     def built(self, source, *kinds):
-        """Builds archives of these kinds, such as "sdist", by the hooks in the folder `source`; returns their paths."""
+        """Builds archives of these kinds, such as "sdist", with a source folder's hooks, and returns their paths."""
         hooks = "import sys, ffosolve_wheel as made; [print(getattr(made, f'build_{it}')(sys.argv[1])) for it in sys.argv[2:]]"
         names = PREFIX.make(sys.executable, "-Bc", hooks, PREFIX.work, *kinds, cwd=source / "backend").stdout.split()
         return [PREFIX.work / name for name in names]
@@ -139,7 +139,7 @@ class PythonPackage(unittest.TestCase):
 
 
 class RustCrate(unittest.TestCase):
-    def test_declares_the_calls_of_the_header(self):
+    def test_it_declares_the_calls_of_the_header(self):
         declared = re.findall(r"pub fn (ffosolve_\w+)", (ROOT / "rust/src/raw.rs").read_text())
         self.assertEqual(sorted(declared), sorted(PREFIX.calls))
 

@@ -14,8 +14,8 @@ from .support import ROOT, SECONDS, as_at_a_login, built, limited, run, stored, 
 
 
 class Compare(Case):
-    """Tests with positions of examples/kinds.obf, whose scores are +62, -64 and +32. The first is also listed with the
-    colours exchanged, and the last with the other side to move."""
+    """Tests with three positions of examples/kinds.obf, whose scores are +62, -64 and +32. The first is listed also
+    with colours exchanged, and the last with the other side to move."""
 
     TWO = "-OXXXXX-XXXXXXXOXXXXXXXXXXXXXXXXXXXOXXXXXXXXXXXXXXXXXXXXXXXXXXXX"
     PASS = "-OOOOOOXXXXXXXXXXXXXXXXXXXXXXXXXXXXXXXXXXXXXXXXXXXXXXXXXXXXXXXXX"
@@ -100,7 +100,7 @@ class Compare(Case):
         self.compare(listed, f"{rows}solved 18 refused 0\n", out="compared 8 differ 0 refused 0 unscored 2\n", err="")
 
     def test_the_report_of_another_game_is_refused(self):
-        """Tries 100 lists of one game each, with the reports of all. Each is compared only with its own."""
+        """Compares each of 100 lists, which have one game each, with the reports of all. Only its own is accepted."""
         from ffosolve._published import Comparison, Unfit
 
         rng, lists = random.Random(8), []
@@ -178,7 +178,7 @@ class Fix(Case):
         self.write_list(*words, skipped=skipped)
 
     def write_list(self, *words, skipped=()):
-        """Writes the list that ffosolve-games prints for `words`, and its report, which refuses the lines `skipped`."""
+        """Writes the list that `ffosolve-games WORDS` prints, and a report of it that refuses the lines `skipped`."""
         write("list", run(PROGRAM, *words).stdout)
         self.write_report(skipped)
 
@@ -186,8 +186,8 @@ class Fix(Case):
         write("report", report_of(Path("list").read_text(), dict.fromkeys(skipped, "5 empties, limit 4")))
 
     def fix(self, status, err, *words, place="new.wtb", wanted=None, **how):
-        """Runs compare --fix and returns its output. Asserts its status, its error, and that it writes only `place`, as
-        `wanted` if that is given, or no file if its status is 3."""
+        """Runs compare --fix and returns its output. Asserts its status, its error, and that it writes only `place`,
+        with the content `wanted` if that is given, or no file if its status is 3."""
         before = set(os.listdir())
         out, _ = self.games("compare", "list", "report", "--fix", place, *words, status=status, err=f"ffosolve-games: {err}\n", **how)
         self.assertEqual(set(os.listdir()), before | ({place} if status < 3 else set()))
@@ -219,7 +219,7 @@ class Fix(Case):
         self.fix(1, self.err, wanted=self.wanted.removesuffix(b"more"))
 
     def test_real_scores_are_changed_only_if_asked(self):
-        """The first game's real score is wrong, the second game has no end, and the third has an illegal move."""
+        """The first game's real score is wrong, the second game ends too early, and the third has an illegal move."""
         self.records[0] = record(self.games_of_file[0], self.published[0], real=70)
         self.records[1] = record(self.games_of_file[1][:-1], self.published[1], real=1)
         self.records[2] = self.records[2][:6] + b"\1" + self.records[2][7:67] + b"\x63"
@@ -283,7 +283,7 @@ class Fix(Case):
         for size in (0, 1, 16, len(self.whole) - 1):
             self.fix(3, "cannot write new.wtb: File too large", preexec_fn=limited("RLIMIT_FSIZE", size))
 
-    def test_a_place_in_no_folder_is_refused(self):
+    def test_a_place_in_a_missing_folder_is_refused(self):
         self.fix(3, "cannot write none/new.wtb: No such file or directory", place="none/new.wtb")
         self.fix(3, "cannot write '': No such file or directory", place="")
 

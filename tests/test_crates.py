@@ -1,4 +1,4 @@
-"""Runs the crates' own tests by `rt try`: unproved, but with all runtime checks. `rt ci` proves them."""
+"""Runs the crates' own tests with `rt try`: unproved, but with all runtime checks. `rt ci` proves them."""
 import re
 import unittest
 

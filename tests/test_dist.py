@@ -38,7 +38,7 @@ def made(target, file, *where, **places):
 
 
 def needs_libc_alone(test, path):
-    """Asserts that a program or library needs only the C library, and no version of that after 2.34."""
+    """Asserts that a program or library needs only the C library, in version 2.34 or an older one."""
     need("readelf")
     versions = re.findall(r"GLIBC_([\d.]+)", run("readelf", "-V", path, text=True).stdout)
     test.assertLessEqual(max(tuple(map(int, version.split("."))) for version in versions), (2, 34), path)
@@ -97,7 +97,7 @@ class Archive(unittest.TestCase):
         files = {f"./{path.relative_to(UNPACKED)}" for path in UNPACKED.rglob("*") if path.is_file() and not path.is_symlink()}
         self.assertEqual(set(re.findall(r"^[0-9a-f]{64}  (.*)$", sums, re.M)), files - {"./SHA256SUMS"})
 
-    def test_proved_names_commit_kit_and_the_crates_of_each_program_lowest_first(self):
+    def test_the_file_proved_names_commit_kit_and_the_crates_of_each_program_lowest_first(self):
         text = (UNPACKED / "PROVED").read_text()
         kit = run("rt", "version", text=True).stdout.strip()
         self.assertIn(f"ffosolve {PACKAGE}, commit {git(FIRST_ONE, 'rev-parse', 'HEAD')}, {kit}\n", text)
@@ -135,7 +135,7 @@ class Archive(unittest.TestCase):
 
 
 def shows(test, readme, count, start):
-    """Runs the `count` commands that a package's README shows by `start`, and asserts the reports that they print."""
+    """Asserts that a package's README has `count` commands, which print the reports in it if `start` runs them."""
     need("cc", "pkg-config", "man")
     text = readme.read_text()
     test.assertLessEqual(len(text.split()), 400)
@@ -273,7 +273,7 @@ class Debian(InFolder):
         self.ends((0, FIRST, ""), *(Path("root", word) for word in words), env=WITHOUT_RT)
 
     def apart(self, *words, check=True):
-        """Runs a command with layers over the system's folders. They get what it writes, and later commands see it."""
+        """Runs a command with layers over the system's folders, which keep what it writes for later commands."""
         ran = run("unshare", "--mount", "sh", "-euc", APART, "sh", self.folder / "layers", *words, text=True, timeout=None,
                   env={"PATH": "/usr/sbin:/usr/bin:/sbin:/bin", "DEBIAN_FRONTEND": "noninteractive"})
         self.assertFalse(check and ran.returncode, ran)

@@ -1,6 +1,6 @@
 """The commands in the documents print what is shown, and the files and names in them exist.
 
-In a fenced block `console`, `$ ` is before a command, and `> ` before its further lines. Then comes what it prints, on
+In a fenced block `console`, a command begins with `$ `, and its further lines with `> `. Below is what it prints, on
 standard output and standard error. All commands of a document run in one folder, with links to the checkout's files. A
 block `sh` is not run, since it is for another machine or takes long. Git has to ignore all files that the blocks make.
 """
@@ -33,7 +33,7 @@ def stripped(text):
 
 
 def made_by_blocks(text):
-    """Returns the files that blocks `sh` would make, with relative paths: words after `-o`, `>` or ffosolve-many."""
+    """Returns what blocks `sh` would make at relative paths: the words after `-o`, `>` and ffosolve-many."""
     block = "\n".join(blocks_of(text, "sh"))
     found = re.findall(r"(?: -o |[^<>&\d]>|bin/ffosolve-many (?:--scheduler \S+ )?)([\w./-]+)", block)
     return [name for name in found if not name.startswith("/")]

@@ -7,7 +7,7 @@ import subprocess
 from pathlib import Path
 from unittest import mock
 
-from tests.support import SECONDS, InFolder, built, lay_many, need, positions, run, stored, wait_until, write
+from tests.support import SECONDS, InFolder, built, copy_many, need, positions, run, stored, wait_until, write
 
 CONFIGURATION = """\
 ClusterName=ffosolve
@@ -56,7 +56,7 @@ class Slurm(InFolder):
         document = stored("docs/many-machines.md").decode()
         self.scripts = re.findall(r"```sh\n(#!/bin/sh\n#SBATCH.*?)```", document, re.DOTALL)
         write("list.obf", positions(60, 1, 5))
-        shutil.copy(built(), lay_many(".").parent)
+        shutil.copy(built(), copy_many(".").parent)
         self.one = run("bin/ffosolve", "--book-out", "one.book", "list.obf").stdout
 
     def test_the_job_array_of_the_document_solves_all_parts(self):
