@@ -442,5 +442,5 @@ class Progress(InFolder):
         one = self.progress(4, 3)
         one.update({0: "h1", 1: "h2"})
         self.now = 720.0
-        line = "0%, 2 machines at work, parts 0 of 4; part 0000000 (lines 1 to 3) runs for 12 min on h1"
+        line = "0%, 2 machines at work, parts 0 of 4; part 0000000 (lines 1 to 3) has been running for 12 min on h1"
         self.assertEqual(one.text(), line)

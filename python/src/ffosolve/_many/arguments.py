@@ -9,7 +9,7 @@ from .messages import NAME, misused, shown
 GONE = {
     "--hosts": "start a cluster with `dask ssh --hostfile FILE`, and use --scheduler (nor is PARALLEL_SSH read)",
     "--sweep": "a cluster removes its own files; those of an earlier version are folders run-* in your home folder"}
-EXCLUDED = {"scheduler": {"jobs", "cut"}, "scores": {"book_in", "book_out"}}  # options that are refused with another
+EXCLUDED = {"scheduler": {"jobs", "cut"}, "scores": {"book_in", "book_out"}}  # {option: those refused with it}
 WITH_MERGE_BOOKS = {"merge_books", "book_out", "quiet", "version", "help"}
 
 USAGE = f"""{NAME} [OPTIONS] [FOLDER] LIST
@@ -59,7 +59,7 @@ OPTIONS = {
 
 
 class Once(argparse.Action):
-    """Stores the value of an option, and refuses a second one. `const` is the greatest value of a number."""
+    """Stores an option's value, and refuses a second one. If `const` is set, a value is a number from 1 to `const`."""
 
     def __call__(self, parser, namespace, value, option_string=None):
         if getattr(namespace, self.dest) is not None:
@@ -72,7 +72,7 @@ class Once(argparse.Action):
 
 
 def parse(words):
-    """The options of a command line; `words` has its other arguments."""
+    """Returns the options of a command line. `words` has its other arguments; `help` has the text to print, if any."""
     parser = argparse.ArgumentParser(NAME, USAGE, WHAT, MORE, allow_abbrev=False, add_help=False, exit_on_error=False,
                                      formatter_class=argparse.RawDescriptionHelpFormatter)
     for title, options in OPTIONS.items():
@@ -106,7 +106,7 @@ def parse(words):
 
 
 def complete(command):
-    """Finds FOLDER and LIST among the words, and sets the defaults."""
+    """Sets `folder` and `list` from the words of a command, and the defaults of `lines` and `scoring`."""
     if not command.words:
         raise misused("no list is named; for standard input use `-`, with a FOLDER before it")
     if len(command.words) > 2:

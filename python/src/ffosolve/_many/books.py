@@ -1,4 +1,4 @@
-"""Merges the books of parts, or of several lists."""
+"""Merges books: those of the parts of a list, or those that the command line names."""
 import contextlib
 import heapq
 import io
@@ -16,13 +16,13 @@ from .messages import DONE, NAME, REFUSED, UNBUILT, UNREADABLE, Refusal, misused
 from .parts import HEADER
 from .programs import Program
 
-READ = 4096  # bytes, or a line more, that are read of a book at once
-BATCH = 256  # parts whose books are merged in memory
-ENTRY = re.compile(rb"[XO-]{64} X;(?: (?:[A-H][1-8]|PS|--):[+-]\d\d;)+\n")  # as ffosolve writes it
+READ = 4096  # bytes of a book that are read at once, and the rest of their last line
+BATCH = 256  # parts whose books are merged in memory at a time
+ENTRY = re.compile(rb"[XO-]{64} X;(?: (?:[A-H][1-8]|PS|--):[+-]\d\d;)+\n")  # a line of a book, as ffosolve writes it
 
 
 def lines_of(path):
-    """The lines of a file, which is open only while it is read: there may be more books than files that may be open."""
+    """Yields the lines of a file. It is closed between reads, since there may be more books than files may be open."""
     lines, at = [b""], 0
     while lines:
         with path.open("rb") as file:
@@ -32,8 +32,8 @@ def lines_of(path):
 
 
 def entries_of(lines, name):
-    """Yields the masks, the place, and the line as ffosolve writes it, of each entry of a book. Raises ValueError for a
-    wrong line."""
+    """Yields (masks, (name, number of the line), line as ffosolve writes it) for each entry of a book. Raises
+    ValueError for a wrong line."""
     for number, text in enumerate(lines, 1):
         if ENTRY.fullmatch(text):
             yield (*(int(text[63::-1].translate(side), 2) for side in (BLACK, WHITE)),), (name, number), text
@@ -48,8 +48,8 @@ def entries_of(lines, name):
 
 
 def merged(books):
-    """The lines of the entries of books, each position once. Refuses two that disagree; raises ValueError if a book has
-    a position twice."""
+    """Yields the entries of books as lines, one for each position. Refuses entries that disagree about a position.
+    Raises ValueError if one book has a position twice."""
     for _, ((_, place, line), *others) in itertools.groupby(heapq.merge(*books), key=operator.itemgetter(0)):
         for _, other_place, other in others:
             if place[0] == other_place[0] and place != other_place:
@@ -61,7 +61,7 @@ def merged(books):
 
 
 def book_of(run, folder):
-    """The lines of the book of all parts, merged in batches by way of files in a folder."""
+    """Yields the lines of the book of all parts. These are merged in batches, each of which is a file in `folder`."""
     paths, books = [], (io.BytesIO(book) for _, _, book, _ in run.solved())
     while batch := list(itertools.islice(books, BATCH)):
         paths.append(Path(folder, f"{len(paths)}.book"))
@@ -72,18 +72,18 @@ def book_of(run, folder):
 
 
 def check_place(name, source, program, *options):
-    """Refuses, before anything is solved, a place where a book can't be written, or would spoil another file."""
+    """Refuses, before anything is solved, a file that can't be written or that a book must not overwrite."""
     for other, what in ((1, "standard output, where the report goes"), (2, "standard error"), (source, "the list")):
         if is_same(name, other):
             raise misused(f"--book-out {shown(name)} is {what}: name another file")
-    with open("/dev/full", "wb") as full:  # so that it tests the place, and writes nothing
+    with open("/dev/full", "wb") as full:  # so that the program tests the file, and writes nothing
         _, errors = program.try_run(*options, f"--book-out={name}", "/dev/null", stdout=full, close_fds=False)
     if errors != "cannot write standard output":
         raise Refusal(UNREADABLE, errors.replace(os.fsencode(name).decode(errors="replace"), shown(name)))
 
 
 def merged_book(names, paths):
-    """The lines of books of one scoring merged into one."""
+    """Yields the lines of a book that has the entries of all books. Refuses books with different scorings."""
     firsts = [next(lines_of(path), b"").decode("latin-1") for path in paths]
     scorings = [first.removeprefix("% ffobook 2 ").rstrip() if first.startswith("% ffobook ") else "winner"
                 for first in firsts]
@@ -96,7 +96,7 @@ def merged_book(names, paths):
 
 
 def read_books(program, names, paths):
-    """Refuses the first book that ffosolve refuses."""
+    """Lets ffosolve read each book, and refuses the first that it refuses."""
     for name, path in zip(names, paths):
         status, errors = program.try_run(f"--book-in={path}", "/dev/null")
         if status:
@@ -104,7 +104,7 @@ def read_books(program, names, paths):
 
 
 def merge_books(command, programs):
-    """Merges books of one scoring into one, on standard output or in a file."""
+    """Merges the books of a command into one, on standard output or in a file; returns the status."""
     if not command.words:
         raise misused("--merge-books needs the name of a book")
     program, names = Program(programs, "ffosolve"), list(map(shown, command.words))
@@ -118,7 +118,7 @@ def merge_books(command, programs):
             whole.seek(0)
             read_books(program, ["the merged book"], [whole.name])
         except (ValueError, Refusal) as why:
-            read_books(program, names, paths)  # says what is wrong with one of them
+            read_books(program, names, paths)  # refuses a book that is wrong by itself
             raise why if isinstance(why, Refusal) else Refusal(UNREADABLE, str(why)) from None
         if command.book_out:
             replace(command.book_out, whole)

@@ -1,4 +1,4 @@
-"""The workers of a Dask cluster, which solve parts."""
+"""Solves parts on the workers of a Dask cluster."""
 import asyncio
 import collections
 import contextlib
@@ -20,13 +20,13 @@ except ImportError as why:
     raise Refusal(UNBUILT, f"--scheduler needs Python's package distributed ({why}): "
                            "apt-get install python3-distributed, or pip install 'ffosolve[many]'") from None
 
-LOST_SECONDS = 30  # in which Dask connects again to a scheduler
-MOST_FAILS = 3  # of a worker, one after the other
+LOST_SECONDS = 30  # of silence, after which a scheduler is lost
+MOST_FAILS = 3  # parts failed in a row, after which a worker is left out
 
 
 class Program(distributed.WorkerPlugin):
-    """Puts the program of a run on each worker, including those that join later. If it works there, the worker gets a
-    resource with the run's name, which every part needs; otherwise its metrics say why not."""
+    """A plugin that copies the program of a run to each worker, including those that join later. If the program works
+    there, the worker gets a resource with the run's name, which every part needs; otherwise its metrics say why not."""
 
     def __init__(self, name, task, files):
         self.name, self.task, self.files, self.is_over = name, task, files, False
@@ -48,7 +48,7 @@ class Program(distributed.WorkerPlugin):
         return fit_program(self.task, self.folder)[0]
 
     def solve(self, number, text):
-        """The worker, the record of a part's results, and the reason if there is none."""
+        """Solves a part. Returns (the worker's address, the record of the results or None, the reason if None)."""
         key = self.worker.get_current_task()
 
         def is_wanted():
@@ -66,8 +66,8 @@ class Program(distributed.WorkerPlugin):
 
 
 def look_at(name, left_out, dask_scheduler):
-    """Takes the resource of a run from workers that are left out. Returns whether the scheduler has the run's program;
-    why each worker can't solve, whether it can, its host, threads and parts; and the parts that no worker can have."""
+    """Runs on the scheduler. Takes a run's resource from the workers `left_out`. Returns whether the run's plugin is
+    there, {address: (fault, resource, host, threads, keys of parts)}, and the keys of parts that no worker can take."""
     for address in left_out & dask_scheduler.workers.keys():
         dask_scheduler.add_resources(address, {name: 0})
     workers = {address: (worker.metrics.get(name), worker.resources.get(name), worker.host, worker.nthreads,
@@ -77,14 +77,14 @@ def look_at(name, left_out, dask_scheduler):
 
 
 class Cluster:
-    """The workers of a cluster, with the methods of `engine.Threads`."""
+    """An engine: the workers of a cluster, with the same methods as `engine.Threads`."""
 
-    tries = 3  # of a part
+    tries = 3  # after which a part has failed
 
     def __init__(self, address, run):
         logging.disable()
         warnings.simplefilter("ignore")
-        for module in ("solve", "cluster"):  # which workers do not have
+        for module in ("solve", "cluster"):  # workers do not have these modules
             cloudpickle.register_pickle_by_value(sys.modules[f"{__package__}.{module}"])
         files = {path.name: path.read_bytes() for name in ("program-?", "book-in") for path in run.folder.glob(name)}
         self.address, self.run, self.name, self.count = address, run, f"ffosolve-{os.urandom(6).hex()}", 0
@@ -98,12 +98,12 @@ class Cluster:
         self.pool = self.client.get_executor(pure=False, resources={self.name: 1})
 
     def room(self):
-        """How many parts may be submitted but not done at a time: none while no worker has the program."""
+        """Returns how many parts may be submitted and not done at a time: none until a worker has the program."""
         threads = sum(self.ready.values())
         return 2 * threads + 2 if threads else 0
 
     def submit(self, number, failed):
-        """A future of a part's results, from a worker that did not fail it before if there is one."""
+        """Submits a part, if possible to a worker that is not in `failed`; returns the future of its results."""
         self.count += 1
         name, key = self.name, f"{self.name}-{self.count:09d}-{number}"
         others = [address for address in self.ready if address not in failed] if failed else []
@@ -130,7 +130,7 @@ class Cluster:
         self.ready.pop(machine, None)
 
     def look(self):
-        """The machine of each part that is being solved. Raises Refusal once the scheduler is lost."""
+        """Notes ready workers; returns {part: host} of parts being solved. Raises Refusal if the scheduler is lost."""
         running, self.ready = {}, {}
         try:
             if self.client.status != "running":
@@ -152,11 +152,11 @@ class Cluster:
                 self.ready[address] = threads
                 running.update((int(key.rpartition("-")[2]), host) for key in keys[:threads])
         for key, future in list(self.flying.items()):
-            if key in strays:  # which no worker that joins later would get
+            if key in strays:  # no worker that joins later would get it
                 future.cancel()
         return running
 
     def close(self):
-        """Makes the workers remove the program, but waits for a second only."""
+        """Makes the workers remove the program; waits at most a second for that."""
         with contextlib.suppress(Exception):
             self.client.sync(self.client.unregister_worker_plugin, self.name, callback_timeout=1)

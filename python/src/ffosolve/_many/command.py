@@ -1,4 +1,4 @@
-"""Does what a command line asks for."""
+"""Runs the command line of ffosolve-many."""
 import contextlib
 import os
 import signal
@@ -18,7 +18,7 @@ SIGNALS = (signal.SIGINT, signal.SIGTERM, signal.SIGHUP)
 
 
 def begin(command, programs):
-    """Checks all that a command names; returns the run, and the program that solves it here."""
+    """Checks all that a command names; returns the run, and the program that solves it on this machine."""
     complete(command)
     if is_same(path_of(command.list), 1):
         raise misused(f"standard output is the list {shown(command.list)}: name another file")
@@ -37,7 +37,7 @@ def begin(command, programs):
 
 
 def solve_list(command, programs):
-    """Solves a list, or cuts it for another scheduler; returns the status."""
+    """Solves the list of a command, or with --cut only cuts it into parts; returns the status."""
     if command.scheduler:
         from .cluster import Cluster  # refuses if its package is missing
     run, program = begin(command, programs)
@@ -80,17 +80,17 @@ def run_command(programs, words):
 
 
 def catch(number, _):
-    """Raises KeyboardInterrupt on the first signal and ignores later ones; SIG_IGN would make Python complain."""
+    """Raises KeyboardInterrupt on the first signal and ignores later ones. (With SIG_IGN, Python would complain.)"""
     for other in SIGNALS:
         signal.signal(other, lambda *_: None)
     raise KeyboardInterrupt(number)
 
 
 def main(programs, words):
-    """Runs the command, and ends with its status. `programs` is the folder of ffosolve."""
+    """Runs the command, and ends this process with its status. `programs` is the folder with ffosolve and ffoscores."""
     sys.stderr = sys.stderr or open(os.devnull, "w")
     while os.open(os.devnull, os.O_RDWR) < 3:
-        pass  # so that no file of the work takes the place of a closed stream
+        pass  # so that no file that is opened later takes the place of a closed stream
     for number in SIGNALS:
         if signal.getsignal(number) != signal.SIG_IGN:
             signal.signal(number, catch)
@@ -112,4 +112,4 @@ def main(programs, words):
         signal.signal(-status, signal.SIG_DFL)
         os.kill(os.getpid(), -status)
         signal.pthread_sigmask(signal.SIG_UNBLOCK, [-status])
-    os._exit(status)  # threads that still wait for a program are not waited for
+    os._exit(status)  # without waiting for threads whose programs still run

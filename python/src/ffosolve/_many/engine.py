@@ -11,14 +11,14 @@ from .messages import say, show
 from .progress import Progress
 from .solve import Failed, solve
 
-FILES = 8  # that a job has open while its program is started; three while it runs
+FILES = 8  # that a job has open while it starts its program; three while that runs
 HERE = "this machine"
 
 
 class Threads:
-    """Threads of this machine, each of which waits for one program."""
+    """An engine: threads of this machine, each of which runs one program at a time."""
 
-    tries = 1  # of a part
+    tries = 1  # after which a part has failed
 
     def __init__(self, run, program, jobs):
         files = resource.getrlimit(resource.RLIMIT_NOFILE)[1]
@@ -30,11 +30,11 @@ class Threads:
         self.pool = concurrent.futures.ThreadPoolExecutor(self.jobs)
 
     def room(self):
-        """How many parts may be submitted but not done at a time."""
+        """Returns how many parts may be submitted and not done at a time."""
         return 2 * self.jobs
 
     def submit(self, number, failed):
-        """A future of a part's results. `failed` has the machines that failed it before."""
+        """Submits a part; returns the future of its results. `failed` has the machines that failed the part before."""
         return self.pool.submit(self.solve, number)
 
     def solve(self, number):
@@ -48,19 +48,19 @@ class Threads:
             del self.running[number]
 
     def result(self, future, number):
-        """The machine that had a part, the seconds it took or None if it failed, and the reason."""
+        """Returns the machine that had a part, the seconds that it took or None if it failed, and why it failed."""
         return future.result()
 
     def look(self):
-        """The machine of each part that is being solved."""
+        """Returns {part: machine} of the parts that are being solved."""
         return dict(self.running)
 
     def close(self):
-        """Ends the work; the programs end with this process."""
+        """Does nothing, since the programs end with this process."""
 
 
 def solve_parts(run, engine, most, quiet):
-    """Solves the unsolved parts of a run, and returns those that failed. `most` is the limit of empty squares."""
+    """Solves the unsolved parts of a run; returns those that failed. `most` is the limit of empty squares."""
     parts, failed, failures = run.unsolved(), array.array("L"), {}
     progress, waiting, again = Progress(run, parts, most), iter(parts), collections.deque()
     flying, done, left, is_terminal = {}, queue.SimpleQueue(), len(parts), sys.stderr.isatty()

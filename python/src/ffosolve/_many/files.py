@@ -12,19 +12,19 @@ from .solve import write_whole
 
 
 def is_same(one, other):
-    """Whether two paths, or descriptors, are the same file, other than /dev/null."""
+    """Returns whether two paths or descriptors refer to the same file, other than /dev/null."""
     with contextlib.suppress(OSError):
         return os.path.samefile(one, other) and not os.path.samefile(one, os.devnull)
     return False
 
 
 def path_of(name):
-    """The path of a file that is read; `-` is standard input."""
+    """Returns the path of a file that is read; `-` is standard input."""
     return Path("/dev/stdin" if name == "-" else name)
 
 
 def regular(name, stack):
-    """The path of a readable regular file: the file itself or, for a pipe, a copy that lives as long as `stack`."""
+    """Returns the path of a regular file to read: `name` itself or, if that is a pipe, a copy that `stack` removes."""
     path, doing = path_of(name), ("read", name)
     if str(path) == "/dev/stdin" and sys.stdin is None:
         raise Refusal(UNREADABLE, f"cannot read {name}: standard input is closed")
@@ -42,7 +42,7 @@ def regular(name, stack):
 
 
 def replace(name, pieces):
-    """Writes a file: replaces a regular one whole, with its permissions, and writes into a pipe."""
+    """Writes a file. A regular file is replaced as a whole and keeps its permissions; a pipe is written into."""
     try:
         with open(name, "ab") as file:
             mode = os.fstat(file.fileno()).st_mode
@@ -55,9 +55,9 @@ def replace(name, pieces):
 
 
 def print_all(pieces):
-    """Prints on standard output, or refuses if it can't be written."""
+    """Writes pieces to standard output. Refuses if that fails; raises BrokenPipeError if nothing reads it any more."""
     try:
-        with open(1, "wb", closefd=False) as output:  # PYTHONUNBUFFERED's may write only a part
+        with open(1, "wb", closefd=False) as output:  # sys.stdout may write only a part if PYTHONUNBUFFERED is set
             output.writelines(pieces)
     except BrokenPipeError:
         raise

@@ -1,4 +1,4 @@
-"""The folder of a list: the list, the options that it was begun with, and the results of its parts."""
+"""The folder of a run: a copy of the list, the options, the programs, and the results of the parts."""
 import contextlib
 import fcntl
 import filecmp
@@ -17,11 +17,11 @@ from .programs import run_options
 from .solve import Failed, fit_program, write_whole
 
 LOCK = "ffosolve-many.lock"
-LOCK_SECONDS = 2  # until the programs of a killed run have ended
+LOCK_SECONDS = 2  # in which a run that was killed has to release the lock
 
 
 def digest_of_file(path):
-    """The SHA-256 of a file; that of nothing if it can't be read."""
+    """Returns the SHA-256 of a file in hexadecimal, or that of an empty file if it can't be read."""
     digest = hashlib.sha256()
     with contextlib.suppress(OSError), path.open("rb") as file:
         while block := file.read(MOST_BYTES):
@@ -30,14 +30,14 @@ def digest_of_file(path):
 
 
 def copy(source, path):
-    """Copies a file, unless the copy is there."""
+    """Copies a file to `path`, unless the same content is there."""
     if not path.is_file() or not filecmp.cmp(source, path, shallow=False):
         with source.open("rb") as file:
             write_whole(path, iter(lambda: file.read(MOST_BYTES), b""))
 
 
 def lock_folder(folder):
-    """Makes a folder, and locks it against other runs until this process ends. Refuses one with files of others."""
+    """Makes a folder, and locks it until this process ends. Refuses one that has other files or is already locked."""
     folder.mkdir(parents=True, exist_ok=True)
     found = sorted(os.listdir(folder))
     if found and LOCK not in found:
@@ -52,7 +52,7 @@ def lock_folder(folder):
 
 
 def begun(folder):
-    """The task with which a folder was begun; an empty one if it was not."""
+    """Returns the task with which a folder was begun, or {} if it has none that can be read."""
     try:
         task = json.loads((folder / "task.json").read_bytes())
         return task if task["options"] and task["programs"] else {}
@@ -70,7 +70,7 @@ def check_options(before, options, folder):
 
 
 def check_list(kept, source, command):
-    """Refuses a list unless it is the one that was kept, which may have grown at its end."""
+    """Refuses a list that differs from `kept`, the copy in the folder, unless it has only grown at its end."""
     with source.open("rb") as new, open(kept if kept.is_file() else os.devnull, "rb") as old:
         for line, (before, now) in enumerate(itertools.zip_longest(old, new, fillvalue=b""), 1):
             if not now.startswith(before):
@@ -80,7 +80,7 @@ def check_list(kept, source, command):
 
 
 def keep_programs(folder, program, digests):
-    """The digests of the programs in the folder, which stay those of the first time unless they are damaged."""
+    """Copies a program's files to a folder, unless those in it have the `digests`; returns the digests of all in it."""
     def kept():
         return [digest_of_file(path) for path in sorted(folder.glob("program-?"))]
     if not digests or kept() != digests:
@@ -90,11 +90,11 @@ def keep_programs(folder, program, digests):
 
 
 def prepare(command, source, program, book_in):
-    """Begins the folder, or goes on with it; returns the run, and the program that solves it here."""
+    """Begins or continues the folder of a run; returns the run, and the program that solves it on this machine."""
     folder, name = command.folder, shown(command.list)
     cut_list(source, command.lines, name)  # refuses what is not a list
     lock_folder(folder)
-    # What has to be the same for the results to be used again; the others change no result. None is not given.
+    # The options that may not differ if results are to be used again. None stands for an option that is not given.
     options = {"--lines": command.lines, "--scoring": command.scoring, "--max-empties": command.max_empties,
                "--scores": "" if command.scores else None, "--complete": "" if command.complete else None,
                "--book-in": f"of SHA-256 {digest_of_file(book_in)}" if book_in else None,

@@ -1,4 +1,4 @@
-"""What the command prints, and the refusals that end it."""
+"""The messages of the command, and the refusals that end it."""
 import contextlib
 import os
 import sys
@@ -10,7 +10,7 @@ DONE, UNSOLVED, REFUSED, UNREADABLE, UNBUILT = range(5)
 
 
 class Refusal(Exception):
-    """Ends the command with a status and a line on standard error."""
+    """Ends the command. The arguments are its status and a line for standard error."""
 
 
 def misused(text):
@@ -18,7 +18,7 @@ def misused(text):
 
 
 def cannot(verb, name, why):
-    """The refusal of a file that can't be read or written, with the system's reason."""
+    """Returns the refusal of a file that can't be read or written, with the reason of the OSError `why`."""
     return Refusal(UNREADABLE, f"cannot {verb} {shown(name)}: {why.strerror or why}")
 
 
@@ -27,14 +27,14 @@ def counted(count, name):
 
 
 def say(text):
-    """Prints a line on standard error. On a terminal it replaces the one that is shown there."""
+    """Prints a line on standard error. On a terminal, it replaces the line that `show` left there."""
     with contextlib.suppress(OSError):
         show("")
         print(f"{NAME}: {text}", file=sys.stderr, flush=True)
 
 
 def show(text):
-    """Shows a line on a terminal until the next one, and leaves out the end of one that is too long."""
+    """Shows a line on a terminal in place of the one before. Of a line that is too long, the end is left out."""
     with contextlib.suppress(OSError):
         columns = os.get_terminal_size(sys.stderr.fileno()).columns or 80
         line = f"{NAME}: {text}" if text else ""

@@ -11,14 +11,14 @@ from .messages import REFUSED, UNREADABLE, UNSOLVED, Refusal, cannot
 from .solve import HEAD, digest_of, write_whole
 
 HEADER = "% ffobook 2 {}\n"  # the first line of a book, with its scoring
-UNKNOWN = 255  # instead of the status of an unsolved part
+UNKNOWN = 255  # stands for the status of an unsolved part
 SKIPPED = re.compile(rb"[ \t]*(?:%.*|\r?)", re.DOTALL)
 ROW = re.compile(rb"(\d+) ([+-]\d\d (?:[A-H][1-8](?:,[A-H][1-8])*|PS|--) [a-z]+|refused: [^\0\n]+)\n")
 
 
 def cut_list(path, lines, name):
-    """Cuts a list into parts. Returns where each starts and the last one ends, and the number of lines. Refuses a file
-    that is not a list, and a part above the size limit."""
+    """Cuts a list into parts of `lines` lines. Returns the offset in bytes of each part and of the list's end, and the
+    number of all lines. Refuses a file that is not a list, and a part with more than MOST_BYTES bytes."""
     starts, count = array.array("Q", [0]), 0
     with path.open("rb") as file:
         try:
@@ -36,12 +36,12 @@ def cut_list(path, lines, name):
 
 
 def asked_lines(part):
-    """The lines that have a row in the report, by their numbers from 1 on: all but blank ones and comments."""
+    """Returns {number: line}, counted from 1, of the lines that a report has: all but blank ones and comments."""
     return {number: line for number, line in enumerate(part.split(b"\n"), 1) if not SKIPPED.fullmatch(line)}
 
 
 def report_lines(rows):
-    """The lines of a report with these rows, each a pair of the line's number and the rest."""
+    """Yields the lines of a report with these rows, each a pair of a line's number and the rest of the row."""
     count = refused = 0
     yield b"[1]\n"
     for number, rest in rows:
@@ -51,12 +51,12 @@ def report_lines(rows):
 
 
 def rows_of(report):
-    """The rows of a complete report, each a pair of the line's number and the rest."""
+    """Returns the rows of a complete report, each a pair of a line's number and the rest of the row."""
     return ((int(number), rest) for number, _, rest in (row.partition(b" ") for row in report.split(b"\n")[1:-2]))
 
 
 def is_report(text, numbers):
-    """Whether a text is the complete report of lines with these numbers."""
+    """Returns whether a text is the complete report on lines with these numbers."""
     rows = ROW.findall(text)
     refused = sum(rest[:1] == b"r" for _, rest in rows)
     whole = b"[1]\n%bsolved %d refused %d\n" % (b"".join(map(b"%b %b\n".__mod__, rows)), len(rows) - refused, refused)
@@ -64,7 +64,7 @@ def is_report(text, numbers):
 
 
 class Run:
-    """The parts of a list by number, and the records of their results in the folder `results`."""
+    """The parts of a list, numbered from 0, and the records of their results in the folder `results`."""
 
     def __init__(self, folder, task, starts, all_lines):
         self.folder, self.task, self.starts, self.all_lines = folder, task, starts, all_lines
@@ -76,11 +76,11 @@ class Run:
                 self.statuses[int(entry.name)] = found[0] if found else UNKNOWN
 
     def text(self, number):
-        """The lines of a part."""
+        """Returns the lines of a part as they are in the list."""
         return os.pread(self.list.fileno(), self.starts[number + 1] - self.starts[number], self.starts[number])
 
     def size(self, number):
-        """The number of lines of a part."""
+        """Returns the number of lines in a part."""
         return min(self.lines, self.all_lines - number * self.lines)
 
     def span(self, number):
@@ -91,7 +91,7 @@ class Run:
         return array.array("L", (number for number in range(self.parts) if self.statuses[number] == UNKNOWN))
 
     def read(self, number, record):
-        """The status, the output, the book, and the seconds in a part's record; None unless it is complete."""
+        """Returns (status, output, book, seconds) of a part's record, or None if the record is not complete."""
         head, text = HEAD.match(record), self.text(number)
         if not head or digest_of(self.task, number, head[1], text, record[head.end():]) != head[6]:
             return None
@@ -100,7 +100,7 @@ class Run:
         return found if self.is_whole(text, *found[:3]) else None
 
     def is_whole(self, text, status, output, book):
-        """Whether the status, the output and the book of a part are those of complete results."""
+        """Returns whether the results of a part with the lines `text` are complete."""
         if self.options["--scores"] is not None:
             return output.count(b"\n") == text.count(b"\n") + (text[-1:] != b"\n") and output.endswith(b"\n")
         has_book = book.startswith(HEADER.format(self.options["--scoring"]).encode()) and book.endswith(b"\n")
@@ -108,12 +108,12 @@ class Run:
         return status == 0 and is_book and is_report(output, asked_lines(text))
 
     def results(self, number):
-        """The status, the output, the book, and the seconds of a part; None unless it is solved."""
+        """Returns (status, output, book, seconds) of a part, or None if it is not solved."""
         with contextlib.suppress(OSError):
             return self.read(number, (self.folder / f"results/{number:07d}").read_bytes())
 
     def keep(self, number, record):
-        """Keeps a record if it is complete, and returns the seconds in it; otherwise None."""
+        """If a record is complete, writes it to its file and returns the seconds in it; otherwise returns None."""
         if not (found := self.read(number, record)):
             return None
         try:
@@ -124,7 +124,7 @@ class Run:
         return found[3]
 
     def solved(self):
-        """The results of all parts."""
+        """Yields (status, output, book, seconds) of each part. Refuses if one is no longer solved."""
         for number in range(self.parts):
             found = self.results(number)
             if found is None:
@@ -132,7 +132,7 @@ class Run:
             yield found
 
     def output(self):
-        """The lines that one run of the program prints for the whole list."""
+        """Returns what one run of the program would print for the whole list, in pieces."""
         outputs = (output for _, output, _, _ in self.solved())
         if self.options["--scores"] is not None:
             return outputs
@@ -140,7 +140,7 @@ class Run:
                             for number, output in enumerate(outputs) for line, rest in rows_of(output))
 
     def sweep(self):
-        """Removes what killed runs left."""
+        """Removes the unfinished files that killed runs left in the folder."""
         for folder in (self.folder, self.folder / "results"):
             for entry in os.scandir(folder):  # one by one: there may be a million
                 if re.search(r"\.\w{8}\.new$", entry.name):

@@ -1,4 +1,4 @@
-"""ffosolve and ffoscores, which are next to this program."""
+"""The programs ffosolve and ffoscores, in the folder of ffosolve-many."""
 import os
 import re
 import shutil
@@ -8,13 +8,13 @@ from pathlib import Path
 from .messages import NAME, UNBUILT, Refusal
 from .solve import guarded
 
-NO_DISCS = b"-" * 64 + b" X;"  # refused under any options, by a message that has the limit of empty squares
+NO_DISCS = b"-" * 64 + b" X;"  # refused with any options; the message has the limit of empty squares
 LIMITS = {"ffosolve": rb"\[1\]\n1 refused: 64 empties, limit (\d+)\nsolved 0 refused 1\n",
           "ffoscores": rb"%% refused: 64 empties, limit (\d+): %b\n" % NO_DISCS}
 
 
 class Program:
-    """A program in a folder, which runs it and in a checkout builds it first."""
+    """ffosolve or ffoscores. `start` is its file or, in a checkout, a script that builds it if needed and runs it."""
 
     def __init__(self, folder, name):
         self.start = Path(folder, name)
@@ -22,21 +22,21 @@ class Program:
             raise Refusal(UNBUILT, f"{name} is missing: it has to be next to {NAME}, in {folder}")
 
     def files(self):
-        """The contents of its files for the levels of processors, the best level first."""
+        """Returns the contents of its files for the levels of processors, the best first, or else that of `start`."""
         places = (self.start.parent.parent / place for place in ("out", "libexec/ffosolve"))
         levels = [path for place in places for path in place.glob(f"x86-64-v?/{self.start.name}")]
         return [path.read_bytes() for path in sorted(levels, reverse=True) or [self.start]]
 
     def try_run(self, *words, stdout=subprocess.PIPE, **how):
-        """The status of a run, and its messages on standard error in one line, without the program's name."""
+        """Runs the program; returns its status, and its messages on standard error in one line, without its name."""
         streams = {"stdin": subprocess.DEVNULL, "stdout": stdout, "stderr": subprocess.PIPE}
         ran = subprocess.run([self.start, *words], **streams, **how)
         lines = ran.stderr.decode(errors="replace").splitlines()
         return ran.returncode, ": ".join(line.removeprefix("ffosolve: ") for line in lines)
 
     def check(self, options):
-        """Builds the program if needed, and lets it refuse wrong options and a wrong book. Returns the most empty
-        squares that it solves."""
+        """Builds the program if needed, and lets it refuse wrong options or a wrong book, which ends this process.
+        Returns the greatest number of empty squares that it solves with these options."""
         if not shutil.which("setpriv"):
             raise Refusal(UNBUILT, "setpriv is not on the path: apt-get install util-linux")
         ran = subprocess.run(guarded([self.start, *options, "/dev/stdin"]), input=NO_DISCS, stdout=subprocess.PIPE)
@@ -49,7 +49,7 @@ class Program:
 
 
 def run_options(command):
-    """The options of ffosolve or ffoscores except for books."""
+    """Returns the options with which a command runs ffosolve or ffoscores, except those for books."""
     # The parts keep all processors busy, so none of them needs more than one thread.
     options = {"max-empties": command.max_empties, "scoring": command.scoring, "workers": command.workers or 0,
                "table": command.table}

@@ -1,17 +1,17 @@
-"""How far the work is, and how long the rest of it will take."""
+"""How far the work has got, and how long the rest will take."""
 import array
 import time
 
 from .messages import counted
 from .parts import asked_lines
 
-LONG_SECONDS = 600  # after which a part is named
-GROWTH = 2.5  # of the work, with each empty square
+LONG_SECONDS = 600  # after which a part that is still being solved is named
+GROWTH = 2.5  # factor of the work for each further empty square
 POWERS = [GROWTH ** count for count in range(65)]
 
 
 def weight_of(text, most):
-    """The work of lines with at most `most` empty squares, in units of a line without any."""
+    """Returns the expected work for lines. One counts 1 if its board is full or has more than `most` empty squares."""
     fronts = [line.lstrip()[:64] for line in asked_lines(text).values()]
     empties = [front.count(b"-") + front.count(b".") for front in fronts]
     return sum(POWERS[count] if count <= most else 1 for count in empties)
@@ -23,7 +23,7 @@ def span_of(seconds):
 
 
 class Progress:
-    """The work that is left, the time that the solved parts took, and the machine and start of each part at work."""
+    """The work that is left, the time that solved parts took, and the machine and start of each part being solved."""
 
     def __init__(self, run, parts, most):
         self.run, self.weights, self.running = run, array.array("d", bytes(8 * run.parts)), {}
@@ -33,19 +33,19 @@ class Progress:
         self.left_weight = sum(self.weights)
 
     def update(self, at_work):
-        """Takes the machine of each part that is now being solved."""
+        """Notes which machine is solving each part now."""
         begun = {number: since for number, (_, since) in self.running.items()}
         now = time.monotonic()
         self.running = {number: (machine, begun.get(number, now)) for number, machine in at_work.items()}
 
     def end(self, number, seconds):
-        """Counts a solved part, and the seconds it took."""
+        """Notes that a part was solved, and how many seconds that took."""
         self.seconds += seconds
         self.weight, self.left_weight = self.weight + self.weights[number], self.left_weight - self.weights[number]
         self.parts, self.lines, self.weights[number] = self.parts - 1, self.lines - self.run.size(number), 0
 
     def left(self):
-        """The seconds that are left, or None before a tenth of the work is done."""
+        """Returns the expected seconds until all is solved, or None before a tenth of the work is done."""
         if not self.weight or self.weight * 9 < self.left_weight:
             return None
         rate, now = self.seconds / self.weight, time.monotonic()
@@ -54,7 +54,7 @@ class Progress:
         return max(rests + [(waiting * rate + sum(rests)) / max(1, len(rests))])
 
     def text(self):
-        """The line that is shown, with what matters most first. A part that has run for ten minutes is named."""
+        """Returns the line to show. It ends with the part that has run longest, if that is for ten minutes or more."""
         run, machines, now = self.run, len({machine for machine, _ in self.running.values()}), time.monotonic()
         left = self.left() if machines else None
         text = f"{100 * (run.all_lines - self.lines) // max(1, run.all_lines)}%, "
@@ -63,5 +63,5 @@ class Progress:
         text += f"parts {run.parts - self.parts} of {run.parts}"
         number, (machine, since) = min(self.running.items(), key=lambda one: one[1][1], default=(0, ("", now)))
         if now - since >= LONG_SECONDS:
-            text += f"; {run.span(number)} runs for {span_of(now - since)} on {machine}"
+            text += f"; {run.span(number)} has been running for {span_of(now - since)} on {machine}"
         return text

@@ -14,33 +14,33 @@ import time
 from pathlib import Path
 
 KNOWN = b"-OXXXXX-XXXXXXXOXXXXXXXXXXXXXXXXXXXOXXXXXXXXXXXXXXXXXXXXXXXXXXXX X; H1:+62; A1:+52;\n"
-KNOWN_SECONDS = 30  # after which a machine is too slow to solve that line
+KNOWN_SECONDS = 30  # in which a machine has to solve that line
 HEAD = re.compile(rb"(([01]) (\d+) (\d+) (\d+\.\d+)) ([0-9a-f]{64})\n")
 
 
 class Failed(Exception):
-    """Why a part was not solved."""
+    """A part was not solved. The argument says why."""
 
 
 def guarded(words):
-    """The command of a program that is killed when this process ends, even if that is before `setpriv` runs."""
+    """Returns a command that runs `words` and is killed when this process ends, even if `setpriv` does not run yet."""
     return ["setpriv", "--pdeathsig", "KILL", "sh", "-c", '[ "$PPID" = "$0" ] && exec "$@"', str(os.getpid()), *words]
 
 
 def digest_of(task, part, head, text, results):
-    """The SHA-256 of what was asked and of what came out."""
+    """Returns the SHA-256, in hexadecimal, of a list's options, and a part's number, record head, lines and results."""
     asked = json.dumps([task["options"], part]).encode()
     return hashlib.sha256(b"\n".join((asked, head, text, results))).hexdigest().encode()
 
 
 def solve(task, folder, program, part, text, is_wanted=lambda: True):
     """Solves the lines `text` with a program, and returns the record of their results: a line with the program's
-    status, the sizes of its output and its book, the seconds it took, and the digest; then output and book.
+    status, the sizes of its output and book, the seconds that it took, and the digest; then the output and the book.
 
-    `task` has the program's `words`, and the `options` of the list. A book that is read is in the folder. Kills the
-    program once `is_wanted` returns false. Raises Failed.
+    `task` has the program's arguments as `words`, and the `options` of the list. The program runs in `folder`, which
+    has the book that it reads. It is killed once `is_wanted` returns false. Raises Failed if it fails.
     """
-    # A book comes through the pipe of standard error, so it needs no room on a disk.
+    # The program writes its book to the pipe of standard error, so that it needs no room on a disk.
     has_book, most = task["options"]["--book-out"] is not None, task["options"]["--scores"] is not None
     command = guarded([program, *task["words"], *["--book-out=/dev/stderr"] * has_book])
     begun = time.monotonic()
@@ -70,8 +70,8 @@ def solve(task, folder, program, part, text, is_wanted=lambda: True):
 
 
 def fit_program(task, folder):
-    """The first program in a folder that solves a known line, and its results. They have to be what `task` has as
-    `known`, if it has that. Raises Failed."""
+    """Returns the path of the first program in a folder that solves a known line, and its results, which must equal
+    `task["known"]` if that is set. Raises Failed if there is none."""
     why = "is missing"
     for program in sorted(folder.absolute().glob("program-?")):
         end = time.monotonic() + KNOWN_SECONDS
@@ -88,7 +88,7 @@ def fit_program(task, folder):
 
 
 def write_whole(path, pieces, mode=None):
-    """Writes a file beside the path, and renames it to the path when all of it is on the disk."""
+    """Writes a file next to `path`, and renames it to `path` once all of it is on the disk."""
     beside = path.with_name(f"{path.name}.{os.urandom(4).hex()}.new")
     try:
         with beside.open("xb") as file:
@@ -103,7 +103,7 @@ def write_whole(path, pieces, mode=None):
 
 
 def main(folder, part):
-    """Solves a part of the list that was cut into a folder, and keeps its record there."""
+    """Solves a part of the list in a folder, and writes its record to `results` in that folder."""
     task = json.loads((folder / "task.json").read_text())
     if not re.fullmatch("[0-9]{7}", part) or int(part) >= task["parts"]:
         raise Failed(f"the parts are 0000000 to {task['parts'] - 1:07d}")
