@@ -15,8 +15,8 @@ LEVELS = ("x86-64-v2", "x86-64-v3")
 
 @cache
 def built(name="ffosolve", level=""):
-    """Returns the path of a program, which make builds if needed. If PROGRAMS is set, it names a folder of built programs,
-    with a folder for each level."""
+    """Returns the path of a program, which make builds if needed. If the environment variable PROGRAMS is set, it names
+    a folder of built programs, with a folder for each level of processors."""
     if "PROGRAMS" in os.environ:
         return Path(os.environ["PROGRAMS"], level, name)
     path = Path("out", level, name)
@@ -25,19 +25,19 @@ def built(name="ffosolve", level=""):
 
 
 def build_peer(folder, level, *words):
-    """Compiles bench/peer.rs, and returns the path."""
+    """Compiles bench/peer.rs for a level of processors, and returns the path of the program."""
     peer = Path(folder, f"{level}-peer")
     subprocess.run(["rustc", "-C", "opt-level=3", "-C", f"target-cpu={level}", *words, "-o", peer, BENCH / "peer.rs"], check=True)
     return peer
 
 
 def options(entries, scoring="winner"):
-    """Returns options to solve positions of any size on one thread with a table of this size."""
+    """Returns options to solve positions with any number of empty squares on one thread with a table of this size."""
     return ["--max-empties", 60, "--workers", 0, "--table", entries, "--scoring", scoring]
 
 
 def published():
-    """Returns (board and side, [(move, score), ..]) for each position of the FFO endgame test, from 40 on."""
+    """Returns (board and side, [(move, score), ..]) for each position of the FFO endgame test, from number 40 on."""
     lines = [line for line in open(ROOT / "examples/ffo-40-51.obf") if line[0] != "%"]
     return [(line[:66], [claim.strip().split(":") for claim in line.split("%")[0].split(";")[1:-1]]) for line in lines]
 
@@ -53,7 +53,7 @@ def write(path, lines):
 
 
 def race(*commands, cores=None):
-    """Runs programs at once, on one core unless `cores` are given; returns each one's output and processor seconds."""
+    """Runs programs at the same time, on one core or on `cores`; returns (output, processor seconds) for each."""
     outputs = [tempfile.TemporaryFile() for _ in commands]
     how = {"stdin": subprocess.DEVNULL, "preexec_fn": lambda: os.sched_setaffinity(0, cores or {CORE})}
     started = [subprocess.Popen([*map(str, command)], stdout=out, **how) for command, out in zip(commands, outputs)]

@@ -1,12 +1,12 @@
-"""Plays Othello on masks by plain code that shares nothing with the library, for lists of positions and for tests.
+"""The rules of Othello in plain code that shares nothing with the library, for lists of positions and for tests.
 
-A position is two masks, the discs of the side to move and the other side's; A1 is bit 0, and H8 bit 63.
+A position is two masks: the discs of the side to move, and those of the other side. A1 is bit 0, and H8 bit 63.
 """
 import functools
 import random
 
 NOT_A, NOT_H, FULL = 0xFEFEFEFEFEFEFEFE, 0x7F7F7F7F7F7F7F7F, (1 << 64) - 1
-# For each direction the shift to the left, or to the right if negative, and the squares that it can reach.
+# For each direction, the shift to the left, or if negative to the right, and the squares that it can reach.
 STEPS = ((1, NOT_A), (-1, NOT_H), (8, FULL), (-8, FULL), (9, NOT_A), (-9, NOT_H), (7, NOT_H), (-7, NOT_A))
 START = (1 << 28 | 1 << 35, 1 << 27 | 1 << 36)
 
@@ -27,7 +27,7 @@ def moves(own, opp):
 
 
 def after(own, opp, square):
-    """Returns the position after a move; the other side is then the mover."""
+    """Returns the position after a move to `square`, a mask of one bit; the other side is then to move."""
     turned = 0
     for step, reached in STEPS:
         run, at = 0, shifted(square, step, reached)
@@ -40,8 +40,8 @@ def after(own, opp, square):
 
 
 def random_game(rng):
-    """Yields (own, opp, whether Black is to move, last move) for each position of a random game; the last move is 0 for a
-    pass, and None at the start."""
+    """Yields (own, opp, whether Black is to move, last move) for each position of a random game. The last move is a
+    mask of one bit, 0 for a pass, and None at the start."""
     own, opp, is_black, move = *START, True, None
     while True:
         yield own, opp, is_black, move
@@ -53,14 +53,14 @@ def random_game(rng):
 
 
 def random_position(rng, empties):
-    """Returns (own, opp, whether Black is to move) from a random game, or None if the game ends earlier."""
+    """Returns (own, opp, whether Black is to move) in a random game at `empties` empty squares; None if it is over."""
     for own, opp, is_black, _ in random_game(rng):
         if count(own | opp) == 64 - empties:
             return (own, opp, is_black) if moves(own, opp) or moves(opp, own) else None
 
 
 def random_lines(number, least, most, seed=1):
-    """Yields OBF lines of positions with `least` to `most` empty squares in turn, in which the game isn't over."""
+    """Yields OBF lines of `number` random positions with `least` to `most` empty squares in turn. No game is over."""
     rng = random.Random(seed)
     for at in range(number):
         found = None
@@ -87,7 +87,7 @@ def line(own, opp, is_black):
 
 @functools.lru_cache(maxsize=None)
 def values(own, opp):
-    """Returns the mover's minimax value under the scorings winner, discs and sign."""
+    """Returns the minimax values of a position for the mover, under the scorings winner, discs and sign."""
     can = moves(own, opp)
     if can:
         return tuple(-min(of) for of in zip(*(values(*after(own, opp, square)) for square in squares_in(can))))

@@ -1,4 +1,4 @@
-//! Finds the library: in the folder that FFOSOLVE_LIB_DIR names, otherwise by pkg-config, or in /usr/local/lib.
+//! Finds the library: in the folder that FFOSOLVE_LIB_DIR names, or where pkg-config says, or in /usr/local/lib.
 use std::env::{var, var_os};
 use std::path::PathBuf;
 use std::process::Command;
@@ -9,7 +9,7 @@ fn folder() -> PathBuf {
     }
     let pkg_config = var("PKG_CONFIG").unwrap_or_else(|_| "pkg-config".into());
     let ran = Command::new(pkg_config).args(["--variable=libdir", "ffosolve"]).output();
-    // pkg-config writes a backslash before each blank of a path.
+    // pkg-config writes a backslash before each blank in a path.
     match ran.map(|ran| String::from_utf8_lossy(&ran.stdout).trim().replace("\\ ", " ")) {
         Ok(folder) if !folder.is_empty() => folder.into(),
         _ => "/usr/local/lib".into(),
@@ -26,7 +26,7 @@ fn main() {
     let file = folder.join(file);
     println!("cargo:rerun-if-changed={}", file.display());
     if !file.exists() {
-        eprintln!("{} is missing: install ffosolve, or set FFOSOLVE_LIB_DIR to the folder of it", file.display());
+        eprintln!("{} is missing: install ffosolve, or set FFOSOLVE_LIB_DIR to its folder", file.display());
         std::process::exit(1);
     }
     println!("cargo:rustc-link-search=native={}", folder.display());

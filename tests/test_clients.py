@@ -174,7 +174,7 @@ class RustCrate(unittest.TestCase):
         nowhere = {**PREFIX.environment, "FFOSOLVE_LIB_DIR": "/nowhere"}  # this has precedence over pkg-config
         ran = PREFIX.run("cargo", "check", "--manifest-path", PREFIX.crate / "Cargo.toml", env=nowhere)
         self.assertNotEqual(ran.returncode, 0)
-        why = "/nowhere/libffosolve.a is missing: install ffosolve, or set FFOSOLVE_LIB_DIR to the folder of it"
+        why = "/nowhere/libffosolve.a is missing: install ffosolve, or set FFOSOLVE_LIB_DIR to its folder"
         self.assertIn(why, ran.stderr)
 
 

@@ -1,6 +1,6 @@
-"""Builds the package as a wheel or a source archive, over Python's own modules (the hooks of PEP 517).
+"""Builds the package as a wheel or a source archive with Python's own modules alone, by the hooks of PEP 517.
 
-pyproject.toml names it, so that `pip install ./python` takes nothing from a network. The file METADATA describes the package.
+pyproject.toml names this module, so `pip install ./python` needs no network. The file METADATA describes the package.
 """
 import ast
 import base64
@@ -13,12 +13,12 @@ from pathlib import Path
 
 FOLDER = Path(__file__).resolve().parent.parent
 SOURCES = FOLDER / "src/ffosolve"
-LIBRARIES = os.environ.get("FFOSOLVE_WHEEL_LIBRARIES")  # the folder of the shared libraries, which `make wheel` adds
+LIBRARIES = os.environ.get("FFOSOLVE_WHEEL_LIBRARIES")  # the folder of the shared libraries, for `make wheel`
 TAG = "py3-none-manylinux_2_34_x86_64" if LIBRARIES else "py3-none-any"  # the libraries need glibc 2.34
 
 
 def stored(*places):
-    """Returns the bytes of the first of these files that is there."""
+    """Returns the bytes of the first file of `places` that exists."""
     return next(path.read_bytes() for path in map(FOLDER.joinpath, places) if path.exists())
 
 
@@ -41,7 +41,7 @@ def package_files():
 
 
 def libraries():
-    """Yields the shared library for each level of processors."""
+    """Yields (path in the wheel, bytes) of the shared library for each level of processors, if LIBRARIES is set."""
     for level in ("x86-64-v2", "x86-64-v3") if LIBRARIES else ():
         yield f"ffosolve/{level}/libffosolve.so.1", Path(LIBRARIES, level, "libffosolve.so").read_bytes()
 

@@ -1,4 +1,4 @@
-"""Tests of the package. It finds the library as a user's program does: by FFOSOLVE_LIBRARY, or installed.
+"""Tests of the package, which finds the library as in a user's program: by FFOSOLVE_LIBRARY, or where it is installed.
 
     python3 -m unittest discover python/tests
 """
@@ -27,7 +27,7 @@ SHARED, WIDE, AT_PASS = Position(3, 2), Position(1, 6), Position(0x7E, ~0x7F & 2
 
 
 def library_that_returns(status):
-    """A stand-in for the library, which keeps the arguments of its calls."""
+    """Returns a stand-in for the library; its calls return `status`, and it keeps their arguments."""
     names = ("solve", "confirm", "solve_all", "move_scores_all", "moves", "play")
     return mock.Mock(**{f"ffosolve_{name}.return_value": status for name in names})
 
@@ -50,7 +50,7 @@ class Calls(unittest.TestCase):
         after = Position(0x0000001000000000, 0x0000000818080000)
         self.assertEqual([self.solver.play(START, square) for square in ("d3", 19)], [after] * 2)
 
-    def test_the_help_is_right(self):
+    def test_the_examples_of_the_help_print_what_it_shows(self):
         self.assertEqual(doctest.testmod(ffosolve).failed, 0)
         self.assertGreater(doctest.testmod(ffosolve).attempted, 5)
 
@@ -66,7 +66,7 @@ class Calls(unittest.TestCase):
         self.assertEqual(repr(POSITION.show()), str(POSITION))
 
     def test_a_position_keeps_its_colours(self):
-        """In f5 d6 c3 Black turns E5, White D5, and Black D4."""
+        """In the game f5 d6 c3, Black turns E5, then White turns D5, and then Black turns D4."""
         board, at = "-" * 18 + "X" + "-" * 8 + "XX" + "-" * 6 + "OXX" + "-" * 5 + "O" + "-" * 20, START
         for square, side in (("f5", "O"), ("d6", "X"), ("c3", "O")):
             at = self.solver.play(at, square)
@@ -93,7 +93,7 @@ class Calls(unittest.TestCase):
         self.assertEqual(self.solver.library_version, ffosolve.__version__)
 
     def test_the_library_gets_the_scoring_the_size_of_the_table_and_the_claim(self):
-        """Unless a size is given, the table is for the most empty squares of the list."""
+        """Unless a size is given, the table has the size for the position with the most empty squares."""
         for settings, scoring, entries in (({}, 0, ffosolve.table_entries(52)), ({"scoring": 2, "entries": 7}, 2, 7)):
             solver = Solver(max_empties=60, **settings)
             library = solver._library = library_that_returns(0)
@@ -150,7 +150,7 @@ class Refusals(unittest.TestCase):
             self.assertRaisesRegex(error, "^entries is .*, not ", Solver, entries=entries)
 
     def test_a_refusal_has_the_index_of_its_position_and_is_a_value_error(self):
-        """Except for NoMemory, which is a MemoryError."""
+        """Only NoMemory is a MemoryError instead."""
         for refusal in ffosolve.Refused.__subclasses__():
             if refusal not in (ffosolve.OtherRefusal, ffosolve.LineRefused):
                 self.assertEqual((str(refusal()), refusal().index), (refusal.reason, None))
@@ -160,7 +160,7 @@ class Refusals(unittest.TestCase):
                     self.assertEqual((type(it), str(it), it.index), wanted)
 
     def test_a_refused_line_has_the_status_of_the_header_and_the_text_of_a_report(self):
-        """Whether it is a text or bytes, with or without a line end."""
+        """The line may be of the type str or bytes, and have a line end or none."""
         for refusal, number, text, reason, at, column in (
             (ffosolve.NoPosition, 8, " % X", "no position: the line is blank or a comment", 0, None),
             (ffosolve.ShortBoard, 9, CORNERS[:63], "board has 63 of 64 squares", 63, None),
@@ -196,7 +196,7 @@ class Refusals(unittest.TestCase):
             for read in (Position.from_obf, lambda line: next(read_lines([line], refused=print))):
                 self.refused(ffosolve.NoMemory, read, CORNERS)
 
-    def test_another_object_than_a_position_is_named(self):
+    def test_an_object_that_is_not_a_position_is_named(self):
         solver = Solver()
         one = (solver.solve, solver.move_scores, solver.moves, lambda it: solver.play(it, "d3"),
                lambda it: solver.confirm(it, ANSWER))
@@ -211,7 +211,7 @@ class Refusals(unittest.TestCase):
         for call in many:
             self.assertRaisesRegex(TypeError, "^a position is two masks, .* not [0-9.]+$", call, POSITION)
 
-    def test_another_object_than_a_claim_scores_or_a_line_is_named(self):
+    def test_an_object_that_is_not_a_claim_scores_or_a_line_is_named(self):
         line = Position.from_obf(CORNERS)
         for it in (line.listed, 62, None, (62, 0, 0x80)):
             with self.assertRaisesRegex(TypeError, r"^a claim is an Answer\(score, kind, best\), not "):
@@ -229,7 +229,7 @@ class Refusals(unittest.TestCase):
     def test_a_missing_library_is_named_by_its_path(self):
         for path in ("/nowhere/libffosolve.so", pathlib.Path("/nowhere/libffosolve.so"), __file__):
             self.assertRaisesRegex(ffosolve.LibraryNotFound, f"^{path}: ", Solver, path)
-        # A name without a folder is a file of this folder, and not the system's.
+        # A name without a folder is a file in the current folder, and not one of the system's libraries.
         self.assertRaisesRegex(ffosolve.LibraryNotFound, f"^{os.getcwd()}/libc.so.6: ", Solver, "libc.so.6")
 
     def test_positions_are_read_and_shown_before_a_solver_names_the_library(self):

@@ -21,7 +21,7 @@ pub struct Answer {
 }
 
 impl Answer {
-    /// The best moves: none if the best is a pass or the game is over.
+    /// The best moves; none if the side to move has to pass or the game is over.
     pub const fn squares(self) -> Squares {
         match self.best {
             Best::Moves(squares) => squares,

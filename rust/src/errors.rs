@@ -2,7 +2,7 @@
 use crate::{MOST_EMPTIES, MOST_ENTRIES};
 use std::fmt;
 
-/// Defines an error. A row has a status of the library, the variant, the number that the library wrote, and the text.
+/// Defines an error. A row has a status of the library, the variant, the name of the number in it, and the text.
 macro_rules! refusals {
     ($(#[$about:meta])* $name:ident {
         $($(#[$doc:meta])* $status:literal $variant:ident $({ $at:ident })?: $text:literal,)*
@@ -12,12 +12,12 @@ macro_rules! refusals {
         #[non_exhaustive]
         pub enum $name {
             $($(#[$doc])* $variant $({ $at: usize })?,)*
-            /// A status of a library that is newer than this crate.
+            /// A status that this crate does not know: the library is newer.
             Other { status: i32 },
         }
 
         impl $name {
-            /// The error for a status, with the number that the library wrote.
+            /// `Err` with the error for a status and the number that the library wrote; `Ok` for status 0.
             pub(crate) fn of_status(status: i32, at: usize) -> Result<(), $name> {
                 match status {
                     0 => Ok(()),
@@ -46,7 +46,7 @@ refusals! {
         1 UnknownScoring: "no scoring has the number",
         2 TooManyEntries: "more than {MOST_ENTRIES} table entries",
         4 SharedSquare: "the masks share a square",
-        /// The position has more than `MOST_EMPTIES` empty squares; `index` is that of the first such in a list.
+        /// The position has more than `MOST_EMPTIES` empty squares; `index` is that of the first such one in a list.
         5 TooManyEmpties { index }: "position at index {index}: more than {MOST_EMPTIES} empty squares",
         /// The move is not legal.
         6 NoMove: "illegal move",
@@ -62,11 +62,11 @@ refusals! {
         7 NoMemory: "out of memory",
         /// The line is blank or a comment.
         8 NoPosition: "no position: the line is blank or a comment",
-        /// The line ends after this many squares.
+        /// The line ends after `squares` squares, before the 64th.
         9 ShortBoard { squares }: "board has {squares} of 64 squares",
-        /// A byte that is not a square.
+        /// A byte in the place of a square does not stand for one.
         10 BadSquare { column }: "bad square at column {column}",
-        /// The side to move is missing: another byte stands there, or the line ends.
+        /// The side to move is missing: another byte is in its place, or the line ends.
         11 BadSide { column }: "bad side at column {column}",
     }
 }

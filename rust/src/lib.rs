@@ -13,9 +13,9 @@
 //! The crate links the library `libffosolve.a`, or with the feature `shared` the library `libffosolve.so`. It looks in the
 //! folder that `FFOSOLVE_LIB_DIR` names when the crate is built; otherwise where pkg-config says, or in `/usr/local/lib`.
 //!
-//! Calls share nothing: any threads may call at once. A call can't be stopped, and two more empty squares take some 3
-//! to 16 times as long. A program that has to be able to stop a call makes it in a process of its own. A call needs up to
-//! 32 KiB of stack for 14 empty squares, and 128 KiB for 60.
+//! Calls share nothing, so threads may call at the same time. A call can't be stopped, and two more empty squares take
+//! some 3 to 16 times as long. A program that has to be able to stop a call makes it in a process of its own. For 14
+//! empty squares a call needs up to 32 KiB of stack, and for 60 up to 128 KiB.
 
 mod answers;
 mod errors;

@@ -10,7 +10,7 @@ pub enum Side {
     White,
 }
 
-/// What a line lists. It prints as the line has it: `H1`, `PS` or `--`.
+/// What a line lists with a score. It prints as `H1`, `PS` or `--`.
 #[derive(Clone, Copy, PartialEq, Eq, Hash, Debug)]
 pub enum Listed {
     /// A move.
@@ -34,12 +34,12 @@ impl fmt::Display for Listed {
 /// What a line of OBF text says.
 #[derive(Clone, PartialEq, Eq, Hash, Debug)]
 pub struct Line {
-    /// The position, whose mover is the side to move.
+    /// The position; its mover is the side to move.
     pub position: Position,
     /// The side to move.
     pub side: Side,
-    /// The moves that the line lists, in their order, each with its score from -64 to 64: as the line has them, right or
-    /// wrong.
+    /// The moves that the line lists, in their order, each with its score from -64 to 64. They may be illegal, and the
+    /// scores wrong.
     pub listed: Vec<(Listed, i8)>,
 }
 
@@ -83,7 +83,7 @@ pub(crate) fn without_end(line: &[u8]) -> &[u8] {
     line.strip_suffix(b"\r").unwrap_or(line)
 }
 
-/// Reads a line; writes as many of the moves that it lists as there is room for.
+/// Reads a line, and writes the moves that it lists to `listed`, as many as there is room for.
 pub(crate) fn read_line(text: &[u8], listed: &mut [raw::Listed]) -> Result<raw::Line, ObfError> {
     let (mut line, mut at) = (raw::Line::default(), 0);
     let (to, room) = (listed.as_mut_ptr(), listed.len());

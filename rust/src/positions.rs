@@ -11,10 +11,10 @@ pub struct Position {
 }
 
 impl Position {
-    /// The position of two masks, in which A1 is bit 0 and H8 bit 63: the mover's discs, and the other side's.
+    /// The position with the masks of the mover's discs and of the other side's. A1 is bit 0 of a mask, and H8 bit 63.
     ///
     /// # Errors
-    /// `SharedSquare` if they share a bit.
+    /// `SharedSquare` if the masks share a bit.
     pub const fn new(own: u64, opp: u64) -> Result<Position, Error> {
         if own & opp == 0 {
             Ok(Position { own, opp })

@@ -1,6 +1,6 @@
-//! The calls of `ffosolve.h`, which says what each takes, writes and refuses. No pointer is null.
+//! The calls of `ffosolve.h`, which says what each takes, writes and refuses. No pointer may be null.
 
-/// Defines structures of C by their members.
+/// Defines structures with the layout of C, given their members.
 macro_rules! structures {
     ($($(#[$about:meta])* $name:ident { $($member:ident: $kind:ty),* })*) => {$(
         $(#[$about])*

@@ -2,9 +2,9 @@
 use crate::raw;
 use crate::{Answer, Error, Position, Square, Squares};
 
-/// The most empty squares of a position that is solved.
+/// The greatest number of empty squares in a position to solve.
 pub const MOST_EMPTIES: usize = 60;
-/// The most entries of a table.
+/// The greatest number of entries in a table.
 pub const MOST_ENTRIES: usize = 4_194_304;
 
 /// What a score counts when the game is over, for the side to move.
@@ -28,8 +28,8 @@ impl TryFrom<u32> for Scoring {
     }
 }
 
-/// A suitable number of table entries, of 32 bytes each, for positions with this many empty squares. It changes how long
-/// an answer takes, never the answer.
+/// A suitable number of table entries, of 32 bytes each, for positions with `empties` empty squares. The size of a
+/// table changes how long an answer takes, never the answer.
 pub const fn table_entries(empties: usize) -> usize {
     match empties {
         0..=10 => 0,
@@ -39,7 +39,7 @@ pub const fn table_entries(empties: usize) -> usize {
     }
 }
 
-/// The version of the library that is linked: 10000 times its first part, 100 times the second, and the third.
+/// The version of the linked library as a number: 10000 times its first part, 100 times the second, and the third.
 pub fn library_version() -> u32 {
     // SAFETY: the call takes nothing.
     unsafe { raw::ffosolve_version() }
@@ -81,8 +81,8 @@ impl Solver {
         Error::of_status(status, 0).map(|()| Answer::of_raw(answer))
     }
 
-    /// The answer for a position; the claimed score is tested first. The claim may be wrong: it is right if the result equals
-    /// it. This is faster than `solve` if most claimed scores are right, from 6 empty squares on.
+    /// The answer for a position, found by testing the claimed score first. The claim may be wrong: it is right if the
+    /// result equals it. From 6 empty squares on, this is faster than `solve` if most claimed scores are right.
     ///
     /// # Errors
     /// Those of `solve`.
@@ -93,10 +93,10 @@ impl Solver {
         Error::of_status(status, 0).map(|()| Answer::of_raw(answer))
     }
 
-    /// The answers for positions, in their order, with one table.
+    /// The answers for positions, in their order. One table serves them all.
     ///
     /// # Errors
-    /// Those of `solve`; `TooManyEmpties` has the index of the first position that is refused.
+    /// Those of `solve`; `TooManyEmpties` has the index of the first refused position.
     pub fn solve_all(&self, positions: &[Position]) -> Result<Vec<Answer>, Error> {
         let asked: Vec<raw::Position> = positions.iter().map(|position| position.raw()).collect();
         let mut answers = vec![raw::Answer::default(); asked.len()];

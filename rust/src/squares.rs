@@ -38,7 +38,7 @@ impl fmt::Debug for Square {
     }
 }
 
-/// The error for a text that does not name a square: a letter from A to H, in either case, and a digit from 1 to 8.
+/// The text is not the name of a square, which is a letter from A to H, in either case, and a digit from 1 to 8.
 #[derive(Clone, Copy, PartialEq, Eq, Debug)]
 pub struct SquareError;
 

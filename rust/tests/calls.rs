@@ -1,4 +1,4 @@
-//! Each call with good and bad arguments.
+//! Makes each call with good and with bad arguments.
 use ffosolve::{
     library_version, raw, table_entries, Answer, Best, Error, Line, Listed, ObfError, Position, Scoring, Side, Solver,
     Square, Squares,
@@ -96,7 +96,7 @@ fn positions_have_discs_and_sets_have_squares() {
     assert_eq!([0, 1, 2, 3].map(Scoring::try_from), scorings);
 }
 
-/// The repository's tests have many lines, as each of its languages reads them.
+/// The tests of the repository read many more lines, by the library that this crate calls.
 #[test]
 fn reads_obf() {
     assert_eq!(Position::from_obf(LINE), Ok(corners()));
