@@ -6,7 +6,7 @@ from ._squares import square_names
 
 
 class Kind(enum.IntEnum):
-    """How a score is reached."""
+    """How the side to move reaches its score: by a move, by a pass, or because the game is over."""
 
     MOVES = 0
     PASS = 1  # the side to move has no legal move, but the other side has one

@@ -35,8 +35,8 @@ def masks_of(own: Any, opp: Any) -> Any:
 
 
 def runs_of(solver: "Solver", masks: Any, threads: int) -> List[Tuple[int, int, int]]:
-    """Cuts positions into parts. Returns for each part the index of its first position, the index after its last one,
-    and the greatest number of empty squares in it. Raises the refusal of the first refused position."""
+    """Cuts positions into parts for threads. Returns for each part the index of its first position, the index after its
+    last one, and the greatest number of empty squares in it. Raises the refusal of the first refused position."""
     own, opp = masks[:, 0], masks[:, 1]
     empties = 64 - SIZES[(own | opp).view(numpy.uint8)].reshape(-1, 8).sum(axis=1, dtype=numpy.int64)
     for index in numpy.flatnonzero((own & opp != 0) | (empties > solver.max_empties)).tolist():

@@ -88,8 +88,8 @@ class Board:
 
 
 def lines(number: int) -> Iterator[str]:
-    """Yields SVG for the line left of a column and the line above a row, and for their labels. For number 8 there are
-    only the lines, which close the board."""
+    """Yields SVG for the line left of column `number` and the line above row `number`, counted from 0, and for the
+    labels of both. For 8 there are only the lines, which close the board."""
     at, end = MARGIN + number * SQUARE, MARGIN + BOARD
     yield f'<path d="M{at} {MARGIN}V{end}M{MARGIN} {at}H{end}" stroke="{LINES}"/>'
     if number < 8:

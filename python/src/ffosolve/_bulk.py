@@ -31,7 +31,7 @@ class Part(NamedTuple):
 
 def parts_of(positions: Iterable[Sequence[int]], max_empties: int, most_weight: float = MOST_WEIGHT,
              most_seconds: float = MOST_SECONDS) -> Iterator[Part]:
-    """Yields positions in parts. If one is refused, the part of those before it is the last, and has the refusal."""
+    """Yields positions in parts. If one is refused, the part before it is the last one, and has its refusal."""
     clock = time.monotonic
     start, most, weight, part, end = 0, 0, 0, [], clock() + most_seconds  # type: ignore[var-annotated]
     for position in positions:
@@ -99,7 +99,7 @@ def interruptible(call: Callable[..., A], count: int, empties: int, *arguments: 
 
 
 def start_worker(tasks: Iterable[Tuple["Future[B]", A]], call: Callable[[A], B]) -> None:
-    """Starts a daemon thread, which makes a call for each (Future, argument) and puts the result into the Future."""
+    """Starts a daemon thread that makes a call for each (Future, argument); its result or error goes to the Future."""
 
     def work() -> None:
         for future, part in tasks:

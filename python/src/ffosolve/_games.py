@@ -30,7 +30,7 @@ class NotGames(NotText):
 
 
 class GameRefused(ValueError):
-    """A game can't be read or played. `game` and `move` are numbers from 1; `move` is None without a wrong move."""
+    """A game can't be read or played. `game` is its number, and `move` that of the move which shows it, or None."""
 
     def __init__(self, reason: str, game: int, move: Optional[int] = None) -> None:
         super().__init__(f"game {game}" + ("" if move is None else f", move {move}") + f": {reason}")
@@ -74,7 +74,7 @@ class Game(NamedTuple):
 
 
 class Played(NamedTuple):
-    """What `Player.play` finds in a game."""
+    """The result of `Player.play`."""
 
     position: Position  # the first one with the wanted number of empty squares
     discs: Optional[int]  # Black's at the end, where the winner gets the empty squares; None if the moves stop earlier
@@ -158,7 +158,7 @@ def read_header(file: BinaryIO) -> Tuple[int, int]:
 
 
 def records(file: BinaryIO, count: int, empties: int) -> Iterator[Game]:
-    """Yields the games that follow the header of a WTHOR file. If there are not `count`, the last one has a fault."""
+    """Yields the games after the header of a WTHOR file. If there are not `count` of them, the last one has a fault."""
     counts = f"its header counts {count} game{'s' * (count != 1)}"
     for number in range(1, count + 1):
         record = file.read(RECORD)

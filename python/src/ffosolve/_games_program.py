@@ -73,7 +73,7 @@ DONE, REMARKED, MISUSED, UNREADABLE, NO_LIBRARY, INTERRUPTED = 0, 1, 2, 3, 4, 13
 
 
 class Stop(Exception):
-    """Ends the program, with the text as a line on standard error, and with `status`."""
+    """Ends the program: `reason` is printed on standard error, and `status` is the exit status."""
 
     def __init__(self, reason: str, status: int = UNREADABLE) -> None:
         super().__init__(reason)
@@ -128,7 +128,7 @@ def number_of_empties(word: str) -> int:
 
 
 def options_of(words: List[str]) -> argparse.Namespace:
-    """The options on the command line. If it begins with `compare`, `compares` is true and `files` has two files."""
+    """The options on the command line. If it begins with `compare`, `compares` is true; `files` are LIST and REPORT."""
     parser = argparse.ArgumentParser(
         NAME, usage=USAGE, description=WHAT, epilog=MORE, formatter_class=argparse.RawDescriptionHelpFormatter,
         allow_abbrev=False)
@@ -242,7 +242,7 @@ def compare(options: argparse.Namespace, find: Callable[[], Optional[str]], outp
 
 
 def fix(place: str, compared: Sequence[Compared], player: Player, with_real: bool) -> None:
-    """Writes copies of the compared WTHOR files, with exact scores, to a new file or into a folder."""
+    """Writes copies of the compared WTHOR files, with exact scores, to the file or into the folder `place`."""
     of_files: Dict[str, List[Compared]] = {}
     for it in compared:
         of_files.setdefault(it.file, []).append(it)

@@ -15,7 +15,7 @@ DIGEST = re.compile(rb"[XO-]{64} X; % digest, line [1-4] of 4")
 
 
 class BadList(Exception):
-    """A list has no theoretical score or a refused line, or was changed."""
+    """A list can't be compared: it has a refused line or no theoretical score, or it was changed."""
 
 
 class Unfit(Exception):
@@ -80,8 +80,8 @@ def digest_of(lines: "hashlib._Hash") -> List[bytes]:
 
 
 def read_list(lines: Iterable[bytes]) -> Dict[int, Listed]:
-    """Returns the positions of a list, the digest included, by the numbers of their lines. Lists may be joined, since a
-    digest is that of all positions after the previous one. Raises BadList."""
+    """Returns the positions of a list, the digest included, by the numbers of their lines. Several lists may be joined,
+    each with its digest at its end. Raises BadList."""
     found: Dict[int, Listed] = {}
     awaited: List[bytes] = []
     covered, uncovered = hashlib.sha256(), 0
@@ -111,7 +111,7 @@ def read_list(lines: Iterable[bytes]) -> Dict[int, Listed]:
 
 
 def read_listed(text: bytes) -> Listed:
-    """Reads a line of a list; the text does not have the line's end."""
+    """Reads a line of a list, which is given without its line end."""
     position = Position.from_obf(text)
     match = COMMENT.fullmatch(os.fsdecode(text))
     if match is None:
@@ -121,7 +121,7 @@ def read_listed(text: bytes) -> Listed:
 
 
 def read_report(lines: Iterable[bytes]) -> Dict[int, Optional[int]]:
-    """The scores for the mover in a report of one list, by the line numbers of the list; None for a refused line."""
+    """Returns the scores for the mover in a report, by the list's line numbers; None if refused. Raises Unfit."""
     texts = [os.fsdecode(line.rstrip(b"\r\n")) for line in lines]
     if not texts or texts[0] != "[1]":
         raise Unfit("the report does not begin with the line `[1]`" if texts else "the report is empty")

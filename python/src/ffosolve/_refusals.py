@@ -81,7 +81,7 @@ class NoMove(Refused, ValueError, status=Status.NO_MOVE, reason="illegal move"):
 
 
 class NoMemory(Refused, MemoryError, status=Status.NO_MEMORY, reason="out of memory"):
-    """Out of memory for the table (never with 0 entries), or for the moves that a line lists."""
+    """There is not enough memory for the table (never with 0 entries), or for the moves that a line lists."""
 
 
 class OtherRefusal(Refused):

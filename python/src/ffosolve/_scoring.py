@@ -18,7 +18,7 @@ class Scoring(enum.IntEnum):
 
 
 def scoring_of(value: Union[Scoring, int, str]) -> Scoring:
-    """The Scoring that `value` is, or of which it is the number or name. Raises UnknownScoring."""
+    """Returns the Scoring that `value` is, names or numbers. Raises UnknownScoring if there is none."""
     try:
         return Scoring(value)  # type: ignore[arg-type]
     except ValueError:
