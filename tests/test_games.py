@@ -11,7 +11,7 @@ import textwrap
 
 from bench import player
 
-from . import positions  # noqa: F401, which names the library
+from . import positions  # noqa: F401 - sets FFOSOLVE_LIBRARY
 from .games import (NAMES, PROGRAM, SQUARE_BYTES, Case, discs_of_black, line_of, positions_of, random_game, real_score,
                     record, squares_of, transcript, wthor)
 from .support import InFolder, run, write

@@ -43,7 +43,7 @@ class Command(Case):
             self.games("--empties=20", name, status=3, err=UNREADABLE.format(f"cannot read {shown}", "No such file or directory"))
 
     def test_files_that_cannot_be_read_are_reported(self):
-        """The program ends with the highest of the statuses that its files cause."""
+        """The status is the highest of those that the files cause."""
         err = UNREADABLE.format("cannot read none", "No such file or directory")
         self.games("none", "text", status=3, out="", err=f"{err}ffosolve-games: text is a text: its games need --empties N\n")
         err += UNREADABLE.format("cannot read .", "Is a directory")

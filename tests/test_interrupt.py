@@ -13,7 +13,7 @@ CALLS = [
     *(f"{name}_{call}, threads={threads})" for name in ("solve", "move_scores") for threads in (1, 2)
       for call in ("all([start] * 2", "iter([start] * 2", "arrays(own, opp")),
 ]
-# Makes each call that the command line names. A signal interrupts it, but its thread works on beside the next ones.
+# Makes the calls that the command line names. A signal interrupts each, but its thread works on during the next.
 PROGRAM = """if True:
     import os, signal, sys, threading, numpy
     from ffosolve import Answer, Kind, Position, Solver

@@ -1,4 +1,4 @@
-"""bin/ffosolve-many: its output, which is that of one run of ffosolve, its command line, merged books and progress."""
+"""bin/ffosolve-many prints what one run of ffosolve prints. Also its command line, merged books and progress."""
 import io
 import os
 import re
@@ -146,7 +146,7 @@ class Results(Case):
             self.assertEqual(Path("report").read_bytes(), self.one)
             lines = (ran.stderr or ran.stdout).decode()
             counts = [int(found[1]) for found in line.finditer(lines)]
-            is_one_line = "\033" in lines and lines.count("\n") == 1  # the first, then all others in one place
+            is_one_line = "\033" in lines and lines.count("\n") == 1  # the first, then one that changes
             self.assertEqual((counts, is_one_line), (sorted(counts), place == "terminal"))
             self.assertGreater(len(set(counts)), 2, lines)
         self.assertEqual(self.same("--quiet", "--lines=6", "list.obf", by=by, places={"PAUSE": "0.3"}), "")
@@ -289,7 +289,7 @@ class Merging(Case):
         self.same_book("a.book")
         self.assertEqual(run(many.MANY.with_name("ffosolve"), "--book-in=a.book", "list.obf").stdout, self.one)
 
-    def test_more_books_than_files_that_may_be_open_start_a_program_once(self):
+    def test_more_books_than_may_be_open_are_merged_and_the_program_runs_once(self):
         header, *entries = Path("one.book").read_bytes().splitlines(keepends=True)
         names, few = [f"{number}.book" for number in range(80)], {"preexec_fn": limited("RLIMIT_NOFILE", 40)}
         for number, name in enumerate(names):
@@ -349,7 +349,7 @@ class Merging(Case):
 class Progress(InFolder):
     """Progress and the time left, measured with a fake clock that each test sets."""
 
-    # Seconds that bench/peer.rs took for each part, of six positions, of a list of 264 with 8 to 18 empty squares.
+    # Seconds that bench/peer.rs took for each part of 264 positions with 8 to 18 empty squares, six in a part.
     TOOK = (0.010, 0.278, 0.010, 0.223, 0.028, 0.331, 0.060, 0.105, 0.138, 1.174, 0.240, 0.010, 0.173, 0.014, 0.264,
             0.031, 0.364, 0.055, 0.342, 0.058, 0.181, 0.220, 0.007, 0.177, 0.009, 0.164, 0.016, 0.148, 0.026, 0.172,
             0.156, 0.481, 0.305, 0.008, 0.222, 0.007, 0.472, 0.008, 0.220, 0.029, 0.158, 0.201, 0.105, 0.263)

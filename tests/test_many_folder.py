@@ -177,7 +177,7 @@ class Resuming(Case):
         write("list.obf", many.SMALL)
         self.again(3)
 
-    def test_a_part_that_failed_is_solved_again_alone(self):
+    def test_only_the_parts_that_failed_are_solved_again(self):
         write("list.obf", many.SMALL + b"% FAIL\n" + many.SMALL + b"% DIE\n")
         self.one = self.solve("list.obf")
         for _ in range(2):
@@ -216,7 +216,7 @@ class Resuming(Case):
 class Files(Case):
     """Which lists are read, from files and from pipes, and which folders are used."""
 
-    def test_a_list_on_standard_input(self):
+    def test_a_list_is_read_from_standard_input(self):
         self.same("--lines=20", "work", "-", message="-: 60 lines in 3 parts", input=many.SMALL)
         self.same("--lines=20", "work", "/dev/stdin", message=", 3 of them solved before", input=many.SMALL)
         names = [folder.LOCK, "list", "program-0", "results", "solve.py", "task.json"]
@@ -247,7 +247,7 @@ class Files(Case):
         write("list.obf", many.SMALL.partition(b"\n")[0].rstrip() + b"\r")  # its only line ends with CR but no LF
         self.same("list.obf", text=self.solve("list.obf"))
 
-    def test_a_pipe_for_which_there_is_no_room(self):
+    def test_a_pipe_is_refused_if_there_is_no_room_for_its_copy(self):
         self.refused(3, f"cannot copy - to {many.BASE}/tmp: File too large", "work", "-", input=many.SMALL,
                      preexec_fn=limited("RLIMIT_FSIZE", 1000))
 
@@ -363,7 +363,7 @@ class Signals(Case):
         self.ends(3, b"", "another run works in work\n", *self.WORDS, by=many.ACTS)
         self.assertIsNone(ran.poll())
 
-    def test_an_ignored_interrupt_is_ignored(self):
+    def test_an_interrupt_that_the_caller_ignores_does_not_end_the_run(self):
         ran = self.open("sh", "-c", 'trap "" INT; exec "$@"', "sh", many.ACTS)
         wait_until(lambda: self.done() > 0)
         ran.send_signal(signal.SIGINT)

@@ -154,7 +154,7 @@ class Arrays(unittest.TestCase):
         self.own, self.opp = numpy.array(self.positions, numpy.uint64).T
 
     def as_lists(self, solver, positions, threads):
-        """Returns what `solve_arrays` and `move_scores_arrays` find, in the form that the calls for lists return."""
+        """Returns what `solve_arrays` and `move_scores_arrays` find, as `solve_all` and `move_scores_all` return it."""
         own, opp = numpy.array(positions, numpy.uint64).reshape(-1, 2).T
         answers, scores = (call(own, opp, threads=threads) for call in (solver.solve_arrays, solver.move_scores_arrays))
         self.assertEqual([str(array.dtype) for array in (*answers, scores)], ["int32", "int32", "uint64", "int8"])

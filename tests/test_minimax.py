@@ -1,4 +1,4 @@
-"""Each call of Python finds what plain minimax finds in random positions, and so does ffoscores.
+"""The calls in Python and the program ffoscores find what plain minimax finds in random positions.
 
 POSITIONS positions have at most MOST empty squares; both are variables of the environment. 40 more have 7 or 8.
 """

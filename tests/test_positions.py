@@ -163,7 +163,7 @@ class Boards(unittest.TestCase):
             self.assertRaisesRegex(error, f"^{why}$", Position.from_obf(BOARD).show, scores, side)
 
     def picture(self, svg):
-        """Returns a function of x and y, in pixels from the left and from the top, that returns the colour there."""
+        """Returns a function that returns a picture's colour at x and y, in pixels from the left and from the top."""
         need_modules()
         need("rsvg-convert")
         xml.etree.ElementTree.fromstring(svg)

@@ -16,7 +16,7 @@ HEADER = b"% ffobook 2 winner\n"
 SEVEN = b"X" * 56
 LEFT, LAST = SEVEN + b"XOOOOO-- X; G8:+64;\n", SEVEN + b"XOOOOOO- X; H8:+64;\n"
 EQUAL = SEVEN + b"-OOXXOO- X; A8:+64; H8:+64;\n"
-# Texts of books, by the error that ffosolve reports; those of "" are read.
+# Texts of books by the error that ffosolve reports. Those under "" are read without one.
 BOOKS = {
     "": (b"", HEADER, b"% ffobook 2 discs\r\n", b"% ffobook 2 sign", b" % ffobook 2 sign", b"% ffobook",
          b"%ffobook 2 sign", b"\n% ffobook 2 sign\n", b"% ffobook 2 sign\n% ffobook 3 x\n", LEFT + LAST + EQUAL,

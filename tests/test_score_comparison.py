@@ -26,7 +26,7 @@ class Comparison(InFolder):
         self.scored = run(built("ffoscores"), "list.obf").stdout
         write("list.scores", self.scored)
 
-    def test_errors_are_those_of_a_pocket_calculator(self):
+    def test_errors_are_the_differences_of_the_scores(self):
         wrong = [WrongScore(4, "A1", 60.5, 52), WrongScore(4, "H1", 61.75, 62), WrongScore(5, "H1", 0.5, 62),
                  WrongScore(5, "A1", 70, 52), WrongScore(6, "PS", -60, -64)]
         errors = [8.5, 0.25, 61.5, 18, 4]

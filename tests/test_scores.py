@@ -99,7 +99,7 @@ class Scores(InFolder):
         self.ends((3, b"", b"ffoscores: cannot read standard input\n"), stdin=folder)
 
     def test_each_refused_request_for_memory_is_reported_or_not_needed(self):
-        """A run that reports it prints the beginning of the output; others print all of it. Nine in ten report it."""
+        """A run that reports it has printed the beginning of the output, any other run all. Nine in ten report it."""
         reported = 0
         for number, ran, met in refusals(self.folder, built("ffoscores"), "--table", "100", input=KINDS):
             found = ran.returncode, ran.stderr

@@ -8,7 +8,7 @@ from pathlib import Path
 from tests.support import (ROOT, SECONDS, InFolder, as_at_a_login, built, limited, positions, processes_in,
                            refuse_threads, run, stored, wait_until, write)
 
-RUNS = 100  # with 64 files and 64 workers
+RUNS = 100  # runs with 64 files and 64 workers
 OFTEN = 500  # runs; one in fifteen hung while a fault left a thread asleep
 WORKERS = ("0", "1", "3", "64")
 HOURS = b"-" * 27 + b"OX------XO" + b"-" * 27 + b" X;\n"
@@ -75,7 +75,7 @@ class Files(InFolder):
                 wanted, _ = self.solve(*words)
                 self.assertEqual(self.solve(*words, prepare=refuse_threads), (wanted, 1))
 
-    def test_64_files_with_64_workers_always_give_the_same(self):
+    def test_64_files_with_64_workers_always_have_the_same_report(self):
         words = ["--workers", 64, *MANY_FILES]
         wanted, _ = self.solve(*words)
         self.assertTrue(wanted[0].endswith(b"refused 0\n") and wanted[0].count(b"[") == 64, wanted[0][-100:])

@@ -42,7 +42,7 @@ def entries_of(lines, name):
             line = Position.from_obf(text)
             greatest = max(score for _, score in line.listed)
             moves = {move for move, score in line.listed if score == greatest}
-            best = [square for square in NAMES if square in moves] or [max(moves)]  # PS, otherwise --
+            best = [square for square in NAMES if square in moves] or [max(moves)]  # PS if listed, otherwise --
             text = f"{line.to_obf()}{''.join(f' {move}:{greatest:+03d};' for move in best)}\n".encode()
             yield tuple(line), (name, number), text
 

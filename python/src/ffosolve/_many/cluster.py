@@ -142,7 +142,7 @@ class Cluster:
                                           "is solved") from None
             return running
         self.heard = time.monotonic()
-        if not has_program:  # in the client's own thread, since it hangs while a worker does not answer
+        if not has_program:  # in the client's own thread, since the call hangs while a worker is silent
             register = getattr(self.client, "register_plugin", None) or self.client.register_worker_plugin
             self.client.loop.add_callback(register, self.program, name=self.name)
         for address, (why, is_fit, host, threads, keys) in workers.items():
@@ -152,7 +152,7 @@ class Cluster:
                 self.ready[address] = threads
                 running.update((int(key.rpartition("-")[2]), host) for key in keys[:threads])
         for key, future in list(self.flying.items()):
-            if key in strays:  # no worker that joins later would get it
+            if key in strays:  # since workers that join later would not get it
                 future.cancel()
         return running
 
