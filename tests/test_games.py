@@ -62,7 +62,7 @@ class Faults(Case):
     """Faults of games and of files: each is reported in one line, and what can be read is printed."""
 
     def reads(self, content, out, *why, name="it.wtb", words=(), status=None):
-        """Asserts the status and what is printed for a file: `out`, and for each of `why` its name and that text."""
+        """Asserts the status for one file, its output, and for each of `why` a message of its name and that text."""
         write(name, content)
         err = "".join(f"ffosolve-games: {name}{it}\n" for it in why)
         self.games(*words, name, status=len(why) > 0 if status is None else status, out=out, err=err)

@@ -46,7 +46,7 @@ class Case(InFolder):
         return {str(path.relative_to(self.root)) for path in self.root.rglob("*") if path.is_symlink() or not path.is_dir()}
 
     def refused(self, ran, words):
-        """Asserts that a target failed with `words` in a line on standard error; a line from make itself may follow."""
+        """Asserts that a target failed with an error line that has `words`; a line from make itself may follow."""
         self.assertEqual((ran.returncode, ran.stdout), (2, ""), ran)
         self.assertIn(words, ran.stderr.splitlines()[0])
         self.assertLessEqual(ran.stderr.count("\n"), 2, ran.stderr)

@@ -149,7 +149,7 @@ class Calls(unittest.TestCase):
                 self.assertEqual(self.printed(compiler, PREFIX.header, PREFIX.work), (NULLS, self.wanted))
 
     def test_each_wrong_header_is_noticed(self):
-        """A wrong header has a number too great, or members or parameters exchanged, or passes on a null pointer."""
+        """A wrong header has one number too great, two members or parameters exchanged, or a null pointer passed on."""
         wrong = [
             PREFIX.text[:found.start()] + (new(found) if callable(new) else found.expand(new)) + PREFIX.text[found.end():]
             for pattern, new in (
@@ -182,7 +182,7 @@ class Calls(unittest.TestCase):
         self.assertEqual(printed, ["7"] * 6 + ["0 62/0/80"])
 
     def test_the_stack_that_the_header_names_is_enough(self):
-        """Calls with 14 empty squares return on a stack of 32 KiB. On one of 128 KiB, a game's first position is still
+        """Calls for 14 empty squares return on a stack of 32 KiB. On one of 128 KiB, a game's first position is still
         being solved after two seconds."""
         self.assertTrue("32 KiB are enough for 14 empty squares and 128 KiB for 60" in re.sub(r"\s+", " ", PREFIX.text))
         calls = [call.format(f"{own:#x} {opp:#x}") for own, opp in random_positions(20, [14])

@@ -1,4 +1,4 @@
-"""bin/ffosolve-many prints what one run of ffosolve prints. Also its command line, merged books and progress."""
+"""bin/ffosolve-many prints what one run of ffosolve does. Also tests of its command line, merged books and progress."""
 import io
 import os
 import re

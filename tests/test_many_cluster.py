@@ -84,7 +84,7 @@ class Cluster(Case):
         self.start_scheduler()
 
     def daemon(self, name, *words, **places):
-        """Starts the scheduler or a worker in its own session until the test ends. A worker that ends starts again."""
+        """Starts the scheduler or a worker, which ends with the test. A worker that ends before then starts again."""
         dask = "DASK_DISTRIBUTED__"
         settings = {f"{dask}SCHEDULER__WORKER_TTL": f"{TTL}s", f"{dask}COMM__TIMEOUTS__CONNECT": "3s"}
         command = [PYTHON, "-m", f"distributed.cli.dask_{name.rstrip('123')}", *words, "--no-dashboard"]

@@ -74,7 +74,7 @@ class Resuming(Case):
         Path("joined.book").unlink()
 
     def again(self, solved, *words, **how):
-        """Asserts that the same command finds `solved` parts solved, and then prints what one run of ffosolve does."""
+        """Asserts that the same command keeps `solved` solved parts, and prints what one run of ffosolve does."""
         self.same(*self.WORDS, *words, message=f"in 3 parts, {solved} of them solved before;", **how)
         self.same_book()
         Path("joined.book").unlink()

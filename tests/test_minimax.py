@@ -18,7 +18,7 @@ POSITIONS, MOST, DEEP = int(os.environ.get("POSITIONS", 2000)), int(os.environ.g
 
 
 def solved(position):
-    """Returns a row for each scoring: position, scoring, answer, and (square, score) of each move, by plain minimax."""
+    """Solves by plain minimax. Returns for each scoring (the position, scoring, answer, [(square, score), ..])."""
     own, opp = position
     children = {square.bit_length() - 1: player.values(*player.after(own, opp, square))
                 for square in player.squares_in(player.moves(own, opp))}

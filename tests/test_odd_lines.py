@@ -15,7 +15,7 @@ RIGHT, WRONG, NONE = (stored("examples/kinds.report").split(b"\n")[row].split()[
 
 
 def odd_line(chance, lines):
-    """Returns one of `lines`, with up to three of PIECES inserted at random, or put in place of some bytes."""
+    """Returns one of `lines`, in which up to three of PIECES are inserted or replace some bytes."""
     line = chance.choice(lines)
     for _ in range(chance.randrange(4)):
         at = chance.choice((chance.randrange(64), chance.randrange(64, 80)))

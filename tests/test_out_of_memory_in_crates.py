@@ -24,7 +24,7 @@ ENDED = {
 
 
 def is_built():
-    """Returns whether PROGRAM, which runs the tests, is as new as all sources of the crates."""
+    """Returns whether PROGRAM, which runs the tests, is at least as new as all sources of the crates."""
     sources = [path.stat().st_mtime for path in ROOT.glob("crates/*/src/**/*.rt")]
     return PROGRAM.exists() and PROGRAM.stat().st_mtime >= max(sources)
 

@@ -1,4 +1,4 @@
-"""ffosolve --progress says on standard error, every five seconds, how much is solved, and changes nothing else."""
+"""ffosolve --progress counts solved positions on standard error, every five seconds, and changes nothing else."""
 import re
 
 from tests.support import InFolder, built, positions, run, write

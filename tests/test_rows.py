@@ -42,7 +42,7 @@ def whole_lines(lines):
 
 
 def report(cells):
-    """Returns the report in which the rows of lines 1, 2 and so on have these cells; an empty cell means no row."""
+    """Returns the report on lines 1, 2 and so on that has these cells in its rows; an empty cell means no row."""
     rows = [b"%d %s" % row for row in enumerate(cells, 1) if row[1]]
     refused = sum(b" refused: " in row for row in rows)
     return whole_lines([b"[1]", *rows, b"solved %d refused %d" % (len(rows) - refused, refused)])

@@ -93,7 +93,7 @@ class Files(InFolder):
 
 class Lines(InFolder):
     def same(self, lists, seeds=(None,)):
-        """Asserts that ffoscores prints the same and ends with the same status with each number of workers."""
+        """Asserts that the output and the status of ffoscores are the same with each number of workers."""
         names = [write(f"{number}.obf", text) for number, text in enumerate(lists)]
         wanted = run(built("ffoscores"), "--workers", "0", *names)
         self.assertIn(wanted.returncode, (0, 1), wanted.stderr)
