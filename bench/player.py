@@ -60,7 +60,7 @@ def random_position(rng, empties):
 
 
 def random_lines(number, least, most, seed=1):
-    """Yields OBF lines of `number` random positions with `least` to `most` empty squares in turn. No game is over."""
+    """Yields OBF lines of `number` positions in unfinished random games, with `least` to `most` empty squares."""
     rng = random.Random(seed)
     for at in range(number):
         found = None

@@ -46,7 +46,7 @@ refusals! {
         1 UnknownScoring: "no scoring has the number",
         2 TooManyEntries: "more than {MOST_ENTRIES} table entries",
         4 SharedSquare: "the masks share a square",
-        /// The position has more than `MOST_EMPTIES` empty squares; `index` is that of the first such one in a list.
+        /// A position has more than `MOST_EMPTIES` empty squares: the first such one in a list, at `index` from 0.
         5 TooManyEmpties { index }: "position at index {index}: more than {MOST_EMPTIES} empty squares",
         /// The move is not legal.
         6 NoMove: "illegal move",

@@ -96,7 +96,7 @@ fn positions_have_discs_and_sets_have_squares() {
     assert_eq!([0, 1, 2, 3].map(Scoring::try_from), scorings);
 }
 
-/// The tests of the repository read many more lines, by the library that this crate calls.
+/// The tests of the repository read many more lines with the library that this crate calls.
 #[test]
 fn reads_obf() {
     assert_eq!(Position::from_obf(LINE), Ok(corners()));
