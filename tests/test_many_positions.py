@@ -71,7 +71,7 @@ class Lists(unittest.TestCase):
     def test_as_many_threads_as_asked_call_at_once(self):
         """Each call gets the solver's scoring and its number of table entries."""
         for threads in (3, 6):
-            solver, positions = Solver(scoring=2, entries=7), random_positions(threads, [16])  # each is a part of its own
+            solver, positions = Solver(scoring=2, entries=7), random_positions(threads, [16])  # each is one part
             answers, scores = solver.solve_all(positions), solver.move_scores_all(positions)
             library = solver._library = Meeting(solver._library, threads)
             for call, wanted in ((solver.solve_all, answers), (solver.solve_iter, answers),

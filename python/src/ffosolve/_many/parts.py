@@ -36,7 +36,7 @@ def cut_list(path, lines, name):
 
 
 def asked_lines(part):
-    """Returns {number: line}, counted from 1, of the lines that a report has: all but blank ones and comments."""
+    """Returns {number, from 1: line} of the lines that have a row in a report: all but blank lines and comments."""
     return {number: line for number, line in enumerate(part.split(b"\n"), 1) if not SKIPPED.fullmatch(line)}
 
 

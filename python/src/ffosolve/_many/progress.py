@@ -11,7 +11,7 @@ POWERS = [GROWTH ** count for count in range(65)]
 
 
 def weight_of(text, most):
-    """Returns the expected work for lines. One counts 1 if its board is full or has more than `most` empty squares."""
+    """Returns the expected work for lines. A full board counts 1, as does one with more than `most` empty squares."""
     fronts = [line.lstrip()[:64] for line in asked_lines(text).values()]
     empties = [front.count(b"-") + front.count(b".") for front in fronts]
     return sum(POWERS[count] if count <= most else 1 for count in empties)

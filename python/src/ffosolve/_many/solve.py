@@ -23,7 +23,7 @@ class Failed(Exception):
 
 
 def guarded(words):
-    """Returns a command that runs `words` and is killed when this process ends, even if `setpriv` does not run yet."""
+    """Returns a command that runs `words` and is killed when this process ends, even before `setpriv` runs."""
     return ["setpriv", "--pdeathsig", "KILL", "sh", "-c", '[ "$PPID" = "$0" ] && exec "$@"', str(os.getpid()), *words]
 
 
