@@ -111,7 +111,7 @@ class Case(InFolder):
     maxDiff = 2000
 
     def games(self, *words, status=0, out=None, err=None, **how):
-        """Runs ffosolve-games; asserts its status, `out` with its digest, and `err`. Returns (output, errors)."""
+        """Runs ffosolve-games. Asserts its status and, unless None, `out` with its digest, and `err`; returns both."""
         ran = run(sys.executable, PROGRAM, *words, **how)
         self.assertNotIn(b"Traceback", ran.stderr)
         if err is not None:

@@ -6,7 +6,7 @@
        solve_all SCORING ENTRIES ROOM OWN OPP .., move_scores_all ..    at INDEX, then INDEX: and the same for each
        moves OWN OPP, play OWN OPP SQUARE      masks
        read_line ROOM TEXT                     at INDEX, OWN OPP SIDE LISTED, and KIND/SQUARE/SCORE of each listed move
-       long_line                               the same for a line of 8,000,000 listed moves
+       long_line                               what read_line prints for a line of 8,000,000 listed moves
        names                                   the values of the header's constants, and the text of each status */
 #include "ffosolve.h"
 

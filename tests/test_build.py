@@ -74,7 +74,7 @@ class Build(InFolder):
         return run(self.script, *(words or ("w",)), input="read\n", env={**os.environ, **environment}, **HOW, **who)
 
     def begin(self, **environment):
-        """Starts `self.script`. If `environment` has WAITS, the fake rt waits until there is a file `starts.go`."""
+        """Starts `self.script`. If `environment` has WAITS, the fake rt waits until the file `starts.go` exists."""
         return self.start(self.script, "w", env={**os.environ, **environment}, **HOW)
 
     def builds(self):
@@ -292,7 +292,7 @@ class Build(InFolder):
         self.ran(self.use(), 1, builds=5)
 
     def on_a_terminal(self, keys, shown, go=False, columns=80):
-        """Returns (output, status) of the script on a terminal; after `shown`, lets rt end if `go`, and types `keys`."""
+        """Runs the script on a terminal, types `keys` after `shown`, and returns (output, status). `go` lets rt end."""
         words = ["script", "-qec", f"stty cols {columns}; exec '{self.script}' w", "/dev/null"]
         ran = self.start(*words, stdin=subprocess.PIPE, env={**os.environ, "WAITS": "yes"}, **{**HOW, "text": False})
         output, end = b"", time.monotonic() + SECONDS

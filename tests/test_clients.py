@@ -15,7 +15,7 @@ from .prefix import CXX, PIP, PREFIX, C, setUpModule
 from .support import ROOT, built, lack, need, run, stored
 import ffosolve
 
-SMALL, LARGE = 9, 10  # positions of examples/masks.txt, without the last, which has 20 empty squares, and with it
+SMALL, LARGE = 9, 10  # positions of examples/masks.txt, without the last, of 20 empty squares, and with it
 CMAKE = """cmake_minimum_required(VERSION 3.16)
 project(clients C CXX)
 add_executable(program answers.c)
@@ -171,7 +171,7 @@ class RustCrate(unittest.TestCase):
         shutil.copytree(PREFIX.libraries, PREFIX.work / "libraries", symlinks=True)
         places = {**PREFIX.environment, "PKG_CONFIG_PATH": "", "FFOSOLVE_LIB_DIR": str(PREFIX.work / "libraries")}
         PREFIX.cargo("test", PREFIX.crate, "--quiet", "--test", "calls", env=places)
-        nowhere = {**PREFIX.environment, "FFOSOLVE_LIB_DIR": "/nowhere"}  # this has precedence over pkg-config
+        nowhere = {**PREFIX.environment, "FFOSOLVE_LIB_DIR": "/nowhere"}  # has precedence over pkg-config
         ran = PREFIX.run("cargo", "check", "--manifest-path", PREFIX.crate / "Cargo.toml", env=nowhere)
         self.assertNotEqual(ran.returncode, 0)
         why = "/nowhere/libffosolve.a is missing: install ffosolve, or set FFOSOLVE_LIB_DIR to its folder"

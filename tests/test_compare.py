@@ -172,7 +172,7 @@ class Fix(Case):
         self.err = f"new.wtb: theoretical scores changed 2 of {len(self.exact)}, not compared 0"
 
     def write_source(self, content, *words, skipped=()):
-        """Writes `content` into it.wtb, and then the list and the report as `write_list` does."""
+        """Writes `content` into it.wtb, and then a list and its report, as `write_list` does."""
         self.whole = content
         write("it.wtb", content)
         self.write_list(*words, skipped=skipped)

@@ -6,7 +6,7 @@ from tests.support import ROOT, need, run
 
 
 class Crates(unittest.TestCase):
-    def test_all_tests_of_crates_are_in_one_crate_and_pass(self):
+    def test_all_tests_are_in_one_crate_and_pass(self):
         need("rt")
         sources = {path: path.read_text().count("#[test]") for path in ROOT.glob("crates/*/src/**/*.rt")}
         crate = ROOT / "crates/crate_tests"
