@@ -10,8 +10,8 @@
 //! # Ok::<(), Box<dyn std::error::Error>>(())
 //! ```
 //!
-//! The crate links the library `libffosolve.a`, or with the feature `shared` the library `libffosolve.so`. It looks in the
-//! folder that `FFOSOLVE_LIB_DIR` names when the crate is built; otherwise where pkg-config says, or in `/usr/local/lib`.
+//! The crate links the library `libffosolve.a`, or with the feature `shared` the library `libffosolve.so`. It looks in
+//! the folder that `FFOSOLVE_LIB_DIR` names when it is built; otherwise where pkg-config says, or in `/usr/local/lib`.
 //!
 //! Calls share nothing, so threads may call at the same time. A call can't be stopped, and two more empty squares take
 //! some 3 to 16 times as long. A program that has to be able to stop a call makes it in a process of its own. For 14

@@ -19,7 +19,7 @@ structures! {
     Answer { score: i32, kind: i32, best: u64 }
     /// A position that a line holds, how many moves the line lists, and the side to move (0 black, 1 white).
     Line { position: Position, listed: usize, side: i32 }
-    /// A move that a line lists: its score, what it is (0 a move, 1 a pass, 2 the end of the game), and the square's number.
+    /// A move that a line lists: its score, what it is (0 a move, 1 a pass, 2 the end of the game), and the square.
     Listed { score: i32, kind: i32, square: u8 }
 }
 

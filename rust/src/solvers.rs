@@ -108,7 +108,7 @@ impl Solver {
         Ok(answers.into_iter().map(Answer::of_raw).collect())
     }
 
-    /// Each legal move with its score for the side to move, in the order of the squares; empty if there is no legal move.
+    /// Each legal move with its score for the side to move, in the order of the squares; empty without a legal move.
     /// One table serves all moves.
     ///
     /// # Errors

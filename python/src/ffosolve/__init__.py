@@ -22,8 +22,8 @@ A Solver solves one position, or many. Scores are for the side to move.
 By default, a Solver takes positions with up to 20 empty squares; `Solver(max_empties=24)` takes up to 24. A position
 with two more empty squares takes some 3 to 16 times as long.
 
-`read_lines("list.obf")` reads positions from a file of OBF lines, and `read_games("WTH_2001.wtb")` reads games; the positions
-of a game are `solver.positions(game)`. `compare_scores` says how far an evaluation's scores are from those of `ffoscores`.
+`read_lines("list.obf")` reads positions from a file of OBF lines, and `read_games("WTH_2001.wtb")` reads games; the
+positions of a game are `solver.positions(game)`. `compare_scores` says how far scores are from those of `ffoscores`.
 
 A notebook shows a position as a picture. `position.show(solver.move_scores(position))` adds the scores of its moves.
 

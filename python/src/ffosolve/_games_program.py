@@ -90,7 +90,7 @@ class Output:
     def __enter__(self) -> "Output":
         if sys.stdout is None:
             raise Stop("cannot write standard output: it is closed")
-        sys.stdout = open(1, "w", closefd=False)  # PYTHONUNBUFFERED's loses the rest of a partial write
+        sys.stdout = open(1, "w", closefd=False)  # Python's own, if unbuffered, loses the rest of a partial write
         self._games, self._has_scores = hashlib.sha256(), False
         return self
 
@@ -101,7 +101,7 @@ class Output:
             raise unwritable("standard output", error) from None
 
     def game(self, name: str, game: Game, position: Position) -> None:
-        name = shown(name) if any(letter < " " for letter in name) else name  # `compare --fix` opens it
+        name = shown(name) if any(letter < " " for letter in name) else name  # otherwise `--fix` can open it
         score = "" if game.score is None else f", theoretical score {game.score}"
         line = os.fsencode(f"{position.to_obf()} % {name}, game {game.number}{score}")
         self.line(line)
@@ -159,8 +159,8 @@ def options_of(words: List[str]) -> argparse.Namespace:
 
 
 def main(find: Callable[[], Optional[str]] = lambda: None) -> int:
-    """Runs the program with this process's command line, and returns its status. `find` returns the path of the library, or
-    None if the package is to look for it."""
+    """Runs the program with this process's command line, and returns its status. `find` returns the path of the library,
+    or None if the package is to look for it."""
     signal.signal(signal.SIGPIPE, signal.SIG_DFL)  # if nothing reads the output any more, the program ends silently
     try:
         with Output() as output:

@@ -30,7 +30,7 @@ class Masks(NamedTuple):
 
 
 class Position(Masks):
-    """The masks of the discs of the side to move (`own`) and of the other side (`opp`), and the colour of the side to move.
+    """The masks of the discs of the side to move (`own`) and of the other side (`opp`), and the mover's colour (`side`).
 
     Square A1 is bit 0 of a mask and H8 bit 63. The masks are checked only by the rules and by a Solver, not when a
     Position is made. `side` is "X" (Black) or "O" (White). Positions are printed and shown in their colours, but no
@@ -59,9 +59,9 @@ class Position(Masks):
         """The position of a line of OBF text, with the moves that the line lists. The line has 64 squares from A1 on,
         the side to move, and fields such as `H1:+62;`.
 
-        Black is one of `X x * B b`, white one of `O o W w`, and an empty square `-` or `.`. Blanks before the squares and
-        before the side are skipped. Raises NoPosition, ShortBoard, BadSquare and BadSide, which are ValueErrors, and
-        NoMemory. No library is needed.
+        Black is one of `X x * B b`, white one of `O o W w`, and an empty square `-` or `.`. Blanks before the squares
+        and before the side are skipped. Raises NoPosition, ShortBoard, BadSquare and BadSide, which are ValueErrors,
+        and NoMemory. No library is needed.
         """
         return read_line(text, None)
 
@@ -219,7 +219,7 @@ def without_end(text: Union[str, bytes]) -> bytes:
 def read_lines(source: Source, refused: Optional[Callable[[LineRefused], object]] = None) -> Iterator[Line]:
     """Yields the positions of lines of OBF text, in their order. `source` is a path, or an iterable of lines such as an
     open file. Blank lines and comments are skipped. Any other line without a position raises ShortBoard, BadSquare or
-    BadSide, whose `line` is its number. If `refused` is given, it is called with the error instead, and reading goes on:
+    BadSide, whose `line` is its number. If `refused` is given, it gets the error instead, and reading goes on:
 
         wrong = []
         positions = list(read_lines("a.obf", refused=wrong.append))

@@ -76,8 +76,8 @@ class Solver:
         return f"{number // 10000}.{number // 100 % 100}.{number % 100}"
 
     def solve(self, position: Position) -> Answer:
-        """The answer for a position. Raises SharedSquare, TooManyEmpties and NoMemory, ValueError for a mask that is not a
-        number from 0 to 2**64 - 1, and TypeError for an object that is not a position."""
+        """The answer for a position. Raises SharedSquare, TooManyEmpties and NoMemory, ValueError for a mask that is not
+        a number from 0 to 2**64 - 1, and TypeError for an object that is not a position."""
         return self._answer(self._library.ffosolve_solve, position)
 
     def confirm(self, position: Position, claim: Answer) -> Answer:
@@ -131,7 +131,7 @@ class Solver:
         return _arrays.move_scores(self, own, opp, checked_threads(threads))
 
     def moves(self, position: Position) -> int:
-        """The mask of the legal moves, 0 if there is none; `Position.legal_moves` has their names. Raises SharedSquare."""
+        """The mask of the legal moves, or 0; `Position.legal_moves` has their names. Raises SharedSquare."""
         return moves(self._library, position)
 
     def play(self, position: Position, square: Union[int, str]) -> Position:

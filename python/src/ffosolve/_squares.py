@@ -7,7 +7,7 @@ NAMES = [column + row for row in "12345678" for column in "ABCDEFGH"]
 
 
 def square_name(number: int) -> str:
-    """The name of the square with a number from 0 to 63: "A1", "B1", .. "H8". Raises ValueError for any other number."""
+    """The name of the square with a number from 0 to 63: "A1", "B1", .. "H8". Raises ValueError for another number."""
     if not 0 <= operator.index(number) < 64:
         raise ValueError(f"no square has the number {number}")
     return NAMES[number]
