@@ -67,8 +67,7 @@ class Game(NamedTuple):
 
     @property
     def squares(self) -> List[str]:
-        """The names of the squares that were played, "F5", "D6", .., without passes. A word that is not a square is
-        kept, in small letters."""
+        """The names of the squares of the moves, as "F5", without passes. Other words are kept, in small letters."""
         names = zip(self.moves, self.words)
         return [str(word) if move == NO_SQUARE else square_name(move) for move, word in names if move != PASS]
 

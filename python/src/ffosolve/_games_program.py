@@ -159,8 +159,7 @@ def options_of(words: List[str]) -> argparse.Namespace:
 
 
 def main(find: Callable[[], Optional[str]] = lambda: None) -> int:
-    """Runs the program with this process's command line, and returns its status. `find` returns the path of the library,
-    or None if the package is to look for it."""
+    """Runs the program on the command line, and returns its status. `find` returns the path of the library or None."""
     signal.signal(signal.SIGPIPE, signal.SIG_DFL)  # if nothing reads the output any more, the program ends silently
     try:
         with Output() as output:

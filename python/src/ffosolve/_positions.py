@@ -30,7 +30,7 @@ class Masks(NamedTuple):
 
 
 class Position(Masks):
-    """The masks of the discs of the side to move (`own`) and of the other side (`opp`), and the mover's colour (`side`).
+    """The masks of the discs of the side to move (`own`) and of the other side (`opp`), and the mover's colour, `side`.
 
     Square A1 is bit 0 of a mask and H8 bit 63. The masks are checked only by the rules and by a Solver, not when a
     Position is made. `side` is "X" (Black) or "O" (White). Positions are printed and shown in their colours, but no
@@ -116,8 +116,7 @@ class Position(Masks):
         return position
 
     def score(self, scoring: Union[Scoring, int, str] = Scoring.WINNER) -> int:
-        """The score of a finished game for the side to move. Raises ValueError if the game is not over, and
-        UnknownScoring."""
+        """The score of a finished game for the mover. Raises ValueError if it is not over, and UnknownScoring."""
         if not self.is_over:
             raise ValueError(f"the game is not over, so only a Solver finds the score: {self.to_obf()}")
         answer = CAnswer()
@@ -126,10 +125,9 @@ class Position(Masks):
 
     def show(self, scores: Union[Mapping[str, float], Answer, None] = None, side: Optional[str] = None) -> Board:
         """The board, which a notebook shows as a picture and print() as text. `scores` from `Solver.move_scores` are
-        written into their squares, and the best ones are marked. An Answer's score is written into the squares of the
-        best moves, or below the board for a pass or a finished game. The side to move has its own colour, or that of
-        `side`. Raises ValueError for another side and for a score in a square that is not empty, and TypeError for
-        other scores."""
+        written into their squares, and the best are marked. An Answer's score is written into each best move's square,
+        or below the board for a pass or a finished game. The side to move has its own colour, or that of `side`. Raises
+        ValueError for another side and for a score in a square that is not empty, and TypeError for other scores."""
         state = "is to move"
         if isinstance(scores, Answer):
             state = STATES.get(scores.kind, state).format(scores.score)

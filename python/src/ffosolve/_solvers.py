@@ -76,8 +76,8 @@ class Solver:
         return f"{number // 10000}.{number // 100 % 100}.{number % 100}"
 
     def solve(self, position: Position) -> Answer:
-        """The answer for a position. Raises SharedSquare, TooManyEmpties and NoMemory, ValueError for a mask that is not
-        a number from 0 to 2**64 - 1, and TypeError for an object that is not a position."""
+        """The answer for a position. Raises SharedSquare, TooManyEmpties and NoMemory, ValueError for a mask that is
+        not a number from 0 to 2**64 - 1, and TypeError for an object that is not a position."""
         return self._answer(self._library.ffosolve_solve, position)
 
     def confirm(self, position: Position, claim: Answer) -> Answer:
@@ -177,8 +177,7 @@ class Solver:
         return self._call_for(part, self._library.ffosolve_move_scores_all, CMoveScores, scores_in)
 
     def _call_for(self, part: Part, call: Any, record: Any, read: "Callable[[Any], List[A]]") -> "Results[A]":
-        """Makes a call that writes a record for each position of a part. Returns what `read` makes of the records, and
-        the part's refusal or None."""
+        """Makes a call for a part. Returns what `read` makes of its record for each position, and the refusal."""
         found = (record * len(part.positions))()
         self._fill(found, call, c_positions(part.positions), part.empties)
         return read(found), part.refusal
