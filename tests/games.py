@@ -111,7 +111,7 @@ class Case(InFolder):
     maxDiff = 2000
 
     def games(self, *words, status=0, out=None, err=None, **how):
-        """Runs ffosolve-games. Asserts its status and, unless None, `out` with its digest, and `err`; returns both."""
+        """Returns (output, errors) of ffosolve-games. Asserts its status and, if given, `out` with digest and `err`."""
         ran = run(sys.executable, PROGRAM, *words, **how)
         self.assertNotIn(b"Traceback", ran.stderr)
         if err is not None:
