@@ -110,6 +110,12 @@ class Build(InFolder):
         ran = run("sh", "ffosolve", "w", **{**HOW, "cwd": self.root / "bin"})
         self.assertEqual(ran.stdout, f"made of 1\n<w>{self.root}/bin\n", ran)
 
+    def test_closed_standard_error_does_no_harm_to_builds_and_runs(self):
+        for text, builds in ((1, 1), (1, 1), (2, 2)):
+            write(self.source, f"{text}\n")
+            ran = run("sh", "-c", 'exec "$0" w 2>&-', self.script, input="read\n", **HOW)
+            self.assertEqual(self.ran(ran, text, builds=builds), "")
+
     def test_rt_gets_no_input_and_no_lock_and_the_program_replaces_the_caller(self):
         below = self.root / "scripts/below"
         write(below, below.read_text().replace("\n", '\nls -l /proc/$$/fd >>"$STARTS.rt"\n', 1))
