@@ -46,7 +46,7 @@ class Case(InFolder):
         return {str(path.relative_to(self.root)) for path in self.root.rglob("*") if path.is_symlink() or not path.is_dir()}
 
     def refused(self, ran, words):
-        """Asserts that a target failed with an error line that has `words`; a line from make itself may follow."""
+        """Asserts that a target failed with an error line that contains `words`; a line from make itself may follow."""
         self.assertEqual((ran.returncode, ran.stdout), (2, ""), ran)
         self.assertIn(words, ran.stderr.splitlines()[0])
         self.assertLessEqual(ran.stderr.count("\n"), 2, ran.stderr)
@@ -284,7 +284,7 @@ def plain(text):
 
 
 class Texts(Case):
-    """Manual pages and completions. A TAB after bin/ffosolve does not run it, since that may start a build."""
+    """Manual pages and completions. Pressing TAB after bin/ffosolve must not run it, since that could start a build."""
 
     def setUp(self):
         super().setUp()
@@ -355,7 +355,7 @@ class Texts(Case):
         self.assertEqual(self.offered("fish", script, "ffosolve", "--scoring=d"), ["--scoring=discs"])
 
     def test_zsh_completes_options_values_and_files(self):
-        """On a terminal, zsh's own line editor completes each line."""
+        """Runs zsh on a terminal, where its own line editor completes each line."""
         need("zsh")
         lines = {"ffosolve --sco": "ffosolve --scoring", "ffosolve --scoring=d": "ffosolve --scoring=discs",
                  "ffoscores --scoring w": "ffoscores --scoring winner", "bin/ffosolve --sco": "bin/ffosolve --scoring",

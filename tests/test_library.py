@@ -103,7 +103,7 @@ class Header(unittest.TestCase):
         self.assertEqual(library.ffosolve_limit(library.FFOSOLVE_LIMIT_ENTRIES), library.FFOSOLVE_MOST_ENTRIES)
 
     def test_a_compiler_warns_if_a_status_is_ignored(self):
-        """Tries every function of the header that returns a status, whether a call of the library or inline."""
+        """Tries every function that returns a status, whether it is in the library or inline in the header."""
         declared = re.findall(r"^(?:static __inline__ )?int32_t (ffosolve_\w+)\(([^)]*)\)", PREFIX.text, re.MULTILINE)
         names = {name for name, _ in declared}
         self.assertLessEqual({"ffosolve_solve", "ffosolve_solve_all_or_null", "ffosolve_read_line_or_null"}, names)
@@ -124,8 +124,9 @@ class Header(unittest.TestCase):
 
 class Calls(unittest.TestCase):
     def setUp(self):
-        """Reads tests/library_calls.txt. A row has a call and, after ` = `, what it writes according to the header. A
-        word may have alternatives with `|` between them; each combination is a call of its own."""
+        """Reads tests/library_calls.txt. A row is a call, ` = `, and what library_calls.c has to print for the call
+        according to the header. A word of a call may be alternatives with `|` between them; each combination is a call
+        of its own."""
         self.calls, self.wanted = [], ""
         for row in (TESTS / "library_calls.txt").read_text().splitlines():
             call, wanted = row.rsplit(" = ", 1)
@@ -137,7 +138,7 @@ class Calls(unittest.TestCase):
                 self.wanted += f"{named(wanted)}\n"
 
     def printed(self, compiler, header, folder):
-        """Compiles library_nulls.c and library_calls.c with `header` in `folder`; returns what each of them prints."""
+        """Compiles library_nulls.c and library_calls.c in `folder` with `header`; returns a pair of what they print."""
         words = ("-I", header.parent), ("-I", header.parent, "-x", "none", PREFIX.archive)
         nulls, calls = (PREFIX.compile(compiler, folder / name, [TESTS / f"library_{name}.c"], *more)
                         for name, more in zip(("nulls", "calls"), words))
@@ -149,7 +150,8 @@ class Calls(unittest.TestCase):
                 self.assertEqual(self.printed(compiler, PREFIX.header, PREFIX.work), (NULLS, self.wanted))
 
     def test_each_wrong_header_is_noticed(self):
-        """A wrong header has one number too great, two members or parameters exchanged, or a null pointer passed on."""
+        """Each wrong header has one fault: a number that is too great by 1, two members or parameters exchanged, or a
+        null pointer that is passed on."""
         wrong = [
             PREFIX.text[:found.start()] + (new(found) if callable(new) else found.expand(new)) + PREFIX.text[found.end():]
             for pattern, new in (
@@ -195,7 +197,7 @@ class Calls(unittest.TestCase):
 
 class Statuses(unittest.TestCase):
     def test_a_status_has_one_name_number_and_text_in_each_language(self):
-        """The Rust program is linked with a library in which each call returns 1 at first, then 2, 3 and so on."""
+        """Links the Rust program with a library whose functions return 1 at first, then 2, 3 and so on."""
         listed = re.findall(r"FFOSOLVE_(\w+) = (\d+)", PREFIX.text.split("enum ffosolve_status {")[1].split("}")[0])
         self.assertEqual(listed, [(it.name, str(it.value)) for it in ffosolve.Status])
         source = "".join(f"int {name}(void) {{ static int status; return ++status; }}\n" for name in PREFIX.calls)

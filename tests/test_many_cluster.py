@@ -33,7 +33,7 @@ def setUpModule():
 
 
 class Client:
-    """A client like that of a later version of Dask. Its scheduler says that no worker can take the first part."""
+    """A stand-in for a client of a later version of Dask. Its scheduler says that no worker can take the first part."""
 
     status, loop = "running", types.SimpleNamespace(add_callback=lambda call, *words, **how: call(*words, **how))
     calls, keys = [], []
@@ -84,7 +84,7 @@ class Cluster(Case):
         self.start_scheduler()
 
     def daemon(self, name, *words, **places):
-        """Starts the scheduler or a worker, which ends with the test. A worker that ends before then starts again."""
+        """Starts the scheduler or a worker, which ends with the test. A worker that ends earlier is started again."""
         dask = "DASK_DISTRIBUTED__"
         settings = {f"{dask}SCHEDULER__WORKER_TTL": f"{TTL}s", f"{dask}COMM__TIMEOUTS__CONNECT": "3s"}
         command = [PYTHON, "-m", f"distributed.cli.dask_{name.rstrip('123')}", *words, "--no-dashboard"]
@@ -126,8 +126,9 @@ class Cluster(Case):
                               env={**os.environ, **places}, preexec_fn=as_at_a_login)
 
     def ended(self, ran, *names):
-        """Waits for a run. Asserts that its report and its book are those of one run of ffosolve, and that no program
-        is left on the workers of these names, or on any worker if no name is given. Returns the run's messages."""
+        """Waits until a run ends. Asserts that its report and its book are those of one run of ffosolve, and that no
+        program still runs on the workers of these names, or on any worker if no name is given. Returns the run's
+        messages."""
         output, _ = ran.communicate(timeout=2 * SECONDS)
         self.assertEqual((ran.returncode, output), (0, self.one), self.messages())
         self.same_book()
@@ -138,7 +139,7 @@ class Cluster(Case):
         return Path("messages").read_text()
 
     def programs(self, *names):
-        """Returns the numbers of the processes that solve on the workers of these names, by default on all of them."""
+        """Returns the IDs of the processes that solve parts on the workers of these names, by default on all."""
         return [number for name in names or self.workers for number in processes_in(self.folder / name)]
 
     def done(self):

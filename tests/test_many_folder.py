@@ -22,7 +22,7 @@ KILLS = int(os.environ.get("KILLS", 10))  # runs that are killed at random momen
 
 
 class Functions(InFolder):
-    """What no output shows: how faults of programs and disks are noticed, and the order in which files are written."""
+    """What no output shows: how signals, incomplete results, writing to the disk and a folder's lock are handled."""
 
     def test_signals_after_the_first_are_ignored(self):
         with mock.patch.object(signal, "signal") as handled, self.assertRaises(KeyboardInterrupt):
@@ -299,7 +299,7 @@ class Signals(Case):
         return self.start(*program, *self.WORDS, start_new_session=True, preexec_fn=as_at_a_login, env=places, **how)
 
     def at_work(self, done):
-        """Starts a run of twelve parts, and returns it once `done` are solved and two others are being solved."""
+        """Starts a run of twelve parts; returns it once `done` parts are solved and two others are being solved."""
         ran = self.open(many.ACTS, last=done)
         wait_until(lambda: self.done() >= done and len(self.programs()) == 2)
         self.assertIsNone(ran.poll(), "it ended too early")
@@ -310,14 +310,14 @@ class Signals(Case):
         return len(list(Path("work/results").glob("[0-9]" * 7)))
 
     def workers(self):
-        """Returns {process number: command line} of the processes that run in the test's folder."""
+        """Returns {process ID: command line} of the processes that run in the test's folder."""
         return processes_in(str(self.folder))
 
     def programs(self):
         return [number for number, words in self.workers().items() if "program-0" in words]
 
     def whole_at_last(self, message=""):
-        """Asserts that the command ends with the report and book of one run of ffosolve, and removes its files."""
+        """Asserts that the same command ends with the report and the book of one run of ffosolve. Removes its files."""
         self.same(*self.WORDS, by=many.ACTS, message=message)
         self.same_book()
         shutil.rmtree("work")

@@ -15,7 +15,8 @@ SHARED, WIDE = Position(3, 2), Position(1, 6)
 
 
 class Meeting:
-    """A library whose calls wait until `count` of them run at once. `asked` lists their scorings and table entries."""
+    """A stand-in for the library. Its calls wait until `count` of them have begun, and then make the real ones. `asked`
+    has the scoring and the number of table entries of each call."""
 
     def __init__(self, real, count):
         self.real, self.at_once, self.asked = real, threading.Barrier(count), []
@@ -69,7 +70,7 @@ class Lists(unittest.TestCase):
             self.assertEqual(list(answers), self.answers[1:50])
 
     def test_as_many_threads_as_asked_call_at_once(self):
-        """Each call gets the solver's scoring and its number of table entries."""
+        """Each call gets the scoring and the number of table entries of the solver."""
         for threads in (3, 6):
             solver, positions = Solver(scoring=2, entries=7), random_positions(threads, [16])  # each is one part
             answers, scores = solver.solve_all(positions), solver.move_scores_all(positions)
@@ -106,7 +107,7 @@ class Lists(unittest.TestCase):
         self.assertLessEqual(len(calls), 4)
 
     def test_few_positions_are_read_ahead_of_one_that_takes_long(self):
-        """Meanwhile another thread solves the positions after it."""
+        """While one thread solves the first position for a second, another thread solves the positions after it."""
         begun, taken, solver = itertools.count(), itertools.count(), Solver()
 
         def solve_all(*words):
@@ -131,7 +132,7 @@ class Lists(unittest.TestCase):
                 self.assertEqual((found, refused.exception.index), (wanted[:place], place))
 
     def test_a_list_is_refused_before_anything_is_solved(self):
-        """The first position would take hours. The refused one is in the same part of the list, or in a later one."""
+        """The first position would take hours. The refused position is in the same part of the list or a later one."""
         solver, hopeless = Solver(max_empties=34), random_positions(1, [34])
         for (bad, error), threads, before, call in itertools.product(
             ((SHARED, ffosolve.SharedSquare), (WIDE, ffosolve.TooManyEmpties)), (1, 2),
@@ -164,7 +165,7 @@ class Arrays(unittest.TestCase):
             for row in scores.tolist()]
 
     def test_arrays_hold_what_lists_hold(self):
-        """Tries each scoring, one thread and several, and arrays without a position."""
+        """Tries each scoring, one thread and several, and empty arrays."""
         for scoring, threads, count in (*((scoring, 1, 90) for scoring in ffosolve.Scoring), (0, 3, 400), (0, 2, 0)):
             solver, positions = Solver(scoring=scoring), self.positions[:count]
             wanted = solver.solve_all(positions), solver.move_scores_all(positions)

@@ -1,6 +1,6 @@
 """The calls in Python and the program ffoscores find what plain minimax finds in random positions.
 
-POSITIONS positions have at most MOST empty squares; both are variables of the environment. 40 more have 7 or 8.
+POSITIONS of these have at most MOST empty squares; both are environment variables. The other 40 have 7 or 8.
 """
 import itertools
 import os
@@ -18,7 +18,8 @@ POSITIONS, MOST, DEEP = int(os.environ.get("POSITIONS", 2000)), int(os.environ.g
 
 
 def solved(position):
-    """Solves by plain minimax. Returns for each scoring (the position, scoring, answer, [(square, score), ..])."""
+    """Solves a position by plain minimax. Returns a list of (position, scoring, answer, [(square, score), ..]), one for
+    each scoring."""
     own, opp = position
     children = {square.bit_length() - 1: player.values(*player.after(own, opp, square))
                 for square in player.squares_in(player.moves(own, opp))}
@@ -44,7 +45,8 @@ class RandomPositions(unittest.TestCase):
         return [(ffosolve.square_number(name), score) for name, score in scores.items()]
 
     def compare(self, number, row):
-        """Asserts that each call for one position finds what the row has. `confirm` gets right and wrong claims."""
+        """Asserts that each call for one position finds what `row`, a row from `solved`, has. `number` chooses the size
+        of the table, and whether `confirm` gets a right or a wrong claim."""
         (position, _, wanted, scores), solver = row, self.solver(row[1], (0, 1, 64, 1024)[number % 4])
         claim = (wanted._replace(score=wanted.score + number % 5), wanted._replace(best=wanted.best ^ number), wanted)[number % 3]
         found = solver.solve(position), solver.confirm(position, claim), self.by_number(solver.move_scores(position))

@@ -15,7 +15,7 @@ RIGHT, WRONG, NONE = (stored("examples/kinds.report").split(b"\n")[row].split()[
 
 
 def odd_line(chance, lines):
-    """Returns one of `lines`, in which up to three of PIECES are inserted or replace some bytes."""
+    """Returns a random one of `lines`, with up to three of PIECES inserted or put in place of some bytes."""
     line = chance.choice(lines)
     for _ in range(chance.randrange(4)):
         at = chance.choice((chance.randrange(64), chance.randrange(64, 80)))
@@ -24,7 +24,8 @@ def odd_line(chance, lines):
 
 
 def read(text):
-    """Returns a row for each line that Python does not skip: its number, and what it says or why it is refused."""
+    """Returns what Python reads in a text, as a row for each line that is not skipped: the line's number, then its
+    masks, side and moves, or why the line is refused."""
     refused, reader = [], ffosolve.parse_lines if isinstance(text, bytes) else ffosolve.read_lines
     rows = {line.number: f"{line.own:016x} {line.opp:016x} {line.side}" + "".join(" %s:%s" % it for it in line.listed)
             for line in reader(text, refused=refused.append)}
@@ -33,7 +34,7 @@ def read(text):
 
 
 def read_in_c(text):
-    """Yields rows in the form of `read`, with what ffosolve_read_line finds in each line."""
+    """Yields what ffosolve_read_line finds in each line of a text, as rows like those of `read`."""
     cr = b"\r"
     printed = PREFIX.called(f"read_line 8 {line.removesuffix(cr).hex()}" for line in text.split(b"\n"))
     for number, (status, *words) in enumerate((line.split() for line in printed), 1):

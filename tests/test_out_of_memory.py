@@ -1,7 +1,7 @@
-"""ffosolve out of memory: the nth request for memory of run n is refused, until a run makes fewer than n requests.
+"""ffosolve out of memory: in run n, the nth request for memory is refused, until a run makes fewer than n requests.
 
 A run has to print only `ffosolve: out of memory`, end with status 1 and leave no book. If the refused request was to
-start a thread, it has to do what a run without refusals does.
+start a thread, the run has to do what a run without refusals does.
 """
 import os
 from pathlib import Path
@@ -16,7 +16,7 @@ OUT_OF_MEMORY = (1, b"", b"ffosolve: out of memory\n")
 
 class OutOfMemory(InFolder):
     def ended(self, ran):
-        """Returns (status, output, messages) of a run, and the book that it left, or None. Removes the book."""
+        """Returns (status, output, messages) of a run, and the book that the run left or None. Removes the book."""
         book = Path("it.book").read_bytes() if os.path.exists("it.book") else None
         self.assertLessEqual(set(os.listdir()), {"it.book", "preload.so"})
         Path("it.book").unlink(missing_ok=True)

@@ -1,4 +1,4 @@
-"""Tests of the crates out of memory: the nth request for memory of run n is refused, until none is.
+"""Tests of the crates, out of memory: in run n, the nth request for memory is refused, until a run makes fewer than n.
 
 Each run has to pass or to report that it is out of memory. Another error, a crash and a run without an end are faults.
 """
@@ -30,7 +30,7 @@ def is_built():
 
 
 def setUpModule():
-    """Builds PROGRAM unless `rt ci` or `rt test` has left it up to date. It is proved first, which takes minutes."""
+    """Builds PROGRAM unless `rt ci` or `rt test` has left it up to date. The crates are proved first, for minutes."""
     if is_built():
         return
     need("rt")

@@ -1,4 +1,4 @@
-"""Position in Python: its rules are those of the plain player, bench/player.py; boards are text or pictures."""
+"""Position in Python: its rules, which are those of bench/player.py, and its boards as text and as pictures."""
 import io
 import itertools
 import os
@@ -163,7 +163,7 @@ class Boards(unittest.TestCase):
             self.assertRaisesRegex(error, f"^{why}$", Position.from_obf(BOARD).show, scores, side)
 
     def picture(self, svg):
-        """Returns a function that returns a picture's colour at x and y, in pixels from the left and from the top."""
+        """Returns a function of x and y, in pixels from the left and the top, that returns a picture's colour there."""
         need_modules()
         need("rsvg-convert")
         xml.etree.ElementTree.fromstring(svg)

@@ -1,7 +1,7 @@
 """Output worked out from the rules, books that are read or refused, and streams that end or fail.
 
-A row of a table in tests/rows/PROGRAM ends with a line of a list. Before it are cells with what the program prints for
-that line with the options at the head of the column, if anything. No program printed them.
+Each row of a table in tests/rows/PROGRAM ends with a line of a list. The cells before it have what PROGRAM prints for
+that line with the options at the head of the column, or are empty if that is nothing. No program printed the cells.
 """
 import os
 from pathlib import Path
@@ -42,7 +42,7 @@ def whole_lines(lines):
 
 
 def report(cells):
-    """Returns the report on lines 1, 2 and so on that has these cells in its rows; an empty cell means no row."""
+    """Returns the report that has these cells in the rows of lines 1, 2, ..; a line with an empty cell has no row."""
     rows = [b"%d %s" % row for row in enumerate(cells, 1) if row[1]]
     refused = sum(b" refused: " in row for row in rows)
     return whole_lines([b"[1]", *rows, b"solved %d refused %d" % (len(rows) - refused, refused)])

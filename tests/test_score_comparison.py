@@ -1,4 +1,4 @@
-"""compare_scores in Python: how far an evaluation's scores in a list are from those that ffoscores prints for it."""
+"""compare_scores in Python: how far an evaluation's scores are from those that ffoscores prints for the same list."""
 import io
 from pathlib import Path
 

@@ -99,7 +99,8 @@ class Scores(InFolder):
         self.ends((3, b"", b"ffoscores: cannot read standard input\n"), stdin=folder)
 
     def test_each_refused_request_for_memory_is_reported_or_not_needed(self):
-        """A run that reports it has printed the beginning of the output, any other run all. Nine in ten report it."""
+        """A run that reports `out of memory` has printed the beginning of the output; any other run has printed all of
+        it. More than nine in ten runs report it."""
         reported = 0
         for number, ran, met in refusals(self.folder, built("ffoscores"), "--table", "100", input=KINDS):
             found = ran.returncode, ran.stderr

@@ -38,7 +38,8 @@ class Files(InFolder):
             write(name, b"".join([HARD][number:] + EASY + [HARD]))
 
     def run_of(self, *words, prepare=None, is_watched=True):
-        """Returns what a program printed and, if `is_watched`, the greatest number of threads that it was seen with."""
+        """Returns what a program printed, and the greatest number of threads that it was seen with, or 0 if
+        `is_watched` is false."""
         most, end = 0, time.monotonic() + SECONDS
         with open("printed", "wb") as printed:
             process = self.start(*words, stdout=printed, preexec_fn=prepare)
@@ -49,7 +50,7 @@ class Files(InFolder):
         return Path("printed").read_bytes(), most
 
     def solve(self, *words, **how):
-        """Returns (what ffosolve printed, the book that it wrote), and the number of threads that `run_of` returns."""
+        """Returns ((what ffosolve printed, the book that it wrote), the number of threads that `run_of` returns)."""
         printed, most = self.run_of(built(), "--book-out", "out.book", *words, **how)
         book = Path("out.book").read_bytes()
         Path("out.book").unlink()
@@ -93,7 +94,7 @@ class Files(InFolder):
 
 class Lines(InFolder):
     def same(self, lists, seeds=(None,)):
-        """Asserts that the output and the status of ffoscores are the same with each number of workers."""
+        """Asserts that the output and the status of ffoscores are the same with each number of workers in WORKERS."""
         names = [write(f"{number}.obf", text) for number, text in enumerate(lists)]
         wanted = run(built("ffoscores"), "--workers", "0", *names)
         self.assertIn(wanted.returncode, (0, 1), wanted.stderr)

@@ -59,7 +59,8 @@ OPTIONS = {
 
 
 class Once(argparse.Action):
-    """Stores an option's value, and refuses a second one. If `const` is set, a value is a number from 1 to `const`."""
+    """Stores an option's value. Refuses a second value, and one that is empty or not UTF-8. If `const` is set, the
+    value has to be a number from 1 to `const`."""
 
     def __call__(self, parser, namespace, value, option_string=None):
         if getattr(namespace, self.dest) is not None:
@@ -72,7 +73,8 @@ class Once(argparse.Action):
 
 
 def parse(words):
-    """Returns the options of a command line. `words` has its other arguments; `help` has the text to print, if any."""
+    """Returns a namespace with the options of a command line and, as `words`, its other arguments. With --help, the
+    namespace's `help` is the text to print, and `words` is not set. Refuses wrong options."""
     parser = argparse.ArgumentParser(NAME, USAGE, WHAT, MORE, allow_abbrev=False, add_help=False, exit_on_error=False,
                                      formatter_class=argparse.RawDescriptionHelpFormatter)
     for title, options in OPTIONS.items():
@@ -106,7 +108,7 @@ def parse(words):
 
 
 def complete(command):
-    """Sets `folder` and `list` from the words of a command, and the defaults of `lines` and `scoring`."""
+    """Sets a command's `folder` and `list` from its `words`. Gives `lines` and `scoring` their defaults if not set."""
     if not command.words:
         raise misused("no list is named; for standard input use `-`, with a FOLDER before it")
     if len(command.words) > 2:

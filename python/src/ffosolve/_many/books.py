@@ -22,7 +22,7 @@ ENTRY = re.compile(rb"[XO-]{64} X;(?: (?:[A-H][1-8]|PS|--):[+-]\d\d;)+\n")  # a 
 
 
 def lines_of(path):
-    """Yields the lines of a file. It is closed between reads, since there may be more books than files may be open."""
+    """Yields the lines of a file. The file is closed between reads, since too many books might be open otherwise."""
     lines, at = [b""], 0
     while lines:
         with path.open("rb") as file:
@@ -48,8 +48,8 @@ def entries_of(lines, name):
 
 
 def merged(books):
-    """Yields the entries of books as lines, one for each position. Refuses entries that disagree about a position.
-    Raises ValueError if one book has a position twice."""
+    """Yields one line for each position in `books`, which `entries_of` has read. Refuses entries that disagree about a
+    position. Raises ValueError if one book has a position twice."""
     for _, ((_, place, line), *others) in itertools.groupby(heapq.merge(*books), key=operator.itemgetter(0)):
         for _, other_place, other in others:
             if place[0] == other_place[0] and place != other_place:
@@ -61,7 +61,8 @@ def merged(books):
 
 
 def book_of(run, folder):
-    """Yields the lines of the book of all parts. These are merged in batches, each of which is a file in `folder`."""
+    """Yields the lines of a book with the results of all parts. The books of the parts are merged in batches; each
+    merged batch is written to a file in `folder`."""
     paths, books = [], (io.BytesIO(book) for _, _, book, _ in run.solved())
     while batch := list(itertools.islice(books, BATCH)):
         paths.append(Path(folder, f"{len(paths)}.book"))
@@ -72,7 +73,7 @@ def book_of(run, folder):
 
 
 def check_place(name, source, program, *options):
-    """Refuses, before anything is solved, a file that can't be written or that a book must not overwrite."""
+    """Refuses the file of --book-out, before anything is solved, if it can't be written or must not be overwritten."""
     for other, what in ((1, "standard output, where the report goes"), (2, "standard error"), (source, "the list")):
         if is_same(name, other):
             raise misused(f"--book-out {shown(name)} is {what}: name another file")
@@ -83,7 +84,7 @@ def check_place(name, source, program, *options):
 
 
 def merged_book(names, paths):
-    """Yields the lines of a book that has the entries of all books. Refuses books with different scorings."""
+    """Yields the lines of a book with all entries of the books at `paths`. Refuses books with different scorings."""
     firsts = [next(lines_of(path), b"").decode("latin-1") for path in paths]
     scorings = [first.removeprefix("% ffobook 2 ").rstrip() if first.startswith("% ffobook ") else "winner"
                 for first in firsts]
@@ -96,7 +97,7 @@ def merged_book(names, paths):
 
 
 def read_books(program, names, paths):
-    """Lets ffosolve read each book, and refuses the first that it refuses."""
+    """Lets ffosolve read each book. Refuses the first book that ffosolve refuses."""
     for name, path in zip(names, paths):
         status, errors = program.try_run(f"--book-in={path}", "/dev/null")
         if status:
@@ -104,7 +105,7 @@ def read_books(program, names, paths):
 
 
 def merge_books(command, programs):
-    """Merges the books of a command into one, on standard output or in a file; returns the status."""
+    """Merges the books that a command names, to standard output or to the file of --book-out; returns the status."""
     if not command.words:
         raise misused("--merge-books needs the name of a book")
     program, names = Program(programs, "ffosolve"), list(map(shown, command.words))

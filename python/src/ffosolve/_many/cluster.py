@@ -25,8 +25,9 @@ MOST_FAILS = 3  # parts failed in a row, after which a worker is left out
 
 
 class Program(distributed.WorkerPlugin):
-    """A plugin that copies the program of a run to each worker, including those that join later. If the program works
-    there, the worker gets a resource with the run's name, which every part needs; otherwise its metrics say why not."""
+    """A plugin that copies the program of a run to each worker, including workers that join later. If the program works
+    there, the worker gets a resource with the run's name, and parts go only to workers with that resource. Otherwise
+    the worker's metrics say what is wrong."""
 
     def __init__(self, name, task, files):
         self.name, self.task, self.files, self.is_over = name, task, files, False
@@ -48,7 +49,8 @@ class Program(distributed.WorkerPlugin):
         return fit_program(self.task, self.folder)[0]
 
     def solve(self, number, text):
-        """Solves a part. Returns (the worker's address, the record of the results or None, the reason if None)."""
+        """Solves a part. Returns (the worker's address, the record of the results, an empty text) or, if that fails,
+        (the worker's address, None, the reason)."""
         key = self.worker.get_current_task()
 
         def is_wanted():
@@ -66,8 +68,9 @@ class Program(distributed.WorkerPlugin):
 
 
 def look_at(name, left_out, dask_scheduler):
-    """Runs on the scheduler. Takes a run's resource from the workers `left_out`. Returns whether the run's plugin is
-    there, {address: (fault, resource, host, threads, keys of parts)}, and the keys of parts that no worker can take."""
+    """Runs on the scheduler. Takes the resource `name` from the workers `left_out`. Returns whether the scheduler has
+    the plugin `name`; {worker's address: (fault or None, resource or None, host, threads, keys of its parts)}; and the
+    keys of the tasks that no worker can take."""
     for address in left_out & dask_scheduler.workers.keys():
         dask_scheduler.add_resources(address, {name: 0})
     workers = {address: (worker.metrics.get(name), worker.resources.get(name), worker.host, worker.nthreads,
@@ -77,7 +80,7 @@ def look_at(name, left_out, dask_scheduler):
 
 
 class Cluster:
-    """An engine: the workers of a cluster, with the same methods as `engine.Threads`."""
+    """An engine: the workers of a cluster. It can be used in place of `engine.Threads`."""
 
     tries = 3  # after which a part has failed
 
@@ -98,12 +101,12 @@ class Cluster:
         self.pool = self.client.get_executor(pure=False, resources={self.name: 1})
 
     def room(self):
-        """Returns how many parts may be submitted and not done at a time: none until a worker has the program."""
+        """Returns how many parts may be submitted but unfinished at a time: 0 until a worker has the program."""
         threads = sum(self.ready.values())
         return 2 * threads + 2 if threads else 0
 
     def submit(self, number, failed):
-        """Submits a part, if possible to a worker that is not in `failed`; returns the future of its results."""
+        """Submits a part, if possible to a worker that is not in `failed`; returns a future of the part's results."""
         self.count += 1
         name, key = self.name, f"{self.name}-{self.count:09d}-{number}"
         others = [address for address in self.ready if address not in failed] if failed else []
@@ -130,7 +133,8 @@ class Cluster:
         self.ready.pop(machine, None)
 
     def look(self):
-        """Notes ready workers; returns {part: host} of parts being solved. Raises Refusal if the scheduler is lost."""
+        """Notes ready workers, and leaves out those where the program does not work. Returns {part: host} of the parts
+        being solved, or {} while the scheduler does not answer. Raises Refusal if that lasts LOST_SECONDS."""
         running, self.ready = {}, {}
         try:
             if self.client.status != "running":
@@ -157,6 +161,6 @@ class Cluster:
         return running
 
     def close(self):
-        """Makes the workers remove the program; waits at most a second for that."""
+        """Makes the workers remove the program, and waits at most a second until they have."""
         with contextlib.suppress(Exception):
             self.client.sync(self.client.unregister_worker_plugin, self.name, callback_timeout=1)

@@ -18,7 +18,8 @@ SIGNALS = (signal.SIGINT, signal.SIGTERM, signal.SIGHUP)
 
 
 def begin(command, programs):
-    """Checks all that a command names; returns the run, and the program that solves it on this machine."""
+    """Checks the options and files of a command, and begins or continues its run. Returns the run, and the path of the
+    program that solves parts on this machine."""
     complete(command)
     if is_same(path_of(command.list), 1):
         raise misused(f"standard output is the list {shown(command.list)}: name another file")
@@ -37,7 +38,7 @@ def begin(command, programs):
 
 
 def solve_list(command, programs):
-    """Solves the list of a command, or with --cut only cuts it into parts; returns the status."""
+    """Solves a command's list and prints the results, or with --cut only cuts it into parts; returns the status."""
     if command.scheduler:
         from .cluster import Cluster  # refuses if its package is missing
     run, program = begin(command, programs)
@@ -69,7 +70,7 @@ def solve_list(command, programs):
 
 
 def run_command(programs, words):
-    """Does what the words of a command line ask for; returns the status."""
+    """Runs ffosolve-many with the arguments `words`; returns the status."""
     if sys.stdout is None:
         raise Refusal(UNREADABLE, "cannot write standard output: it is closed")
     command = parse(words)
@@ -80,14 +81,16 @@ def run_command(programs, words):
 
 
 def catch(number, _):
-    """Raises KeyboardInterrupt on the first signal and ignores later ones. (With SIG_IGN, Python would complain.)"""
+    """Handles a signal: raises KeyboardInterrupt with its number, and makes later signals do nothing. (If they were set
+    to SIG_IGN, Python could print an error.)"""
     for other in SIGNALS:
         signal.signal(other, lambda *_: None)
     raise KeyboardInterrupt(number)
 
 
 def main(programs, words):
-    """Runs the command, and ends this process with its status. `programs` is the folder with ffosolve and ffoscores."""
+    """Runs ffosolve-many with the arguments `words`, and ends this process with the status, or by the signal that
+    interrupted it. `programs` is the folder with ffosolve and ffoscores."""
     sys.stderr = sys.stderr or open(os.devnull, "w")
     while os.open(os.devnull, os.O_RDWR) < 3:
         pass  # so that no file that is opened later takes the place of a closed stream

@@ -30,11 +30,11 @@ class Threads:
         self.pool = concurrent.futures.ThreadPoolExecutor(self.jobs)
 
     def room(self):
-        """Returns how many parts may be submitted and not done at a time."""
+        """Returns how many parts may be submitted but unfinished at a time."""
         return 2 * self.jobs
 
     def submit(self, number, failed):
-        """Submits a part; returns the future of its results. `failed` has the machines that failed the part before."""
+        """Submits a part; returns a future of the part's results. `failed` is not used, since there is one machine."""
         return self.pool.submit(self.solve, number)
 
     def solve(self, number):
@@ -48,7 +48,8 @@ class Threads:
             del self.running[number]
 
     def result(self, future, number):
-        """Returns the machine that had a part, the seconds that it took or None if it failed, and why it failed."""
+        """Returns (the machine that had a part, the seconds that the part took or None if it failed, the reason for
+        that or an empty text)."""
         return future.result()
 
     def look(self):
@@ -60,7 +61,8 @@ class Threads:
 
 
 def solve_parts(run, engine, most, quiet):
-    """Solves the unsolved parts of a run; returns those that failed. `most` is the limit of empty squares."""
+    """Solves the unsolved parts of a run on an engine; returns the numbers of the parts that failed. `most` is the
+    greatest number of empty squares in a position that is solved."""
     parts, failed, failures = run.unsolved(), array.array("L"), {}
     progress, waiting, again = Progress(run, parts, most), iter(parts), collections.deque()
     flying, done, left, is_terminal = {}, queue.SimpleQueue(), len(parts), sys.stderr.isatty()

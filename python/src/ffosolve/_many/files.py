@@ -19,12 +19,13 @@ def is_same(one, other):
 
 
 def path_of(name):
-    """Returns the path of a file that is read; `-` is standard input."""
+    """Returns the path of a file to read; the name `-` stands for standard input."""
     return Path("/dev/stdin" if name == "-" else name)
 
 
 def regular(name, stack):
-    """Returns the path of a regular file to read: `name` itself or, if that is a pipe, a copy that `stack` removes."""
+    """Returns the path of a regular file to read: `name` itself or, if that is a pipe or the like, a copy that `stack`
+    removes."""
     path, doing = path_of(name), ("read", name)
     if str(path) == "/dev/stdin" and sys.stdin is None:
         raise Refusal(UNREADABLE, f"cannot read {name}: standard input is closed")
@@ -42,7 +43,8 @@ def regular(name, stack):
 
 
 def replace(name, pieces):
-    """Writes a file. A regular file is replaced as a whole and keeps its permissions; a pipe is written into."""
+    """Writes a file. A regular file is replaced as a whole and keeps its permissions; anything else, such as a pipe, is
+    written into."""
     try:
         with open(name, "ab") as file:
             mode = os.fstat(file.fileno()).st_mode
@@ -55,7 +57,7 @@ def replace(name, pieces):
 
 
 def print_all(pieces):
-    """Writes pieces to standard output. Refuses if that fails; raises BrokenPipeError if nothing reads it any more."""
+    """Writes pieces to standard output. Refuses if that fails, but raises BrokenPipeError if its reader has gone."""
     try:
         with open(1, "wb", closefd=False) as output:  # sys.stdout may write only a part if PYTHONUNBUFFERED is set
             output.writelines(pieces)

@@ -37,7 +37,8 @@ def copy(source, path):
 
 
 def lock_folder(folder):
-    """Makes a folder, and locks it until this process ends. Refuses one that has other files or is already locked."""
+    """Makes a folder if there is none, and locks it until this process ends. Refuses a folder that has files but no
+    lock file, or that another run has locked."""
     folder.mkdir(parents=True, exist_ok=True)
     found = sorted(os.listdir(folder))
     if found and LOCK not in found:
@@ -52,7 +53,7 @@ def lock_folder(folder):
 
 
 def begun(folder):
-    """Returns the task with which a folder was begun, or {} if it has none that can be read."""
+    """Returns the task that `prepare` wrote to task.json in a folder, or {} if none can be read."""
     try:
         task = json.loads((folder / "task.json").read_bytes())
         return task if task["options"] and task["programs"] else {}
@@ -80,7 +81,8 @@ def check_list(kept, source, command):
 
 
 def keep_programs(folder, program, digests):
-    """Copies a program's files to a folder, unless those in it have the `digests`; returns the digests of all in it."""
+    """Copies a program's files to a folder, unless the programs in the folder already have the `digests`. Returns the
+    digests of the programs that the folder has at the end."""
     def kept():
         return [digest_of_file(path) for path in sorted(folder.glob("program-?"))]
     if not digests or kept() != digests:
@@ -90,7 +92,8 @@ def keep_programs(folder, program, digests):
 
 
 def prepare(command, source, program, book_in):
-    """Begins or continues the folder of a run; returns the run, and the program that solves it on this machine."""
+    """Begins a run in a folder, or continues the one there. Returns the run, and the path of the program that solves
+    parts on this machine."""
     folder, name = command.folder, shown(command.list)
     cut_list(source, command.lines, name)  # refuses what is not a list
     lock_folder(folder)

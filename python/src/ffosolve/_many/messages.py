@@ -10,7 +10,7 @@ DONE, UNSOLVED, REFUSED, UNREADABLE, UNBUILT = range(5)
 
 
 class Refusal(Exception):
-    """Ends the command. The arguments are its status and a line for standard error."""
+    """Ends the command. The arguments are the command's status and a line for standard error."""
 
 
 def misused(text):
@@ -18,7 +18,7 @@ def misused(text):
 
 
 def cannot(verb, name, why):
-    """Returns the refusal of a file that can't be read or written, with the reason of the OSError `why`."""
+    """Returns a Refusal because of a file that can't be read or written; the OSError `why` has the reason."""
     return Refusal(UNREADABLE, f"cannot {verb} {shown(name)}: {why.strerror or why}")
 
 
@@ -34,7 +34,7 @@ def say(text):
 
 
 def show(text):
-    """Shows a line on a terminal in place of the one before. Of a line that is too long, the end is left out."""
+    """Shows a line on a terminal in place of the one before. A line that is too long is cut at one of its commas."""
     with contextlib.suppress(OSError):
         columns = os.get_terminal_size(sys.stderr.fileno()).columns or 80
         line = f"{NAME}: {text}" if text else ""

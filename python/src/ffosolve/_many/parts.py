@@ -17,7 +17,7 @@ ROW = re.compile(rb"(\d+) ([+-]\d\d (?:[A-H][1-8](?:,[A-H][1-8])*|PS|--) [a-z]+|
 
 
 def cut_list(path, lines, name):
-    """Cuts a list into parts of `lines` lines. Returns the offset in bytes of each part and of the list's end, and the
+    """Cuts a list into parts of `lines` lines. Returns the offsets in bytes of the parts and of the list's end, and the
     number of all lines. Refuses a file that is not a list, and a part with more than MOST_BYTES bytes."""
     starts, count = array.array("Q", [0]), 0
     with path.open("rb") as file:
@@ -36,7 +36,8 @@ def cut_list(path, lines, name):
 
 
 def asked_lines(part):
-    """Returns {number, from 1: line} of the lines that have a row in a report: all but blank lines and comments."""
+    """Returns {number, from 1: line} of a part's lines except blank ones and comments, which have no row in a
+    report."""
     return {number: line for number, line in enumerate(part.split(b"\n"), 1) if not SKIPPED.fullmatch(line)}
 
 
@@ -91,7 +92,7 @@ class Run:
         return array.array("L", (number for number in range(self.parts) if self.statuses[number] == UNKNOWN))
 
     def read(self, number, record):
-        """Returns (status, output, book, seconds) of a part's record, or None if the record is not complete."""
+        """Returns (status, output, book, seconds) from a record, or None if it is not a complete record of the part."""
         head, text = HEAD.match(record), self.text(number)
         if not head or digest_of(self.task, number, head[1], text, record[head.end():]) != head[6]:
             return None
@@ -113,7 +114,8 @@ class Run:
             return self.read(number, (self.folder / f"results/{number:07d}").read_bytes())
 
     def keep(self, number, record):
-        """If a record is complete, writes it to its file and returns the seconds in it; otherwise returns None."""
+        """If a part's record is complete, stores it and returns the seconds that the part took; otherwise returns
+        None."""
         if not (found := self.read(number, record)):
             return None
         try:
@@ -124,7 +126,7 @@ class Run:
         return found[3]
 
     def solved(self):
-        """Yields (status, output, book, seconds) of each part. Refuses if one is no longer solved."""
+        """Yields (status, output, book, seconds) of each part. Refuses if a part is no longer solved."""
         for number in range(self.parts):
             found = self.results(number)
             if found is None:
@@ -140,7 +142,7 @@ class Run:
                             for number, output in enumerate(outputs) for line, rest in rows_of(output))
 
     def sweep(self):
-        """Removes the unfinished files that killed runs left in the folder."""
+        """Removes the unfinished files and folders that killed runs left in the folder."""
         for folder in (self.folder, self.folder / "results"):
             for entry in os.scandir(folder):  # one by one: there may be a million
                 if re.search(r"\.\w{8}\.new$", entry.name):

@@ -14,7 +14,8 @@ LIMITS = {"ffosolve": rb"\[1\]\n1 refused: 64 empties, limit (\d+)\nsolved 0 ref
 
 
 class Program:
-    """ffosolve or ffoscores. `start` is its file or, in a checkout, a script that builds it if needed and runs it."""
+    """The program ffosolve or ffoscores. `start` is the path of the program or, in a checkout, of a script that builds
+    the program if needed and runs it."""
 
     def __init__(self, folder, name):
         self.start = Path(folder, name)
@@ -22,13 +23,14 @@ class Program:
             raise Refusal(UNBUILT, f"{name} is missing: it has to be next to {NAME}, in {folder}")
 
     def files(self):
-        """Returns the contents of its files for the levels of processors, the best first, or else that of `start`."""
+        """Returns a list of the contents of the program's files, one for each processor level, the highest first; if
+        there are none, it has only the content of `start`."""
         places = (self.start.parent.parent / place for place in ("out", "libexec/ffosolve"))
         levels = [path for place in places for path in place.glob(f"x86-64-v?/{self.start.name}")]
         return [path.read_bytes() for path in sorted(levels, reverse=True) or [self.start]]
 
     def try_run(self, *words, stdout=subprocess.PIPE, **how):
-        """Runs the program; returns its status, and its messages on standard error in one line, without its name."""
+        """Runs the program; returns its status, and its messages in one line, without `ffosolve: ` before each."""
         streams = {"stdin": subprocess.DEVNULL, "stdout": stdout, "stderr": subprocess.PIPE}
         ran = subprocess.run([self.start, *words], **streams, **how)
         lines = ran.stderr.decode(errors="replace").splitlines()
@@ -36,7 +38,8 @@ class Program:
 
     def check(self, options):
         """Builds the program if needed, and lets it refuse wrong options or a wrong book, which ends this process.
-        Returns the greatest number of empty squares that it solves with these options."""
+        Returns, as text, the greatest number of empty squares in a position that the program solves with these
+        options."""
         if not shutil.which("setpriv"):
             raise Refusal(UNBUILT, "setpriv is not on the path: apt-get install util-linux")
         ran = subprocess.run(guarded([self.start, *options, "/dev/stdin"]), input=NO_DISCS, stdout=subprocess.PIPE)

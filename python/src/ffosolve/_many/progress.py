@@ -11,7 +11,8 @@ POWERS = [GROWTH ** count for count in range(65)]
 
 
 def weight_of(text, most):
-    """Returns the expected work for lines. A full board counts 1, as does one with more than `most` empty squares."""
+    """Returns the expected work for the lines in `text`. A full board counts 1, and so does one with more than `most`
+    empty squares, which is refused."""
     fronts = [line.lstrip()[:64] for line in asked_lines(text).values()]
     empties = [front.count(b"-") + front.count(b".") for front in fronts]
     return sum(POWERS[count] if count <= most else 1 for count in empties)
@@ -54,7 +55,7 @@ class Progress:
         return max(rests + [(waiting * rate + sum(rests)) / max(1, len(rests))])
 
     def text(self):
-        """Returns the line to show. It ends with the part that has run longest, if that is for ten minutes or more."""
+        """Returns the line to show. It names the part that has been running longest, if for ten minutes or more."""
         run, machines, now = self.run, len({machine for machine, _ in self.running.values()}), time.monotonic()
         left = self.left() if machines else None
         text = f"{100 * (run.all_lines - self.lines) // max(1, run.all_lines)}%, "

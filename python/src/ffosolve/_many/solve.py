@@ -1,6 +1,6 @@
 """Solves one part of a list: on a thread of ffosolve-many, on a worker of a cluster, or as `python3 solve.py PART`.
 
-It needs only Python and util-linux, so it works on machines without this package.
+This file needs only Python and util-linux, so it works on machines without the rest of the package.
 """
 import hashlib
 import itertools
@@ -23,7 +23,7 @@ class Failed(Exception):
 
 
 def guarded(words):
-    """Returns a command that runs `words` and is killed when this process ends, even before `setpriv` runs."""
+    """Returns a command that runs `words`. It is killed when this process ends, even if `setpriv` has not run yet."""
     return ["setpriv", "--pdeathsig", "KILL", "sh", "-c", '[ "$PPID" = "$0" ] && exec "$@"', str(os.getpid()), *words]
 
 
@@ -38,7 +38,7 @@ def solve(task, folder, program, part, text, is_wanted=lambda: True):
     status, the sizes of its output and book, the seconds that it took, and the digest; then the output and the book.
 
     `task` has the program's arguments as `words`, and the `options` of the list. The program runs in `folder`, which
-    has the book that it reads. It is killed once `is_wanted` returns false. Raises Failed if it fails.
+    has the book that it reads. It is killed once `is_wanted` returns false. Raises Failed if the program fails.
     """
     # The program writes its book to the pipe of standard error, so that it needs no room on a disk.
     has_book, most = task["options"]["--book-out"] is not None, task["options"]["--scores"] is not None
@@ -70,8 +70,8 @@ def solve(task, folder, program, part, text, is_wanted=lambda: True):
 
 
 def fit_program(task, folder):
-    """Returns the path of the first program in a folder that solves a known line, and its results, which must equal
-    `task["known"]` if that is set. Raises Failed if there is none."""
+    """Returns the path of the first program in a folder that solves a known line, and its results for that line, which
+    must equal `task["known"]` if that is set. Raises Failed if no program does so."""
     why = "is missing"
     for program in sorted(folder.absolute().glob("program-?")):
         end = time.monotonic() + KNOWN_SECONDS
@@ -103,7 +103,7 @@ def write_whole(path, pieces, mode=None):
 
 
 def main(folder, part):
-    """Solves a part of the list in a folder, and writes its record to `results` in that folder."""
+    """Solves a part of the list in a folder, and writes the part's record to `results` in that folder."""
     task = json.loads((folder / "task.json").read_text())
     if not re.fullmatch("[0-9]{7}", part) or int(part) >= task["parts"]:
         raise Failed(f"the parts are 0000000 to {task['parts'] - 1:07d}")
