@@ -21,7 +21,7 @@ def setUpModule():
 
 
 def times(paths):
-    """Returns {path: time of the last change} for files, except for *.sum, which have the checksums of sources."""
+    """Returns {path: time of the last change in nanoseconds} for files, but not for *.sum, the checksums of sources."""
     return {path: path.lstat().st_mtime_ns for path in paths if not path.is_dir() and path.suffix != ".sum"}
 
 

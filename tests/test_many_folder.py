@@ -294,7 +294,7 @@ class Signals(Case):
     WORDS = ("--jobs=2", "--lines=5", *Case.WORDS[1:])
 
     def open(self, *program, last="", **how):
-        """Starts the command in its own session. With `many.ACTS`, a part takes 45 seconds once `last` are solved."""
+        """Starts `program` in its own session. `many.ACTS` takes 45 seconds for a part once `last` parts are solved."""
         places = {**os.environ, "PAUSE": "0.15", "LAST": str(last or 99)}
         return self.start(*program, *self.WORDS, start_new_session=True, preexec_fn=as_at_a_login, env=places, **how)
 

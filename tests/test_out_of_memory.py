@@ -23,7 +23,7 @@ class OutOfMemory(InFolder):
         return (ran.returncode, ran.stdout, ran.stderr), book
 
     def test_each_refused_request_ends_the_run_unless_it_starts_a_thread(self):
-        """The request for room for all words of the command line at once does not end the run either."""
+        """A run also goes on if its request for room for all words of the command line at once is refused."""
         self.assertEqual(self.ended(run(built(), input=TEXT)), ((0, PRINTED, b""), None))
         for words, threads, prepare in (
             ((), 3, refuse_threads),

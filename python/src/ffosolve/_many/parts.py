@@ -77,7 +77,7 @@ class Run:
                 self.statuses[int(entry.name)] = found[0] if found else UNKNOWN
 
     def text(self, number):
-        """Returns the lines of a part as they are in the list."""
+        """Returns the bytes of a part's lines, as they are in the list."""
         return os.pread(self.list.fileno(), self.starts[number + 1] - self.starts[number], self.starts[number])
 
     def size(self, number):

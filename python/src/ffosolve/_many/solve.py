@@ -28,7 +28,7 @@ def guarded(words):
 
 
 def digest_of(task, part, head, text, results):
-    """Returns the SHA-256, in hexadecimal, of a list's options, and a part's number, record head, lines and results."""
+    """Returns the SHA-256, in hexadecimal, of a list's options with a part's number, record head, lines and results."""
     asked = json.dumps([task["options"], part]).encode()
     return hashlib.sha256(b"\n".join((asked, head, text, results))).hexdigest().encode()
 
@@ -88,7 +88,7 @@ def fit_program(task, folder):
 
 
 def write_whole(path, pieces, mode=None):
-    """Writes a file next to `path`, and renames it to `path` once all of it is on the disk."""
+    """Writes `pieces` to a file next to `path`, and renames it to `path` once all of it is on the disk."""
     beside = path.with_name(f"{path.name}.{os.urandom(4).hex()}.new")
     try:
         with beside.open("xb") as file:
