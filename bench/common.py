@@ -15,8 +15,8 @@ LEVELS = ("x86-64-v2", "x86-64-v3")
 
 @cache
 def built(name="ffosolve", level=""):
-    """Returns the path of a program, which make builds if needed. If the environment variable PROGRAMS is set, it names
-    a folder of built programs, with a folder for each level of processors."""
+    """Returns the path of a program in out/ or, if `level` is given, in out/LEVEL; make builds it if needed. If the
+    environment variable PROGRAMS is set, the folder that it names takes the place of out/, and nothing is built."""
     if "PROGRAMS" in os.environ:
         return Path(os.environ["PROGRAMS"], level, name)
     path = Path("out", level, name)
@@ -32,18 +32,21 @@ def build_peer(folder, level, *words):
 
 
 def options(entries, scoring="winner"):
-    """Returns options to solve positions with any number of empty squares on one thread with a table of this size."""
+    """Returns the options that solve positions with any number of empty squares on one thread, with a table of
+    `entries` entries and under `scoring`."""
     return ["--max-empties", 60, "--workers", 0, "--table", entries, "--scoring", scoring]
 
 
 def published():
-    """Returns (board and side, [(move, score), ..]) for each position of the FFO endgame test, from number 40 on."""
+    """Returns (board and side, [[move, score], ..]), all of them texts, for each of the positions 40 to 51 of the FFO
+    endgame test. The moves are those published as best."""
     lines = [line for line in open(ROOT / "examples/ffo-40-51.obf") if line[0] != "%"]
     return [(line[:66], [claim.strip().split(":") for claim in line.split("%")[0].split(";")[1:-1]]) for line in lines]
 
 
 def agrees(score, moves, claims):
-    """Returns whether the score is the claimed one, and `moves` includes each claimed move."""
+    """Returns whether the score is the published one, and `moves`, such as "G3,C7", has each published move. `claims`
+    are those of `published`."""
     return score == claims[0][1] and {move for move, _ in claims} <= set(moves.split(","))
 
 
@@ -53,7 +56,8 @@ def write(path, lines):
 
 
 def race(*commands, cores=None):
-    """Runs programs at the same time, on one core or on `cores`; returns (output, processor seconds) for each."""
+    """Runs commands at the same time, all on one core or on the set `cores`; returns (output, processor seconds) for
+    each. Exits if one fails."""
     outputs = [tempfile.TemporaryFile() for _ in commands]
     how = {"stdin": subprocess.DEVNULL, "preexec_fn": lambda: os.sched_setaffinity(0, cores or {CORE})}
     started = [subprocess.Popen([*map(str, command)], stdout=out, **how) for command, out in zip(commands, outputs)]

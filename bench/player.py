@@ -53,14 +53,16 @@ def random_game(rng):
 
 
 def random_position(rng, empties):
-    """Returns (own, opp, whether Black is to move) in a random game at `empties` empty squares; None if it is over."""
+    """Plays a random game to the position with `empties` empty squares, and returns (own, opp, whether Black is to
+    move). Returns None if the game is over there or earlier."""
     for own, opp, is_black, _ in random_game(rng):
         if count(own | opp) == 64 - empties:
             return (own, opp, is_black) if moves(own, opp) or moves(opp, own) else None
 
 
 def random_lines(number, least, most, seed=1):
-    """Yields OBF lines of `number` positions in unfinished random games, with `least` to `most` empty squares."""
+    """Yields OBF lines of `number` positions from random games, none of which is over there. The positions have `least`
+    to `most` empty squares in turn."""
     rng = random.Random(seed)
     for at in range(number):
         found = None

@@ -1,4 +1,4 @@
-"""Built copies of the checkout, for tests that install from one, and search paths without a tool."""
+"""Copies of the built checkout, for tests that install from them, and search paths that lack a tool."""
 import os
 import shutil
 from pathlib import Path
@@ -13,14 +13,15 @@ WITHOUT_GIT = {name: text for name, text in os.environ.items() if not name.start
 
 
 def names_of_files():
-    """Returns the paths of the checkout's files: those in git, and new ones that git does not ignore."""
+    """Returns the paths of the checkout's files: those that git tracks, and new ones that it does not ignore."""
     words = ("git", "-c", f"safe.directory={ROOT}", "-C", ROOT, "ls-files", "-zco", "--exclude-standard")
     names = run(*words, env=WITHOUT_GIT, check=True, text=True).stdout.split("\0")
     return [name for name in names if name and os.path.lexists(ROOT / name)]
 
 
 def copied_checkout(folder):
-    """Builds all, and copies the checkout and out/ into `folder`, with the files' times and readable by everybody."""
+    """Builds all programs, copies the checkout and what was built into `folder`, and returns `folder`. The copies keep
+    the times of the files, and everybody may read them."""
     run("make", "-s", "-C", ROOT, "levels", stderr=None, timeout=None, check=True)
     for name in names_of_files():
         (folder / name).parent.mkdir(parents=True, exist_ok=True)
@@ -31,7 +32,8 @@ def copied_checkout(folder):
 
 
 def path_without(tool, folder):
-    """Returns the search path, with each folder that has `tool` replaced by one with links to its other files."""
+    """Returns PATH without `tool`: each folder in it that has the tool is replaced by a new folder, made in `folder`,
+    with links to all the other files there."""
     places = []
     for at, place in enumerate(os.environ["PATH"].split(":")):
         if os.path.lexists(os.path.join(place, tool)):

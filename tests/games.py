@@ -32,7 +32,8 @@ def random_game(rng):
 
 
 def positions_of(squares):
-    """Returns {number of empty squares: position} for the start and after each move, up to the first illegal one."""
+    """Plays moves, given without passes, up to the first illegal one. Returns {number of empty squares: position} for
+    the start and after each move."""
     at = (*player.START, True)
     found = {60: at}
     for square in squares:
@@ -55,7 +56,8 @@ def discs_of_black(position):
 
 @functools.cache
 def real_score(squares):
-    """Returns Black's discs after a game, with the empty squares to the winner, or 40 if the game is not over."""
+    """Returns the number of Black's discs after a game, where the winner also gets the empty squares; 40 if the game is
+    not over."""
     positions = positions_of(squares)
     last = positions[min(positions)]
     return 40 if can_move(last) or can_move(passed(last)) else discs_of_black(last)
@@ -70,7 +72,7 @@ def transcript(game):
 
 
 def record(game, theoretical=33, real=None):
-    """Returns the record of a game in a WTHOR file. By default, its real score is the one that its moves lead to."""
+    """Returns the record of a game in a WTHOR file. `real` is the real score in it, by default that of `real_score`."""
     squares = squares_of(game)
     real = real_score(tuple(squares)) if real is None else real
     return struct.pack("<HHHBB", 7, 300, 301, real, theoretical) + bytes(map(SQUARE_BYTES.__getitem__, squares)).ljust(60, b"\0")
@@ -86,7 +88,8 @@ def line_of(position, comment):
 
 
 def with_digest(lines):
-    """Returns `lines` and, if one has a theoretical score, their digest: 4 lines, each with 6 bits of a SHA-256 sum."""
+    """Returns the text `lines` and, if one of its lines has a theoretical score, after it their digest: 4 lines, each
+    with 6 bits of a SHA-256 sum."""
     if ", theoretical score " not in lines:
         return lines
     games = [line for line in lines.splitlines(True) if line.strip() and not line.startswith("%")]
@@ -96,7 +99,8 @@ def with_digest(lines):
 
 
 def report_of(listed, refused=None):
-    """Returns the report of a list, with scores by bench/player and `--` as moves. `refused` is {line number: why}."""
+    """Returns the report of a list, with scores that bench/player.py finds and `--` in place of moves. `refused` is
+    {number of a line that the report refuses: reason}."""
     rows, refused = [], refused or {}
     for number, line in enumerate(listed.splitlines(), 1):
         if line and line[0] != "%":
@@ -111,7 +115,8 @@ class Case(InFolder):
     maxDiff = 2000
 
     def games(self, *words, status=0, out=None, err=None, **how):
-        """Returns (output, errors) of ffosolve-games. Asserts its status and, if given, `out` with digest and `err`."""
+        """Runs ffosolve-games and returns (output, errors). Asserts its status and, if they are given, that it prints
+        `out` followed by the digest, and that its errors are `err`."""
         ran = run(sys.executable, PROGRAM, *words, **how)
         self.assertNotIn(b"Traceback", ran.stderr)
         if err is not None:

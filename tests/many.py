@@ -1,4 +1,4 @@
-"""Helpers of the tests of ffosolve-many: they install it, run it, and compare what it prints and leaves."""
+"""Helpers for the tests of ffosolve-many: they install it, run it, and compare its output and the files it leaves."""
 import os
 import shutil
 import stat
@@ -43,7 +43,8 @@ os.execv(real, [real, *sys.argv[1:]])
 
 
 def install(name, script=None):
-    """Installs ffosolve-many in a folder, with both programs or with a `script` that runs them; returns its path."""
+    """Installs ffosolve-many in a new folder, beside ffosolve and ffoscores or, if `script` is given, beside copies of
+    it that run these two. Returns the path of ffosolve-many."""
     many = copy_many(BASE / name)
     for program in ("ffosolve", "ffoscores"):
         place = shutil.copy(built(program), many.with_name(f"real-{program}" if script else program))
@@ -53,7 +54,8 @@ def install(name, script=None):
 
 
 def set_up_module():
-    """Installs ffosolve-many plainly (MANY) and with ACTING (ACTS), and makes SMALL, a list; for setUpModule."""
+    """Installs ffosolve-many with the programs themselves (MANY) and with the script ACTING in their place (ACTS), and
+    makes a list (SMALL); for setUpModule."""
     global BASE, MANY, ACTS, SMALL
     BASE = module_folder()
     for name in ("tmp", "python"):
@@ -82,7 +84,8 @@ class Case(InFolder):
         return ran.stdout
 
     def many(self, *words, by=None, places={}, **how):
-        """Runs ffosolve-many, or its copy at `by`, with the variables `places` added to the environment."""
+        """Runs ffosolve-many, by default MANY and otherwise the one at `by`, with the variables `places` added to the
+        environment."""
         return run(by or MANY, *words, env={**os.environ, **places}, **how)
 
     def ends(self, status, output, message, *words, **how):
@@ -93,14 +96,16 @@ class Case(InFolder):
         return ran
 
     def same(self, *words, text=None, message="", **how):
-        """Asserts that ffosolve-many prints `text`, or by default what one run of ffosolve does; returns its errors."""
+        """Asserts that ffosolve-many succeeds, prints `text`, by default `self.one`, and has `message` in its errors;
+        returns the errors."""
         return self.ends(0, self.one if text is None else text, message, *words, **how).stderr.decode()
 
     def same_book(self, name="joined.book"):
         self.assertEqual(Path(name).read_bytes(), Path("one.book").read_bytes())
 
     def files(self):
-        """Returns {path: (content, permissions)} for all in the test's folder; the content of a folder is False."""
+        """Returns {path: (content, permissions)} for everything in the test's folder, with False as a folder's
+        content."""
         return {path: (path.is_file() and path.read_bytes(), stat.S_IMODE(path.lstat().st_mode))
                 for path in Path(".").rglob("*")}
 

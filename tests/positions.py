@@ -1,4 +1,4 @@
-"""Helpers of the Python package's tests: the library that it loads, random positions, and modules that it may use."""
+"""Helpers for the tests of the Python package: the library that it loads, required modules, and random positions."""
 import os
 import random
 
@@ -22,7 +22,7 @@ def need_modules():
 
 
 def random_positions(count, empties, seed=1):
-    """Returns `count` positions of random games. Their numbers of empty squares are those in `empties`, in turn."""
+    """Returns `count` positions from random games. Their numbers of empty squares are those in `empties`, in turn."""
     rng, found = random.Random(seed), []
     while len(found) < count:
         discs = 64 - empties[len(found) % len(empties)]

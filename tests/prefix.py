@@ -1,6 +1,6 @@
 """The library and its packages as users have them: installed under a prefix, with programs outside the checkout.
 
-TEST_PREFIX in the environment names the prefix; if it is not set, `make install` installs one for the tests.
+TEST_PREFIX in the environment names the prefix; if it is not set, `make install` fills a temporary one.
 """
 import functools
 import importlib.util
@@ -26,7 +26,8 @@ def need_module(name):
 
 
 class Prefix:
-    """The files under a prefix, and the folder `work` for programs that use them; `install` makes both for a module."""
+    """The files under a prefix, and the folder `work` for programs that use them. `install` runs once for each test
+    module: it makes `work` and, if TEST_PREFIX is not set, installs the files under a prefix in `work`."""
 
     def install(self):
         vars(self).clear()
@@ -54,14 +55,15 @@ class Prefix:
         return run(*words, input=text, text=True, **how)
 
     def make(self, *words, **how):
-        """Runs a command, such as a compiler, and raises AssertionError if it fails."""
+        """Runs a command, such as a compiler, and returns the ended run; raises AssertionError if it fails."""
         ran = self.run(*words, **how)
         if ran.returncode != 0:
             raise AssertionError(f"{' '.join(map(str, words))}\n{ran.stdout}{ran.stderr}")
         return ran
 
     def compile(self, compiler, name, sources, *words):
-        """Compiles a program in C or C++ and returns its path. By default, `words` link it with libffosolve.a."""
+        """Compiles a program in C or C++ and returns its path. `words` are the options that link it, by default with
+        libffosolve.a."""
         need(compiler[0])
         libraries = words or ("-I", self.header.parent, "-x", "none", self.archive)
         self.make(*compiler, "-o", self.work / name, *sources, *libraries)
@@ -94,7 +96,7 @@ class Prefix:
         return self.make("cargo", verb, "--manifest-path", manifest / "Cargo.toml", *words, **how)
 
     def rust_client(self, name, source, **places):
-        """Builds a program that uses the crate, with `places` added to the environment, and returns its path."""
+        """Builds a Rust program that uses the crate, with `places` added to the environment, and returns its path."""
         self.write(f"{name}/src/main.rs", source)
         needs = f'[dependencies]\nffosolve = {{ path = "{self.crate}" }}\n[workspace]\n'
         self.write(f"{name}/Cargo.toml", f'[package]\nname = "{name}"\nversion = "1.0.0"\nedition = "2021"\n{needs}')
@@ -102,7 +104,8 @@ class Prefix:
         return self.work / "target/debug" / name
 
     def called(self, calls, **how):
-        """Returns the line that tests/library_calls.c prints for each of `calls`; its comment says what these are."""
+        """Returns the lines that tests/library_calls.c prints, one for each of `calls`. The comment at the top of that
+        file says how calls are written."""
         program = self.compile(C, "calls", [TESTS / "library_calls.c"])
         return self.make(program, text="\n".join(calls), **how).stdout.splitlines()
 

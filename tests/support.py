@@ -1,4 +1,4 @@
-"""Helpers of all tests: for files of the checkout, the built programs, commands with a time limit, and processes."""
+"""Helpers for all tests: files of the checkout, the built programs, commands with a time limit, and processes."""
 import contextlib
 import functools
 import os
@@ -20,7 +20,8 @@ sys.path.insert(0, str(ROOT / "python/src"))  # for `import ffosolve`
 
 
 def lack(what):
-    """Skips the test, or in setUpModule all tests of the module, since `what` is missing; fails instead if CI=true."""
+    """Skips the test, or in setUpModule all tests of the module, since `what` is missing. If the environment has
+    CI=true, fails instead."""
     if os.environ.get("CI") == "true":
         raise AssertionError(f"{what} is missing")
     raise unittest.SkipTest(f"{what} is missing")
@@ -39,8 +40,8 @@ def stored(*path):
 
 
 def worked(name):
-    """Reads tests/rows/NAME.tsv. Returns the lines in its last column, and its other columns as {heading: cells}.
-    In each cell, `~` is replaced by the board and the side of the row's line."""
+    """Reads tests/rows/NAME.tsv. Returns its last column, which has a line of OBF text in each row, and its other
+    columns as {heading: cells}. In these cells, `~` is replaced by the board and the side of the row's line."""
     heads, *rows = stored("tests/rows", f"{name}.tsv").removesuffix(b"\n").split(b"\n")
     *heads, _ = heads.decode().split("\t")
     *columns, lines = zip(*(row.split(b"\t", len(heads)) for row in rows))
@@ -50,7 +51,8 @@ def worked(name):
 
 
 def run(*words, **how):
-    """Runs a command, by default without input, with its output captured and SECONDS as its time limit."""
+    """Runs a command and returns the ended run. By default, it gets no input, its output is captured, and it may take
+    SECONDS; `how` are other keyword arguments of subprocess.run."""
     if how.get("input") is None:
         how.setdefault("stdin", subprocess.DEVNULL)
     how = {"stdout": subprocess.PIPE, "stderr": subprocess.PIPE, "timeout": SECONDS, **how}
@@ -58,7 +60,8 @@ def run(*words, **how):
 
 
 def write(path, text, mode=None):
-    """Writes a file, makes its folder if needed, and returns its path. By default, only a script is executable."""
+    """Writes a file, makes its folder if needed, and returns its path. By default, a text that begins with `#!` becomes
+    executable, and no other."""
     path, text = Path(path), text if isinstance(text, bytes) else text.encode()
     path.parent.mkdir(parents=True, exist_ok=True)
     path.write_bytes(text)
@@ -97,7 +100,8 @@ def shorter_than(size):
 
 @functools.cache
 def built(name="ffosolve"):
-    """Returns a program's path in the folder TEST_PROGRAMS or, if that is not set, in out/, after bin/ has built it."""
+    """Returns a program's path: in the folder TEST_PROGRAMS if the environment has that, otherwise in out/, after the
+    script of that name in bin/ has built it."""
     if "TEST_PROGRAMS" in os.environ:
         return Path(os.environ["TEST_PROGRAMS"], name)
     run(ROOT / "bin" / name, "/dev/null", stderr=None, timeout=None, check=True)
@@ -144,7 +148,8 @@ class InFolder(unittest.TestCase):
         return ran
 
     def cannot_write(self, *words):
-        """Asserts that a command reports a full or closed standard output, and that SIGPIPE ends it if no one reads."""
+        """Asserts that a command reports a full or closed standard output, and that SIGPIPE ends it if no one reads the
+        output."""
         for output, why in ((">/dev/full", "No space left on device"), (">&-", "it is closed")):
             ran = run("sh", "-c", f'exec "$0" "$@" {output}', *words)
             error = f"{Path(words[0]).name}: cannot write standard output: {why}\n"
@@ -197,8 +202,8 @@ def preload(folder):
 
 
 def refusals(folder, *words, **how):
-    """Runs a program again and again, for n = 1, 2, .., until a run makes fewer than n requests for memory.
-    In run n, the nth request is refused. Yields (n, the ended run, whether a request was refused) after each."""
+    """Runs a program again and again, for n = 1, 2, .., until a run makes fewer than n requests for memory. In run n,
+    the nth request is refused. Yields (n, the ended run, whether a request was refused) after each run."""
     number, met, mark = 0, True, folder / "refused"
     while met:
         number += 1

@@ -1,6 +1,6 @@
 """ffosolve --book-out: where it writes, that a book is written whole or not at all, and that no other file is lost.
 
-If root runs them, the tests of permissions run ffosolve without root's rights.
+If root runs the tests, those of permissions start ffosolve without root's rights.
 """
 import os
 import shutil
@@ -20,7 +20,8 @@ DENIED, IN_THE_WAY = "permission denied", "another file is in the way"
 
 
 def unwritten(cause, name="it.book", prints=False):
-    """Returns how a run ends if it can't write its book; the cause, if known, is on a second line."""
+    """Returns (status, whether it prints a report, error) for a run that can't write its book. The cause, if not empty,
+    is the second line of the error."""
     return 3, prints, "".join(f"ffosolve: {line}\n" for line in (f"cannot write {name}", cause) if line).encode()
 
 
@@ -39,7 +40,8 @@ def content(name):
 
 class Books(InFolder):
     def solves(self, wanted, name="it.book", *words, **how):
-        """Runs ffosolve for TEXT with `--book-out NAME`, and asserts that it ends as `wanted` says."""
+        """Runs ffosolve for TEXT with `--book-out NAME`, and asserts that (status, whether it prints a report, error)
+        is `wanted`."""
         ran = run(PROGRAM, "--book-out", name, *words, input=TEXT, **how)
         self.assertTrue(ran.stdout == b"" or ran.stdout.startswith(b"[1]\n"), ran)
         self.assertEqual((ran.returncode, ran.stdout != b"", ran.stderr), wanted)
@@ -93,7 +95,8 @@ class Books(InFolder):
                 self.left({place: OLD, "it.book": OLD})
 
     def watched(self, **more):
-        """Returns an environment with the variables `more`, in which tests/preload.c notes syncs and renames."""
+        """Returns an environment in which tests/preload.c notes each sync and rename in the file WATCHED; `more` is
+        added."""
         place = Path(PROGRAM).parent
         return {**os.environ, "LD_PRELOAD": preload(place), "WATCHED": str(place / "watched"), **more}
 
@@ -125,7 +128,8 @@ class Books(InFolder):
         self.left({"it.book": BOOK, **others})
 
     def changed_meanwhile(self, place, change, cause):
-        """Calls `change` while a run prints its report, and asserts that the run then can't write its book."""
+        """Calls `change` while a run prints its report, and asserts that the run then can't write its book to `place`,
+        for the reason `cause`."""
         write("list", TEXT * 2000)  # its report is more than a pipe holds
         program = self.start(PROGRAM, "--book-out", place, "list", **NOBODY)
         begun = program.stdout.read(1)

@@ -1,4 +1,4 @@
-"""`bin/ffosolve` and make in a small checkout with a fake kit: what they build and when, and what they report."""
+"""`bin/ffosolve` and make in a small checkout with a fake rt: what they build and when, and what they report."""
 import os
 import re
 import signal
@@ -50,7 +50,7 @@ def setUpModule():
 
 
 class Build(InFolder):
-    """Tests in a small checkout. The name of its folder has a blank."""
+    """Tests in a small checkout, in a folder whose name has a blank."""
 
     def setUp(self):
         super().setUp()
@@ -70,24 +70,28 @@ class Build(InFolder):
         self.enterContext(mock.patch.dict(os.environ, places, clear=True))
 
     def use(self, *words, who={}, **environment):
-        """Runs `self.script`, by default bin/ffosolve, with these words, as the user `who`, and waits for its end."""
+        """Runs `self.script`, which is bin/ffosolve unless a test changes it, with `words`, by default `w`, and returns
+        the ended run. `who` is empty, or NOBODY for a user without root's rights."""
         return run(self.script, *(words or ("w",)), input="read\n", env={**os.environ, **environment}, **HOW, **who)
 
     def begin(self, **environment):
-        """Starts `self.script`. If `environment` has WAITS, the fake rt waits until the file `starts.go` exists."""
+        """Starts `self.script` and returns its process. If `environment` has WAITS, the fake rt waits, for at most 45
+        seconds, until the file `starts.go` exists."""
         return self.start(self.script, "w", env={**os.environ, **environment}, **HOW)
 
     def builds(self):
         return self.starts.read_text().count("start")
 
     def ran(self, ran, text, words="<w>", builds=None):
-        """Asserts that a program made of `text` ran with these words, after `builds` builds; returns its errors."""
+        """Asserts that the run `ran` started a program made of `text`, which printed its arguments as `words`, and if
+        `builds` is given, that there have been so many builds in all; returns the errors of the run."""
         self.assertEqual((ran.returncode, ran.stdout), (3, f"made of {text}\n{words}/\nread\n"), ran.stderr)
         self.assertEqual(self.builds(), builds or self.builds())
         return ran.stderr
 
     def refused(self, ran, words, lines=None):
-        """Asserts that a run ended with status 4, and that its errors (of `lines` lines, if given) end with `words`."""
+        """Asserts that a run ended with status 4 and without output, that the last line of its errors says that nothing
+        was built and has `words` in it, and if `lines` is given, that the errors have so many lines."""
         last = ran.stderr.splitlines()[-1]
         self.assertEqual((ran.returncode, ran.stdout), (4, ""), ran)
         self.assertTrue(last.startswith("ffosolve: not built: ") and words in last, ran.stderr)
@@ -131,8 +135,8 @@ class Build(InFolder):
         self.assertEqual((self.builds(), Path(f"{self.starts}.read").read_text()), (2, ""))
 
     def test_each_change_of_a_source_builds_again_and_a_new_time_does_not(self):
-        """The changes are new text, older text with its old time, a new, renamed or removed file, and another file of a
-        crate that is used. If nothing was changed, no source is read."""
+        """The changes are a new text, the old text with its old modification time, a new, a renamed and a removed file,
+        a file of another crate that is used, and crates.txt. If nothing was changed, no source is read."""
         for name in ("out/kept.rt", "must-fail/one.rt"):
             write(self.root / "crates/ffosolve" / name, "")
         self.use()
@@ -165,7 +169,7 @@ class Build(InFolder):
         self.ran(self.use(), 1, builds=9)
 
     def test_a_change_within_the_same_second_builds_again(self):
-        """A file's time may be up to a second behind the clock."""
+        """A file's modification time may be up to a second behind the clock."""
         write(self.tools / "date", '#!/bin/sh\necho $(($(/usr/bin/date "$@") + 1))\n')
         self.use()
         write(self.source, "2\n")
@@ -267,7 +271,8 @@ class Build(InFolder):
         self.ran(self.use(), 1)
 
     def test_in_a_checkout_of_another_user_a_built_program_runs_and_no_other_is_built(self):
-        """The program also runs if a source has a new time, or can't be read."""
+        """The program also runs if a source has a new modification time, or can't be read while out/ can't be
+        written."""
         def closed(*changes):
             for *words, name in (("-R", "a-w", "."), *changes):
                 run("chmod", *words, self.root / name, check=True)
@@ -298,7 +303,8 @@ class Build(InFolder):
         self.ran(self.use(), 1, builds=5)
 
     def on_a_terminal(self, keys, shown, go=False, columns=80):
-        """Runs the script on a terminal, types `keys` after `shown`, and returns (output, status). `go` lets rt end."""
+        """Runs the script on a terminal of `columns` columns with WAITS, types `keys` when `shown` has appeared, and
+        returns (output, status). If `go` is true, the fake rt may end then."""
         words = ["script", "-qec", f"stty cols {columns}; exec '{self.script}' w", "/dev/null"]
         ran = self.start(*words, stdin=subprocess.PIPE, env={**os.environ, "WAITS": "yes"}, **{**HOW, "text": False})
         output, end = b"", time.monotonic() + SECONDS
@@ -324,7 +330,8 @@ class Build(InFolder):
         return run("make", "-s", "-C", self.root, *words, **HOW)
 
     def test_each_level_is_proved_once_and_a_new_version_only_links_the_library_again(self):
-        """If the library can't be linked, because a tool fails or a function is undefined, that is reported."""
+        """If the library can't be linked because a tool fails or a function is undefined, make reports the tool's error
+        or the function's name."""
         need("cc", "ar", "objcopy", "readelf")
         (self.kit / "c").mkdir()
         crate = "extern int heap_call(void);\nint ffosolve_moves(void) { return heap_call(); }\n"

@@ -1,4 +1,4 @@
-"""How `make check` runs modules and counts tests, and how .ci/run adds the counts of `rt ci`, in a small checkout."""
+"""How `make check` runs and counts tests, and how .ci/run adds the counts of `rt ci`, in a small checkout."""
 import os
 import re
 import shutil
@@ -31,7 +31,8 @@ class Check(InFolder):
         write(f"tests/test_{name}.py", MODULE + tests)
 
     def ends(self, status, last, *texts, words=MAKE, **variables):
-        """Runs a command, by default make, and asserts its status, its last line, and that it prints all `texts`."""
+        """Runs a command, by default MAKE, and asserts its status, the last line that it prints, and that its output
+        has all `texts`."""
         ran = run(*words, env={**self.environment, **variables}, text=True)
         self.assertEqual((ran.returncode, ran.stdout.splitlines()[-1:]), (status, [last]), ran)
         for text in texts:

@@ -27,7 +27,8 @@ target_link_libraries(in_cxx ffosolve::ffosolve)
 
 
 def shown(language, *names):
-    """Returns the only code block in `language` of some documents, and the output that comments in it show."""
+    """Returns the only code block in `language` of the documents `names`, by default README.md and docs/library.md, and
+    the output that the comments in the block show."""
     texts = "".join((ROOT / name).read_text() for name in names or ("README.md", "docs/library.md"))
     (block,) = re.findall(rf"^```{language}\n(.*?)^```$", texts, re.MULTILINE | re.DOTALL)
     return block, "".join(f"{line}\n" for line in re.findall(r"(?:  # |// )(.*)$", block, re.MULTILINE))
@@ -35,7 +36,8 @@ def shown(language, *names):
 
 class Examples(unittest.TestCase):
     def answers(self, *command, count=LARGE):
-        """Asserts an example's output for `count` positions of masks.txt, one with two best moves and a refused one."""
+        """Asserts what an example prints in three runs: for the first `count` positions of masks.txt, for two, of which
+        one has two best moves, and for a refused one."""
         masks, answers = ((ROOT / "examples" / name).read_text().splitlines(True) for name in ("masks.txt", "answers.txt"))
         ran = PREFIX.run(*command, text="".join(masks[:count]))
         self.assertEqual((ran.returncode, ran.stdout), (0, "".join(answers[:count] + answers[LARGE:])), ran.stderr)
@@ -56,7 +58,8 @@ class Examples(unittest.TestCase):
                 self.answers(program, count=count)
 
     def test_examples_in_c_and_cxx_are_built_by_cmake(self):
-        """Uses the CMake code of docs/library.md, with both libraries. If it asks for a newer version, CMake fails."""
+        """Uses the CMake code of docs/library.md, with the static and the shared library. If that code asks for a newer
+        version than the installed one, CMake fails."""
         need("cmake")
         (first, second, _), (block, _) = VERSION.split("."), shown("cmake")
         for name in ("answers.c", "answers.cpp"):
@@ -109,7 +112,8 @@ class PythonPackage(unittest.TestCase):
             self.assertTrue(is_refused if why else ran.returncode == 0, ran)
 
     def built(self, source, *kinds):
-        """Builds archives of these kinds, such as "sdist", with a source folder's hooks, and returns their paths."""
+        """Builds archives of these kinds, such as "sdist", with the build hooks of the package in the folder `source`,
+        and returns their paths."""
         hooks = "import sys, ffosolve_wheel as made; [print(getattr(made, f'build_{it}')(sys.argv[1])) for it in sys.argv[2:]]"
         names = PREFIX.make(sys.executable, "-Bc", hooks, PREFIX.work, *kinds, cwd=source / "backend").stdout.split()
         return [PREFIX.work / name for name in names]

@@ -1,4 +1,4 @@
-"""What the programs print, before they read anything, for --help, --version and command lines that they refuse."""
+"""Command lines of ffosolve and ffoscores: --help, --version, the limits that help names, and what is refused."""
 import re
 
 from tests.support import ROOT, SECONDS, InFolder, built, run, stored, write

@@ -14,7 +14,7 @@ from .support import ROOT, SECONDS, as_at_a_login, built, limited, run, stored, 
 
 
 class Compare(Case):
-    """Tests with three positions of examples/kinds.obf, whose scores are +62, -64 and +32. The first is listed also
+    """Tests with three positions of examples/kinds.obf, whose scores are +62, -64 and +32. The first is also listed
     with colours exchanged, and the last with the other side to move."""
 
     TWO = "-OXXXXX-XXXXXXXOXXXXXXXXXXXXXXXXXXXOXXXXXXXXXXXXXXXXXXXXXXXXXXXX"
@@ -37,7 +37,8 @@ class Compare(Case):
         self.listed, self.report = self.complete(self.GAMES, self.ROWS)
 
     def complete(self, games, rows):
-        """Returns `games` followed by their digest, and a whole report of `rows` followed by those of the digest."""
+        """Returns a list and its whole report: `games` followed by their digest, and `rows` followed by the digest's
+        rows."""
         listed = with_digest(games)
         rows += "".join(line for line in report_of(listed).splitlines(True)[1:-1] if int(line.split()[0]) > games.count("\n"))
         refused = rows.count(" refused: ")
@@ -100,7 +101,8 @@ class Compare(Case):
         self.compare(listed, f"{rows}solved 18 refused 0\n", out="compared 8 differ 0 refused 0 unscored 2\n", err="")
 
     def test_the_report_of_another_game_is_refused(self):
-        """Compares each of 100 lists, which have one game each, with the reports of all. Only its own is accepted."""
+        """Compares each of 100 lists, which have one game each, with the reports of all 100. For each list, only its
+        own report is accepted."""
         from ffosolve._published import Comparison, Unfit
 
         rng, lists = random.Random(8), []
@@ -172,7 +174,7 @@ class Fix(Case):
         self.err = f"new.wtb: theoretical scores changed 2 of {len(self.exact)}, not compared 0"
 
     def write_source(self, content, *words, skipped=()):
-        """Writes `content` into it.wtb, and then a list and its report, as `write_list` does."""
+        """Writes `content` to it.wtb, and then a list and its report, as `write_list` does."""
         self.whole = content
         write("it.wtb", content)
         self.write_list(*words, skipped=skipped)
@@ -186,8 +188,8 @@ class Fix(Case):
         write("report", report_of(Path("list").read_text(), dict.fromkeys(skipped, "5 empties, limit 4")))
 
     def fix(self, status, err, *words, place="new.wtb", wanted=None, **how):
-        """Runs compare --fix and returns its output. Asserts its status, its error, and that it writes only `place`,
-        with the content `wanted` if that is given, or no file if its status is 3."""
+        """Runs `compare --fix` and returns its output. Asserts its status and its error, and that it writes no file if
+        the status is 3, and otherwise only `place`, with the content `wanted` if that is given."""
         before = set(os.listdir())
         out, _ = self.games("compare", "list", "report", "--fix", place, *words, status=status, err=f"ffosolve-games: {err}\n", **how)
         self.assertEqual(set(os.listdir()), before | ({place} if status < 3 else set()))
@@ -343,7 +345,8 @@ class Fix(Case):
         self.assertEqual(sorted(os.listdir()), ["it.wtb", "list", "new.wtb", "report"])
 
     def test_an_interrupted_run_leaves_no_file_under_the_name(self):
-        """After Ctrl-C, it leaves no other file either. The same command then writes the file."""
+        """After Ctrl-C, the run leaves no temporary file either; after SIGKILL, it leaves one. The same command can
+        then write the file."""
         write("it.wtb", wthor(self.records, empties=5, count=10 ** 8))
         os.truncate("it.wtb", 16 + 68 * 10 ** 8)
         for number in (signal.SIGINT, signal.SIGKILL):

@@ -1,4 +1,4 @@
-"""Runs the crates' own tests with `rt try`: unproved, but with all runtime checks. `rt ci` proves them."""
+"""Runs the crates' own tests with `rt try`: with all runtime checks, but unproved. `rt ci` proves the tests."""
 import re
 import unittest
 

@@ -19,7 +19,8 @@ def git(folder, *words):
 
 
 def git_checkout(folder):
-    """Copies the built checkout into a repository of two commits, VERSION and then all the rest; returns its folder."""
+    """Makes `folder` a repository with a copy of the built checkout in two commits, first VERSION and then all the
+    rest; returns `folder`."""
     folder = copied_checkout(folder)
     for words in (["init", "-q"], ["add", "VERSION"], ["commit", "-q", "-m", "one"], ["add", "-A"], ["commit", "-q", "-m", "all"]):
         git(folder, *words)
@@ -31,14 +32,14 @@ def make(target, folder, *before, **places):
 
 
 def made(target, file, *where, **places):
-    """Makes a target, and asserts that make prints only that it made `file`."""
+    """Runs make for a target, and asserts that it prints only that it made `file`."""
     ran = make(target, *where, **places)
     if (ran.returncode, ran.stdout, ran.stderr) != (0, f"made: {file}\n", ""):
         raise AssertionError(ran)
 
 
 def needs_libc_alone(test, path):
-    """Asserts that a program or library needs only the C library, in version 2.34 or an older one."""
+    """Asserts that a program or library needs no library but glibc, and no version of that newer than 2.34."""
     need("readelf")
     versions = re.findall(r"GLIBC_([\d.]+)", run("readelf", "-V", path, text=True).stdout)
     test.assertLessEqual(max(tuple(map(int, version.split("."))) for version in versions), (2, 34), path)
@@ -47,7 +48,8 @@ def needs_libc_alone(test, path):
 
 
 def setUpModule():
-    """Makes the archive in two checkouts that differ in path, times, umask, locale and time zone, and unpacks one."""
+    """Makes the archive in two checkouts that differ in path, times, umask, locale and time zone, and unpacks the first
+    archive."""
     global FIRST_ONE, SECOND_ONE, PACKAGE, NAME, UNPACKED, WITHOUT_RT
     need("make", "git", "rt")
     work = module_folder()
@@ -116,7 +118,8 @@ class Archive(unittest.TestCase):
                 self.assertNotIn(os.fsencode(place), path.read_bytes())
 
     def test_files_that_texts_name_are_there(self):
-        """Files in docs/ may also name tests, benchmarks and proofs of the checkout, but their commands use none."""
+        """Files in docs/ may also name tests, benchmarks and proofs that only the checkout has, but no command uses
+        those."""
         files = [path for path in UNPACKED.rglob("*") if path.is_file()]
         for path in files:
             if path.suffix not in (".md", ".py", ".c", ".rs", ".h", ".toml", ".pc") and path.parent.name != "man1":
@@ -135,7 +138,8 @@ class Archive(unittest.TestCase):
 
 
 def shows(test, readme, count, start):
-    """Asserts that a package's README has `count` commands, which print the reports in it if `start` runs them."""
+    """Asserts that a package's README has `count` commands, and that they print the reports in it. `start` runs a
+    command."""
     need("cc", "pkg-config", "man")
     text = readme.read_text()
     test.assertLessEqual(len(text.split()), 400)
@@ -273,7 +277,8 @@ class Debian(InFolder):
         self.ends((0, FIRST, ""), *(Path("root", word) for word in words), env=WITHOUT_RT)
 
     def apart(self, *words, check=True):
-        """Runs a command with layers over the system's folders, which keep what it writes for later commands."""
+        """Runs a command with a layer over each of the folders /usr, /etc and /var. The layers take what the command
+        writes, and keep it for later commands."""
         ran = run("unshare", "--mount", "sh", "-euc", APART, "sh", self.folder / "layers", *words, text=True, timeout=None,
                   env={"PATH": "/usr/sbin:/usr/bin:/sbin:/bin", "DEBIAN_FRONTEND": "noninteractive"})
         self.assertFalse(check and ran.returncode, ran)
@@ -301,7 +306,8 @@ class Debian(InFolder):
         self.assertFalse(Path("/usr/bin/ffosolve").exists())
 
     def needed_by_another_package(self):
-        """Asserts that Debian's tools find a program's need of the library, and installs a package with such a need."""
+        """Asserts that Debian's tools find that a program needs the library, and that a package that depends on the
+        library can be installed and removed."""
         needs = f"libffosolve1 (>= {PACKAGE})"
         for name, text in (("debian/control", "Source: one\n\nPackage: one\nArchitecture: any\n"),
                            ("one/DEBIAN/control", f"Package: one\nVersion: 1\nArchitecture: all\nMaintainer: A <a@b>\nDescription: a\n"

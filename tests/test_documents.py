@@ -1,8 +1,9 @@
-"""The commands in the documents print what is shown, and the files and names in them exist.
+"""The commands in the documents print what is shown there, and the files and names that the documents mention exist.
 
-In a fenced block `console`, a command begins with `$ `, and its further lines with `> `. Below is what it prints, on
-standard output and standard error. All commands of a document run in one folder, with links to the checkout's files. A
-block `sh` is not run, since it is for another machine or takes long. Git has to ignore all files that the blocks make.
+In a fenced block `console`, a command begins with `$ `, and its further lines with `> `. The lines below it show what
+it prints on standard output and standard error. All commands of a document run in one folder, with links to the
+checkout's files. A block `sh` is not run, since it is for another machine or takes long. Git has to ignore all files
+that either kind of block makes.
 """
 import os
 import re
@@ -33,21 +34,23 @@ def stripped(text):
 
 
 def made_by_blocks(text):
-    """Returns what blocks `sh` would make at relative paths: the words after `-o`, `>` and ffosolve-many."""
+    """Returns the relative paths that the blocks `sh` of a document would make: those after `-o`, `>` and
+    ffosolve-many."""
     block = "\n".join(blocks_of(text, "sh"))
     found = re.findall(r"(?: -o |[^<>&\d]>|bin/ffosolve-many (?:--scheduler \S+ )?)([\w./-]+)", block)
     return [name for name in found if not name.startswith("/")]
 
 
 def is_ignored(name):
-    """Returns whether git ignores a name in the top folder or, in a checkout without git, whether it is `out`."""
+    """Returns whether git ignores a name in the top folder or, in a copy without `.git`, whether the name is `out`."""
     if not (ROOT / ".git").exists():
         return name == "out"
     return run("git", "-C", ROOT, "check-ignore", "-q", "--no-index", name).returncode == 0
 
 
 def printed_by(commands):
-    """Runs commands in one shell, without input. Returns what each prints and, if all have ended, an empty text."""
+    """Runs commands in one shell, without input. Returns a list of what each prints, with an empty text at its end if
+    all commands have ended."""
     end = f"}} </dev/null; status=$?; echo; echo '{END}'; (exit $status)\n"
     words = ("timeout", LONGEST, "bash", "-c", "".join(f"{{ {command}{end}" for command in commands))
     ran = run(*words, timeout=LONGEST + 60, stderr=subprocess.STDOUT, text=True, errors="replace")
@@ -87,7 +90,7 @@ class Commands(InFolder):
 
 
 def defines(sources, word):
-    """Returns whether one of `sources` declares `word`: a definition, field, function, constant, type or variant."""
+    """Returns whether one of `sources` declares `word` as a definition, field, function, constant, type or variant."""
     kinds = "record|data|fn|const|struct|enum|trait|type"
     forms = rf"(?:[\w()]+ )*{word} *:", rf"(?:[\w()]+ )*(?:{kinds}) {word}\b", rf"{word}[,({{]", rf"pub use [^;]*\b{word}\b"
     declared = re.compile(rf"^ *(?:{'|'.join(forms)})", re.M)
@@ -108,7 +111,7 @@ class Names(unittest.TestCase):
             self.assertEqual([to for to in lost if not re.search(r"/out(/|$)|^share/doc/", to)], [], name)
 
     def test_qualified_names_are_declared(self):
-        """Such names are `Rules.flips`, of a definition, and `laws::books_are_one` or `Task::new`, of code."""
+        """A qualified name has an owner: `Rules.flips` is of a definition, `laws::books_are_one` of code."""
         sources = {path: path.read_text() for path in ROOT.glob("crates/*/src/**/*.rt")}
         for name in ("definitions.md", "guarantees.md", "architecture.md"):
             for owner, mark, word in re.findall(r"`([A-Z]\w*(?=\.)|\w+(?=::))(\.(?!antt|md)|::)(\w+)`", TEXTS[f"docs/{name}"]):
@@ -118,7 +121,7 @@ class Names(unittest.TestCase):
                 self.assertTrue(defines(files, word), f"{name}: {owner}{mark}{word}")
 
     def test_other_names_of_definitions_occur_in_sources(self):
-        """Such names in definitions.md are `AreRanked` and `lists_text`."""
+        """The names are those in definitions.md without an owner, such as `AreRanked` and `lists_text`."""
         sources = [*ROOT.glob("crates/*/specs/*.antt"), *ROOT.glob("crates/*/src/**/*.rt")]
         words = set(re.findall(r"\w+", "\n".join(source.read_text() for source in sources)))
         named = re.findall(r"`([A-Z]\w*[a-z][A-Z]\w*|[a-z]+_\w+)`", TEXTS["docs/definitions.md"])

@@ -1,4 +1,4 @@
-"""The games that Python reads and the positions that ffosolve-games prints agree with those of bench/player.py."""
+"""The games that the Python package reads and the positions that ffosolve-games prints agree with bench/player.py."""
 import contextlib
 import gzip
 import inspect
@@ -20,7 +20,8 @@ from ffosolve import Position, Solver
 
 
 def expected(name, games, empties, more=""):
-    """Returns the output for `games`, and the messages about those that never reach `empties` empty squares."""
+    """Returns what ffosolve-games prints for `games`, a list of (squares, positions), and its messages about the games
+    that never reach `empties` empty squares. `more` is at the end of each line."""
     lines, err = "", ""
     for number, (squares, positions) in enumerate(games, 1):
         if empties in positions:
@@ -62,7 +63,8 @@ class Faults(Case):
     """Faults of games and of files: each is reported in one line, and what can be read is printed."""
 
     def reads(self, content, out, *why, name="it.wtb", words=(), status=None):
-        """Asserts the status for one file, its output, and for each of `why` a message of its name and that text."""
+        """Asserts what is printed for one file: `out`, and for each of `why` a message of the file's name and that
+        text. The status is `status`, by default 1 if `why` is given and otherwise 0."""
         write(name, content)
         err = "".join(f"ffosolve-games: {name}{it}\n" for it in why)
         self.games(*words, name, status=len(why) > 0 if status is None else status, out=out, err=err)
@@ -208,7 +210,7 @@ class ReadByPython(InFolder):
         return [position.to_obf() for position in positions]
 
     def expected(self, game):
-        """Returns the plain player's positions in a game as lines, from the start on."""
+        """Returns the positions of a game that bench/player.py finds, as OBF lines, from the start on."""
         at = positions_of(squares_of(game))
         return [player.line(*at[empties]) for empties in sorted(at, reverse=True)]
 
