@@ -1,6 +1,7 @@
-"""Builds the package as a wheel or a source archive with Python's own modules alone, by the hooks of PEP 517.
+"""The build backend (PEP 517): builds a wheel or a source archive with nothing but Python's standard library.
 
-pyproject.toml names this module, so `pip install ./python` needs no network. The file METADATA describes the package.
+pyproject.toml names this module, so `pip install ./python` needs no network. The package is described by the file
+METADATA, followed by the docstring of ffosolve.
 """
 import ast
 import base64
@@ -18,7 +19,7 @@ TAG = "py3-none-manylinux_2_34_x86_64" if LIBRARIES else "py3-none-any"  # the l
 
 
 def stored(*places):
-    """Returns the bytes of the first file of `places` that exists."""
+    """Returns the bytes of the first file that exists among `places`, which are paths relative to FOLDER."""
     return next(path.read_bytes() for path in map(FOLDER.joinpath, places) if path.exists())
 
 
@@ -41,7 +42,7 @@ def package_files():
 
 
 def libraries():
-    """Yields (path in the wheel, bytes) of the shared library for each level of processors, if LIBRARIES is set."""
+    """Yields (path in the wheel, bytes) for the shared library of each processor level; nothing without LIBRARIES."""
     for level in ("x86-64-v2", "x86-64-v3") if LIBRARIES else ():
         yield f"ffosolve/{level}/libffosolve.so.1", Path(LIBRARIES, level, "libffosolve.so").read_bytes()
 

@@ -1,4 +1,4 @@
-"""Tests of the package, which finds the library as in a user's program: by FFOSOLVE_LIBRARY, or where it is installed.
+"""Tests of the package. The library is found as for a user: through FFOSOLVE_LIBRARY, or where it is installed.
 
     python3 -m unittest discover python/tests
 """
@@ -27,7 +27,7 @@ SHARED, WIDE, AT_PASS = Position(3, 2), Position(1, 6), Position(0x7E, ~0x7F & 2
 
 
 def library_that_returns(status):
-    """Returns a stand-in for the library; its calls return `status`, and it keeps their arguments."""
+    """Returns a stand-in for the library, whose calls return `status`. It keeps the arguments of the calls."""
     names = ("solve", "confirm", "solve_all", "move_scores_all", "moves", "play")
     return mock.Mock(**{f"ffosolve_{name}.return_value": status for name in names})
 

@@ -28,7 +28,7 @@ positions of a game are `solver.positions(game)`. `compare_scores` says how far 
 A notebook shows a position as a picture. `position.show(solver.move_scores(position))` adds the scores of its moves.
 
 On the main thread, Ctrl-C interrupts every call, and so does an exception that the handler of another signal raises.
-The library can't stop: it goes on until it is done or the program ends. Several threads may call at the same time.
+The library goes on with an interrupted call until that is done or the program ends. Several threads may call at once.
 
 The wheel that `make wheel` builds has the shared library libffosolve.so.1. Otherwise install it, or give its path:
 `Solver("FOLDER/libffosolve.so")`. Reading, writing and showing positions needs no library.

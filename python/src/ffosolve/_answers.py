@@ -18,7 +18,8 @@ ENDS = {Kind.PASS: "PS", Kind.OVER: "--"}
 
 class Answer(NamedTuple):
     """The score of a position for the side to move, -64 to 64; how it is reached; and the mask of all the best moves,
-    or 0 if `kind` is PASS or OVER. It prints as `+62 A1,H1`, `-04 PS` for a pass, or `+32 --` if the game is over."""
+    or 0 if `kind` is PASS or OVER. An Answer prints as `+62 A1,H1`, as `-04 PS` for a pass, or as `+32 --` for a
+    finished game."""
 
     score: int
     kind: Kind

@@ -24,7 +24,7 @@ class Answers(NamedTuple):
 
 
 def masks_of(own: Any, opp: Any) -> Any:
-    """Returns an array with a row (own, opp) for each position, as the library reads them. Raises TypeError unless both
+    """Returns an array with a row (own, opp) for each position, as CPosition has them. Raises TypeError unless both
     arrays are of uint64, and ValueError unless they have one dimension and equal lengths."""
     own, opp = numpy.asarray(own), numpy.asarray(opp)
     if own.dtype != numpy.uint64 or opp.dtype != numpy.uint64:
@@ -48,7 +48,8 @@ def runs_of(solver: "Solver", masks: Any, threads: int) -> List[Tuple[int, int, 
 
 
 def found_by(solver: "Solver", call: Any, record: Any, masks: Any, threads: int) -> Any:
-    """Makes a call of the library for positions, and returns an array of what it writes, a `record` for each."""
+    """Calls the library's function `call` for each part of the positions, on up to `threads` threads. Returns an array
+    of what the calls write: one `record` for each position."""
     found: Any = numpy.empty(len(masks), record)
 
     def call_for(run: Tuple[int, int, int]) -> None:

@@ -25,7 +25,7 @@ class Board:
     `own` and `opp` are the masks of the discs of the side to move and of the other side. `side` is the colour of the
     side to move, "X" for Black or "O" for White; it is named below the board, followed by `state`. `scores` maps the
     names of empty squares to scores, which are written into them; the highest are marked. Raises ValueError for another
-    side and for a score whose square is not empty, and TypeError for a score that is not a number."""
+    side or name and for a score whose square is not empty, and TypeError for a score that is not a number."""
 
     def __init__(self, own: int, opp: int, side: str, scores: Optional[Mapping[str, float]] = None,
                  state: str = "is to move") -> None:
@@ -53,7 +53,7 @@ class Board:
     __repr__ = __str__
 
     def _text(self, at: int) -> str:
-        """The text of a square: its score, with a star if none is higher, or else `X`, `O` or `-`."""
+        """The text of square `at`: its score, with a star if no score is higher; without a score, `X`, `O` or `-`."""
         if at not in self.scores:
             return self.letters[at]
         return f"{self.scores[at]:+}" + "*" * (self.scores[at] == self.best)
@@ -89,7 +89,7 @@ class Board:
 
 def lines(number: int) -> Iterator[str]:
     """Yields SVG for the line left of column `number` and the line above row `number`, counted from 0, and for the
-    labels of both. For 8 there are only the lines, which close the board."""
+    labels of both. For number 8, yields only the lines, which close the board."""
     at, end = MARGIN + number * SQUARE, MARGIN + BOARD
     yield f'<path d="M{at} {MARGIN}V{end}M{MARGIN} {at}H{end}" stroke="{LINES}"/>'
     if number < 8:

@@ -31,7 +31,8 @@ class Part(NamedTuple):
 
 def parts_of(positions: Iterable[Sequence[int]], max_empties: int, most_weight: float = MOST_WEIGHT,
              most_seconds: float = MOST_SECONDS) -> Iterator[Part]:
-    """Yields positions in parts. If one is refused, the part before it is the last one, and has its refusal."""
+    """Yields positions in parts. Ends at the first refused position: the last part has its refusal and the positions
+    before it, maybe none, that are in no earlier part. Raises TypeError for an object that is not a position."""
     clock = time.monotonic
     start, most, weight, part, end = 0, 0, 0, [], clock() + most_seconds  # type: ignore[var-annotated]
     for position in positions:
@@ -86,7 +87,7 @@ def in_order(call: Callable[[A], B], parts: Iterable[A], threads: int) -> Iterat
 
 def interruptible(call: Callable[..., A], count: int, empties: int, *arguments: Any) -> A:
     """Makes a call of the library for `count` positions with at most `empties` empty squares, and returns its result.
-    Another thread makes the longer calls of the main thread, so that Ctrl-C can raise an exception while they go on."""
+    On the main thread, it hands a longer call to another thread, so that Ctrl-C can raise an exception meanwhile."""
     is_brief = count << 2 * max(0, empties - LIGHTEST) <= BRIEF
     if is_brief or threading.current_thread() is not threading.main_thread():
         return call(*arguments)
@@ -99,7 +100,8 @@ def interruptible(call: Callable[..., A], count: int, empties: int, *arguments: 
 
 
 def start_worker(tasks: Iterable[Tuple["Future[B]", A]], call: Callable[[A], B]) -> None:
-    """Starts a daemon thread that makes a call for each (Future, argument); its result or error goes to the Future."""
+    """Starts a daemon thread that takes each (Future, argument) of `tasks`, calls `call` with the argument, and gives
+    the result or the exception to the Future."""
 
     def work() -> None:
         for future, part in tasks:

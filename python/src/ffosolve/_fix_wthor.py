@@ -10,9 +10,9 @@ from ._published import Compared, Unfit
 
 
 class Fixed:
-    """Iterates over the bytes of a WTHOR file, with the exact theoretical scores of the compared games and, if
+    """The bytes of a WTHOR file, in pieces, with the exact theoretical scores of the compared games and, if
     `with_real`, with the real scores that follow from the moves. A header without the number of empty squares gets that
-    of the compared positions. No other byte changes. Raises Unfit if this is not the file that was compared."""
+    of the compared positions. No other byte changes. Raises Unfit, on iterating, if another file was compared."""
 
     def __init__(self, name: str, file: BinaryIO, compared: List[Compared], player: Player, with_real: bool) -> None:
         self._name, self._file, self._player, self._with_real = name, file, player, with_real
@@ -20,7 +20,7 @@ class Fixed:
         self._games = self._changed = self._real_changed = self._real_unknown = 0
 
     def summary(self) -> str:
-        """Returns text that counts the scores that were changed and those not compared. Call it after the iteration."""
+        """Says how many scores were changed and how many were not compared. Call this after iterating."""
         others = self._games - len(self._compared)
         real = f"; real scores changed {self._real_changed}, not checked {self._real_unknown}" if self._with_real else ""
         return f"theoretical scores changed {self._changed} of {self._games}, not compared {others}{real}"
@@ -42,7 +42,8 @@ class Fixed:
         yield from iter(lambda: self._file.read(1 << 20), b"")
 
     def _exact_header(self, header: bytearray, empties: int) -> bytearray:
-        """Returns the header with the compared positions' number of empty squares. Raises Unfit unless all agree."""
+        """Returns the header, with the compared positions' number of empty squares if `empties` is 0. Raises Unfit if
+        a compared position has another number of empty squares than the returned header."""
         for it in self._compared.values():
             compared = it.position.empties
             if compared != (empties := empties or compared):
@@ -51,7 +52,7 @@ class Fixed:
         return header
 
     def _exact(self, record: bytearray) -> bytearray:
-        """Returns a game's record with the known exact scores. Raises Unfit if it is not the game that was compared."""
+        """Returns a game's record, with the exact scores that are known. Raises Unfit if another game was compared."""
         game, it = game_of(self._games, bytes(record)), self._compared.get(self._games)
         if it is not None:
             played = self._played(game, it.position.empties)
@@ -80,8 +81,8 @@ class Fixed:
 
 
 def write_new(files: Mapping[str, Iterable[bytes]]) -> None:
-    """Writes new files: `files` maps each path to its content. No file appears before all contents are on the disk.
-    Raises FileExistsError if a path exists, and OSError; the error's `filename` is the path."""
+    """Writes new files: `files` maps each path to the pieces of its content. No file appears before all contents are on
+    the disk. Raises FileExistsError if a path exists, and OSError if writing fails; its `filename` is the path."""
     complete: Dict[str, str] = {}  # for each path, a temporary file next to it
     try:
         for path, pieces in files.items():

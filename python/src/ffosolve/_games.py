@@ -30,7 +30,8 @@ class NotGames(NotText):
 
 
 class GameRefused(ValueError):
-    """A game can't be read or played. `game` is its number, and `move` that of the move which shows it, or None."""
+    """A game can't be read or played. `game` is its number. `move` is the number of its illegal or last move, from 1
+    and without passes, or None if the game can't be read or has no moves."""
 
     def __init__(self, reason: str, game: int, move: Optional[int] = None) -> None:
         super().__init__(f"game {game}" + ("" if move is None else f", move {move}") + f": {reason}")
@@ -41,11 +42,11 @@ class GameRefused(ValueError):
 
 
 class Game(NamedTuple):
-    """A game as a file has it; its moves may be illegal and its scores wrong.
+    """A game as it stands in a file or transcript; its moves may be illegal and its scores wrong.
 
     `number` counts from 1: it is the game's line in a text, or its place in a WTHOR file. Only a WTHOR file has scores.
     They are Black's discs, 0 to 64, where the winner gets the empty squares. `score` is the theoretical score, after
-    perfect play from the position with `empties` empty squares; `empties` is None if the file does not say it. `real`
+    perfect play from the position with `empties` empty squares; `empties` is None if the file does not say. `real`
     is the score of the game as it was played.
     """
 
@@ -67,13 +68,14 @@ class Game(NamedTuple):
 
     @property
     def squares(self) -> List[str]:
-        """The names of the squares of the moves, as "F5", without passes. Other words are kept, in small letters."""
+        """The names of the moves' squares, such as "F5", without passes. A move that is not a square stays as it is in
+        `words`, as text: a word in small letters, or the number of a byte."""
         names = zip(self.moves, self.words)
         return [str(word) if move == NO_SQUARE else square_name(move) for move, word in names if move != PASS]
 
 
 class Played(NamedTuple):
-    """The result of `Player.play`."""
+    """What `Player.play` returns for a game."""
 
     position: Position  # the first one with the wanted number of empty squares
     discs: Optional[int]  # Black's at the end, where the winner gets the empty squares; None if the moves stop earlier
@@ -83,8 +85,9 @@ def read_games(
     source: "Union[str, os.PathLike[str], io.BufferedIOBase, io.RawIOBase]",
     refused: Optional[Callable[[GameRefused], object]] = None,
 ) -> Iterator[Game]:
-    """Yields the games of a file in their order. `source` is its path, or the file opened for bytes. It is a WTHOR
-    file, or a text with a game in each line, in any form that `Game.of_text` reads; lines without a move are skipped.
+    """Yields the games of a WTHOR file, or of a text with a game in each line, in their order. `source` is a path or a
+    file opened in binary mode. A line of a text may have any form that `Game.of_text` reads; lines without a move are
+    skipped.
 
     Raises GameRefused if a WTHOR file ends too early or goes on after its last game; if `refused` is given, it is
     called with the error instead. An illegal move is refused only by `Solver.positions`. Raises OSError, ValueError for
@@ -130,7 +133,7 @@ def games_in(file: Any, name: str) -> Tuple[Iterator[Game], Optional[int]]:
 
 
 def transcripts(file: BinaryIO, name: str) -> Iterator[Game]:
-    """Yields the game of each line of a text that has a move. Raises NotText."""
+    """Yields the games of a text: one for each line that has a move. Raises NotText."""
     for number, line in enumerate(text_lines(file, name), 1):
         game = Game.of_text(line.decode("utf-8", "replace"), number)
         if game.moves:
@@ -157,7 +160,8 @@ def read_header(file: BinaryIO) -> Tuple[int, int]:
 
 
 def records(file: BinaryIO, count: int, empties: int) -> Iterator[Game]:
-    """Yields the games after the header of a WTHOR file. If there are not `count` of them, the last one has a fault."""
+    """Yields the games after the header of a WTHOR file. If there are fewer or more than `count`, the last Game that is
+    yielded has no moves, and its `fault` says so."""
     counts = f"its header counts {count} game{'s' * (count != 1)}"
     for number in range(1, count + 1):
         record = file.read(RECORD)
@@ -171,13 +175,14 @@ def records(file: BinaryIO, count: int, empties: int) -> Iterator[Game]:
 
 
 def game_of(number: int, record: bytes) -> Game:
-    """The game with a number in a WTHOR file, from the bytes of its record."""
+    """The game in a record of a WTHOR file. `number` is its place in the file, from 1."""
     written = record[FIRST_MOVE:].rstrip(b"\0")
     return Game(number, written.translate(SQUARES), written, record[SCORE], record[REAL])
 
 
 def final_score(own: int, opp: int) -> int:
-    """The score of a finished game for the mover: `own` discs minus `opp` discs; the winner gets the empty squares."""
+    """The score of a finished game for the mover: the discs in the mask `own` minus those in `opp`; the winner gets the
+    empty squares."""
     mine, theirs = bin(own).count("1"), bin(opp).count("1")
     return mine - theirs + (64 - mine - theirs) * ((mine > theirs) - (mine < theirs))
 
@@ -194,8 +199,9 @@ class Player:
         self._library, self._play, self._moves = library, library.ffosolve_play, library.ffosolve_moves
 
     def play(self, game: Game, empties: int) -> Played:
-        """Plays a whole game. Returns its first position with `empties` empty squares, and the discs at the end. Raises
-        GameRefused if there is no such position, and for any illegal move: an earlier one may then be wrong, too."""
+        """Plays a whole game. Returns its first position with `empties` empty squares, and Black's discs at the end.
+        Raises GameRefused if there is no such position, and for an illegal move even after it, since earlier moves may
+        then be wrong, too."""
         found = self._played(game)
         last = position_of(*found[-1])
         if last.empties > empties:
@@ -212,7 +218,7 @@ class Player:
         return [position_of(*it) for it in self._played(game)]
 
     def _played(self, game: Game) -> List[Tuple[CPosition, str]]:
-        """The positions of a game, as `positions` returns them, each with the side to move. Raises GameRefused."""
+        """The positions that `positions` returns, each as a CPosition and the side to move. Raises GameRefused."""
         if game.fault is not None:
             raise GameRefused(game.fault, game.number)
         play, at, side = self._play, CPosition(*START), START.side

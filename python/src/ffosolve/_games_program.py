@@ -81,11 +81,11 @@ class Stop(Exception):
 
 
 class FileRefused(Stop):
-    """A file is refused. `print_games` reports it and goes on with the next file; `compare` ends."""
+    """A file is refused. `print_games` reports it and goes on with the next file; with `compare`, the program ends."""
 
 
 class Output:
-    """Standard output, and a digest of the games that were printed. Raises Stop if standard output can't be written."""
+    """Standard output, and a digest of the games that were printed. Raises Stop if writing to it fails."""
 
     def __enter__(self) -> "Output":
         if sys.stdout is None:
@@ -128,7 +128,8 @@ def number_of_empties(word: str) -> int:
 
 
 def options_of(words: List[str]) -> argparse.Namespace:
-    """The options on the command line. If it begins with `compare`, `compares` is true; `files` are LIST and REPORT."""
+    """The options in `words`, the command line. If the first word is `compare`, `compares` is true, and `files` are
+    LIST and REPORT."""
     parser = argparse.ArgumentParser(
         NAME, usage=USAGE, description=WHAT, epilog=MORE, formatter_class=argparse.RawDescriptionHelpFormatter,
         allow_abbrev=False)
@@ -159,7 +160,8 @@ def options_of(words: List[str]) -> argparse.Namespace:
 
 
 def main(find: Callable[[], Optional[str]] = lambda: None) -> int:
-    """Runs the program on the command line, and returns its status. `find` returns the path of the library or None."""
+    """Runs the program with the arguments in sys.argv, and returns its exit status. `find` returns the path of the
+    library, or None if `load` is to look for it."""
     signal.signal(signal.SIGPIPE, signal.SIG_DFL)  # if nothing reads the output any more, the program ends silently
     try:
         with Output() as output:
@@ -186,8 +188,8 @@ def print_games(options: argparse.Namespace, find: Callable[[], Optional[str]], 
 
 
 def print_file(name: str, file: io.BufferedReader, wanted: Optional[int], player: Player, output: Output) -> int:
-    """Prints a line for each game of a file, or reports on standard error why it has none. Reports wrong scores, too.
-    The positions have `wanted` empty squares, or if that is None, as many as the file says. Returns the status."""
+    """Prints one position of each game of a file, or reports on standard error why there is none. Reports wrong scores,
+    too. The position has `wanted` empty squares, or if that is None, as many as the file says. Returns the status."""
     status = DONE
     games, of_scores = games_in(file, shown(name))
     empties = of_scores if wanted is None else wanted
@@ -211,7 +213,7 @@ def print_file(name: str, file: io.BufferedReader, wanted: Optional[int], player
 
 
 def wrong_scores(game: Game, played: Played) -> Iterator[str]:
-    """Yields a message for each score of a game that is out of range, does not fit its moves, or can't be checked."""
+    """Yields a message for each score of a game that is too high, does not fit the moves, or can't be checked."""
     for kind, score in (("theoretical", game.score), ("real", game.real)):
         if score is not None and score > MOST_DISCS:
             yield f"its {kind} score is {score}, more than {MOST_DISCS} discs"
@@ -222,7 +224,8 @@ def wrong_scores(game: Game, played: Played) -> Iterator[str]:
 
 
 def compare(options: argparse.Namespace, find: Callable[[], Optional[str]], output: Output) -> int:
-    """Prints the wrong theoretical scores of a list; with --fix, writes the WTHOR files first. Returns the status."""
+    """Prints the wrong theoretical scores of a list, and a line of counts. With --fix, first writes corrected WTHOR
+    files. Returns the status."""
     listed, solved = options.files
     try:
         found = Comparison(lines_of(listed), lines_of(solved))
@@ -241,7 +244,7 @@ def compare(options: argparse.Namespace, find: Callable[[], Optional[str]], outp
 
 
 def fix(place: str, compared: Sequence[Compared], player: Player, with_real: bool) -> None:
-    """Writes copies of the compared WTHOR files, with exact scores, to the file or into the folder `place`."""
+    """Writes copies of the compared WTHOR files, with exact scores: to `place`, or into it if it is a folder."""
     of_files: Dict[str, List[Compared]] = {}
     for it in compared:
         of_files.setdefault(it.file, []).append(it)
@@ -267,7 +270,8 @@ def fix(place: str, compared: Sequence[Compared], player: Player, with_real: boo
 
 
 def places_of(place: str, names: Sequence[str]) -> Dict[str, str]:
-    """Maps the path of each copy that --fix writes to the name of its WTHOR file. Raises Stop if not all fit."""
+    """Returns {path of the copy: name of the WTHOR file} for --fix. Raises Stop for several files if `place` is not a
+    folder, or if two copies would have the same path."""
     if os.path.isdir(place):
         places = {os.path.join(place, os.path.basename(name)): name for name in names}
     elif len(names) == 1:
@@ -296,7 +300,8 @@ def lines_of(name: str) -> Iterator[bytes]:
 
 @contextlib.contextmanager
 def opened(name: str) -> Iterator[io.BufferedReader]:
-    """Opens a file, or standard input for `-`. Turns OSError and NotText, also while it is read, into FileRefused."""
+    """Opens a file, or standard input for `-`, for a `with` statement. If opening or reading raises OSError or NotText,
+    that becomes FileRefused."""
     try:
         with open(0 if name == "-" else name, "rb", closefd=name != "-") as file:
             yield file
@@ -315,7 +320,7 @@ def unwritable(name: str, error: OSError) -> Stop:
 
 
 def report(reason: object, status: int) -> int:
-    """Prints a line on standard error, if that can be written, and returns `status`."""
+    """Prints `reason` on standard error, if that can be written to, and returns `status`."""
     with contextlib.suppress(OSError):
         print(f"{NAME}: {reason}", file=sys.stderr or io.StringIO(), flush=True)
     return status

@@ -30,8 +30,8 @@ class CMoveScores(ctypes.Structure):
 
 def places() -> List[str]:
     """Returns where to look for the library if no path is given: only the path in the environment variable
-    FFOSOLVE_LIBRARY, if that is set; otherwise the libraries in this package, that for newer processors first; NAME,
-    which the system's loader looks up; `lib` of this Python; and /usr/local/lib."""
+    FFOSOLVE_LIBRARY, if that is set; otherwise the libraries in this package, the one for newer processors first;
+    NAME, which the system's loader looks up; the folder `lib` of this Python; and /usr/local/lib."""
     named = os.environ.get("FFOSOLVE_LIBRARY")
     if named:
         return [named]
@@ -53,7 +53,7 @@ def load(path: Union[str, "os.PathLike[str]", None] = None) -> ctypes.CDLL:
 
 
 def loaded() -> ctypes.CDLL:
-    """Returns the library that was loaded first, or loads one. All libraries play by the same rules."""
+    """Returns the library that was loaded first; if there is none, loads one. All play by the same rules."""
     return _loaded[0] if _loaded else load()
 
 

@@ -59,9 +59,9 @@ class Position(Masks):
         """The position of a line of OBF text, with the moves that the line lists. The line has 64 squares from A1 on,
         the side to move, and fields such as `H1:+62;`.
 
-        Black is one of `X x * B b`, white one of `O o W w`, and an empty square `-` or `.`. Blanks before the squares
-        and before the side are skipped. Raises NoPosition, ShortBoard, BadSquare and BadSide, which are ValueErrors,
-        and NoMemory. No library is needed.
+        Any of `X x * B b` stands for Black, any of `O o W w` for White, and `-` or `.` for an empty square. Blanks
+        before the squares and before the side are skipped. Raises NoPosition, ShortBoard, BadSquare and BadSide, which
+        are ValueErrors, and NoMemory. No library is needed.
         """
         return read_line(text, None)
 
@@ -92,12 +92,13 @@ class Position(Masks):
 
     def play(self, square: Union[int, str]) -> "Position":
         """The position after a move, in which the other side is to move. `square` is a name such as "F5" or a number
-        from 0 to 63. Raises NoMove, which is a ValueError, and ValueError for another name."""
+        from 0 to 63. Raises NoMove, which is a ValueError, and ValueError for any other name."""
         return Position(*play(loaded(), self, square), OTHER[self.side])
 
     def play_all(self, squares: Union[str, Iterable[Union[int, str]]]) -> "Position":
         """The position after the moves of a transcript such as "f5d6c3", in any form that `Game.of_text` reads, or of a
-        list of squares. A pass may be written or left out. Raises NoMove, whose text has the number of the move."""
+        list of squares. A pass may be written or left out. Raises NoMove for an illegal move and for a word that is
+        not a square; its text has the number of that move, from 1 and without passes."""
         if not hasattr(squares, "__iter__"):
             raise TypeError(f"moves are a transcript or a list of squares, not {reprlib.repr(squares)}")
         position = self
@@ -116,7 +117,7 @@ class Position(Masks):
         return position
 
     def score(self, scoring: Union[Scoring, int, str] = Scoring.WINNER) -> int:
-        """The score of a finished game for the mover. Raises ValueError if it is not over, and UnknownScoring."""
+        """The score of a finished game for the mover. Raises ValueError if the game is not over, and UnknownScoring."""
         if not self.is_over:
             raise ValueError(f"the game is not over, so only a Solver finds the score: {self.to_obf()}")
         answer = CAnswer()
@@ -173,7 +174,8 @@ class Line(Position):
 
 
 def read_line(text: Union[str, bytes], number: Optional[int]) -> Line:
-    """Reads a line of OBF text. The Line gets `number`, and so does a LineRefused, which is raised for a wrong line."""
+    """Reads a line of OBF text. Raises LineRefused for a line without a position. `number`, which may be None, becomes
+    the number of the Line or the `line` of the LineRefused."""
     try:
         found: Any = LINE.match(without_end(text))
         _, letters, _, side, rest = found.groups()
@@ -191,7 +193,7 @@ def read_line(text: Union[str, bytes], number: Optional[int]) -> Line:
 
 
 def fault_of(found: "re.Match[bytes]", number: Optional[int]) -> LineRefused:
-    """The refusal of a line that holds no position, for the first fault from the left; `found` is its match of LINE."""
+    """The refusal of a line that holds no position, for the first fault from the left. `found` is the match of LINE."""
     content, squares = found.string[found.end(1):], len(found[2])
     if not content or content.startswith(b"%"):
         return NoPosition(0, number)
@@ -207,7 +209,7 @@ def bytes_of(text: Union[str, bytes]) -> bytes:
 
 
 def without_end(text: Union[str, bytes]) -> bytes:
-    """The bytes of a line without its end: an LF, and a CR before it."""
+    """The bytes of a line without its end, which is LF, CR LF, CR or nothing."""
     line = bytes_of(text)
     if line[-1:] == b"\n":
         line = line[:-1]
@@ -217,7 +219,7 @@ def without_end(text: Union[str, bytes]) -> bytes:
 def read_lines(source: Source, refused: Optional[Callable[[LineRefused], object]] = None) -> Iterator[Line]:
     """Yields the positions of lines of OBF text, in their order. `source` is a path, or an iterable of lines such as an
     open file. Blank lines and comments are skipped. Any other line without a position raises ShortBoard, BadSquare or
-    BadSide, whose `line` is its number. If `refused` is given, it gets the error instead, and reading goes on:
+    BadSide, whose `line` is its number. If `refused` is given, it is called with the error, and reading goes on:
 
         wrong = []
         positions = list(read_lines("a.obf", refused=wrong.append))
@@ -247,7 +249,8 @@ def positions_in(lines: Lines, refused: Optional[Callable[[LineRefused], object]
 
 
 def lines_of(source: Source) -> Lines:
-    """The lines of a path's file or of an iterable. The file is opened at once, and closed after its last line."""
+    """The lines of `source`, a path or an iterable. A path's file is opened at once, and closed after its last line.
+    Raises TypeError for another source."""
     is_text = isinstance(source, (bytes, bytearray)) or isinstance(source, str) and "\n" in source
     if is_text or not isinstance(source, (str, os.PathLike)) and not hasattr(source, "__iter__"):
         what = "a text, which parse_lines reads" if is_text else reprlib.repr(source)

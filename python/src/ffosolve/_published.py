@@ -1,4 +1,4 @@
-"""Compares the published scores in a list of ffosolve-games with the exact ones in the report of its positions."""
+"""Compares the published scores in a list of ffosolve-games with the exact ones in the report of that list."""
 import hashlib
 import os
 import re
@@ -15,7 +15,7 @@ DIGEST = re.compile(rb"[XO-]{64} X; % digest, line [1-4] of 4")
 
 
 class BadList(Exception):
-    """A list can't be compared: it has a refused line or no theoretical score, or it was changed."""
+    """A list can't be compared: it has a refused line, no theoretical score or no digest, or it was changed."""
 
 
 class Unfit(Exception):
@@ -42,8 +42,8 @@ class Compared(NamedTuple):
 
 
 class Comparison:
-    """The theoretical scores of a list, and the exact ones of its report. `refused` counts the games with a theoretical
-    score that the report refuses, and `unscored` those without one. Raises BadList and Unfit."""
+    """The theoretical scores of a list, and the exact ones of its report. `unscored` counts the positions without a
+    theoretical score, and `refused` those that have one, but are refused in the report. Raises BadList and Unfit."""
 
     def __init__(self, listed: Iterable[bytes], report: Iterable[bytes]) -> None:
         lines, rows = read_list(listed), read_report(report)
@@ -72,16 +72,16 @@ class Comparison:
 
 
 def digest_of(lines: "hashlib._Hash") -> List[bytes]:
-    """Returns four lines of OBF for the first 24 bits of a list's SHA-256; their scores in a report show these bits. A
-    line stands for six bits, a number n: it is a finished game with n black discs, an empty square and 63 - n white
-    discs. Each n gives a different score; the empty square makes it even under the scoring `winner` only."""
+    """Returns four lines of OBF for the first 24 bits of `lines`, the SHA-256 of a list; their scores in a report show
+    these bits. Each line stands for six bits, the number n: it is a finished game with n black discs, an empty square
+    and 63 - n white discs. Each n gives a different score, which is even under the scoring `winner` only."""
     black = [int.from_bytes(lines.digest()[:3], "big") >> shift & 63 for shift in (18, 12, 6, 0)]
     return [b"X" * n + b"-" + b"O" * (63 - n) + b" X; %% digest, line %d of 4" % at for at, n in enumerate(black, 1)]
 
 
 def read_list(lines: Iterable[bytes]) -> Dict[int, Listed]:
-    """Returns the positions of a list, the digest included, by the numbers of their lines. Several lists may be joined,
-    each with its digest at its end. Raises BadList."""
+    """Returns {number of the line, from 1: Listed} for a list, the digest included. Several lists may be joined, each
+    with its digest at its end. Raises BadList."""
     found: Dict[int, Listed] = {}
     awaited: List[bytes] = []
     covered, uncovered = hashlib.sha256(), 0
@@ -111,7 +111,7 @@ def read_list(lines: Iterable[bytes]) -> Dict[int, Listed]:
 
 
 def read_listed(text: bytes) -> Listed:
-    """Reads a line of a list, which is given without its line end."""
+    """Reads a line of a list, given without its line end. Raises LineRefused."""
     position = Position.from_obf(text)
     match = COMMENT.fullmatch(os.fsdecode(text))
     if match is None:
@@ -121,7 +121,7 @@ def read_listed(text: bytes) -> Listed:
 
 
 def read_report(lines: Iterable[bytes]) -> Dict[int, Optional[int]]:
-    """Returns the scores for the mover in a report, by the list's line numbers; None if refused. Raises Unfit."""
+    """Returns {number of the line in the list: score for the mover, or None if refused} for a report. Raises Unfit."""
     texts = [os.fsdecode(line.rstrip(b"\r\n")) for line in lines]
     if not texts or texts[0] != "[1]":
         raise Unfit("the report does not begin with the line `[1]`" if texts else "the report is empty")

@@ -64,7 +64,7 @@ class TooManyEntries(Refused, ValueError, status=Status.TOO_MANY_ENTRIES,
 
 
 class UnequalLengths(Refused, ValueError, status=Status.UNEQUAL_LENGTHS, reason="not as many answers as positions"):
-    """No call of a Solver raises this, since it makes room for as many answers as positions."""
+    """The numbers of positions and answers differ. No Solver raises this, since it makes room for as many answers."""
 
 
 class SharedSquare(Refused, ValueError, status=Status.SHARED_SQUARE, reason="the masks share a square"):
@@ -77,7 +77,8 @@ class TooManyEmpties(Refused, ValueError, status=Status.TOO_MANY_EMPTIES,
 
 
 class NoMove(Refused, ValueError, status=Status.NO_MOVE, reason="illegal move"):
-    """The move is not legal. The text names the move and the side to move, and shows the board as an OBF line."""
+    """The move is not legal, or for `play_all` not even a square. The text names the move; for a square or a pass, it
+    also has the board and the side to move, as an OBF line."""
 
 
 class NoMemory(Refused, MemoryError, status=Status.NO_MEMORY, reason="out of memory"):
@@ -85,7 +86,7 @@ class NoMemory(Refused, MemoryError, status=Status.NO_MEMORY, reason="out of mem
 
 
 class OtherRefusal(Refused):
-    """The library returned a status that this package does not know: the library is newer."""
+    """The library returned a status that this package does not know, so the library is newer."""
 
     def __init__(self, status: int) -> None:
         self.status, self.reason = status, f"refused with status {status}"
@@ -117,7 +118,7 @@ class ShortBoard(LineRefused, status=Status.SHORT_BOARD, reason="board has {} of
 
 
 class BadSquare(LineRefused, status=Status.BAD_SQUARE, reason="bad square at column {}"):
-    """A byte in the place of a square does not stand for one."""
+    """A byte in the place of a square does not stand for a disc or an empty square."""
 
 
 class BadSide(LineRefused, status=Status.BAD_SIDE, reason="bad side at column {}"):
@@ -125,7 +126,7 @@ class BadSide(LineRefused, status=Status.BAD_SIDE, reason="bad side at column {}
 
 
 def refusal_of(status: int, *arguments: Any) -> Refused:
-    """The refusal for a status; if this package knows the status, its class is called with `arguments`."""
+    """The refusal for a status. This is an OtherRefusal for an unknown status; the other classes get `arguments`."""
     return REFUSALS[status](*arguments) if status in REFUSALS else OtherRefusal(status)
 
 

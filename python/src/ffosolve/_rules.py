@@ -21,7 +21,7 @@ def not_a_position(it: object) -> TypeError:
 
 
 def empties_of(position: Sequence[int]) -> int:
-    """How many squares of a position are empty. Raises TypeError for any other object."""
+    """How many squares of a position are empty. Raises TypeError for an object that is not a position."""
     try:
         own, opp = position
         return 64 - size_of(own | opp)
@@ -62,7 +62,7 @@ def moves(library: ctypes.CDLL, position: Sequence[int]) -> int:
 
 
 def play(library: ctypes.CDLL, position: Sequence[int], square: Union[int, str]) -> Tuple[int, int]:
-    """Returns the masks after a move, first that of the side then to move. Raises SharedSquare and NoMove."""
+    """Returns the two masks after a move, first that of the side to move next. Raises SharedSquare and NoMove."""
     number = number_of(square)
     is_square, after = 0 <= number < 64, CPosition()
     status = library.ffosolve_play(c_position(position), number if is_square else NO_SQUARE, after)
@@ -73,7 +73,7 @@ def play(library: ctypes.CDLL, position: Sequence[int], square: Union[int, str])
 
 
 def illegal_move(library: ctypes.CDLL, position: Sequence[int], move: str) -> NoMove:
-    """The refusal of an illegal move. It names `move` and the side to move, and shows the board as an OBF line."""
+    """The refusal of an illegal move. Its text names `move`, and has the board and the side to move as an OBF line."""
     (own, opp), side = position, getattr(position, "side", "X")
     why = f" for {SIDES[side]}"
     if not moves(library, position):

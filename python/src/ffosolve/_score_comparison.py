@@ -41,7 +41,7 @@ class ScoreComparison(NamedTuple):
 
 
 def compare_scores(listed: Source, scored: Source) -> ScoreComparison:
-    """Compares the scores of a list with the exact ones, which `ffoscores` printed for the list. Each of the two is a
+    """Compares the scores of a list with the exact ones, which `ffoscores` printed for the list. Each argument is a
     path, an open file or an iterable of lines. A listed score may be any decimal number, such as +61.5. Raises
     ValueError if a line of `scored` is not what `ffoscores` prints for the same line of `listed`.
 
@@ -75,7 +75,8 @@ def compare_scores(listed: Source, scored: Source) -> ScoreComparison:
 
 def pairs_of(listed: Source, scored: Source) -> Iterator[Tuple[int, Any, Any]]:
     """Yields (number, text, answer) for each line of the list that is neither blank nor a comment. `answer` is the Line
-    that `ffoscores` printed for it, or None if it was refused. Raises ValueError for the answer to another line."""
+    that `ffoscores` printed for it, or None if `ffoscores` refused it. Raises ValueError if the line with that number
+    in `scored` is not an answer to it."""
     both = itertools.zip_longest(lines_of(listed), lines_of(scored), fillvalue=b"")
     for number, (text, answer) in enumerate(both, 1):
         line, exact = found_in(text, number), found_in(answer, number)

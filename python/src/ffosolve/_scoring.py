@@ -18,7 +18,7 @@ class Scoring(enum.IntEnum):
 
 
 def scoring_of(value: Union[Scoring, int, str]) -> Scoring:
-    """Returns the Scoring that `value` is, names or numbers. Raises UnknownScoring if there is none."""
+    """Returns the Scoring for `value`: a Scoring, or the number or name of one. Raises UnknownScoring otherwise."""
     try:
         return Scoring(value)  # type: ignore[arg-type]
     except ValueError:

@@ -1,4 +1,4 @@
-"""The solver."""
+"""The Solver, which solves positions by calls of the library."""
 import ctypes
 import math
 import os
@@ -103,15 +103,16 @@ class Solver:
 
     def solve_iter(self, positions: Iterable[Position], *, threads: int = 1) -> Iterator[Answer]:
         """Yields the answers for positions, in their order, and reads only some positions ahead. Raises the same as
-        `solve`; a refusal comes after the answers for the positions before the refused one, and has its `index`."""
+        `solve`. SharedSquare and TooManyEmpties have the `index` of the refused position, and come after the answers
+        for the positions before it."""
         return one_by_one(in_order(self._solve_part, parts_of(positions, self._max_empties), checked_threads(threads)))
 
     def move_scores_all(self, positions: Iterable[Position], *, threads: int = 1) -> List[Dict[str, int]]:
-        """The `move_scores` of each position, in their order. Raises the same as `solve_all`."""
+        """What `move_scores` returns for each position, in the positions' order. Raises the same as `solve_all`."""
         return list(one_by_one(in_order(self._score_part, self._all_parts(positions), checked_threads(threads))))
 
     def move_scores_iter(self, positions: Iterable[Position], *, threads: int = 1) -> Iterator[Dict[str, int]]:
-        """Yields the `move_scores` of each position, as `solve_iter` yields answers."""
+        """Yields what `move_scores` returns for each position, in the way that `solve_iter` yields answers."""
         return one_by_one(in_order(self._score_part, parts_of(positions, self._max_empties), checked_threads(threads)))
 
     def solve_arrays(self, own: Any, opp: Any, *, threads: int = 1) -> "Answers":
@@ -131,7 +132,7 @@ class Solver:
         return _arrays.move_scores(self, own, opp, checked_threads(threads))
 
     def moves(self, position: Position) -> int:
-        """The mask of the legal moves, or 0; `Position.legal_moves` has their names. Raises SharedSquare."""
+        """The mask of the legal moves, 0 for none. `Position.legal_moves` has their names. Raises SharedSquare."""
         return moves(self._library, position)
 
     def play(self, position: Position, square: Union[int, str]) -> Position:
@@ -151,7 +152,7 @@ class Solver:
         return table_entries(empties) if self._entries is None else self._entries
 
     def _checked_empties(self, position: Sequence[int]) -> int:
-        """How many squares of a position are empty. Raises its refusal if they are too many or the masks share one."""
+        """How many squares of a position are empty. Raises SharedSquare and TooManyEmpties."""
         empties, (own, opp) = empties_of(position), position
         if own & opp or empties > self._max_empties:
             raise refusal_for(position, self._max_empties)
@@ -177,13 +178,15 @@ class Solver:
         return self._call_for(part, self._library.ffosolve_move_scores_all, CMoveScores, scores_in)
 
     def _call_for(self, part: Part, call: Any, record: Any, read: "Callable[[Any], List[A]]") -> "Results[A]":
-        """Makes a call for a part. Returns what `read` makes of its record for each position, and the refusal."""
+        """Makes a call that writes a `record` for each position of a part. Returns what `read` makes of these records,
+        and the refusal in the part, if any."""
         found = (record * len(part.positions))()
         self._fill(found, call, c_positions(part.positions), part.empties)
         return read(found), part.refusal
 
     def _fill(self, found: Any, call: Any, asked: Any, empties: int) -> None:
-        """Makes a call that writes a record to `found` for each position; none has over `empties` empty squares."""
+        """Makes a call that writes a record to `found` for each position in `asked`. No position has more than
+        `empties` empty squares."""
         count = len(asked)
         more = asked, count, self._scoring, self._entries_for(empties), found, count, ctypes.c_size_t()
         accept(interruptible(call, count, empties, *more))

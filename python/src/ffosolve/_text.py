@@ -11,8 +11,9 @@ class NotText(ValueError):
 
 
 def text_lines(file: BinaryIO, name: str, may_have_nul: bool = False) -> Iterator[bytes]:
-    """Yields the lines of a text, each with its end. Raises NotText with the text's `name` if it has a byte-order mark,
-    line ends of CR alone, a line of more than MOST_BYTES bytes, or a NUL byte, unless it may have one."""
+    """Yields the lines of a text, each with its end. Raises NotText, with `name` in the message, if the text
+    begins with a byte-order mark, ends its lines with CR alone, has a line of more than MOST_BYTES bytes, or has a NUL
+    byte that `may_have_nul` does not allow."""
     number, line = 1, file.readline(MOST_BYTES + 1)
     if line.startswith(MARKS):
         raise NotText(f"cannot read {name}: it begins with a byte-order mark")
@@ -28,7 +29,7 @@ def text_lines(file: BinaryIO, name: str, may_have_nul: bool = False) -> Iterato
 
 
 def shown(name: Union[str, "os.PathLike[str]"]) -> str:
-    """A file's name for a message: in bash's quotes if it is empty, has control characters or is not UTF-8."""
+    """A file's name for a message: quoted as bash does it, if it is empty or has characters that can't be printed."""
     name = os.fspath(name)
     if name.isprintable():
         return name or "''"

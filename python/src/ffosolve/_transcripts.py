@@ -26,5 +26,5 @@ def words_of(text: str) -> List[str]:
 
 
 def plain(word: str) -> str:
-    """Returns `--` for several hyphens, a square without the blanks in it, and any other pass as it is."""
+    """Returns a move in its plain form: `--` for several hyphens, other passes as they are, squares without blanks."""
     return "--" if word[0] == "-" else word if word in PASSES else word[0] + word[-1]
