@@ -32,8 +32,7 @@ def build_peer(folder, level, *words):
 
 
 def options(entries, scoring="winner"):
-    """Returns the options that solve positions with any number of empty squares on one thread, with a table of
-    `entries` entries and under `scoring`."""
+    """Returns options for ffosolve: up to 60 empty squares, one thread, a table of `entries` entries, and a scoring."""
     return ["--max-empties", 60, "--workers", 0, "--table", entries, "--scoring", scoring]
 
 

@@ -61,8 +61,8 @@ def random_position(rng, empties):
 
 
 def random_lines(number, least, most, seed=1):
-    """Yields OBF lines of `number` positions from random games, none of which is over there. The positions have `least`
-    to `most` empty squares in turn."""
+    """Yields OBF lines of `number` positions from random games that are not over yet. The positions have `least` to
+    `most` empty squares in turn."""
     rng = random.Random(seed)
     for at in range(number):
         found = None

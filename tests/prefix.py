@@ -1,6 +1,6 @@
 """The library and its packages as users have them: installed under a prefix, with programs outside the checkout.
 
-TEST_PREFIX in the environment names the prefix; if it is not set, `make install` fills a temporary one.
+TEST_PREFIX in the environment names the prefix; if it is not set, `make install` installs under a temporary one.
 """
 import functools
 import importlib.util

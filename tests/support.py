@@ -28,7 +28,7 @@ def lack(what):
 
 
 def need(*tools):
-    """Calls `lack` for the first of these tools that is not installed, if there is one."""
+    """Calls `lack` for the first of `tools` that is not installed, if there is one."""
     for tool in tools:
         if shutil.which(tool) is None:
             lack(tool)
@@ -93,7 +93,7 @@ def limited(what, size):
 
 
 def shorter_than(size):
-    """Lets every write fail that takes a file past `size` bytes, as on a full disk; for `preexec_fn`."""
+    """Makes every write fail that would take a file past `size` bytes, as on a full disk; for `preexec_fn`."""
     signal.signal(signal.SIGXFSZ, signal.SIG_IGN)
     limited("RLIMIT_FSIZE", size)()
 

@@ -95,8 +95,8 @@ class Books(InFolder):
                 self.left({place: OLD, "it.book": OLD})
 
     def watched(self, **more):
-        """Returns an environment in which tests/preload.c notes each sync and rename in the file WATCHED; `more` is
-        added."""
+        """Returns an environment in which tests/preload.c notes each sync and rename in the file WATCHED; `more` are
+        further variables."""
         place = Path(PROGRAM).parent
         return {**os.environ, "LD_PRELOAD": preload(place), "WATCHED": str(place / "watched"), **more}
 

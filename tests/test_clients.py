@@ -36,8 +36,8 @@ def shown(language, *names):
 
 class Examples(unittest.TestCase):
     def answers(self, *command, count=LARGE):
-        """Asserts what an example prints in three runs: for the first `count` positions of masks.txt, for two, of which
-        one has two best moves, and for a refused one."""
+        """Asserts what an example prints in three runs: for the first `count` positions of masks.txt; for two
+        positions, of which one has two best moves; and for a list with a refused one."""
         masks, answers = ((ROOT / "examples" / name).read_text().splitlines(True) for name in ("masks.txt", "answers.txt"))
         ran = PREFIX.run(*command, text="".join(masks[:count]))
         self.assertEqual((ran.returncode, ran.stdout), (0, "".join(answers[:count] + answers[LARGE:])), ran.stderr)

@@ -1,4 +1,4 @@
-"""bench/ffo solves positions of the FFO endgame test, keeps the results and prints them as the table in docs/ffo.md."""
+"""bench/ffo solves positions of the FFO endgame test, keeps the results and prints them as in docs/ffo.md."""
 import re
 from pathlib import Path
 
