@@ -24,8 +24,8 @@ class Answers(NamedTuple):
 
 
 def masks_of(own: Any, opp: Any) -> Any:
-    """Returns an array with a row (own, opp) for each position, as CPosition has them. Raises TypeError unless both
-    arrays are of uint64, and ValueError unless they have one dimension and equal lengths."""
+    """Returns an array with a row (own, opp) for each position, laid out as CPositions. Raises TypeError unless
+    both arrays are of uint64, and ValueError unless they have one dimension and equal lengths."""
     own, opp = numpy.asarray(own), numpy.asarray(opp)
     if own.dtype != numpy.uint64 or opp.dtype != numpy.uint64:
         raise TypeError("the masks are arrays of uint64")

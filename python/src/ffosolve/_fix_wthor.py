@@ -20,7 +20,7 @@ class Fixed:
         self._games = self._changed = self._real_changed = self._real_unknown = 0
 
     def summary(self) -> str:
-        """Says how many scores were changed and how many were not compared. Call this after iterating."""
+        """Returns text: how many scores were changed and how many were not compared. Call this after iterating."""
         others = self._games - len(self._compared)
         real = f"; real scores changed {self._real_changed}, not checked {self._real_unknown}" if self._with_real else ""
         return f"theoretical scores changed {self._changed} of {self._games}, not compared {others}{real}"
