@@ -87,7 +87,7 @@ def in_order(call: Callable[[A], B], parts: Iterable[A], threads: int) -> Iterat
 
 def interruptible(call: Callable[..., A], count: int, empties: int, *arguments: Any) -> A:
     """Makes a call of the library for `count` positions with at most `empties` empty squares, and returns its result.
-    For the main thread, another one makes the longer calls, so that Ctrl-C can raise an exception during a call."""
+    Longer calls of the main thread are made on another thread, so that Ctrl-C can raise an exception meanwhile."""
     is_brief = count << 2 * max(0, empties - LIGHTEST) <= BRIEF
     if is_brief or threading.current_thread() is not threading.main_thread():
         return call(*arguments)

@@ -13,7 +13,7 @@ __all__ = [
 
 
 class Status(enum.IntEnum):
-    """The statuses that calls of the library return, with their names in ffosolve.h."""
+    """The statuses that calls of the library return. In ffosolve.h, each name begins with FFOSOLVE_."""
 
     DONE = 0
     UNKNOWN_SCORING = 1

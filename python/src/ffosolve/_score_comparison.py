@@ -76,7 +76,7 @@ def compare_scores(listed: Source, scored: Source) -> ScoreComparison:
 def pairs_of(listed: Source, scored: Source) -> Iterator[Tuple[int, Any, Any]]:
     """Yields (number, text, answer) for each line of the list that is neither blank nor a comment. `answer` is the Line
     that `ffoscores` printed for it, or None if `ffoscores` refused it. Raises ValueError if the line with that number
-    in `scored` is not an answer to it."""
+    in `scored` is not the answer to that line."""
     both = itertools.zip_longest(lines_of(listed), lines_of(scored), fillvalue=b"")
     for number, (text, answer) in enumerate(both, 1):
         line, exact = found_in(text, number), found_in(answer, number)

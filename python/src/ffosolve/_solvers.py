@@ -108,7 +108,7 @@ class Solver:
         return one_by_one(in_order(self._solve_part, parts_of(positions, self._max_empties), checked_threads(threads)))
 
     def move_scores_all(self, positions: Iterable[Position], *, threads: int = 1) -> List[Dict[str, int]]:
-        """What `move_scores` returns for each position, in the positions' order. Raises the same as `solve_all`."""
+        """What `move_scores` returns for each position, in the same order. Raises the same as `solve_all`."""
         return list(one_by_one(in_order(self._score_part, self._all_parts(positions), checked_threads(threads))))
 
     def move_scores_iter(self, positions: Iterable[Position], *, threads: int = 1) -> Iterator[Dict[str, int]]:
