@@ -185,6 +185,7 @@ class Words(Case):
                 (3, "cannot write /proc/work: No such file or directory", "/proc/work", "list.obf"),
                 (2, "'-x' is not an option; a file of that name is ./-x", "-x"),
                 (2, "'-' has no folder of its own: name a FOLDER before it", "-"),
+                (3, "cannot read .: Is a directory", "."),
                 (2, "'--line' is not an option", "--line", "5", "list.obf"),
                 (2, "'-rf *' is not an option", "-rf *", "list.obf"),
                 (2, "'' is not the name of a file", "work", ""),

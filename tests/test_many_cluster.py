@@ -259,9 +259,9 @@ class Cluster(Case):
         self.scheduler.kill()
         by = install("impatient")
         change_many(by, "cluster", "LOST_SECONDS = 30", "LOST_SECONDS = 1")
-        for address in (f"tcp://127.0.0.1:{self.port}", "nonsense"):
+        for address, why in (f"tcp://127.0.0.1:{self.port}", ""), ("nonsense", "[Errno 2] No such file or directory"):
             words = (by, "--scheduler", address, "work", "list.obf")
-            self.ends(3, b"", f"cannot reach the scheduler {address}: ", *words, by=PYTHON)
+            self.ends(3, b"", f"cannot reach the scheduler {address}: {why}", *words, by=PYTHON)
         without_packages = write("python", f'#!/bin/sh\nexec "{PYTHON}" -S "$@"\n').absolute()
         self.refused(4, "--scheduler needs Python's package distributed (No module named ", many.MANY,
                      "--scheduler=h1:8786", "other", "list.obf", by=without_packages)

@@ -117,7 +117,8 @@ def complete(command):
     command.folder, path = Path(named[0] if named else f"{command.list}.parts"), path_of(command.list)
     if command.folder.exists() and not command.folder.is_dir():
         raise misused(f"'{shown(command.folder)}' is not a folder: name one FOLDER and one LIST")
-    if not named and path.exists() and (not path.is_file() or path.parts[1:2] in (("dev",), ("proc",))):
+    if not named and path.exists() and not path.is_dir() and (
+            not path.is_file() or path.parts[1:2] in (("dev",), ("proc",))):
         raise misused(f"'{shown(command.list)}' has no folder of its own: name a FOLDER before it")
     command.lines = command.lines or 1000
     command.scoring = command.scoring or "winner"

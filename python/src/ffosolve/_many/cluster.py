@@ -93,8 +93,10 @@ class Cluster:
         self.address, self.run, self.name, self.count = address, run, f"ffosolve-{os.urandom(6).hex()}", 0
         self.program, self.heard = Program(self.name, run.task, files), time.monotonic()
         self.ready, self.flying, self.left_out, self.fails = {}, {}, set(), collections.Counter()
-        place = {"scheduler_file" if os.path.isfile(address) else "address": address}
+        place = {"scheduler_file" if os.path.isfile(address) or ":" not in address else "address": address}
         try:
+            if "scheduler_file" in place:
+                open(address).close()  # Dask would wait until it is there
             self.client = distributed.Client(**place, timeout=LOST_SECONDS, set_as_default=False)
         except Exception as why:
             raise Refusal(UNREADABLE, f"cannot reach the scheduler {address}: {str(why).splitlines()[0]}") from None
