@@ -111,7 +111,8 @@ class Names(unittest.TestCase):
             self.assertEqual([to for to in lost if not re.search(r"/out(/|$)|^share/doc/", to)], [], name)
 
     def test_qualified_names_are_declared(self):
-        """A qualified name has an owner: `Rules.flips` is of a definition, `laws::books_are_one` of code."""
+        """`Rules.flips` has to be defined in a specification Rules.antt, and `laws::books_are_one` in a source file that is
+        named laws.rt or has a type `laws`."""
         sources = {path: path.read_text() for path in ROOT.glob("crates/*/src/**/*.rt")}
         for name in ("definitions.md", "guarantees.md", "architecture.md"):
             for owner, mark, word in re.findall(r"`([A-Z]\w*(?=\.)|\w+(?=::))(\.(?!antt|md)|::)(\w+)`", TEXTS[f"docs/{name}"]):

@@ -1,7 +1,8 @@
 """Output worked out from the rules, books that are read or refused, and streams that end or fail.
 
 Each row of a table in tests/rows/PROGRAM ends with a line of a list. The cells before it have what PROGRAM prints for
-that line with the options at the head of the column, or are empty if that is nothing. No program printed the cells.
+that line, without its number, with the options at the head of the column, or are empty if it prints nothing. A column
+`read` has what is read from the line, and is not used here. No program printed the cells.
 """
 import os
 from pathlib import Path

@@ -52,7 +52,8 @@ class Fixed:
         return header
 
     def _exact(self, record: bytearray) -> bytearray:
-        """Returns a game's record, with the exact scores that are known. Raises Unfit if another game was compared."""
+        """Returns a game's record, with the exact scores that are known. Raises Unfit if the position or the published score
+        that was compared under the game's number is not this game's."""
         game, it = game_of(self._games, bytes(record)), self._compared.get(self._games)
         if it is not None:
             played = self._played(game, it.position.empties)
