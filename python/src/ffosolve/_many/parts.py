@@ -36,8 +36,8 @@ def cut_list(path, lines, name):
 
 
 def asked_lines(part):
-    """Returns {number: line} for the lines of a part, numbered from 1, except blank ones and comments, which have no row in
-    a report."""
+    """Returns {number: line} for the lines of a part, numbered from 1, except blank ones and comments, which have no
+    row in a report."""
     return {number: line for number, line in enumerate(part.split(b"\n"), 1) if not SKIPPED.fullmatch(line)}
 
 
