@@ -1,13 +1,13 @@
 // For LD_PRELOAD: makes calls fail as on a bad machine. Refuses request REFUSED for memory, counted from 1, and then
-// creates the file REFUSED_FILE. Each sync or rename appends `sync ` or `rename ` to the file WATCHED, if that is set;
-// if NO_SYNC is set too, each sync fails.
+// creates the file REFUSED_FILE. If WATCHED is set, each sync or rename writes `sync ` or `rename ` to standard error. If
+// NO_SYNC is set, each sync fails.
 #define _GNU_SOURCE
 #include <dlfcn.h>
 #include <errno.h>
 #include <fcntl.h>
 #include <stdatomic.h>
+#include <stdio.h>
 #include <stdlib.h>
-#include <string.h>
 #include <unistd.h>
 
 #define NEXT(call) ((__typeof__(&call))dlsym(RTLD_NEXT, #call))
@@ -28,16 +28,16 @@ int posix_memalign(void **out, size_t alignment, size_t size) {
     return refused() ? ENOMEM : NEXT(posix_memalign)(out, alignment, size);
 }
 
-static int fails(const char *call) {
-    const char *name = getenv("WATCHED");
-    if (!name) return 0;
-    int file = open(name, O_CREAT | O_WRONLY | O_APPEND, 0600);
-    if (write(file, call, strlen(call)) < 0) abort();
-    close(file);
-    errno = EIO;
-    return call[0] == 's' && getenv("NO_SYNC");
+static void show(const char *call) {
+    if (getenv("WATCHED")) dprintf(STDERR_FILENO, "%s ", call);
 }
 
-int fsync(int file) { return fails("sync ") ? -1 : NEXT(fsync)(file); }
-int fdatasync(int file) { return fails("sync ") ? -1 : NEXT(fdatasync)(file); }
-int rename(const char *from, const char *to) { return fails("rename ") ? -1 : NEXT(rename)(from, to); }
+static int sync_fails(void) {
+    show("sync");
+    errno = EIO;
+    return getenv("NO_SYNC") != NULL;
+}
+
+int fsync(int file) { return sync_fails() ? -1 : NEXT(fsync)(file); }
+int fdatasync(int file) { return sync_fails() ? -1 : NEXT(fdatasync)(file); }
+int rename(const char *from, const char *to) { return show("rename"), NEXT(rename)(from, to); }

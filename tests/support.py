@@ -75,9 +75,9 @@ def positions(*words):
     return run(sys.executable, ROOT / "bench/positions", *words, check=True).stdout
 
 
-def module_folder(place=None):
-    """Returns a new folder in `place`, readable by everybody and removed after the module's tests; for setUpModule."""
-    folder = Path(unittest.enterModuleContext(tempfile.TemporaryDirectory(prefix="ffosolve-tests-", dir=place)))
+def module_folder():
+    """Returns a new folder that everybody may read. It is removed after the module's tests; for setUpModule."""
+    folder = Path(unittest.enterModuleContext(tempfile.TemporaryDirectory(prefix="ffosolve-tests-")))
     folder.chmod(0o755)
     return folder
 
@@ -88,14 +88,13 @@ def is_v3():
 
 
 def limited(what, size):
-    """Returns a `preexec_fn` that sets the limit `what`, such as "RLIMIT_FSIZE", to `size`."""
-    return lambda: resource.setrlimit(getattr(resource, what), (size, size))
+    """Returns a `preexec_fn` that sets the limit `what`, such as "RLIMIT_AS", to `size`. With "RLIMIT_FSIZE", a write
+    that would take a file past `size` bytes fails, as on a full disk."""
+    def prepare():
+        signal.signal(signal.SIGXFSZ, signal.SIG_IGN)  # by default, the signal for such a write ends the program
+        resource.setrlimit(getattr(resource, what), (size, size))
 
-
-def shorter_than(size):
-    """Makes every write fail that would take a file past `size` bytes, as on a full disk; for `preexec_fn`."""
-    signal.signal(signal.SIGXFSZ, signal.SIG_IGN)
-    limited("RLIMIT_FSIZE", size)()
+    return prepare
 
 
 @functools.cache

@@ -7,26 +7,24 @@ import shutil
 import stat
 from pathlib import Path
 
-from tests.support import (MOST_BYTES, NOBODY, SECONDS, InFolder, built, copy_many, module_folder, need, positions,
-                           preload, run, shorter_than, stored, write)
+from tests.support import (MOST_BYTES, NOBODY, SECONDS, InFolder, built, copy_many, limited, module_folder, need,
+                           positions, preload, run, stored, write)
 
-TEXT = stored("examples", "first.obf")
-BOOK = stored("examples", "first.book")
+TEXT, REPORT, BOOK = (stored("examples", f"first.{end}") for end in ("obf", "report", "book"))
 OLD = BOOK + b"% an old book, longer than the new one\n" * 99
 NOTES = b"notes, not a book\n"
-# How a run ends: (status, whether it prints a report, error). A place for a book is refused before anything is solved.
-DONE = (0, True, b"")
 DENIED, IN_THE_WAY = "permission denied", "another file is in the way"
 
 
-def unwritten(cause, name="it.book", prints=False):
-    """Returns (status, whether it prints a report, error) for a run that can't write its book. The cause, if not empty,
-    is the second line of the error."""
-    return 3, prints, "".join(f"ffosolve: {line}\n" for line in (f"cannot write {name}", cause) if line).encode()
+def unwritten(cause, name="it.book", report=b""):
+    """Returns (status, output, error) of a run that can't write its book. The cause, if not empty, is the second line
+    of the error. The output is empty if the book's place is refused before anything is solved."""
+    return 3, report, "".join(f"ffosolve: {line}\n" for line in (f"cannot write {name}", cause) if line).encode()
 
 
-UNREAD = (3, False, b"ffosolve: cannot read it.book\nffosolve: permission denied\n")
-NO_BOOK = (3, False, b"ffosolve: it.book is not a book and would be overwritten\n")
+DONE = (0, REPORT, b"")
+UNREAD = (3, b"", b"ffosolve: cannot read it.book\nffosolve: permission denied\n")
+NO_BOOK = (3, b"", b"ffosolve: it.book is not a book and would be overwritten\n")
 
 
 def setUpModule():
@@ -34,23 +32,33 @@ def setUpModule():
     PROGRAM = shutil.copy(built(), module_folder())  # the checkout may be closed to NOBODY
 
 
-def content(name):
-    return Path(name).read_bytes()
+def content(path):
+    """Returns the bytes of a file, or the target of a symbolic link."""
+    return os.readlink(path) if os.path.islink(path) else Path(path).read_bytes()
 
 
 class Books(InFolder):
     def solves(self, wanted, name="it.book", *words, **how):
-        """Runs ffosolve for TEXT with `--book-out NAME`, and asserts that (status, whether it prints a report, error)
-        is `wanted`."""
-        ran = run(PROGRAM, "--book-out", name, *words, input=TEXT, **how)
-        self.assertTrue(ran.stdout == b"" or ran.stdout.startswith(b"[1]\n"), ran)
-        self.assertEqual((ran.returncode, ran.stdout != b"", ran.stderr), wanted)
+        """Runs ffosolve for TEXT with `--book-out NAME`, and asserts that (status, output, error) is `wanted`."""
+        self.ends(wanted, PROGRAM, "--book-out", name, *words, input=TEXT, **how)
 
     def left(self, files):
         """Asserts that the folder has exactly `files`, which is {name: content}, and removes them."""
         self.assertEqual({name: content(name) for name in os.listdir()}, files)
         for name in files:
             os.remove(name)
+
+    def solves_over(self, old, wanted, place="it.book", mode=0o644, folder_mode=0o755, **how):
+        """Asserts that a run for the book it.book ends as `wanted`, and replaces the file `old` only if it is DONE. The
+        file has the name `place`; if that is another one, it.book is a link to it."""
+        write(place, old, mode)
+        if place != "it.book":
+            os.symlink(place, "it.book")
+        os.chmod(".", folder_mode)
+        self.solves(wanted, **how)
+        os.chmod(".", 0o755)
+        os.chmod(place, 0o644)
+        self.left({"it.book": place, place: BOOK if wanted == DONE else old})
 
     def test_a_book_has_the_scoring_of_its_run_and_not_that_of_the_book_that_is_read(self):
         list_of_one = b"--OOOOO" + b"X" * 57 + b" X\n"
@@ -77,55 +85,40 @@ class Books(InFolder):
         self.left({"it.book": BOOK, "twin.book": OLD})
 
     def test_a_place_without_permission_is_refused(self):
-        self.addCleanup(os.chmod, ".", 0o755)
-        for place, folder_mode, file_mode, wanted in (
+        for place, folder_mode, mode, wanted in (
             ("it.book", 0o555, 0o666, unwritten(DENIED)),
             ("it.book", 0o777, 0o444, unwritten(DENIED)),
-            ("there", 0o777, 0o444, unwritten(DENIED)),  # the target of a link
+            ("there", 0o777, 0o444, unwritten(DENIED)),
             ("it.book", 0o777, 0o222, UNREAD),  # what can't be read might not be a book
-            *[("it.book", 0o1777, 0o666, unwritten(DENIED, prints=True))] * (os.getuid() == 0),  # only root may replace root's file
+            *[("it.book", 0o1777, 0o666, unwritten(DENIED, report=REPORT))] * (os.getuid() == 0),  # only root may replace root's file
         ):
-            with self.subTest(place=place, folder=oct(folder_mode), file=oct(file_mode)):
-                write(place, OLD, file_mode)
-                place == "it.book" or os.symlink(place, "it.book")
-                os.chmod(".", folder_mode)
-                self.solves(wanted, **NOBODY)
-                os.chmod(".", 0o755)
-                os.chmod(place, 0o644)
-                self.left({place: OLD, "it.book": OLD})
+            with self.subTest(place=place, folder_mode=oct(folder_mode), mode=oct(mode)):
+                self.solves_over(OLD, wanted, place, mode, folder_mode, **NOBODY)
 
-    def watched(self, **more):
-        """Returns an environment in which tests/preload.c notes each sync and rename in the file WATCHED; `more` are
-        further variables."""
-        place = Path(PROGRAM).parent
-        return {**os.environ, "LD_PRELOAD": preload(place), "WATCHED": str(place / "watched"), **more}
+    def with_preload(self, variable):
+        """Returns an environment with tests/preload.c and with a variable that this reads."""
+        return {**os.environ, "LD_PRELOAD": preload(Path(PROGRAM).parent), variable: "yes"}
 
     def test_a_full_or_broken_disk_keeps_the_old_book(self):
-        for how, cause in (({"preexec_fn": lambda: shorter_than(100)}, "the file would be too large"),
-                           ({"env": self.watched(NO_SYNC="1")}, "")):
-            for old in ({"it.book": OLD}, {}):
-                for name, text in old.items():
-                    write(name, text)
-                self.solves(unwritten(cause, prints=True), **how)
-                self.left(old)
+        for how, cause in (({"preexec_fn": limited("RLIMIT_FSIZE", 100)}, "the file would be too large"),
+                           ({"env": self.with_preload("NO_SYNC")}, "")):
+            wanted = unwritten(cause, report=REPORT)
+            self.solves_over(OLD, wanted, **how)
+            self.solves(wanted, **how)
+            self.left({})
 
     def test_a_new_file_is_synced_before_it_is_renamed(self):
-        calls = Path(self.watched()["WATCHED"])
-        calls.unlink(missing_ok=True)
         for _ in range(2):
-            self.solves(DONE, env=self.watched())
-        self.assertEqual(calls.read_text(), "sync rename " * 2)
+            self.solves((0, REPORT, b"sync rename "), env=self.with_preload("WATCHED"))
 
     def test_other_files_with_names_of_new_files_are_left_alone(self):
-        others = dict.fromkeys(("it.book.part", *(f"it.book.{number}.part" for number in range(100))), b"of another")
-        for name, text in {"it.book": OLD, **others}.items():
-            write(name, text)
-        self.solves(unwritten(IN_THE_WAY))
-        self.assertEqual((content("it.book"), content("it.book.99.part")), (OLD, b"of another"))
-        os.remove("it.book.99.part")
-        self.solves(DONE)
-        del others["it.book.99.part"]
-        self.left({"it.book": BOOK, **others})
+        names = ["it.book.part", *(f"it.book.{number}.part" for number in range(100))]
+        for others, wanted, book in ((names, unwritten(IN_THE_WAY), OLD), (names[:-1], DONE, BOOK)):
+            for name in others:
+                write(name, b"of another")
+            write("it.book", OLD)
+            self.solves(wanted)
+            self.left({"it.book": book, **dict.fromkeys(others, b"of another")})
 
     def changed_meanwhile(self, place, change, cause):
         """Calls `change` while a run prints its report, and asserts that the run then can't write its book to `place`,
@@ -136,7 +129,7 @@ class Books(InFolder):
         change()
         report, error = program.communicate(timeout=SECONDS)
         self.assertEqual((begun, report[-3:]), (b"[", b" 0\n"))
-        self.assertEqual((program.returncode, True, error), unwritten(cause, place, prints=True))
+        self.assertEqual((program.returncode, b"", error), unwritten(cause, place))
 
     def test_a_file_that_appears_during_the_run_stays(self):
         os.chmod(".", 0o777)
@@ -150,35 +143,29 @@ class Books(InFolder):
 
     def test_a_folder_that_is_closed_during_the_run_keeps_the_old_book(self):
         os.mkdir("there")
-        self.addCleanup(os.chmod, "there", 0o755)
-        for old in ({}, {"it.book": OLD}):
+        for old in ([], ["it.book"]):
             os.chmod("there", 0o777)
-            for name, text in old.items():
-                write(f"there/{name}", text, 0o666)
+            for name in old:
+                write(f"there/{name}", OLD, 0o666)
             self.changed_meanwhile("there/it.book", lambda: os.chmod("there", 0), DENIED)
             os.chmod("there", 0o755)
-            self.assertEqual({name: content(f"there/{name}") for name in os.listdir("there")}, old)
+            self.assertEqual([(path.name, content(path)) for path in Path("there").iterdir()], [(name, OLD) for name in old])
 
     def test_a_long_name_a_missing_folder_and_a_folder_are_refused(self):
         write("some.book", OLD)
-        for name, cause in (("b" * 251, "its name is too long"), ("no/it.book", ""),
+        os.mkdir("it.book")
+        for name, cause in (("b" * 251, "its name is too long"), ("no/it.book", ""), ("it.book", "it is a folder"),
                             ("some.book/it.book", "a part of its name is not a folder")):
             self.solves(unwritten(cause, name), name)
-            self.assertEqual((os.listdir(), content("some.book")), (["some.book"], OLD))
-        os.mkdir("it.book")
-        self.solves(unwritten("it is a folder"))
-        self.assertEqual(os.listdir("it.book"), [])
+        os.rmdir("it.book")  # fails unless the folder is empty
+        self.left({"some.book": OLD})
 
     def test_a_link_stays_and_its_target_is_written(self):
-        os.symlink("there", "it.book")
-        for _ in range(2):
-            self.solves(DONE)
-            self.assertTrue(content("there") == BOOK and os.path.islink("it.book"))
-            write("there", OLD)
-        os.remove("it.book")
-        os.symlink("no/there", "it.book")
-        self.solves(unwritten(""))
-        self.assertTrue(os.path.islink("it.book"))
+        for target, wanted, files in (("there", DONE, {"there": BOOK}), ("no/there", unwritten(""), {})):
+            os.symlink(target, "it.book")
+            self.solves(wanted)
+            self.left({"it.book": target, **files})
+        self.solves_over(OLD, DONE, "there")
 
     def test_a_pipe_gets_the_book(self):
         os.mkfifo("it.book")
@@ -191,8 +178,8 @@ class Books(InFolder):
         self.assertTrue(stat.S_ISFIFO(os.lstat("it.book").st_mode) and os.path.islink("link.book"))
 
     def test_a_full_device_is_reported_and_another_can_be_both_list_and_book(self):
-        full = unwritten("no space left", "full", prints=True)
-        for name, number, lists, wanted in (("full", 7, [], full), ("null", 3, ["null"], DONE)):
+        full, empty = unwritten("no space left", "full", REPORT), (0, b"[1]\nsolved 0 refused 0\n", b"")
+        for name, number, lists, wanted in (("full", 7, [], full), ("null", 3, ["null"], empty)):
             if os.getuid() == 0:  # root might replace the machine's own device
                 os.mknod(name, stat.S_IFCHR | 0o666, os.makedev(1, number))
             else:
@@ -209,7 +196,7 @@ class Books(InFolder):
             for lists in (("list",), ("other", "list", "other")):
                 with self.subTest(name=name, lists=lists):
                     self.solves(unwritten("it is in use", name), name, *lists)
-                    self.assertEqual((content("list"), sorted(os.listdir())), (TEXT, ["link", "list", "other", "twin"]))
+        self.left({"list": TEXT, "other": TEXT, "twin": TEXT, "link": "list"})
 
     def test_files_with_one_inode_number_on_two_file_systems_are_two_files(self):
         if os.geteuid() != 0:
@@ -252,32 +239,27 @@ class Books(InFolder):
                              ("notes/it.book", b"cannot write notes/it.book\nffosolve: a part of its name is not a folder"),
                              ("notes", b"notes is not a book and would be overwritten")):
             with self.subTest(place=place):
-                self.solves((1, False, b"ffosolve: more than 64 files\n"), place, *["list"] * 65, "pipe")
-                self.solves((1, False, too_large), place, "list", "large")
-                self.solves((3, False, b"ffosolve: " + error + b"\n"), place, "--max-empties", "60", "long")
+                self.solves((1, b"", b"ffosolve: more than 64 files\n"), place, *["list"] * 65, "pipe")
+                self.solves((1, b"", too_large), place, "list", "large")
+                self.solves((3, b"", b"ffosolve: " + error + b"\n"), place, "--max-empties", "60", "long")
         self.assertEqual((content("notes"), os.path.exists("it.book")), (NOTES, False))
 
     def test_only_a_book_or_an_empty_file_is_overwritten(self):
-        rows = ((b"", DONE), (b"% ffobook 2 sign\n" + 99 * b"% longer than the new one\n", DONE),
-                *((old, NO_BOOK) for old in (NOTES, TEXT, b"\n", b"% ffobook 3 winner\n", b"% ffobook 2 winners\n",
-                                             Path(PROGRAM).read_bytes())))
-        for place in ("it.book", "there"):
-            for old, wanted in rows:
-                for mode in (0o644, 0o444)[:2 if wanted == NO_BOOK else 1]:
+        books = b"", b"% ffobook 2 sign\n" + 99 * b"% longer than the new one\n"
+        others = NOTES, TEXT, b"\n", b"% ffobook 3 winner\n", b"% ffobook 2 winners\n", content(PROGRAM)
+        for wanted, mode, texts in ((DONE, 0o644, books), (NO_BOOK, 0o644, others), (NO_BOOK, 0o444, others)):
+            for old in texts:
+                for place in ("it.book", "there"):
                     with self.subTest(old=old[:40], place=place, mode=mode):
-                        write(place, old, mode)
-                        place == "it.book" or os.symlink(place, "it.book")
-                        self.solves(wanted)
-                        self.left(dict.fromkeys((place, "it.book"), BOOK if wanted == DONE else old))
+                        self.solves_over(old, wanted, place, mode)
 
     def test_the_log_that_standard_output_goes_to_is_not_overwritten(self):
-        os.symlink("/proc/self/fd/1", "out")
-        for old, error in ((NOTES, NO_BOOK[2].replace(b"it.book", b"out")), (b"", unwritten(IN_THE_WAY, "out")[2])):
+        os.symlink("/proc/self/fd/1", "it.book")
+        for old, wanted in ((NOTES, NO_BOOK), (b"", unwritten(IN_THE_WAY))):
             write("log", old)
             with self.subTest(old=old), open("log", "ab") as log:
-                ran = run(PROGRAM, "--book-out", "out", input=TEXT, stdout=log)
-                self.assertEqual((ran.returncode, ran.stderr), (3, error))
-                self.assertTrue(content("log").startswith(old or b"[1]\n"))
+                self.solves((3, None, wanted[2]), stdout=log)
+                self.assertEqual(content("log"), old or REPORT)
 
     def test_the_book_that_is_read_is_not_overwritten_and_can_be_merged_as_the_error_says(self):
         write("it.book", b"% ffobook 2 winner\n" + b"X" * 64 + b" X; --:+64;\n")
@@ -289,7 +271,7 @@ class Books(InFolder):
                 with self.subTest(name=name, book=book):
                     advice = f"write --book-out NEW, then ffosolve-many --merge-books {name} NEW"
                     error = f"ffosolve: {name} is read and would be overwritten: {advice}\n"
-                    self.solves((3, False, error.encode()), name, "--book-in", book)
+                    self.solves((3, b"", error.encode()), name, "--book-in", book)
                     self.assertEqual((content("it.book"), len(os.listdir())), (read, 3))
         self.solves(DONE, "new", "--book-in", "it.book")
         many = copy_many("many")

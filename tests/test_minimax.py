@@ -4,76 +4,71 @@ POSITIONS of these have at most MOST empty squares; both are environment variabl
 """
 import itertools
 import os
-import unittest
 from concurrent.futures import ProcessPoolExecutor, ThreadPoolExecutor
 
 from bench import player
 
-from .prefix import PREFIX, setUpModule
-from .support import built
+from .support import SECONDS, InFolder, built
 from .positions import random_positions
-import ffosolve
+from ffosolve import Answer, Kind, NoMove, Scoring, Solver, square_name
 
 POSITIONS, MOST, DEEP = int(os.environ.get("POSITIONS", 2000)), int(os.environ.get("MOST", 6)), 40
 
 
 def solved(position):
-    """Solves a position by plain minimax. Returns a list of (position, scoring, answer, [(square, score), ..]), one for
-    each scoring."""
+    """Solves a position by plain minimax. Returns a list of (position, answer, [(name of a square, score), ..]), one
+    for each scoring."""
     own, opp = position
-    children = {square.bit_length() - 1: player.values(*player.after(own, opp, square))
-                for square in player.squares_in(player.moves(own, opp))}
-    kind = ffosolve.Kind.MOVES if children else ffosolve.Kind.PASS if player.moves(opp, own) else ffosolve.Kind.OVER
+    children = [(square, player.values(*player.after(own, opp, square)))
+                for square in player.squares_in(player.moves(own, opp))]
+    kind = Kind.MOVES if children else Kind.PASS if player.moves(opp, own) else Kind.OVER
     rows = []
     for scoring, score in enumerate(player.values(own, opp)):
-        scores = [(square, -after[scoring]) for square, after in children.items()]
-        rows.append((position, scoring, ffosolve.Answer(score, kind, sum(1 << square for square, it in scores if it == score)), scores))
+        scores = [(square, -values[scoring]) for square, values in children]
+        answer = Answer(score, kind, sum(square for square, it in scores if it == score))
+        rows.append((position, answer, [(square_name(square.bit_length() - 1), it) for square, it in scores]))
     return rows
 
 
-class RandomPositions(unittest.TestCase):
+class RandomPositions(InFolder):
     @classmethod
     def setUpClass(cls):
         positions = random_positions(POSITIONS, range(MOST + 1)) + random_positions(DEEP, (7, 8))
         with ProcessPoolExecutor() as pool:
-            cls.rows = list(itertools.chain(*pool.map(solved, positions, chunksize=20)))
+            cls.rows = list(zip(Scoring, zip(*pool.map(solved, positions, chunksize=20))))
 
-    def solver(self, scoring, entries=1024):
-        return ffosolve.Solver(str(PREFIX.shared), scoring=scoring, entries=entries)
-
-    def by_number(self, scores):
-        return [(ffosolve.square_number(name), score) for name, score in scores.items()]
-
-    def compare(self, number, row):
+    def compare(self, scoring, row, number):
         """Asserts that each call for one position finds what `row`, a row from `solved`, has. `number` chooses the size
         of the table, and whether `confirm` gets a right or a wrong claim."""
-        (position, _, wanted, scores), solver = row, self.solver(row[1], (0, 1, 64, 1024)[number % 4])
-        claim = (wanted._replace(score=wanted.score + number % 5), wanted._replace(best=wanted.best ^ number), wanted)[number % 3]
-        found = solver.solve(position), solver.confirm(position, claim), self.by_number(solver.move_scores(position))
-        self.assertEqual(found, (wanted, wanted, scores), row)
-        self.assertEqual(solver.moves(position), sum(1 << square for square, _ in scores), row)
-        for square in set(range(64)) - {square for square, _ in scores}:
-            self.assertRaises(ffosolve.NoMove, solver.play, position, square)
+        position, wanted, scores = row
+        legal, solver = player.moves(*position), Solver(scoring=scoring, entries=(0, 1, 64, 1024)[number % 4])
+        claims = wanted, wanted._replace(score=wanted.score + number % 5), wanted._replace(best=wanted.best ^ number)
+        found = solver.solve(position), solver.confirm(position, claims[number % 3]), solver.moves(position)
+        self.assertEqual(found, (wanted, wanted, legal), row)
+        self.assertEqual(list(solver.move_scores(position).items()), scores, row)
+        for square in range(64):
+            if not legal >> square & 1:
+                self.assertRaises(NoMove, solver.play, position, square)
 
     def test_python_finds_what_minimax_finds(self):
         """Calls for one position are made on eight threads at once; calls for lists follow."""
-        self.assertEqual(len(self.rows), 3 * (POSITIONS + DEEP))
-        with ThreadPoolExecutor(8) as pool:
-            self.assertEqual(len(list(pool.map(self.compare, range(len(self.rows)), self.rows))), len(self.rows))
-        for scoring in ffosolve.Scoring:
-            positions, _, answers, scores = zip(*self.rows[scoring::3])
-            self.assertEqual(self.solver(scoring).solve_all(positions), list(answers))
-            self.assertEqual([*map(self.by_number, self.solver(scoring).move_scores_all(positions))], list(scores))
+        for scoring, rows in self.rows:
+            with ThreadPoolExecutor(8) as pool:
+                compared = list(pool.map(self.compare, itertools.repeat(scoring), rows, itertools.count()))
+            self.assertEqual(len(compared), POSITIONS + DEEP)
+            positions, answers, scores = zip(*rows)
+            solver = Solver(scoring=scoring, entries=1024)
+            self.assertEqual(solver.solve_all(positions), list(answers))
+            self.assertEqual([list(it.items()) for it in solver.move_scores_all(positions)], list(scores))
 
     def test_ffoscores_prints_what_minimax_finds(self):
         """Moves come in descending order of their scores, and those with the same score in the order of the squares."""
-        for scoring in ffosolve.Scoring:
-            rows = self.rows[scoring::3]
-            text = "".join(f"{position.to_obf()}\n" for position, *_ in rows)
+        for scoring, rows in self.rows:
+            asked = wanted = ""
+            for position, answer, scores in rows:
+                moves = sorted(scores, key=lambda it: -it[1]) or [(("", "PS", "--")[answer.kind], answer.score)]
+                asked += f"{position.to_obf()}\n"
+                wanted += position.to_obf() + "".join(f" {name}:{score:+03};" for name, score in moves) + "\n"
             for entries in (0, 65_536):
                 words = "--scoring", scoring.name.lower(), "--table", entries
-                printed = PREFIX.make(built("ffoscores"), *words, text=text).stdout
-                for line, (_, _, answer, scores) in zip(printed.splitlines(), rows, strict=True):
-                    best = [(ffosolve.square_name(square), score) for square, score in sorted(scores, key=lambda it: -it[1])]
-                    best = best or [(("", "PS", "--")[answer.kind], answer.score)]
-                    self.assertEqual(line[66:], ";" + "".join(f" {name}:{score:+03};" for name, score in best))
+                self.ends((0, wanted, ""), built("ffoscores"), *words, input=asked, timeout=5 * SECONDS)

@@ -7,11 +7,11 @@ that line, without its number, with the options at the head of the column, or ar
 import os
 from pathlib import Path
 
-from tests.support import MOST_BYTES, ROOT, InFolder, built, limited, run, shorter_than, worked
+from tests.support import MOST_BYTES, ROOT, InFolder, built, limited, run, worked, write
 
 LINES = worked("ffosolve/positions")[0]
 LIST = b"\n".join(LINES)
-PROGRAMS = ("ffosolve", "ffoscores")
+PROGRAMS = {"ffosolve": 1, "ffoscores": 3}  # with the status of a run that refuses a file as too large
 NOTHING = b"[1]\nsolved 0 refused 0\n"
 HEADER = b"% ffobook 2 winner\n"
 SEVEN = b"X" * 56
@@ -51,17 +51,17 @@ def report(cells):
 
 class Rows(InFolder):
     def test_programs_print_the_worked_rows(self):
-        for name, status in zip(PROGRAMS, (0, 1)):
+        for name, status, printed in (("ffosolve", 0, report), ("ffoscores", 1, whole_lines)):
             tables = [f"{name}/{path.stem}" for path in ROOT.glob(f"tests/rows/{name}/*.tsv")]
             self.assertTrue(tables)
             for table in tables:
                 lines, columns = worked(table)
                 for words in columns.keys() - {"read"}:
-                    printed = (report if name == "ffosolve" else whole_lines)(columns[words])
+                    wanted = (status, printed(columns[words]), b"")
                     for end in (b"", b"\n"):
                         with self.subTest(table=table, words=words, end=end):
-                            how = {"input": b"\n".join(lines) + end}
-                            self.ends((status, printed, b""), built(name), "--max-empties", "20", *words.split(), **how)
+                            text = b"\n".join(lines) + end
+                            self.ends(wanted, built(name), "--max-empties", "20", *words.split(), input=text)
 
     def reads(self, text, error):
         """Asserts that a text is read as a book or, if `error` is not empty, refused with that error."""
@@ -94,50 +94,46 @@ class Rows(InFolder):
                 words = f"{lines} 2>/dev/null | (ulimit -v 1000000; exec '{built()}' --book-in /dev/stdin)"
                 self.ends((3, b"", f"ffosolve: book line {error}\n".encode()), "sh", "-c", words, timeout=20)
 
-    def test_ffoscores_prints_its_own_output_unchanged_and_without_remarks(self):
-        for table in ("ffoscores/unlisted", "ffoscores/remarks"):
-            printed = whole_lines(cell.removesuffix(b"\r") for cell in worked(table)[1]["--scoring winner"])
-            ran = run(built("ffoscores"), input=printed)
-            self.assertEqual((ran.returncode, ran.stdout), (0, printed))
-
     def test_the_largest_file_and_64_files_are_read_but_not_65(self):
-        Path("list.obf").write_bytes(b" " * MOST_BYTES)
-        Path("empty.obf").write_bytes(b"")
-        many = b"".join(b"[%d]\nsolved 0 refused 0\n" % (number + 1) for number in range(64))
-        for words, text, printed in (
-            (["list.obf"], None, NOTHING),
-            (["empty.obf"] * 64, None, many),
-            ([], b"X" * MOST_BYTES, b"[1]\n1 +64 -- unlisted\nsolved 1 refused 0\n"),
-            (["--max-empties", "1"], LINES[8], b"[1]\n1 refused: 2 empties, limit 1\nsolved 0 refused 1\n"),
-        ):
-            self.ends((0, printed, b""), built(), *words, input=text)
-        self.ends((1, b"", b"ffosolve: more than 64 files\n"), built(), *["empty.obf"] * 65)
-
-    def test_an_output_that_fails_in_the_middle_is_reported_and_no_book_is_written(self):
-        for name, words in (("ffosolve", ["--book-out", "it.book"]), ("ffoscores", []), ("ffosolve", ["--help"])):
-            with self.subTest(name=name, words=words):
-                whole = run(built(name), *words, input=LIST).stdout
-                Path("it.book").unlink(missing_ok=True)
-                for size in [*range(0, len(whole), 7), len(whole) - 1]:
-                    with open("out", "wb") as out:
-                        ran = run(built(name), *words, input=LIST, stdout=out, preexec_fn=lambda: shorter_than(size))
-                    error = f"{name}: cannot write standard output\n".encode()
-                    self.assertEqual((ran.returncode, ran.stderr), (3, error), size)
-                    self.assertEqual(Path("out").read_bytes(), whole[:size])
-                    self.assertFalse(Path("it.book").exists())
-
-    def test_a_full_standard_error_changes_no_status(self):
-        for name, status in zip(PROGRAMS, (1, 3)):
-            with open("/dev/full", "wb") as full:
-                ran = run(built(name), input=b" " * (MOST_BYTES + 1), stderr=full)
-            self.assertEqual((ran.returncode, ran.stdout), (status, b""))
+        write("blank", b" " * MOST_BYTES)
+        write("over", LINES[0])
+        rows = b"".join(b"[%d]\n1 -64 -- unlisted\nsolved 1 refused 0\n" % (number + 1) for number in range(64))
+        scores = whole_lines([LINES[0][:66] + b"; --:-64;"] * 64)
+        for name, of_blank, of_64 in (("ffosolve", NOTHING, rows), ("ffoscores", b" " * MOST_BYTES + b"\n", scores)):
+            with self.subTest(name=name):
+                self.ends((0, of_blank, b""), built(name), "blank")
+                self.ends((0, of_64, b""), built(name), *["over"] * 64)
+                error = f"{name}: more than 64 files\n".encode()
+                self.ends((PROGRAMS[name], b"", error), built(name), *["over"] * 65)
+        for words, text, row in (([], b"X" * MOST_BYTES, b"1 +64 -- unlisted\nsolved 1 refused 0"),
+                                 (["--max-empties", "1"], LINES[8], b"1 refused: 2 empties, limit 1\nsolved 0 refused 1")):
+            self.ends((0, b"[1]\n" + row + b"\n", b""), built(), *words, input=text)
 
     def test_too_large_a_file_is_read_only_up_to_the_limit(self):
         with open("large.obf", "wb") as large:
             large.truncate(256 << 20)
-        for name, status in zip(PROGRAMS, (1, 3)):
+        for name, status in PROGRAMS.items():
             wanted = (status, b"", f"{name}: file 1 is larger than {MOST_BYTES} bytes\n".encode())
             self.ends(wanted, built(name), "large.obf", preexec_fn=limited("RLIMIT_AS", 64 << 20))
+            self.ends(wanted, built(name), input=b" " * (MOST_BYTES + 1))
             with open("large.obf", "rb") as large:
                 self.ends(wanted, built(name), stdin=large)
                 self.assertEqual(os.lseek(large.fileno(), 0, os.SEEK_CUR), MOST_BYTES + 1)
+
+    def test_a_full_standard_error_changes_no_status(self):
+        for name, status in PROGRAMS.items():
+            with open("/dev/full", "wb") as full:
+                self.ends((status, b"", None), built(name), input=b" " * (MOST_BYTES + 1), stderr=full)
+
+    def test_an_output_that_fails_in_the_middle_is_reported_and_no_book_is_written(self):
+        for name, words in (("ffosolve", ["--book-out", "it.book"]), ("ffoscores", []), ("ffosolve", ["--help"])):
+            whole = run(built(name), *words, input=LIST).stdout
+            Path("it.book").unlink(missing_ok=True)
+            for size in [*range(0, len(whole), 7), len(whole) - 1]:
+                with self.subTest(name=name, words=words, size=size):
+                    with open("out", "wb") as out:
+                        wanted = (3, None, f"{name}: cannot write standard output\n".encode())
+                        how = {"stdout": out, "preexec_fn": limited("RLIMIT_FSIZE", size)}
+                        self.ends(wanted, built(name), *words, input=LIST, **how)
+                    self.assertEqual(Path("out").read_bytes(), whole[:size])
+                    self.assertFalse(Path("it.book").exists())

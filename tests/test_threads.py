@@ -37,17 +37,19 @@ class Files(InFolder):
         for number, name in enumerate(HARD_FILES):
             write(name, b"".join([HARD][number:] + EASY + [HARD]))
 
-    def run_of(self, *words, prepare=None, is_watched=True):
-        """Returns what a program printed, and the greatest number of threads that it was seen with, or 0 if
-        `is_watched` is false."""
-        most, end = 0, time.monotonic() + SECONDS
+    def run_of(self, *words, **how):
+        """Returns what a program printed, and the greatest number of threads that it was seen with."""
         with open("printed", "wb") as printed:
-            process = self.start(*words, stdout=printed, preexec_fn=prepare)
-        while is_watched and process.poll() is None and time.monotonic() < end:
-            most = max(most, threads_of(process))
-            time.sleep(0.001)
-        self.assertEqual(process.wait(SECONDS), 0)
-        return Path("printed").read_bytes(), most
+            process = self.start(*words, stdout=printed, **how)
+        seen = []
+
+        def has_ended():
+            seen.append(threads_of(process))
+            return process.poll() is not None
+
+        wait_until(has_ended)
+        self.assertEqual(process.returncode, 0)
+        return Path("printed").read_bytes(), max(seen)
 
     def solve(self, *words, **how):
         """Returns ((what ffosolve printed, the book that it wrote), the number of threads that `run_of` returns)."""
@@ -57,32 +59,28 @@ class Files(InFolder):
         return (printed, book), most
 
     def test_each_file_and_each_worker_has_a_thread(self):
-        wanted = None
+        wanted, _ = self.solve(*HARD_FILES)
         for workers in (0, 1, 4, 64):
             with self.subTest(workers=workers):
-                found, seen = self.solve("--workers", workers, *HARD_FILES)
-                self.assertEqual(seen, 1 + workers + len(HARD_FILES))
-                self.assertEqual(found, wanted or found)
-                wanted = found
+                self.assertEqual(self.solve("--workers", workers, *HARD_FILES), (wanted, 1 + workers + len(HARD_FILES)))
 
     def test_workers_end_if_there_is_no_position(self):
         for workers in (1, 64):
-            self.assertEqual(self.run_of(built(), "--workers", workers, "/dev/null")[0], b"[1]\nsolved 0 refused 0\n")
+            self.ends((0, "[1]\nsolved 0 refused 0\n", ""), built(), "--workers", workers, "/dev/null")
 
     def test_the_report_is_the_same_if_no_thread_can_be_started(self):
         for workers, files in ((0, HARD_FILES), (1, HARD_FILES), (4, HARD_FILES), (64, HARD_FILES + MANY_FILES[:62])):
             with self.subTest(workers=workers):
                 words = ["--workers", workers, *files]
                 wanted, _ = self.solve(*words)
-                self.assertEqual(self.solve(*words, prepare=refuse_threads), (wanted, 1))
+                self.assertEqual(self.solve(*words, preexec_fn=refuse_threads), (wanted, 1))
 
     def test_64_files_with_64_workers_always_have_the_same_report(self):
         words = ["--workers", 64, *MANY_FILES]
         wanted, _ = self.solve(*words)
         self.assertTrue(wanted[0].endswith(b"refused 0\n") and wanted[0].count(b"[") == 64, wanted[0][-100:])
         for number in range(RUNS):
-            found, _ = self.solve(*words, is_watched=False)
-            self.assertEqual(found, wanted, f"run {number}")
+            self.assertEqual(self.solve(*words)[0], wanted, f"run {number}")
 
     def test_lines_that_take_a_millisecond_are_scored_on_threads_too(self):
         for empties in (10, 11, 12):
@@ -93,46 +91,41 @@ class Files(InFolder):
 
 
 class Lines(InFolder):
-    def same(self, lists, seeds=(None,)):
-        """Asserts that the output and the status of ffoscores are the same with each number of workers in WORKERS."""
+    def same(self, *lists, **how):
+        """Asserts that the output and the status of ffoscores for some lists do not depend on the number of workers.
+        `how` are keyword arguments of `run`, for all runs except the first, which finds what has to be printed."""
         names = [write(f"{number}.obf", text) for number, text in enumerate(lists)]
-        wanted = run(built("ffoscores"), "--workers", "0", *names)
-        self.assertIn(wanted.returncode, (0, 1), wanted.stderr)
-        self.assertEqual(wanted.stdout.count(b"\n"), sum(len(text.splitlines()) for text in lists))
-        for workers in WORKERS[1:]:
-            with self.subTest(workers=workers, seeds=seeds):
-                self.ends((wanted.returncode, wanted.stdout, b""), built("ffoscores"), "--workers", workers, *names)
+        words = built("ffoscores"), *names, "--workers"
+        printed = run(*words, "0").stdout
+        self.assertEqual(printed.count(b"\n"), sum(len(text.splitlines()) for text in lists))
+        for workers in WORKERS:
+            with self.subTest(workers=workers):
+                self.ends((int(b"% refused: " in printed), printed, b""), *words, workers, **how)
 
     def test_odd_and_deep_files_are_scored_the_same_on_threads(self):
         deep, kinds = positions(24, 10, 13), stored("examples", "kinds.obf")
         one, *others = deep.splitlines(True)
-        self.same([deep[:-1], b"", b"\n", kinds, one, positions(300, 1, 8), kinds[:-1], b"".join(others[8:])])
+        self.same(deep[:-1], b"", b"\n", kinds, one, positions(300, 1, 8), kinds[:-1], b"".join(others[8:]))
 
     def test_lines_that_wait_for_a_hard_position_are_printed_in_order(self):
-        self.same([positions(1, 16, 16) + EASY[0] * 9000 + positions(8, 10, 12)])
+        self.same(positions(1, 16, 16) + EASY[0] * 9000 + positions(8, 10, 12))
 
     def test_the_output_is_the_same_if_threads_or_their_memory_run_out(self):
-        write("list.obf", positions(40, 7, 13))
-        wanted = run(built("ffoscores"), "--workers", "0", "list.obf")
-        for workers in WORKERS:
-            for prepare in (refuse_threads, limited("RLIMIT_AS", 30_000 * 1024)):
-                with self.subTest(workers=workers):
-                    words = (built("ffoscores"), "--workers", workers, "list.obf")
-                    self.ends((0, wanted.stdout, b""), *words, preexec_fn=prepare)
+        for prepare in (refuse_threads, limited("RLIMIT_AS", 30_000 * 1024)):
+            self.same(positions(40, 7, 13), preexec_fn=prepare)
 
     def test_each_of_many_short_runs_ends(self):
-        kinds = ROOT / "examples/kinds.obf"
-        for number in range(OFTEN):
-            found = run(built("ffoscores"), "--workers", "3", kinds)
-            self.assertEqual((found.returncode, found.stdout), (1, stored("examples", "kinds.scores")), f"run {number}")
+        wanted = (1, stored("examples", "kinds.scores"), b"")
+        for _ in range(OFTEN):
+            self.ends(wanted, built("ffoscores"), "--workers", "3", ROOT / "examples/kinds.obf")
 
     def test_shuffled_lines_are_scored_the_same_on_threads(self):
         lines = (positions(40, 1, 9) + positions(24, 10, 11) + positions(6, 12, 13)).splitlines(True)
         lines += [b"\n", b"% no position\n", b"XX\n", HOURS] * 3
         for seed in range(25):
             mixed = random.Random(seed).sample(lines, len(lines))
-            cut = seed % len(lines)
-            self.same([b"".join(mixed[:cut]), b"".join(mixed[cut:])], seeds=(seed,))
+            with self.subTest(seed=seed):
+                self.same(b"".join(mixed[:seed]), b"".join(mixed[seed:]))
 
     def begin(self, text, *words):
         write("list.obf", text)
