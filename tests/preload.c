@@ -23,10 +23,6 @@ static int refused(void) {
 
 void *malloc(size_t size) { return refused() ? NULL : NEXT(malloc)(size); }
 void *realloc(void *old, size_t size) { return refused() ? NULL : NEXT(realloc)(old, size); }
-void *aligned_alloc(size_t alignment, size_t size) { return refused() ? NULL : NEXT(aligned_alloc)(alignment, size); }
-int posix_memalign(void **out, size_t alignment, size_t size) {
-    return refused() ? ENOMEM : NEXT(posix_memalign)(out, alignment, size);
-}
 
 static void show(const char *call) {
     if (getenv("WATCHED")) dprintf(STDERR_FILENO, "%s ", call);
@@ -40,4 +36,7 @@ static int sync_fails(void) {
 
 int fsync(int file) { return sync_fails() ? -1 : NEXT(fsync)(file); }
 int fdatasync(int file) { return sync_fails() ? -1 : NEXT(fdatasync)(file); }
-int rename(const char *from, const char *to) { return show("rename"), NEXT(rename)(from, to); }
+int rename(const char *from, const char *to) {
+    show("rename");
+    return NEXT(rename)(from, to);
+}

@@ -192,12 +192,14 @@ def processes_in(place):
     return found
 
 
-@functools.cache
-def preload(folder):
-    """Compiles tests/preload.c into a library for LD_PRELOAD, in `folder`, and returns its path."""
-    need("cc")
-    run("cc", "-shared", "-fPIC", "-O1", "-o", folder / "preload.so", ROOT / "tests/preload.c", "-ldl", check=True)
-    return str(folder / "preload.so")
+def preload(folder, **variables):
+    """Returns an environment in which programs run with tests/preload.c, and with the variables that it reads. It is
+    compiled into `folder`, unless it is there already."""
+    library = folder / "preload.so"
+    if not library.exists():
+        need("cc")
+        run("cc", "-shared", "-fPIC", "-O1", "-o", library, ROOT / "tests/preload.c", "-ldl", check=True)
+    return {**os.environ, "LD_PRELOAD": str(library), **variables}
 
 
 def refusals(folder, *words, **how):
@@ -206,7 +208,7 @@ def refusals(folder, *words, **how):
     number, met, mark = 0, True, folder / "refused"
     while met:
         number += 1
-        places = {"LD_PRELOAD": preload(folder), "REFUSED": str(number), "REFUSED_FILE": str(mark)}
-        ran, met = run(*words, env={**os.environ, **places}, **how), mark.exists()
+        ran = run(*words, env=preload(folder, REFUSED=str(number), REFUSED_FILE=str(mark)), **how)
+        met = mark.exists()
         mark.unlink(missing_ok=True)
         yield number, ran, met
