@@ -200,15 +200,3 @@ def preload(folder, **variables):
         need("cc")
         run("cc", "-shared", "-fPIC", "-O1", "-o", library, ROOT / "tests/preload.c", "-ldl", check=True)
     return {**os.environ, "LD_PRELOAD": str(library), **variables}
-
-
-def refusals(folder, *words, **how):
-    """Runs a program again and again, for n = 1, 2, .., until a run makes fewer than n requests for memory. In run n,
-    the nth request is refused. Yields (n, the ended run, whether a request was refused) after each run."""
-    number, met, mark = 0, True, folder / "refused"
-    while met:
-        number += 1
-        ran = run(*words, env=preload(folder, REFUSED=str(number), REFUSED_FILE=str(mark)), **how)
-        met = mark.exists()
-        mark.unlink(missing_ok=True)
-        yield number, ran, met

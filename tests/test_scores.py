@@ -3,7 +3,7 @@ import os
 import re
 from pathlib import Path
 
-from tests.support import MOST_BYTES, SECONDS, InFolder, built, refusals, run, stored, worked
+from tests.support import MOST_BYTES, SECONDS, InFolder, built, run, stored, worked
 from ffosolve import MOST_ENTRIES
 
 KINDS, SCORES = stored("examples", "kinds.obf"), stored("examples", "kinds.scores")
@@ -97,15 +97,3 @@ class Scores(InFolder):
         folder = os.open(".", os.O_RDONLY)
         self.addCleanup(os.close, folder)
         self.ends((3, b"", b"ffoscores: cannot read standard input\n"), stdin=folder)
-
-    def test_each_refused_request_for_memory_is_reported_or_not_needed(self):
-        """A run that reports `out of memory` has printed the beginning of the output; any other run has printed all of
-        it. More than nine in ten runs report it."""
-        reported = 0
-        for number, ran, met in refusals(self.folder, built("ffoscores"), "--table", "100", input=KINDS):
-            found = ran.returncode, ran.stderr
-            is_reported = met and found == (3, b"ffoscores: out of memory\n") and SCORES.startswith(ran.stdout)
-            self.assertTrue(is_reported or found == (1, b"") and ran.stdout == SCORES, f"request {number}: {ran}")
-            reported += is_reported
-        self.assertGreater(number, 1)
-        self.assertGreater(10 * reported, 9 * (number - 1), f"{number - 1} requests refused, and {reported} reported")
