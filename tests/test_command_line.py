@@ -1,7 +1,7 @@
 """Command lines of ffosolve and ffoscores: --help, --version, the limits that help names, and what is refused."""
 import re
 
-from tests.support import ROOT, SECONDS, InFolder, built, run, stored, write
+from tests.support import ROOT, SECONDS, InFolder, built, run, stored
 from ffosolve import MOST_ENTRIES
 
 LARGE = MOST_ENTRIES + 1
@@ -13,8 +13,9 @@ def usage(option="[OPTIONS]"):
     return f"\n\nUsage: {{name}} {option}{' ' * bool(option)}[FILES]..."
 
 
-def unknown(word, option="[OPTIONS]"):
-    return f"unexpected argument '{word}' found\n\n  tip: to pass '{word}' as a value, use '-- {word}'" + usage(option)
+def unknown(word, option="[OPTIONS]", similar=None):
+    tip = f"a similar argument exists: '{similar}'" if similar else f"to pass '{word}' as a value, use '-- {word}'"
+    return f"unexpected argument '{word}' found\n\n  tip: {tip}{usage(option)}"
 
 
 # Command lines, and for each the error, in the words of the crate clap.
@@ -23,9 +24,9 @@ REFUSED = [
     ("-x", unknown("-x")),
     ("-xh", unknown("-x")),
     ("--TABLE", unknown("--TABLE")),
-    ("--tabel", "unexpected argument '--tabel' found\n\n  tip: a similar argument exists: '--table'" + usage("--table <N>")),
-    ("--max", "unexpected argument '--max' found\n\n  tip: a similar argument exists: '--max-empties'" + usage("--max-empties <N>")),
-    ("--helpp", "unexpected argument '--helpp' found\n\n  tip: a similar argument exists: '--help'" + usage("--help")),
+    ("--tabel", unknown("--tabel", "--table <N>", "--table")),
+    ("--max", unknown("--max", "--max-empties <N>", "--max-empties")),
+    ("--helpp", unknown("--helpp", "--help", "--help")),
     ("a --best", unknown("--best", "")),
     ("--table x --best", unknown("--best", "--table <N>")),
     ("--help=3", "unexpected value '3' for '--help' found; no more were expected" + usage("--help")),
@@ -36,7 +37,7 @@ REFUSED = [
     ("--scoring", "a value is required for '--scoring <NAME>' but none was supplied" + NAMES),
     ("--scoring=", "a value is required for '--scoring <NAME>' but none was supplied" + NAMES),
     ("--scoring best", "invalid value 'best' for '--scoring <NAME>'" + NAMES),
-    ("--scoring=sig", "invalid value 'sig' for '--scoring <NAME>'" + NAMES + "\n\n  tip: a similar value exists: 'sign'"),
+    ("--scoring=sig", f"invalid value 'sig' for '--scoring <NAME>'{NAMES}\n\n  tip: a similar value exists: 'sign'"),
     ("--table=", "invalid value '' for '--table <N>': cannot parse integer from empty string"),
     ("--table x", "invalid value 'x' for '--table <N>': invalid digit found in string"),
     ("--table x --help", "invalid value 'x' for '--table <N>': invalid digit found in string"),
@@ -50,9 +51,11 @@ REFUSED = [
     ("--scoring discs --scoring best", "the argument '--scoring <NAME>' cannot be used multiple times" + usage()),
 ]
 REFUSED_BY_ONE = {
-    "ffosolve": [("--book-in", "a value is required for '--book-in <FILE>' but none was supplied"),
-                 ("--book-out --help", "a value is required for '--book-out <FILE>' but none was supplied"),
-                 ("--progress=1", "unexpected value '1' for '--progress' found; no more were expected" + usage("--progress"))],
+    "ffosolve": [
+        ("--book-in", "a value is required for '--book-in <FILE>' but none was supplied"),
+        ("--book-out --help", "a value is required for '--book-out <FILE>' but none was supplied"),
+        ("--progress=1", "unexpected value '1' for '--progress' found; no more were expected" + usage("--progress")),
+    ],
     "ffoscores": [(f"{word} 2", unknown(word)) for word in ("--book-in", "--book-out", "--progress")],
 }
 
@@ -63,14 +66,14 @@ class CommandLines(InFolder):
         self.pipe = self.start("sleep", SECONDS).stdout  # stays empty, so a program that reads it waits
 
     def ends(self, wanted, name, *words):
-        super().ends(wanted, built(name), *words, stdin=self.pipe)
+        with self.subTest(name=name, words=words):
+            super().ends(wanted, built(name), *words, stdin=self.pipe)
 
     def test_a_wrong_command_line_is_refused_with_the_reason(self):
         for name in PROGRAMS:
             for line, why in REFUSED + REFUSED_BY_ONE[name]:
-                with self.subTest(name=name, line=line):
-                    error = f"error: {why.format(name=name)}\n\nFor more information, try '--help'.\n"
-                    self.ends((2, "", error), name, *line.split())
+                error = f"error: {why.format(name=name)}\n\nFor more information, try '--help'.\n"
+                self.ends((2, "", error), name, *line.split())
 
     def test_a_word_that_is_not_utf_8_is_refused(self):
         for name in PROGRAMS:
@@ -81,30 +84,21 @@ class CommandLines(InFolder):
             text = run(built(name), "--help", text=True).stdout
             self.assertIn(f"\n\nUsage: {name} [OPTIONS] [FILES]...\n", text)
             for line in ("--help", "-h", "-hx", "--help --best", "none.obf -h"):
-                with self.subTest(name=name, line=line):
-                    self.ends((0, text, ""), name, *line.split())
+                self.ends((0, text, ""), name, *line.split())
 
-    def test_limits_that_help_names_hold(self):
-        for name, status in zip(PROGRAMS, (1, 3)):
-            text = " ".join(run(built(name), "--help").stdout.decode().split())
+    def test_help_names_the_limits(self):
+        """That they hold is shown by the next test, by rows of REFUSED and, for files, by test_rows.py."""
+        for name in PROGRAMS:
+            text = " ".join(run(built(name), "--help", text=True).stdout.split())
             limits = re.findall(r"--(\S+) <N> [^<]*?\b0 to (\d+)", text)
-            self.assertEqual([option for option, _ in limits], ["max-empties", "workers"])
-            for option, most in limits:
-                for number, wanted in ((int(most), 0), (int(most) + 1, 2)):
-                    self.assertEqual(run(built(name), f"--{option}={number}", "--version").returncode, wanted, (name, option))
-            files, size = set(re.findall(r"(?:files, at most|more than) (\d+)", text)), set(re.findall(r"(\d+) MiB", text))
-            self.assertEqual((len(files), len(size)), (1, 1))
-            files, size = int(*files), int(*size) << 20
-            write("most", b" " * size)
-            write("large", b" " * (size + 1))
-            for words, wanted in ((["/dev/null"] * files, 0), (["/dev/null"] * (files + 1), status), (["most"], 0), (["large"], status)):
-                self.assertEqual(run(built(name), *words).returncode, wanted, (name, len(words), words[0]))
+            self.assertEqual(limits, [("max-empties", "60"), ("workers", "64")])
+            files, size = r"(?:files, at most|more than) (\d+)", r"(\d+) MiB"
+            self.assertEqual((set(re.findall(files, text)), set(re.findall(size, text))), ({"64"}, {"1"}))
 
     def test_version_is_that_of_the_file_version(self):
         for name in PROGRAMS:
-            for line in ("--version", "-V", "-Vx", "--table 5 --version"):
-                with self.subTest(name=name, line=line):
-                    self.ends((0, f"{name} {stored('VERSION').decode()}", ""), name, *line.split())
+            for line in ("--version", "-V", "-Vx", "--table 5 --version", "--max-empties=60 --workers=64 --version"):
+                self.ends((0, f"{name} {stored('VERSION').decode()}", ""), name, *line.split())
 
     def test_a_full_or_closed_output_is_reported_even_for_an_empty_report(self):
         for name, list_ in zip(PROGRAMS, ("/dev/null", ROOT / "examples/kinds.obf")):

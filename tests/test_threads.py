@@ -3,14 +3,13 @@ import os
 import random
 import signal
 import time
-from pathlib import Path
 
 from tests.support import (ROOT, SECONDS, InFolder, as_at_a_login, built, limited, positions, processes_in,
                            refuse_threads, run, stored, wait_until, write)
 
 RUNS = 100  # runs with 64 files and 64 workers
 OFTEN = 500  # runs; one in fifteen hung while a fault left a thread asleep
-WORKERS = ("0", "1", "3", "64")
+WORKERS = (0, 1, 3, 64)
 HOURS = b"-" * 27 + b"OX------XO" + b"-" * 27 + b" X;\n"
 HARD = b"-XXXXX----XOOX--XXXXOOOO-OXOOOO-OOXOOX--OOX-OOOOOXXXXXX-X----XXX O\n"  # 17 empty squares, 0.2 seconds
 # Positions with two empty squares, and the first one with its scores.
@@ -37,11 +36,10 @@ class Files(InFolder):
         for number, name in enumerate(HARD_FILES):
             write(name, b"".join([HARD][number:] + EASY + [HARD]))
 
-    def run_of(self, *words, **how):
-        """Returns what a program printed, and the greatest number of threads that it was seen with."""
-        with open("printed", "wb") as printed:
-            process = self.start(*words, stdout=printed, **how)
-        seen = []
+    def solve(self, *words, **how):
+        """Runs ffosolve, which writes its book to standard error. Returns ((report, book), the greatest number of
+        threads that it was seen with)."""
+        process, seen = self.start(built(), "--book-out", "/dev/stderr", *words, **how), []
 
         def has_ended():
             seen.append(threads_of(process))
@@ -49,14 +47,7 @@ class Files(InFolder):
 
         wait_until(has_ended)
         self.assertEqual(process.returncode, 0)
-        return Path("printed").read_bytes(), max(seen)
-
-    def solve(self, *words, **how):
-        """Returns ((what ffosolve printed, the book that it wrote), the number of threads that `run_of` returns)."""
-        printed, most = self.run_of(built(), "--book-out", "out.book", *words, **how)
-        book = Path("out.book").read_bytes()
-        Path("out.book").unlink()
-        return (printed, book), most
+        return process.communicate(), max(seen)
 
     def test_each_file_and_each_worker_has_a_thread(self):
         wanted, _ = self.solve(*HARD_FILES)
@@ -82,13 +73,6 @@ class Files(InFolder):
         for number in range(RUNS):
             self.assertEqual(self.solve(*words)[0], wanted, f"run {number}")
 
-    def test_lines_that_take_a_millisecond_are_scored_on_threads_too(self):
-        for empties in (10, 11, 12):
-            write("list.obf", positions(40, empties, empties) * 25)
-            with self.subTest(empties=empties):
-                _, most = self.run_of(built("ffoscores"), "--workers", 4, "--table", 0, "list.obf")
-                self.assertGreaterEqual(most, 3)
-
 
 class Lines(InFolder):
     def same(self, *lists, **how):
@@ -96,7 +80,7 @@ class Lines(InFolder):
         `how` are keyword arguments of `run`, for all runs except the first, which finds what has to be printed."""
         names = [write(f"{number}.obf", text) for number, text in enumerate(lists)]
         words = built("ffoscores"), *names, "--workers"
-        printed = run(*words, "0").stdout
+        printed = run(*words, 0).stdout
         self.assertEqual(printed.count(b"\n"), sum(len(text.splitlines()) for text in lists))
         for workers in WORKERS:
             with self.subTest(workers=workers):
@@ -117,7 +101,7 @@ class Lines(InFolder):
     def test_each_of_many_short_runs_ends(self):
         wanted = (1, stored("examples", "kinds.scores"), b"")
         for _ in range(OFTEN):
-            self.ends(wanted, built("ffoscores"), "--workers", "3", ROOT / "examples/kinds.obf")
+            self.ends(wanted, built("ffoscores"), "--workers", 3, ROOT / "examples/kinds.obf")
 
     def test_shuffled_lines_are_scored_the_same_on_threads(self):
         lines = (positions(40, 1, 9) + positions(24, 10, 11) + positions(6, 12, 13)).splitlines(True)
@@ -130,6 +114,14 @@ class Lines(InFolder):
     def begin(self, text, *words):
         write("list.obf", text)
         return self.start(built("ffoscores"), "--max-empties", "60", *words, "list.obf", preexec_fn=as_at_a_login)
+
+    def test_lines_that_take_a_millisecond_are_scored_on_threads_too(self):
+        for empties in (10, 11, 12):
+            with self.subTest(empties=empties):
+                program = self.begin(positions(40, empties, empties) * 25, "--workers", "4", "--table", "0")
+                wait_until(lambda: threads_of(program) >= 3)
+                program.communicate(timeout=SECONDS)
+                self.assertEqual(program.returncode, 0)
 
     def test_a_line_is_printed_as_soon_as_it_and_those_before_are_scored(self):
         for workers in WORKERS:
@@ -145,7 +137,7 @@ class Lines(InFolder):
         deep = positions(24, 10, 13).splitlines(True)
         for workers in WORKERS:
             with self.subTest(workers=workers):
-                threads = 1 if workers == "0" else int(workers) + 2
+                threads = workers + 2 if workers else 1
                 program = self.begin(b"".join(deep) + HOURS * 70, "--workers", workers)
                 self.assertEqual([program.stdout.readline()[:66] for _ in deep], [line[:66] for line in deep])
                 wait_until(lambda: threads_of(program) >= threads)
