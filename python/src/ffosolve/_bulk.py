@@ -4,7 +4,7 @@ import threading
 import time
 from collections import deque
 from concurrent.futures import Future
-from typing import Any, Callable, Deque, Iterable, Iterator, List, NamedTuple, Optional, Sequence, Tuple, TypeVar
+from typing import Any, Callable, Deque, Iterable, Iterator, List, NamedTuple, Sequence, Tuple, TypeVar, Union
 
 from ._refusals import Refused, checked_number
 from ._rules import not_a_position, refusal_for, size_of
@@ -23,18 +23,16 @@ BRIEF = 4096
 
 
 class Part(NamedTuple):
-    start: int  # the index of its first position
-    empties: int  # the greatest number of empty squares in a position
     positions: List[Sequence[int]]
-    refusal: Optional[Refused] = None  # of the position after them; then there are no further parts
+    empties: int  # the greatest number of empty squares in a position
 
 
 def parts_of(positions: Iterable[Sequence[int]], max_empties: int, most_weight: float = MOST_WEIGHT,
-             most_seconds: float = MOST_SECONDS) -> Iterator[Part]:
-    """Yields positions in parts. Ends at the first refused position: the last part has its refusal and the positions
-    before it, maybe none, that are in no earlier part. Raises TypeError for an object that is not a position."""
+             most_seconds: float = MOST_SECONDS) -> Iterator[Union[Part, Refused]]:
+    """Yields positions in parts. At the first refused position, yields the positions before it, maybe none, that are in
+    no earlier part; then its refusal; and ends. Raises TypeError for an object that is not a position."""
     clock = time.monotonic
-    start, most, weight, part, end = 0, 0, 0, [], clock() + most_seconds  # type: ignore[var-annotated]
+    before, most, weight, part, end = 0, 0, 0, [], clock() + most_seconds  # type: ignore[var-annotated]
     for position in positions:
         try:
             own, opp = position
@@ -42,17 +40,19 @@ def parts_of(positions: Iterable[Sequence[int]], max_empties: int, most_weight: 
         except (TypeError, ValueError):
             raise not_a_position(position) from None
         if own & opp or empties > max_empties:
-            yield Part(start, most, part, refusal_for(position, max_empties, start + len(part)))
+            refusal = refusal_for(position, max_empties, before + len(part))
+            yield Part(part, most)
+            yield refusal
             return
         if empties > most:
             most = empties
         weight += 1 if empties <= LIGHTEST else 1 << (empties - LIGHTEST)
         part.append(position)
         if weight >= most_weight or clock() > end:
-            yield Part(start, most, part)
-            start, most, weight, part, end = start + len(part), 0, 0, [], clock() + most_seconds
+            yield Part(part, most)
+            before, most, weight, part, end = before + len(part), 0, 0, [], clock() + most_seconds
     if part:
-        yield Part(start, most, part)
+        yield Part(part, most)
 
 
 def checked_threads(threads: int) -> int:

@@ -22,14 +22,7 @@ BLACK, WHITE = (bytes.maketrans(b"Xx*BbOoWw-.", bits) for bits in (b"11111000000
 STATES = {Kind.PASS: "has to pass: {:+}", Kind.OVER: "scores {:+}: the game is over"}
 
 
-class Masks(NamedTuple):
-    """The masks of a position, without the mover's colour."""
-
-    own: int
-    opp: int
-
-
-class Position(Masks):
+class Position(NamedTuple("Masks", [("own", int), ("opp", int)])):
     """The masks of the discs of the side to move (`own`) and of the other side (`opp`), and the mover's colour, `side`.
 
     Square A1 is bit 0 of a mask and H8 bit 63. The masks are checked only by the rules and by a Solver, not when a
@@ -237,15 +230,13 @@ def parse_lines(text: Union[str, bytes], refused: Optional[Callable[[LineRefused
 def positions_in(lines: Lines, refused: Optional[Callable[[LineRefused], object]]) -> Iterator[Line]:
     for number, text in enumerate(lines, 1):
         try:
-            line = read_line(text, number)
+            yield read_line(text, number)
         except NoPosition:
             continue
         except LineRefused as error:
             if refused is None:
                 raise
             refused(error)
-        else:
-            yield line
 
 
 def lines_of(source: Source) -> Lines:

@@ -4,7 +4,7 @@ import math
 import os
 import reprlib
 import struct
-from typing import TYPE_CHECKING, Any, Callable, Dict, Iterable, Iterator, List, Optional, Sequence, Tuple, TypeVar, Union
+from typing import TYPE_CHECKING, Any, Dict, Iterable, Iterator, List, Optional, Sequence, TypeVar, Union
 
 from ._answers import Answer, Kind
 from ._boards import OTHER
@@ -20,6 +20,7 @@ from ._squares import NAMES
 if TYPE_CHECKING:
     from ._arrays import Answers
 
+A = TypeVar("A")
 NO_SCORE = 127  # in an array of scores, for a square that is not a legal move
 KINDS = tuple(Kind)
 ANSWER, MOVE_SCORES = struct.Struct("iiQ"), struct.Struct("64bQ")  # the layouts of CAnswer and CMoveScores
@@ -91,8 +92,7 @@ class Solver:
     def move_scores(self, position: Position) -> Dict[str, int]:
         """Returns a dict with the score of each legal move for the side to move, by the square's name, in the order A1,
         B1, .. H8. It is empty if there is no legal move. One table serves all moves. Raises the same as `solve`."""
-        found, _ = self._score_part(Part(0, self._checked_empties(position), [position]))
-        return found[0]
+        return self._score_part(Part([position], self._checked_empties(position)))[0]
 
     def solve_all(self, positions: Iterable[Position], *, threads: int = 1) -> List[Answer]:
         """The answers for positions, in their order. One thread uses one table; several use one for each part of the
@@ -164,25 +164,29 @@ class Solver:
         accept(interruptible(call, 1, empties, *asked))
         return Answer(answer.score, KINDS[answer.kind], answer.best)
 
-    def _all_parts(self, positions: Iterable[Position], *limits: float) -> List[Part]:
+    def _all_parts(self, positions: Iterable[Position], *limits: float) -> List[Union[Part, Refused]]:
         """Cuts positions into parts. Raises the refusal of the first refused position."""
         parts = list(parts_of(positions, self._max_empties, *limits))
-        if parts and parts[-1].refusal is not None:
-            raise parts[-1].refusal
+        if parts and isinstance(parts[-1], Refused):
+            raise parts[-1]
         return parts
 
-    def _solve_part(self, part: Part) -> "Results[Answer]":
-        return self._call_for(part, self._library.ffosolve_solve_all, CAnswer, answers_in)
+    def _solve_part(self, part: Union[Part, Refused]) -> List[Answer]:
+        rows = ANSWER.iter_unpack(self._found_for(part, self._library.ffosolve_solve_all, CAnswer))
+        return [Answer(score, KINDS[kind], best) for score, kind, best in rows]
 
-    def _score_part(self, part: Part) -> "Results[Dict[str, int]]":
-        return self._call_for(part, self._library.ffosolve_move_scores_all, CMoveScores, scores_in)
+    def _score_part(self, part: Union[Part, Refused]) -> List[Dict[str, int]]:
+        rows = MOVE_SCORES.iter_unpack(self._found_for(part, self._library.ffosolve_move_scores_all, CMoveScores))
+        return [{name: score for name, score in zip(NAMES, row) if score != NO_SCORE} for row in rows]
 
-    def _call_for(self, part: Part, call: Any, record: Any, read: "Callable[[Any], List[A]]") -> "Results[A]":
-        """Makes a call that writes a `record` for each position of a part. Returns what `read` makes of these records,
-        and the refusal in the part, if any."""
+    def _found_for(self, part: Union[Part, Refused], call: Any, record: Any) -> Any:
+        """Makes a call that writes a `record` for each position of a part, and returns an array of these records. Raises
+        `part` if that is a refusal."""
+        if isinstance(part, Refused):
+            raise part
         found = (record * len(part.positions))()
         self._fill(found, call, c_positions(part.positions), part.empties)
-        return read(found), part.refusal
+        return found
 
     def _fill(self, found: Any, call: Any, asked: Any, empties: int) -> None:
         """Makes a call that writes a record to `found` for each position in `asked`. No position has more than
@@ -192,22 +196,6 @@ class Solver:
         accept(interruptible(call, count, empties, *more))
 
 
-A = TypeVar("A")
-Results = Tuple[List[A], Optional[Refused]]  # for the positions of a part, and the refusal of the position after them
-
-
-def answers_in(found: Any) -> List[Answer]:
-    return [Answer(score, KINDS[kind], best) for score, kind, best in ANSWER.iter_unpack(found)]
-
-
-def scores_in(found: Any) -> List[Dict[str, int]]:
-    """Returns a dict for each position, with the scores of its legal moves by the squares' names."""
-    rows = MOVE_SCORES.iter_unpack(found)
-    return [{name: score for name, score in zip(NAMES, row) if score != NO_SCORE} for row in rows]
-
-
-def one_by_one(parts: "Iterable[Results[A]]") -> Iterator[A]:
-    for results, refusal in parts:
+def one_by_one(parts: Iterable[List[A]]) -> Iterator[A]:
+    for results in parts:
         yield from results
-        if refusal is not None:
-            raise refusal
