@@ -36,14 +36,13 @@ The wheel that `make wheel` builds has the shared library libffosolve.so.1. Othe
 import os
 
 from . import _refusals
-from ._answers import Answer, Kind
+from ._answers import Answer, Kind, Scoring
 from ._boards import Board
 from ._games import Game, GameRefused, read_games
 from ._library import MOST_EMPTIES, MOST_ENTRIES, LibraryNotFound
 from ._positions import START, Line, Position, parse_lines, read_lines
 from ._refusals import *
 from ._score_comparison import ScoreComparison, WrongScore, compare_scores
-from ._scoring import Scoring
 from ._solvers import NO_SCORE, Solver, table_entries
 from ._squares import square_name, square_number, square_names
 

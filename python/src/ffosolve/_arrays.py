@@ -1,16 +1,14 @@
 """Solves positions in NumPy arrays. Only this module needs NumPy; the methods of Solver for arrays import it."""
 import ctypes
 from collections import deque
-from typing import TYPE_CHECKING, Any, List, NamedTuple, Tuple
+from typing import Any, List, NamedTuple, Tuple
 
 import numpy
 
 from ._bulk import LIGHTEST, MOST_WEIGHT, in_order
 from ._library import CAnswer, CMoveScores, CPosition
 from ._rules import refusal_for
-
-if TYPE_CHECKING:
-    from ._solvers import Solver
+from ._solvers import Solver
 
 SIZES = numpy.array([bin(byte).count("1") for byte in range(256)], numpy.uint8)  # the number of bits in each byte
 
@@ -34,7 +32,7 @@ def masks_of(own: Any, opp: Any) -> Any:
     return numpy.stack((own, opp), axis=1)
 
 
-def runs_of(solver: "Solver", masks: Any, threads: int) -> List[Tuple[int, int, int]]:
+def runs_of(solver: Solver, masks: Any, threads: int) -> List[Tuple[int, int, int]]:
     """Cuts positions into parts for threads. Returns for each part the index of its first position, the index after its
     last one, and the greatest number of empty squares in it. Raises the refusal of the first refused position."""
     own, opp = masks[:, 0], masks[:, 1]
@@ -47,7 +45,7 @@ def runs_of(solver: "Solver", masks: Any, threads: int) -> List[Tuple[int, int, 
     return [(start, end, int(empties[start:end].max())) for start, end in zip(bounds, bounds[1:]) if start < end]
 
 
-def found_by(solver: "Solver", call: Any, record: Any, masks: Any, threads: int) -> Any:
+def found_by(solver: Solver, call: Any, record: Any, masks: Any, threads: int) -> Any:
     """Calls the library's function `call` for each part of the positions, on up to `threads` threads. Returns an array
     of what the calls write: one `record` for each position."""
     found: Any = numpy.empty(len(masks), record)
@@ -62,11 +60,11 @@ def found_by(solver: "Solver", call: Any, record: Any, masks: Any, threads: int)
     return found
 
 
-def solve(solver: "Solver", own: Any, opp: Any, threads: int) -> Answers:
+def solve(solver: Solver, own: Any, opp: Any, threads: int) -> Answers:
     answers = found_by(solver, solver._library.ffosolve_solve_all, CAnswer, masks_of(own, opp), threads)
     return Answers(*(numpy.ascontiguousarray(answers[name]) for name in Answers._fields))
 
 
-def move_scores(solver: "Solver", own: Any, opp: Any, threads: int) -> Any:
+def move_scores(solver: Solver, own: Any, opp: Any, threads: int) -> Any:
     found = found_by(solver, solver._library.ffosolve_move_scores_all, CMoveScores, masks_of(own, opp), threads)
     return numpy.ascontiguousarray(found["scores"])

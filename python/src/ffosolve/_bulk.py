@@ -27,12 +27,15 @@ class Part(NamedTuple):
     empties: int  # the greatest number of empty squares in a position
 
 
-def parts_of(positions: Iterable[Sequence[int]], max_empties: int, most_weight: float = MOST_WEIGHT,
-             most_seconds: float = MOST_SECONDS) -> Iterator[Union[Part, Refused]]:
-    """Yields positions in parts. At the first refused position, yields the positions before it, maybe none, that are in
-    no earlier part; then its refusal; and ends. Raises TypeError for an object that is not a position."""
+PartOrRefusal = Union[Part, Refused]
+
+
+def parts_of(positions: Iterable[Sequence[int]], max_empties: int, whole: bool = False) -> Iterator[PartOrRefusal]:
+    """Yields positions in parts; if `whole`, all in one. At the first refused position, yields the positions before it,
+    maybe none, that are in no earlier part; then its refusal; and ends. Raises TypeError for an object that is not a
+    position."""
     clock = time.monotonic
-    before, most, weight, part, end = 0, 0, 0, [], clock() + most_seconds  # type: ignore[var-annotated]
+    before, most, weight, part, end = 0, 0, 0, [], clock() + MOST_SECONDS  # type: ignore[var-annotated]
     for position in positions:
         try:
             own, opp = position
@@ -48,9 +51,9 @@ def parts_of(positions: Iterable[Sequence[int]], max_empties: int, most_weight: 
             most = empties
         weight += 1 if empties <= LIGHTEST else 1 << (empties - LIGHTEST)
         part.append(position)
-        if weight >= most_weight or clock() > end:
+        if not whole and (weight >= MOST_WEIGHT or clock() > end):
             yield Part(part, most)
-            before, most, weight, part, end = before + len(part), 0, 0, [], clock() + most_seconds
+            before, most, weight, part, end = before + len(part), 0, 0, [], clock() + MOST_SECONDS
     if part:
         yield Part(part, most)
 

@@ -4,12 +4,11 @@ import re
 import reprlib
 from typing import Any, BinaryIO, Callable, Iterable, Iterator, List, Mapping, NamedTuple, Optional, Tuple, Union
 
-from ._answers import Answer, Kind
+from ._answers import Answer, Kind, Scoring, scoring_of
 from ._boards import OTHER, Board, checked_side
 from ._library import CAnswer, loaded
 from ._refusals import BadSide, BadSquare, LineRefused, NoMemory, NoMove, NoPosition, ShortBoard
 from ._rules import accept, c_position, illegal_move, moves, play
-from ._scoring import Scoring, scoring_of
 from ._squares import NAMES, square_names
 from ._transcripts import PASSES, words_of
 

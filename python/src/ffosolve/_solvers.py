@@ -1,20 +1,18 @@
 """The Solver, which solves positions by calls of the library."""
 import ctypes
-import math
 import os
 import reprlib
 import struct
 from typing import TYPE_CHECKING, Any, Dict, Iterable, Iterator, List, Optional, Sequence, TypeVar, Union
 
-from ._answers import Answer, Kind
+from ._answers import Answer, Kind, Scoring, scoring_of
 from ._boards import OTHER
-from ._bulk import MOST_SECONDS, MOST_WEIGHT, Part, checked_threads, in_order, interruptible, parts_of
+from ._bulk import Part, PartOrRefusal, checked_threads, in_order, interruptible, parts_of
 from ._games import Game, Player
 from ._library import MOST_EMPTIES, MOST_ENTRIES, CAnswer, CMoveScores, load
 from ._positions import Position
 from ._refusals import Refused, TooManyEntries, checked_number
 from ._rules import accept, c_positions, empties_of, moves, play, refusal_for
-from ._scoring import Scoring, scoring_of
 from ._squares import NAMES
 
 if TYPE_CHECKING:
@@ -98,8 +96,8 @@ class Solver:
         """The answers for positions, in their order. One thread uses one table; several use one for each part of the
         list. Raises the same as `solve`; all positions are checked before any is solved, and `index` of SharedSquare
         and TooManyEmpties is that of the first refused position."""
-        limits = (math.inf, math.inf) if checked_threads(threads) == 1 else (MOST_WEIGHT, MOST_SECONDS)
-        return list(one_by_one(in_order(self._solve_part, self._all_parts(positions, *limits), threads)))
+        parts = self._all_parts(positions, whole=checked_threads(threads) == 1)
+        return list(one_by_one(in_order(self._solve_part, parts, threads)))
 
     def solve_iter(self, positions: Iterable[Position], *, threads: int = 1) -> Iterator[Answer]:
         """Yields the answers for positions, in their order, and reads only some positions ahead. Raises the same as
@@ -164,24 +162,24 @@ class Solver:
         accept(interruptible(call, 1, empties, *asked))
         return Answer(answer.score, KINDS[answer.kind], answer.best)
 
-    def _all_parts(self, positions: Iterable[Position], *limits: float) -> List[Union[Part, Refused]]:
-        """Cuts positions into parts. Raises the refusal of the first refused position."""
-        parts = list(parts_of(positions, self._max_empties, *limits))
+    def _all_parts(self, positions: Iterable[Position], whole: bool = False) -> List[PartOrRefusal]:
+        """Cuts positions into parts, or makes one of them. Raises the refusal of the first refused position."""
+        parts = list(parts_of(positions, self._max_empties, whole))
         if parts and isinstance(parts[-1], Refused):
             raise parts[-1]
         return parts
 
-    def _solve_part(self, part: Union[Part, Refused]) -> List[Answer]:
+    def _solve_part(self, part: PartOrRefusal) -> List[Answer]:
         rows = ANSWER.iter_unpack(self._found_for(part, self._library.ffosolve_solve_all, CAnswer))
         return [Answer(score, KINDS[kind], best) for score, kind, best in rows]
 
-    def _score_part(self, part: Union[Part, Refused]) -> List[Dict[str, int]]:
+    def _score_part(self, part: PartOrRefusal) -> List[Dict[str, int]]:
         rows = MOVE_SCORES.iter_unpack(self._found_for(part, self._library.ffosolve_move_scores_all, CMoveScores))
         return [{name: score for name, score in zip(NAMES, row) if score != NO_SCORE} for row in rows]
 
-    def _found_for(self, part: Union[Part, Refused], call: Any, record: Any) -> Any:
-        """Makes a call that writes a `record` for each position of a part, and returns an array of these records. Raises
-        `part` if that is a refusal."""
+    def _found_for(self, part: PartOrRefusal, call: Any, record: Any) -> Any:
+        """Makes a call that writes a `record` for each position of a part. Returns an array of these records. Raises
+        `part` if `part` is a refusal."""
         if isinstance(part, Refused):
             raise part
         found = (record * len(part.positions))()
