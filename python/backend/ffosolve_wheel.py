@@ -47,20 +47,19 @@ def libraries():
         yield f"ffosolve/{level}/libffosolve.so.1", Path(LIBRARIES, level, "libffosolve.so").read_bytes()
 
 
+def digest(content):
+    return base64.urlsafe_b64encode(hashlib.sha256(content).digest()).rstrip(b"=").decode()
+
+
 def write_wheel(folder, files):
-    name, info, records = f"{HEAD}-{TAG}.whl", f"{HEAD}.dist-info", ""
+    name, info = f"{HEAD}-{TAG}.whl", f"{HEAD}.dist-info"
     tags = f"Wheel-Version: 1.0\nGenerator: ffosolve\nRoot-Is-Purelib: {str(not LIBRARIES).lower()}\nTag: {TAG}\n"
     about = (("METADATA", metadata()), ("WHEEL", tags.encode()), ("LICENSE", LICENSE), ("entry_points.txt", PROGRAMS))
+    files = [*files, *((f"{info}/{part}", content) for part, content in about)]
+    records = "".join(f"{path},sha256={digest(content)},{len(content)}\n" for path, content in files)
     with zipfile.ZipFile(os.path.join(folder, name), "w") as wheel:
-
-        def add(path, content):
+        for path, content in (*files, (f"{info}/RECORD", f"{records}{info}/RECORD,,\n")):
             wheel.writestr(zipfile.ZipInfo(path, (2020, 1, 1, 0, 0, 0)), content, zipfile.ZIP_DEFLATED)
-
-        for path, content in (*files, *((f"{info}/{part}", content) for part, content in about)):
-            add(path, content)
-            digest = base64.urlsafe_b64encode(hashlib.sha256(content).digest()).rstrip(b"=").decode()
-            records += f"{path},sha256={digest},{len(content)}\n"
-        add(f"{info}/RECORD", f"{records}{info}/RECORD,,\n")
     return name
 
 
