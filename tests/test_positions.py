@@ -1,4 +1,5 @@
 """Position in Python: its rules, which are those of bench/player.py, and its boards as text and as pictures."""
+import functools
 import io
 import itertools
 import os
@@ -27,11 +28,6 @@ def position_of(own, opp, is_black):
 
 
 class Rules(unittest.TestCase):
-    @classmethod
-    def setUpClass(cls):
-        rng = random.Random(77)
-        cls.games = [random_game(rng) for _ in range(100)]
-
     def test_moves_passes_and_ends_are_those_of_the_plain_player(self):
         ends = 0
         for at in itertools.chain(*(player.random_game(random.Random(seed)) for seed in range(60))):
@@ -53,7 +49,9 @@ class Rules(unittest.TestCase):
         self.assertEqual(ends, 60)
 
     def test_a_transcript_plays_on_from_any_position(self):
-        for number, game in enumerate(self.games):
+        rng = random.Random(77)
+        for number in range(100):
+            game = random_game(rng)
             squares = squares_of(game)
             cut, positions = number % len(squares), positions_of(squares)
             texts = ["".join(NAMES[square] for square in part) for part in (squares[:cut], squares[cut:])]
@@ -61,33 +59,35 @@ class Rules(unittest.TestCase):
             end = position_of(*positions[min(positions)])
             self.assertEqual(middle.to_obf(), position_of(*positions[60 - cut]).to_obf())
             with_passes = [NAMES[move] if move is not None else "--" for move in game]
-            for found in (middle.play_all(texts[1]), middle.play_all(squares[cut:]), Position.start().play_all(with_passes),
-                          Position.start().play_all(" ".join(with_passes) + " pass pass 33-31 % f5")):
+            noted = " ".join(with_passes) + " pass pass 33-31 % f5"
+            start = Position.start()
+            for at, moves in ((middle, texts[1]), (middle, squares[cut:]), (start, with_passes), (start, noted)):
+                found = at.play_all(moves)
                 self.assertIn(end, (found, found.passed()))
                 self.assertTrue(found.is_over)
 
     def test_an_illegal_move_is_named_with_its_board_and_side(self):
         start, after, at_pass = Position.start(), Position.start().play("F5"), Position.from_obf(AT_PASS)
         finished = Position.from_obf(FINISHED)
-        for call, why in (
-            (lambda: start.play("e3"), f"E3 is not a legal move for Black in {start.to_obf()}"),
-            (lambda: after.play(37), f"F5 is not a legal move for White in {after.to_obf()}"),
-            (lambda: Solver().play(after, "f5"), f"F5 is not a legal move for White in {after.to_obf()}"),
-            (lambda: start.play(64), f"square 64 is not a legal move for Black in {start.to_obf()}"),
-            (lambda: at_pass.play("A1"), f"A1 is not a legal move: White has to pass in {AT_PASS}"),
-            (lambda: finished.play("A5"), f"A5 is not a legal move: the game is over in {FINISHED}"),
-            (lambda: start.play_all("f5d6d6"), f"move 3: D6 is not a legal move for Black in {start.play_all('f5d6').to_obf()}"),
-            (lambda: start.play_all("f5 --"), f"move 2: a pass is not a legal move for White in {after.to_obf()}"),
-            (lambda: start.play_all("f5z9"), "move 2: no square has the name 'z9'"),
+        third, no_square = start.play_all("f5d6"), "a square is a name such as 'F5' or a number from 0 to 63, not "
+        for error, call, move, why in (
+            (ffosolve.NoMove, start.play, "e3", f"E3 is not a legal move for Black in {start.to_obf()}"),
+            (ffosolve.NoMove, after.play, 37, f"F5 is not a legal move for White in {after.to_obf()}"),
+            (ffosolve.NoMove, lambda move: Solver().play(after, move), "f5",
+             f"F5 is not a legal move for White in {after.to_obf()}"),
+            (ffosolve.NoMove, start.play, 64, f"square 64 is not a legal move for Black in {start.to_obf()}"),
+            (ffosolve.NoMove, at_pass.play, "A1", f"A1 is not a legal move: White has to pass in {AT_PASS}"),
+            (ffosolve.NoMove, finished.play, "A5", f"A5 is not a legal move: the game is over in {FINISHED}"),
+            (ffosolve.NoMove, start.play_all, "f5d6d6", f"move 3: D6 is not a legal move for Black in {third.to_obf()}"),
+            (ffosolve.NoMove, start.play_all, "f5 --", f"move 2: a pass is not a legal move for White in {after.to_obf()}"),
+            (ffosolve.NoMove, start.play_all, "f5z9", "move 2: no square has the name 'z9'"),
+            (ValueError, start.play, "I9", "no square has the name 'I9'"),
+            (TypeError, start.play, None, f"{no_square}None"),
+            (TypeError, start.play, 1.5, f"{no_square}1.5"),
+            (TypeError, start.play, ["F5"], f"{no_square}['F5']"),
+            (TypeError, start.play_all, 5, "moves are a transcript or a list of squares, not 5"),
         ):
-            with self.assertRaises(ffosolve.NoMove) as refused:
-                call()
-            self.assertEqual(str(refused.exception), why)
-            self.assertIsInstance(refused.exception, ValueError)
-        self.assertRaisesRegex(ValueError, "^no square has the name 'I9'$", start.play, "I9")
-        for square in (None, 1.5, ["F5"]):
-            self.assertRaisesRegex(TypeError, "^a square is a name such as 'F5' or a number from 0 to 63, not ", start.play, square)
-        self.assertRaisesRegex(TypeError, "^moves are a transcript or a list of squares, not 5$", start.play_all, 5)
+            self.assertRaisesRegex(error, f"^{re.escape(why)}$", call, move)
 
     def test_a_game_that_goes_on_has_no_score(self):
         for position in (Position.start(), Position.from_obf(AT_PASS)):
@@ -100,41 +100,44 @@ class Rules(unittest.TestCase):
                      lambda: shared.play(9), lambda: shared.play_all("f5")):
             self.assertRaises(ffosolve.SharedSquare, call)
 
-    def test_the_rules_take_the_library_that_a_solver_named(self):
+    def test_only_the_rules_need_a_library_and_take_the_one_that_a_solver_named(self):
         code = """if True:
-            import sys, ffosolve
-            start = ffosolve.Position.start()
-            try:
-                print(start.show().to_obf() == start.to_obf(), start.legal_moves)
-            except ffosolve.LibraryNotFound as error:
-                print(type(error).__name__)
-            ffosolve.Solver(sys.argv[1])
-            print(start.legal_moves)
+            import sys
+            from ffosolve import START, LibraryNotFound, Solver, read_lines
+            position, = read_lines([sys.argv[2]])
+            print(position.to_obf())
+            print(position.show())
+            for call in (Solver, lambda: START.legal_moves):
+                try:
+                    print(call())
+                except LibraryNotFound as error:
+                    print(type(error).__name__)
+            print(Solver(sys.argv[1]).solve(position), START.legal_moves)
         """
-        library = os.path.abspath(os.environ["FFOSOLVE_LIBRARY"])
-        ran = run(sys.executable, "-c", code, library, cwd=ROOT / "python/src", env={"FFOSOLVE_LIBRARY": "/nowhere/it.so"})
-        self.assertEqual(ran.stdout.decode(), "LibraryNotFound\n['D3', 'C4', 'F5', 'E6']\n", ran.stderr)
+        words = (sys.executable, "-c", code, os.path.abspath(os.environ["FFOSOLVE_LIBRARY"]), AT_PASS)
+        ran = run(*words, cwd=ROOT / "python/src", env={"FFOSOLVE_LIBRARY": "/nowhere/it.so"}, text=True)
+        shown = f"{AT_PASS}\n{Position.from_obf(AT_PASS)}\n"
+        found = "LibraryNotFound\nLibraryNotFound\n-64 PS ['D3', 'C4', 'F5', 'E6']\n"
+        self.assertEqual(ran.stdout, shown + found, ran.stderr)
 
 
 class Answers(unittest.TestCase):
-    def test_an_answer_reads_as_its_row_of_a_report(self):
-        solver = Solver()
-        for line, text in ((AT_PASS, "-64 PS"), (FINISHED, "+32 --"), (AT_PASS.replace(" O", " X"), "+64 A1")):
-            self.assertEqual(str(solver.solve(Position.from_obf(line))), text)
-        two = ffosolve.Answer(0, ffosolve.Kind.MOVES, 0x81)
-        self.assertEqual((str(two), f"{two}", repr(two)), ("+00 A1,H1", "+00 A1,H1", "Answer(score=0, kind=<Kind.MOVES: 0>, best=129)"))
-
-    def test_a_board_shows_a_pass_and_a_finished_game(self):
-        solver = Solver()
-        for line, last, title in (
-            (AT_PASS, "O has to pass: -64", "White has to pass: -64"),
-            (FINISHED, "X scores +32: the game is over", "Black scores +32: the game is over"),
-            (AT_PASS.replace(" O", " X"), "X is to move", "Black is to move"),
+    def test_an_answer_reads_as_its_row_of_a_report_and_its_board_names_a_pass_and_an_end(self):
+        for line, text, mover, state in (
+            (AT_PASS, "-64 PS", "White", "has to pass: -64"),
+            (FINISHED, "+32 --", "Black", "scores +32: the game is over"),
+            (AT_PASS.replace(" O", " X"), "+64 A1", "Black", "is to move"),
         ):
             position = Position.from_obf(line)
-            board = position.show(solver.solve(position))
-            self.assertEqual(str(board).splitlines()[-1], last)
-            self.assertEqual(board._repr_svg_().count(f">{title}</text>"), 1)
+            answer = Solver().solve(position)
+            board = position.show(answer)
+            self.assertEqual((str(answer), str(board).splitlines()[-1]), (text, f"{position.side} {state}"))
+            self.assertEqual(board._repr_svg_().count(f">{mover} {state}</text>"), 1)
+
+    def test_an_answer_names_all_best_moves(self):
+        two = ffosolve.Answer(0, ffosolve.Kind.MOVES, 0x81)
+        self.assertEqual((str(two), f"{two}"), ("+00 A1,H1", "+00 A1,H1"))
+        self.assertEqual(repr(two), "Answer(score=0, kind=<Kind.MOVES: 0>, best=129)")
 
 
 class Boards(unittest.TestCase):
@@ -199,24 +202,22 @@ class MostEmpties(unittest.TestCase):
     def test_more_empty_squares_are_refused_before_anything_is_solved(self):
         """The first position of a list would take hours if it were solved."""
         need_modules()
-        solver, hopeless = Solver(max_empties=33), random_positions(1, [33])
-        (wide,) = random_positions(1, [34])
-        own, opp = numpy.array([*hopeless, wide], numpy.uint64).T
+        solver, positions = Solver(max_empties=33), random_positions(2, [33, 34])
+        wide = positions[1]
+        arrays = numpy.array(positions, numpy.uint64).T
         why = "34 empty squares are more than max_empties=33 of the Solver"
-        for index, call in (
-            *((None, lambda call=call: call(wide)) for call in (solver.solve, solver.move_scores)),
-            (None, lambda: solver.confirm(wide, ffosolve.Answer(0, ffosolve.Kind.OVER, 0))),
-            *((1, lambda call=call, threads=threads: call([*hopeless, wide], threads=threads))
+        for index, call, *given in (
+            (None, solver.solve, wide),
+            (None, solver.move_scores, wide),
+            (None, solver.confirm, wide, ffosolve.Answer(0, ffosolve.Kind.OVER, 0)),
+            *((1, functools.partial(call, threads=threads), positions)
               for call in (solver.solve_all, solver.move_scores_all) for threads in (1, 2)),
-            *((1, lambda call=call: call(own, opp)) for call in (solver.solve_arrays, solver.move_scores_arrays)),
-            *((0, lambda call=call: next(call([wide]))) for call in (solver.solve_iter, solver.move_scores_iter)),
+            (1, solver.solve_arrays, *arrays),
+            (1, solver.move_scores_arrays, *arrays),
+            (0, next, solver.solve_iter([wide])),
+            (0, next, solver.move_scores_iter([wide])),
         ):
             with self.assertRaises(ffosolve.TooManyEmpties) as refused:
-                call()
+                call(*given)
             text = why if index is None else f"position at index {index}: {why}"
             self.assertEqual((str(refused.exception), refused.exception.index), (text, index))
-
-    def test_a_limit_is_a_number_up_to_sixty(self):
-        self.assertEqual([Solver(max_empties=most).max_empties for most in (0, 60)], [0, 60])
-        for most, error in ((61, ValueError), (-1, ValueError), ("20", TypeError), (20.0, TypeError)):
-            self.assertRaisesRegex(error, "^max_empties is ", Solver, max_empties=most)

@@ -4,7 +4,6 @@
 """
 import copy
 import doctest
-import functools
 import gc
 import io
 import os
@@ -24,6 +23,11 @@ CORNERS = "-OXXXXX-XXXXXXXOXXXXXXXXXXXXXXXXXXXOXXXXXXXXXXXXXXXXXXXXXXXXXXXX X; H
 POSITION = Position(0xFFFFFFF7FFFF7F7C, 0x0000000800008002)
 ANSWER = Answer(62, Kind.MOVES, 0x80)
 SHARED, WIDE, AT_PASS = Position(3, 2), Position(1, 6), Position(0x7E, ~0x7F & 2**64 - 1)
+# Calls of a solver: those that search one position, all those for one position, and those for many.
+SEARCHES = (Solver.solve, Solver.move_scores, lambda solver, position: solver.confirm(position, ANSWER))
+ONE = (*SEARCHES, Solver.moves, lambda solver, position: solver.play(position, "A1"))
+MANY = (Solver.solve_all, Solver.move_scores_all, lambda solver, positions: list(solver.solve_iter(positions)),
+        lambda solver, positions: list(solver.move_scores_iter(positions)))
 
 
 def library_that_returns(status):
@@ -51,8 +55,8 @@ class Calls(unittest.TestCase):
         self.assertEqual([self.solver.play(START, square) for square in ("d3", 19)], [after] * 2)
 
     def test_the_examples_of_the_help_print_what_it_shows(self):
-        self.assertEqual(doctest.testmod(ffosolve).failed, 0)
-        self.assertGreater(doctest.testmod(ffosolve).attempted, 5)
+        failed, attempted = doctest.testmod(ffosolve)
+        self.assertEqual((failed, attempted > 5), (0, True))
 
     def test_equal_positions_and_answers_have_one_hash(self):
         line, white, (own, opp) = Position.from_obf(CORNERS), Position(1, 2, "O"), POSITION
@@ -106,20 +110,18 @@ class Calls(unittest.TestCase):
             self.assertEqual(given, (0xFF0, 0xF, -3, Kind.OVER, 4))
 
     def test_calls_keep_no_memory(self):
-        solver, one, many = self.solver, (POSITION,), ([POSITION] * 9,)
-        calls = [functools.partial(call, *it) for call, it in (
-            (solver.solve, one), (solver.confirm, (POSITION, ANSWER)), (solver.solve_all, many), (solver.moves, one),
-            (lambda *them: list(solver.solve_iter(*them)), many), (solver.move_scores, one), (solver.move_scores_all, many),
-            (solver.play, (START, "d3")), (START.play_all, ("f5d6c3",)), (lambda: list(read_lines([CORNERS] * 9)), ()),
-        )]
-        for call in calls:
-            call()
+        calls = [
+            *((call, self.solver, POSITION) for call in ONE), *((call, self.solver, [POSITION] * 9) for call in MANY),
+            (START.play_all, "f5d6c3"), (lambda lines: list(read_lines(lines)), [CORNERS] * 9),
+        ]
+        for call, *given in calls:
+            call(*given)
         tracemalloc.start()
         self.addCleanup(tracemalloc.stop)
-        for call in calls:
+        for call, *given in calls:
             before = tracemalloc.get_traced_memory()[0]
             for _ in range(100):
-                call()
+                call(*given)
             gc.collect()
             self.assertLess(tracemalloc.get_traced_memory()[0] - before, 2000)
 
@@ -133,21 +135,27 @@ class Refusals(unittest.TestCase):
 
     def test_positions_are_refused_by_each_call(self):
         solver = Solver()
-        for call in (solver.solve, solver.move_scores, lambda position: solver.confirm(position, ANSWER)):
-            self.refused(ffosolve.SharedSquare, call, SHARED)
-            self.refused(ffosolve.TooManyEmpties, call, WIDE)
-        self.refused(ffosolve.SharedSquare, solver.moves, SHARED)
-        self.refused(ffosolve.SharedSquare, solver.play, SHARED, 0)
-        self.refused(ffosolve.TooManyEmpties, solver.solve_all, [POSITION, WIDE, SHARED], index=1)
+        for call in ONE:
+            self.refused(ffosolve.SharedSquare, call, solver, SHARED)
+        for call in SEARCHES:
+            self.refused(ffosolve.TooManyEmpties, call, solver, WIDE)
+        for call in MANY:
+            self.refused(ffosolve.TooManyEmpties, call, solver, [POSITION, WIDE, SHARED], index=1)
 
     def test_settings_are_refused_by_their_names(self):
-        for scoring in (3, -1, "loser", None, 0.5):
-            with self.assertRaisesRegex(ffosolve.UnknownScoring, "^a scoring is 'winner', 'discs' or 'sign', not "):
-                Solver(scoring=scoring)
-        self.refused(ffosolve.TooManyEntries, lambda: Solver(entries=ffosolve.MOST_ENTRIES + 1))
+        for name, error, why, *values in (
+            ("scoring", ffosolve.UnknownScoring, "a scoring is 'winner', 'discs' or 'sign', not ",
+             3, -1, "loser", None, 0.5),
+            ("entries", ValueError, "entries is .*, not ", -1),
+            ("entries", TypeError, "entries is .*, not ", "7", 7.0),
+            ("entries", ffosolve.TooManyEntries, "more than .* table entries$", ffosolve.MOST_ENTRIES + 1),
+            ("max_empties", ValueError, "max_empties is .*, not ", -1, 61),
+            ("max_empties", TypeError, "max_empties is .*, not ", "20", 20.0),
+        ):
+            for value in values:
+                self.assertRaisesRegex(error, f"^{why}", Solver, **{name: value})
         self.assertEqual(Solver(entries=ffosolve.MOST_ENTRIES).solve(POSITION), ANSWER)
-        for entries, error in ((-1, ValueError), ("7", TypeError), (7.0, TypeError)):
-            self.assertRaisesRegex(error, "^entries is .*, not ", Solver, entries=entries)
+        self.assertEqual([Solver(max_empties=most).max_empties for most in (0, 60)], [0, 60])
 
     def test_a_refusal_has_the_index_of_its_position_and_is_a_value_error(self):
         """Only NoMemory is a MemoryError instead."""
@@ -183,10 +191,9 @@ class Refusals(unittest.TestCase):
             (7, ffosolve.NoMemory, "out of memory"), (99, ffosolve.OtherRefusal, "refused with status 99"),
         ):
             solver._library = library_that_returns(status)
-            for call in (solver.solve, lambda it: solver.confirm(it, ANSWER), solver.move_scores, solver.moves,
-                         lambda it: solver.play(it, 0), lambda it: solver.solve_all([it])):
+            for call in (*ONE, *MANY):
                 with self.assertRaisesRegex(refusal, f"^{reason}$") as refused:
-                    call(POSITION)
+                    call(solver, POSITION if call in ONE else [POSITION])
                 again = pickle.loads(pickle.dumps(refused.exception))
                 self.assertEqual((type(again), again.status, str(again), again.index), (refusal, status, reason, None))
 
@@ -198,18 +205,15 @@ class Refusals(unittest.TestCase):
 
     def test_an_object_that_is_not_a_position_is_named(self):
         solver = Solver()
-        one = (solver.solve, solver.move_scores, solver.moves, lambda it: solver.play(it, "d3"),
-               lambda it: solver.confirm(it, ANSWER))
-        many = (solver.solve_all, solver.move_scores_all, lambda them: list(solver.solve_iter(them)),
-                lambda them: list(solver.move_scores_iter(them)))
-        for call in (*one, *(lambda it, call=call: call([POSITION, it]) for call in many)):
+        for call in (*ONE, *MANY):
             for it in ("x", "ab", None, 5, ANSWER, (1,), (1, 2, 3), (0.5, 1), Position("a", "b"), CORNERS):
                 with self.assertRaisesRegex(TypeError, r"^a position is two masks, as Position\(own, opp\) and .* not "):
-                    call(it)
+                    call(solver, it if call in ONE else [POSITION, it])
             for it in (Position(-1, 0), Position(0, 2**64)):
-                self.assertRaisesRegex(ValueError, r"^a mask is a number from 0 to 2\*\*64 - 1$", call, it)
-        for call in many:
-            self.assertRaisesRegex(TypeError, "^a position is two masks, .* not [0-9.]+$", call, POSITION)
+                with self.assertRaisesRegex(ValueError, r"^a mask is a number from 0 to 2\*\*64 - 1$"):
+                    call(solver, it if call in ONE else [POSITION, it])
+        for call in MANY:
+            self.assertRaisesRegex(TypeError, "^a position is two masks, .* not [0-9.]+$", call, solver, POSITION)
 
     def test_an_object_that_is_not_a_claim_scores_or_a_line_is_named(self):
         line = Position.from_obf(CORNERS)
@@ -231,15 +235,6 @@ class Refusals(unittest.TestCase):
             self.assertRaisesRegex(ffosolve.LibraryNotFound, f"^{path}: ", Solver, path)
         # A name without a folder is a file in the current folder, and not one of the system's libraries.
         self.assertRaisesRegex(ffosolve.LibraryNotFound, f"^{os.getcwd()}/libc.so.6: ", Solver, "libc.so.6")
-
-    def test_positions_are_read_and_shown_before_a_solver_names_the_library(self):
-        Solver()
-        with open("/proc/self/maps") as maps:
-            named = next(line.split(maxsplit=5)[5].strip() for line in maps if "/libffosolve.so" in line)
-        with mock.patch.dict(os.environ, {"FFOSOLVE_LIBRARY": "/nowhere/libffosolve.so"}):
-            self.assertRaises(ffosolve.LibraryNotFound, Solver)
-            line, = read_lines([Position.from_obf(CORNERS).to_obf()])
-            self.assertEqual((str(line.show()), Solver(named).solve(line)), (str(POSITION), ANSWER))
 
     def test_places_are_searched_in_the_order_of_the_help(self):
         with mock.patch.dict(os.environ, {"FFOSOLVE_LIBRARY": "/of/mine.so"}):
@@ -306,7 +301,4 @@ class Obf(unittest.TestCase):
 
     def test_table_entries_are_those_of_the_header(self):
         sizes = [ffosolve.table_entries(empties) for empties in range(ffosolve.MOST_EMPTIES + 1)]
-        self.assertEqual(sizes, sorted(sizes))
-        self.assertLessEqual(max(sizes), ffosolve.MOST_ENTRIES)
-        at = [sizes[empties] for empties in (0, 10, 11, 14, 15, 22, 23, 60)]  # as ffosolve.h says
-        self.assertEqual(at, [0, 0, 4096, 4096, 65536, 65536, 1000000, 1000000])
+        self.assertEqual(sizes, [0] * 11 + [4096] * 4 + [65536] * 8 + [1000000] * 38)
