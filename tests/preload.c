@@ -28,14 +28,12 @@ static void show(const char *call) {
     if (getenv("WATCHED")) dprintf(STDERR_FILENO, "%s ", call);
 }
 
-static int sync_fails(void) {
+int fsync(int file) {
     show("sync");
     errno = EIO;
-    return getenv("NO_SYNC") != NULL;
+    return getenv("NO_SYNC") ? -1 : NEXT(fsync)(file);
 }
 
-int fsync(int file) { return sync_fails() ? -1 : NEXT(fsync)(file); }
-int fdatasync(int file) { return sync_fails() ? -1 : NEXT(fdatasync)(file); }
 int rename(const char *from, const char *to) {
     show("rename");
     return NEXT(rename)(from, to);

@@ -2,6 +2,7 @@
 makes fewer than n requests.
 """
 import re
+import tempfile
 from pathlib import Path
 
 from tests.support import ROOT, InFolder, built, need, preload, refuse_threads, run, stored
@@ -28,28 +29,29 @@ ENDED = {
 REPORTS = ("AllocError", "AllocFailed { .. }", "Kind(OutOfMemory)", "Memory")  # how these tests report out of memory
 
 
-def refusals(folder, *words, **how):
+def outcome(*words, **how):
+    """Runs a program in a new folder. Returns (status, output, errors, {name: content} of the files that it left)."""
+    with tempfile.TemporaryDirectory() as folder:
+        ran = run(*words, cwd=folder, **how)
+        return ran.returncode, ran.stdout, ran.stderr, {path.name: path.read_bytes() for path in Path(folder).iterdir()}
+
+
+def outcomes(*words, **how):
     """Runs a program again and again, for n = 1, 2, .., until a run makes fewer than n requests for memory. In run n,
-    the nth request is refused. Yields (n, the ended run, whether a request was refused) after each run."""
-    number, met, mark = 0, True, folder / "refused"
-    while met:
-        number += 1
-        ran = run(*words, env=preload(folder, REFUSED=str(number), REFUSED_FILE=str(mark)), **how)
-        met = mark.exists()
-        mark.unlink(missing_ok=True)
-        yield number, ran, met
+    the nth request is refused. Returns a list with the outcome of each run; nothing was refused in the last one."""
+    found, mark = [], Path("refused")
+    while True:
+        places = preload(Path.cwd(), REFUSED=str(len(found) + 1), REFUSED_FILE=str(mark.absolute()))
+        found.append(outcome(*words, env=places, **how))
+        if not mark.exists():
+            return found
+        mark.unlink()
 
 
 class Programs(InFolder):
-    def ended(self, ran):
-        """Returns (status, output, errors, {name: content} of the files that the run left), and removes its book."""
-        files = {path.name: path.read_bytes() for path in Path().iterdir() if path.name != "preload.so"}
-        Path("it.book").unlink(missing_ok=True)
-        return ran.returncode, ran.stdout, ran.stderr, files
-
     def test_each_refused_request_ends_ffosolve_unless_it_starts_a_thread(self):
         """A run also goes on if its request for room for all words of the command line at once is refused."""
-        self.assertEqual(self.ended(run(built(), input=TEXT)), (0, PRINTED, b"", {}))
+        self.assertEqual(outcome(built(), input=TEXT), (0, PRINTED, b"", {}))
         for words, threads, prepare in (
             ((), 3, refuse_threads),
             (("--workers", "0", *FILES), 2, refuse_threads),
@@ -57,25 +59,22 @@ class Programs(InFolder):
             (("--workers", "2", *FILES), 4, None),
         ):
             with self.subTest(words=words, prepare=prepare):
-                goes_on, done = [], self.ended(run(built(), *words, input=TEXT))
-                for number, ran, met in refusals(self.folder, built(), *words, input=TEXT, preexec_fn=prepare):
-                    ended = self.ended(ran)
-                    is_reported = met and ended == (1, b"", b"ffosolve: out of memory\n", {})
-                    self.assertTrue(is_reported or ended == done, f"request {number} is refused: {ended}")
-                    goes_on += [number] * (met and not is_reported)
-                self.assertGreater(number, 10 * threads)
+                done, reported = outcome(built(), *words, input=TEXT), (1, b"", b"ffosolve: out of memory\n", {})
+                *refused, last = outcomes(built(), *words, input=TEXT, preexec_fn=prepare)
+                self.assertEqual(last, done)
+                self.assertEqual([run for run in enumerate(refused, 1) if run[1] not in (done, reported)], [])
+                self.assertGreaterEqual(len(refused), 10 * threads)
                 if prepare:  # otherwise the number of the request that starts a thread varies from run to run
-                    self.assertEqual(len(goes_on), threads + 1, f"the run goes on without the requests {goes_on}")
+                    self.assertEqual(refused.count(done), threads + 1)
 
     def test_more_than_nine_in_ten_refused_requests_end_ffoscores_and_others_change_nothing(self):
         """A run that reports `out of memory` has printed the beginning of the output."""
-        reported = 0
-        for number, ran, met in refusals(self.folder, built("ffoscores"), "--table", "100", input=KINDS):
-            found = ran.returncode, ran.stderr
-            is_reported = met and found == (3, b"ffoscores: out of memory\n") and SCORES.startswith(ran.stdout)
-            self.assertTrue(is_reported or found == (1, b"") and ran.stdout == SCORES, f"request {number}: {ran}")
-            reported += is_reported
-        self.assertGreater(10 * reported, 9 * (number - 1), f"{number - 1} requests refused, and {reported} reported")
+        done, error = (1, SCORES, b"", {}), b"ffoscores: out of memory\n"
+        *refused, last = outcomes(built("ffoscores"), "--table", "100", input=KINDS)
+        self.assertEqual(last, done)
+        ended = [run for run in enumerate(refused, 1) if run[1] != done]
+        self.assertEqual([run for run in ended if run[1] != (3, SCORES[:len(run[1][1])], error, {})], [])
+        self.assertGreater(10 * len(ended), 9 * len(refused))
 
 
 class Crates(InFolder):
@@ -99,20 +98,16 @@ class Crates(InFolder):
         """A test has to pass or to report only that it is out of memory. A crash and a run without an end are faults."""
         listed = run(CRATE_TESTS, "--list", check=True, text=True).stdout
         self.assertEqual([part for part in TESTS if part not in listed], [])
-        room = self.folder / "room"
-        room.mkdir()
         requests = 0
         for test in re.findall(rf"^(tests::\S*(?:{'|'.join(TESTS)})\S*): test$", listed, re.M):
             with self.subTest(test=test):
-                ended = 0
-                for number, ran, met in refusals(self.folder, CRATE_TESTS, test, text=True, cwd=room):
-                    errors = re.findall(r"^\w+: (.*)$", ran.stderr, re.M)
-                    is_reported = met and len(errors) == 1 and errors[0] in REPORTS
-                    self.assertTrue(ran.returncode == 0 or is_reported, f"with request {number} refused: {ran}")
-                    ended += ran.returncode != 0
-                    for path in room.iterdir():
-                        path.unlink()
+                *refused, last = outcomes(CRATE_TESTS, test, text=True)
+                ended = [run for run in enumerate(refused, 1) if run[1][0] != 0]
+                self.assertEqual(last[0], 0, last)
+                for number, (_, _, errors, _) in ended:
+                    reports = re.findall(r"^\w+: (.*)$", errors, re.M)
+                    self.assertTrue(len(reports) == 1 and reports[0] in REPORTS, f"with request {number} refused: {errors}")
                 if test in ENDED:
-                    self.assertEqual((number - 1, ended), (ENDED[test] or number - 1,) * 2)
-                requests += number - 1
+                    self.assertEqual((len(refused), len(ended)), (ENDED[test] or len(refused),) * 2)
+                requests += len(refused)
         self.assertGreater(requests, 0)
