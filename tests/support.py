@@ -135,9 +135,11 @@ class InFolder(unittest.TestCase):
         self.enterContext(contextlib.chdir(self.folder))
 
     def ends(self, wanted, *words, **how):
-        """Runs a command and asserts that its (status, standard output, standard error) is `wanted`."""
-        ran = run(*words, **{"text": isinstance(wanted[1], str), **how})
-        self.assertEqual((ran.returncode, ran.stdout, ran.stderr), wanted, words)
+        """Runs a command and asserts that its (status, standard output, standard error) is `wanted`. This is a subtest,
+        so the test goes on if it fails."""
+        with self.subTest(words=words, input=(how.get("input") or "")[-99:]):
+            ran = run(*words, **{"text": isinstance(wanted[1], str), **how})
+            self.assertEqual((ran.returncode, ran.stdout, ran.stderr), wanted)
 
     def start(self, *words, **how):
         """Starts a command with its output captured, and returns its process, which is killed when the test ends."""

@@ -64,12 +64,11 @@ class Books(InFolder):
     def test_a_book_has_the_scoring_of_its_run_and_not_that_of_the_book_that_is_read(self):
         list_of_one = b"--OOOOO" + b"X" * 57 + b" X\n"
         for scoring, score in (("discs", b"+63"), ("winner", b"+64"), ("sign", b"+01")):
-            with self.subTest(scoring=scoring):
-                write("read.book", BOOK)
-                words = ("--scoring", scoring, "--book-in", "read.book", "--book-out", "it.book", "--workers", "64")
-                run(PROGRAM, *words, input=list_of_one, check=True)
-                book = b"%% ffobook 2 %s\n%s X; G8:%s;\n" % (scoring.encode(), b"X" * 57 + b"OOOOO--", score)
-                self.assertEqual((content("it.book"), content("read.book")), (book, BOOK))
+            write("read.book", BOOK)
+            words = ("--scoring", scoring, "--book-in", "read.book", "--book-out", "it.book", "--workers", "64")
+            run(PROGRAM, *words, input=list_of_one, check=True)
+            book = b"%% ffobook 2 %s\n%s X; G8:%s;\n" % (scoring.encode(), b"X" * 57 + b"OOOOO--", score)
+            self.assertEqual((content("it.book"), content("read.book")), (book, BOOK))
 
     def test_a_thousand_positions_are_written_and_read_again(self):
         write("list", positions(1000, 3, 6))
@@ -165,10 +164,9 @@ class Books(InFolder):
         os.mkfifo("it.book")
         os.symlink("it.book", "link.book")
         for name in ("it.book", "link.book"):
-            with self.subTest(name=name):
-                reader = self.start("cat", "it.book")
-                self.solves(DONE, name)
-                self.assertEqual(reader.communicate(timeout=SECONDS)[0], BOOK)
+            reader = self.start("cat", "it.book")
+            self.solves(DONE, name)
+            self.assertEqual(reader.communicate(timeout=SECONDS)[0], BOOK)
         self.assertTrue(stat.S_ISFIFO(os.lstat("it.book").st_mode) and os.path.islink("link.book"))
 
     def test_a_full_device_is_reported_and_another_can_be_both_list_and_book(self):
@@ -188,8 +186,7 @@ class Books(InFolder):
         os.symlink("list", "link")
         for name in ("list", "./list", "twin", "link"):
             for lists in (("list",), ("other", "list", "other")):
-                with self.subTest(name=name, lists=lists):
-                    self.solves(unwritten("it is in use", name), name, *lists)
+                self.solves(unwritten("it is in use", name), name, *lists)
         self.left({"list": TEXT, "other": TEXT, "twin": TEXT, "link": "list"})
 
     def test_files_with_one_inode_number_on_two_file_systems_are_two_files(self):
@@ -218,8 +215,7 @@ class Books(InFolder):
             ("--book-in bad.book none.obf", "book line 1: bad square at column 1"),
             ("--book-in large.book none.obf", "book line 2: bad square at column 1"),
         ):
-            with self.subTest(words=words):
-                self.ends((3, b"", f"ffosolve: {error}\n".encode()), PROGRAM, *words.split(), stdin=folder)
+            self.ends((3, "", f"ffosolve: {error}\n"), PROGRAM, *words.split(), stdin=folder)
 
     def test_files_are_counted_and_measured_then_the_place_of_the_book_is_tried_then_positions_are_solved(self):
         write("list", TEXT)
@@ -232,10 +228,9 @@ class Books(InFolder):
         for place, wanted in (("", unwritten("", "")), ("no/it.book", unwritten("", "no/it.book")),
                               ("notes/it.book", unwritten("a part of its name is not a folder", "notes/it.book")),
                               ("notes", (3, b"", NO_BOOK[2].replace(b"it.book", b"notes")))):
-            with self.subTest(place=place):
-                self.solves((1, b"", b"ffosolve: more than 64 files\n"), place, *["list"] * 65, "pipe")
-                self.solves((1, b"", too_large), place, "list", "large")
-                self.solves(wanted, place, "--max-empties", "60", "long")
+            self.solves((1, b"", b"ffosolve: more than 64 files\n"), place, *["list"] * 65, "pipe")
+            self.solves((1, b"", too_large), place, "list", "large")
+            self.solves(wanted, place, "--max-empties", "60", "long")
         self.assertEqual((content("notes"), os.path.exists("it.book")), (NOTES, False))
 
     def test_only_a_book_or_an_empty_file_is_overwritten(self):
@@ -261,12 +256,11 @@ class Books(InFolder):
         os.symlink("it.book", "link")
         os.link("it.book", "twin")
         for name in ("it.book", "./it.book", os.path.abspath("it.book"), "link", "twin"):
+            advice = f"write --book-out NEW, then ffosolve-many --merge-books {name} NEW"
+            error = f"ffosolve: {name} is read and would be overwritten: {advice}\n".encode()
             for book in ("it.book", "twin"):
-                with self.subTest(name=name, book=book):
-                    advice = f"write --book-out NEW, then ffosolve-many --merge-books {name} NEW"
-                    error = f"ffosolve: {name} is read and would be overwritten: {advice}\n"
-                    self.solves((3, b"", error.encode()), name, "--book-in", book)
-                    self.assertEqual((content("it.book"), len(os.listdir())), (read, 3))
+                self.solves((3, b"", error), name, "--book-in", book)
+                self.assertEqual((content("it.book"), len(os.listdir())), (read, 3))
         self.solves(DONE, "new", "--book-in", "it.book")
         many = copy_many("many")
         shutil.copy(PROGRAM, many.parent)

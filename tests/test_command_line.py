@@ -66,8 +66,7 @@ class CommandLines(InFolder):
         self.pipe = self.start("sleep", SECONDS).stdout  # stays empty, so a program that reads it waits
 
     def ends(self, wanted, name, *words):
-        with self.subTest(name=name, words=words):
-            super().ends(wanted, built(name), *words, stdin=self.pipe)
+        super().ends(wanted, built(name), *words, stdin=self.pipe)
 
     def test_a_wrong_command_line_is_refused_with_the_reason(self):
         for name in PROGRAMS:
@@ -104,9 +103,8 @@ class CommandLines(InFolder):
         for name, list_ in zip(PROGRAMS, ("/dev/null", ROOT / "examples/kinds.obf")):
             for word in ("--help", "--version", list_):
                 for output in (">/dev/full", ">&-"):
-                    with self.subTest(name=name, word=word, output=output):
-                        wanted = (3, "", f"{name}: cannot write standard output\n")
-                        super().ends(wanted, "sh", "-c", f'exec "$0" "$1" {output}', built(name), word)
+                    wanted = (3, "", f"{name}: cannot write standard output\n")
+                    super().ends(wanted, "sh", "-c", f'exec "$0" "$1" {output}', built(name), word)
 
     def test_words_after_two_dashes_are_files(self):
         for name in PROGRAMS:

@@ -1,13 +1,15 @@
-"""Output worked out from the rules, books that are read or refused, and streams that end or fail.
+"""Output worked out from the rules, books that are read or refused, and files and streams that end or fail.
 
 Each row of a table in tests/rows/PROGRAM ends with a line of a list. The cells before it have what PROGRAM prints for
 that line, without its number, with the options at the head of the column, or are empty if it prints nothing. A column
 `read` has what is read from the line, and is not used here. No program printed the cells.
 """
 import os
+import re
 from pathlib import Path
 
-from tests.support import MOST_BYTES, ROOT, InFolder, built, limited, run, worked, write
+from tests.support import MOST_BYTES, ROOT, SECONDS, InFolder, built, limited, run, stored, worked, write
+from ffosolve import MOST_ENTRIES
 
 LINES = worked("ffosolve/positions")[0]
 LIST = b"\n".join(LINES)
@@ -36,6 +38,12 @@ BOOKS = {
     "1: bad side at column 66": (LEFT[:65],),
     "2: board has 1 of 64 squares": (LEFT + b"X",),
 }
+KINDS, SCORES = stored("examples", "kinds.obf"), stored("examples", "kinds.scores")
+TWO = KINDS.split(b"\n")[1] + b"\n"  # a position of two empty squares, with both moves listed right
+SOLVED = SCORES.split(b"\n")[1] + b"\n"
+BOARD = TWO[:66]
+RIGHT = stored("examples", "first.report").split()[4]  # the verdict on a line whose scores are right
+LONGEST = 5 * SECONDS  # that a run may take for a position with 20 empty squares on a busy machine
 
 
 def whole_lines(lines):
@@ -59,9 +67,8 @@ class Rows(InFolder):
                 for words in columns.keys() - {"read"}:
                     wanted = (status, printed(columns[words]), b"")
                     for end in (b"", b"\n"):
-                        with self.subTest(table=table, words=words, end=end):
-                            text = b"\n".join(lines) + end
-                            self.ends(wanted, built(name), "--max-empties", "20", *words.split(), input=text)
+                        text = b"\n".join(lines) + end
+                        self.ends(wanted, built(name), "--max-empties", "20", *words.split(), input=text)
 
     def reads(self, text, error):
         """Asserts that a text is read as a book or, if `error` is not empty, refused with that error."""
@@ -90,9 +97,8 @@ class Rows(InFolder):
         for lines, error in (("yes ?", "1: bad square at column 1"), ("yes ? | tr -d '\\n'", "1: bad square at column 1"),
                             ("(echo '% ffobook 3 winner'; yes %)", "1: unknown header"),
                             (f"(echo; yes '{'X' * 64}')", "2: bad side at column 65")):
-            with self.subTest(lines=lines):
-                words = f"{lines} 2>/dev/null | (ulimit -v 1000000; exec '{built()}' --book-in /dev/stdin)"
-                self.ends((3, b"", f"ffosolve: book line {error}\n".encode()), "sh", "-c", words, timeout=20)
+            words = f"{lines} 2>/dev/null | (ulimit -v 1000000; exec '{built()}' --book-in /dev/stdin)"
+            self.ends((3, "", f"ffosolve: book line {error}\n"), "sh", "-c", words, timeout=20)
 
     def test_the_largest_file_and_64_files_are_read_but_not_65(self):
         write("blank", b" " * MOST_BYTES)
@@ -100,22 +106,24 @@ class Rows(InFolder):
         rows = b"".join(b"[%d]\n1 -64 -- unlisted\nsolved 1 refused 0\n" % (number + 1) for number in range(64))
         scores = whole_lines([LINES[0][:66] + b"; --:-64;"] * 64)
         for name, of_blank, of_64 in (("ffosolve", NOTHING, rows), ("ffoscores", b" " * MOST_BYTES + b"\n", scores)):
-            with self.subTest(name=name):
-                self.ends((0, of_blank, b""), built(name), "blank")
-                self.ends((0, of_64, b""), built(name), *["over"] * 64)
-                error = f"{name}: more than 64 files\n".encode()
-                self.ends((PROGRAMS[name], b"", error), built(name), *["over"] * 65)
-        for words, text, row in (([], b"X" * MOST_BYTES, b"1 +64 -- unlisted\nsolved 1 refused 0"),
-                                 (["--max-empties", "1"], LINES[8], b"1 refused: 2 empties, limit 1\nsolved 0 refused 1")):
-            self.ends((0, b"[1]\n" + row + b"\n", b""), built(), *words, input=text)
+            self.ends((0, of_blank, b""), built(name), "blank")
+            self.ends((0, of_64, b""), built(name), *["over"] * 64)
+            self.ends((PROGRAMS[name], "", f"{name}: more than 64 files\n"), built(name), *["over"] * 65)
+        self.ends((0, b"[1]\n1 +64 -- unlisted\nsolved 1 refused 0\n", b""), built(), input=b"X" * MOST_BYTES)
+
+    def test_more_empty_squares_than_the_limit_are_refused(self):
+        report = b"[1]\n1 refused: 2 empties, limit 1\nsolved 0 refused 1\n"
+        self.ends((0, report, b""), built(), "--max-empties", "1", input=TWO)
+        line = b"% refused: 2 empties, limit 1: " + TWO
+        self.ends((1, line, b""), built("ffoscores"), "--max-empties", "1", input=TWO)
 
     def test_too_large_a_file_is_read_only_up_to_the_limit(self):
         with open("large.obf", "wb") as large:
             large.truncate(256 << 20)
         for name, status in PROGRAMS.items():
-            wanted = (status, b"", f"{name}: file 1 is larger than {MOST_BYTES} bytes\n".encode())
+            wanted = (status, "", f"{name}: file 1 is larger than {MOST_BYTES} bytes\n")
             self.ends(wanted, built(name), "large.obf", preexec_fn=limited("RLIMIT_AS", 64 << 20))
-            self.ends(wanted, built(name), input=b" " * (MOST_BYTES + 1))
+            self.ends(wanted, built(name), input=" " * (MOST_BYTES + 1))
             with open("large.obf", "rb") as large:
                 self.ends(wanted, built(name), stdin=large)
                 self.assertEqual(os.lseek(large.fileno(), 0, os.SEEK_CUR), MOST_BYTES + 1)
@@ -130,10 +138,89 @@ class Rows(InFolder):
             whole = run(built(name), *words, input=LIST).stdout
             Path("it.book").unlink(missing_ok=True)
             for size in [*range(0, len(whole), 7), len(whole) - 1]:
-                with self.subTest(name=name, words=words, size=size):
-                    with open("out", "wb") as out:
-                        wanted = (3, None, f"{name}: cannot write standard output\n".encode())
-                        how = {"stdout": out, "preexec_fn": limited("RLIMIT_FSIZE", size)}
-                        self.ends(wanted, built(name), *words, input=LIST, **how)
-                    self.assertEqual(Path("out").read_bytes(), whole[:size])
-                    self.assertFalse(Path("it.book").exists())
+                with open("out", "wb") as out:
+                    wanted = (3, None, f"{name}: cannot write standard output\n".encode())
+                    how = {"stdout": out, "preexec_fn": limited("RLIMIT_FSIZE", size)}
+                    self.ends(wanted, built(name), *words, input=LIST, **how)
+                self.assertEqual(Path("out").read_bytes(), whole[:size])
+                self.assertFalse(Path("it.book").exists())
+
+
+class Scores(InFolder):
+    def ends(self, wanted, *words, **how):
+        super().ends(wanted, built("ffoscores"), *words, **how)
+
+    def test_a_file_and_standard_input_give_the_stored_scores(self):
+        Path("kinds.obf").write_bytes(KINDS)
+        self.ends((1, SCORES, b""), "kinds.obf")
+        self.ends((1, SCORES, b""), "./kinds.obf", "--table=65536", "--scoring", "winner")
+        self.ends((1, SCORES, b""), input=KINDS)
+        self.ends((1, SCORES * 2, b""), "--", "kinds.obf", "kinds.obf", input=b"X")
+        self.ends((1, SCORES, b""), "/dev/stdin", input=KINDS)
+
+    def test_each_line_gives_one_line_that_ends_with_lf(self):
+        unlisted, columns = worked("ffoscores/unlisted")
+        rows = [("", *row) for row in zip(KINDS.splitlines(), SCORES.splitlines(), strict=True)]
+        rows += [(words, *row) for words, cells in columns.items() for row in zip(unlisted, cells)]
+        for words, line, printed in rows:
+            is_wrong = re.search(rb"^% refused: |; % (not read: |best move |\S+ is )", printed) is not None
+            for end in (b"\n", b"\r\n", b""):
+                wanted = (int(is_wrong), printed + b"\n" if line + end else b"", b"")
+                self.ends(wanted, *words.split(), input=line + end)
+        Path("rows.obf").write_bytes(b"\n".join(unlisted))
+        Path("kinds.obf").write_bytes(KINDS)
+        rows = b"\n".join(columns["--scoring winner --complete"]) + b"\n"
+        for words in ("--workers 0", "--workers=3", "--table 0"):
+            self.ends((1, rows + SCORES + rows, b""), "--complete", *words.split(), "rows.obf", "kinds.obf", "rows.obf")
+
+    def test_its_own_output_is_unchanged_and_right_for_ffosolve(self):
+        cells = [cell for table in ("unlisted", "remarks") for cell in worked(f"ffoscores/{table}")[1]["--scoring winner"]]
+        for text in (SCORES, b"".join(cell.removesuffix(b"\r") + b"\n" for cell in cells)):
+            self.ends((0, text, b""), input=text)
+        rows = run(built(), input=SCORES, check=True).stdout.splitlines()[1:-1]
+        self.assertEqual([row.split()[-1] for row in rows], [RIGHT] * 8)
+
+    def test_odd_texts_are_printed_again_and_options_set_the_limit_the_table_and_the_scoring(self):
+        over, scored = (text.split(b"\n")[6] for text in (KINDS, SCORES))
+        whole, wrong = MOST_BYTES // len(TWO), b"% refused: bad square at column 1: "
+        for words, status, printed, text in (
+            ("", 0, b"", b""),
+            ("", 0, b"\n", b"\n"),
+            ("", 0, b"%\n", b"%"),
+            ("", 1, wrong + b"\xff\0\n", b"\xff\0"),
+            ("", 1, SOLVED[:83] + b" % not read: \0, not read: \xff\xfe %\xff\n", BOARD + b"; \0 ;;\xff\xfe ;%\xff"),
+            ("", 1, wrong + b"\0" * MOST_BYTES + b"\n", b"\0" * MOST_BYTES),
+            ("", 0, SOLVED * whole, TWO * whole),
+            ("--max-empties=2", 0, SOLVED, TWO),
+            ("--table 0", 1, SCORES, KINDS),
+            ("--table 1", 1, SCORES, KINDS),
+            (f"--table {MOST_ENTRIES}", 1, SCORES, KINDS),
+            ("--scoring=discs", 1, b"%s X; --:+16; %% --:+32 is +16%s\n" % (over[:64], scored[75:]), over + b"\n"),
+            ("--scoring sign", 1, BOARD + b"; A1:+01; H1:+01; % H1:+62 is +01, A1:+52 is +01 % listed right\n", TWO),
+        ):
+            self.ends((status, printed, b""), *words.split(), input=text)
+
+    def test_position_40_of_the_ffo_test_has_the_published_best_move_alone(self):
+        line = next(line for line in stored("examples", "ffo-40-51.obf").splitlines() if b"% 40" in line)
+        ran = run(built("ffoscores"), input=line, timeout=LONGEST)
+        scores = [int(score) for _, score in re.findall(rb" ([A-H][1-8]):([+-]\d\d);", ran.stdout)]
+        self.assertEqual((ran.returncode, ran.stderr), (0, b""))
+        self.assertTrue(ran.stdout.startswith(line[:66] + b"; A2:+38; "), ran.stdout)
+        self.assertTrue(ran.stdout.endswith(line[line.index(b" % 40"):] + b"\n"), ran.stdout)
+        self.assertTrue(len(scores) > 9 and scores[1] < 38, ran.stdout)
+
+    def test_all_files_are_read_then_measured_and_counted_before_anything_is_printed(self):
+        Path("two.obf").write_bytes(TWO)
+        Path("large.obf").write_bytes(b" " * (MOST_BYTES + 1))
+        for words, why in (
+            ("two.obf none.obf", "cannot read none.obf"),
+            ("two.obf .", "cannot read .\nffoscores: it is a folder"),
+            ("two.obf large.obf none.obf", "cannot read none.obf"),
+            ("two.obf large.obf two.obf large.obf", f"file 2 is larger than {MOST_BYTES} bytes"),
+            ("two.obf " * 65, "more than 64 files"),
+            ("two.obf " * 65 + "none.obf", "cannot read none.obf"),
+        ):
+            self.ends((3, "", f"ffoscores: {why}\n"), *words.split())
+        folder = os.open(".", os.O_RDONLY)
+        self.addCleanup(os.close, folder)
+        self.ends((3, "", "ffoscores: cannot read standard input\n"), stdin=folder)

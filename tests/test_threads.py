@@ -83,8 +83,7 @@ class Lines(InFolder):
         printed = run(*words, 0).stdout
         self.assertEqual(printed.count(b"\n"), sum(len(text.splitlines()) for text in lists))
         for workers in WORKERS:
-            with self.subTest(workers=workers):
-                self.ends((int(b"% refused: " in printed), printed, b""), *words, workers, **how)
+            self.ends((int(b"% refused: " in printed), printed, b""), *words, workers, **how)
 
     def test_odd_and_deep_files_are_scored_the_same_on_threads(self):
         deep, kinds = positions(24, 10, 13), stored("examples", "kinds.obf")
@@ -99,9 +98,9 @@ class Lines(InFolder):
             self.same(positions(40, 7, 13), preexec_fn=prepare)
 
     def test_each_of_many_short_runs_ends(self):
-        wanted = (1, stored("examples", "kinds.scores"), b"")
-        for _ in range(OFTEN):
-            self.ends(wanted, built("ffoscores"), "--workers", 3, ROOT / "examples/kinds.obf")
+        for number in range(OFTEN):
+            ran = run(built("ffoscores"), "--workers", 3, ROOT / "examples/kinds.obf")
+            self.assertEqual((ran.returncode, ran.stdout), (1, stored("examples", "kinds.scores")), f"run {number}")
 
     def test_shuffled_lines_are_scored_the_same_on_threads(self):
         lines = (positions(40, 1, 9) + positions(24, 10, 11) + positions(6, 12, 13)).splitlines(True)
@@ -123,27 +122,18 @@ class Lines(InFolder):
                 program.communicate(timeout=SECONDS)
                 self.assertEqual(program.returncode, 0)
 
-    def test_a_line_is_printed_as_soon_as_it_and_those_before_are_scored(self):
+    def test_n_workers_score_n_plus_one_lines_at_once_and_each_is_printed_as_soon_as_those_before_are_scored(self):
+        known = [*positions(24, 10, 13).splitlines(True), b"% next\n"]
         for workers in WORKERS:
             with self.subTest(workers=workers):
-                deep = positions(12, 8, 12).splitlines(True)
-                program = self.begin(b"".join([EASY[0], *deep, b"% next\n", HOURS, EASY[0]]), "--workers", workers)
-                printed = [program.stdout.readline() for _ in range(14)]
-                self.assertEqual([line[:66] for line in printed], [line[:66] for line in (EASY[0], *deep, b"% next\n")])
-                program.send_signal(signal.SIGINT)
-                self.assertEqual((program.stdout.read(), program.wait(SECONDS)), (b"", -signal.SIGINT))
-
-    def test_n_workers_score_n_plus_one_lines_at_once_and_0_workers_start_no_thread(self):
-        deep = positions(24, 10, 13).splitlines(True)
-        for workers in WORKERS:
-            with self.subTest(workers=workers):
+                program = self.begin(b"".join([*known, HOURS, EASY[0], HOURS * 70]), "--workers", workers)
+                self.assertEqual([program.stdout.readline()[:66] for _ in known], [line[:66] for line in known])
                 threads = workers + 2 if workers else 1
-                program = self.begin(b"".join(deep) + HOURS * 70, "--workers", workers)
-                self.assertEqual([program.stdout.readline()[:66] for _ in deep], [line[:66] for line in deep])
                 wait_until(lambda: threads_of(program) >= threads)
                 time.sleep(1)  # in which one thread too many could start
                 self.assertEqual(threads_of(program), threads)
-                program.kill()
+                program.send_signal(signal.SIGINT)
+                self.assertEqual((program.stdout.read(), program.wait(SECONDS)), (b"", -signal.SIGINT))
 
     def test_a_reader_that_leaves_ends_the_program_within_positions_that_take_hours(self):
         text = EASY[0] + positions(100, 14, 15) + HOURS * 9
