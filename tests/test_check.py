@@ -10,7 +10,7 @@ from tests.support import ROOT, SECONDS, InFolder, as_at_a_login, need, processe
 
 MODULE = "import os, time, unittest\nfrom tests.support import *\n\n\nclass Some(InFolder):\n"
 PASSES = "    def test_a(self):\n        pass\n"
-FAILS = "    def test_b(self):\n        for row in range(3):\n            with self.subTest(row=row):\n                self.assertEqual('b', row)\n"
+FAILS = "    def test_b(self):\n        self.ends((0, 'b', ''), 'echo', 1)\n        self.ends((0, 'b', ''), 'echo', 2)\n"
 LACKS = '    def test_b(self):\n        need("make", "no-such")\n'
 MAKE = ("make", "-f", "tests/check.mk")
 
@@ -30,7 +30,7 @@ class Check(InFolder):
     def module(name, tests):
         write(f"tests/test_{name}.py", MODULE + tests)
 
-    def ends(self, status, last, *texts, words=MAKE, **variables):
+    def prints(self, status, last, *texts, words=MAKE, **variables):
         """Runs a command, by default MAKE, and asserts its status, the last line that it prints, and that its output
         has all `texts`."""
         ran = run(*words, env={**self.environment, **variables}, text=True)
@@ -39,11 +39,11 @@ class Check(InFolder):
             self.assertIn(text, ran.stdout)
 
     def test_passes_and_failures_are_counted_and_failures_are_shown(self):
-        self.ends(2, "0 passed, 0 failed")
+        self.prints(2, "0 passed, 0 failed")
         self.module("check", PASSES)  # a module with the name of a target of make
         for tests, passed, failed, shown in (
             (PASSES + PASSES.replace("_a", "_c"), 2, 0, "tests.test_one: 2 passed, 0 failed, in "),
-            (PASSES + FAILS + FAILS.replace("_b", "_c"), 1, 2, "AssertionError: 'b' != 2"),
+            (PASSES + FAILS + FAILS.replace("_b", "_c"), 1, 2, "(0, '2\\n', '') != (0, 'b', '')"),
             ("    def test_a(self)\n", 0, 1, "SyntaxError"),
             ("    pass\n", 0, 1, "tests.test_check: 1 passed"),
             (PASSES + "\n\ndef setUpModule():\n    1 / 0\n", 0, 1, "ZeroDivisionError"),
@@ -53,18 +53,18 @@ class Check(InFolder):
         ):
             with self.subTest(tests=tests):
                 self.module("one", tests)
-                self.ends(2 if failed else 0, f"{passed + 1} passed, {failed} failed", shown, words=(*MAKE, "TEST_SECONDS=8"))
-        self.ends(0, "1 passed, 0 failed", words=(*MAKE, "TESTS=check"))
-        self.ends(2, "0 passed, 1 failed", words=(*MAKE, "TESTS=three"))
+                self.prints(2 if failed else 0, f"{passed + 1} passed, {failed} failed", shown, words=(*MAKE, "TEST_SECONDS=8"))
+        self.prints(0, "1 passed, 0 failed", words=(*MAKE, "TESTS=check"))
+        self.prints(2, "0 passed, 1 failed", words=(*MAKE, "TESTS=three"))
 
     def test_a_missing_tool_skips_a_test_and_fails_it_if_ci_is_true(self):
         self.module("check", PASSES)
         self.module("one", PASSES + LACKS)
-        self.ends(0, "2 passed, 0 failed, 1 skipped")
-        self.ends(2, "2 passed, 1 failed", "no-such is missing", CI="true")
+        self.prints(0, "2 passed, 0 failed, 1 skipped")
+        self.prints(2, "2 passed, 1 failed", "no-such is missing", CI="true")
         self.module("one", PASSES + "\n\ndef setUpModule():\n" + LACKS.splitlines(keepends=True)[1][4:])
-        self.ends(0, "1 passed, 0 failed, 1 skipped")
-        self.ends(2, "1 passed, 1 failed", CI="true")
+        self.prints(0, "1 passed, 0 failed, 1 skipped")
+        self.prints(2, "1 passed, 1 failed", CI="true")
 
     def test_an_interrupt_from_the_terminal_and_a_signal_to_make_alone_end_all_processes(self):
         self.module("one", f"    def test_a(self):\n        run('sh', '-c', 'echo >{self.folder}/begun; exec sleep 50')\n")
@@ -83,30 +83,31 @@ class Check(InFolder):
         self.assertEqual(run("sh", "-c", "make -s some 2>&1", cwd=ROOT).stdout, b"made\\n")
         self.assertIs(signal.getsignal(signal.SIGINT), signal.default_int_handler)
 """)
-        self.ends(0, "1 passed, 0 failed", words=("sh", "-c", "trap '' INT; exec make --no-print-directory check"))
+        self.prints(0, "1 passed, 0 failed", words=("sh", "-c", "trap '' INT; exec make --no-print-directory check"))
 
     def test_counts_of_rt_ci_and_make_check_are_added_and_one_that_counts_nothing_fails(self):
-        all_pass = ("7 passed, 0 failed", 0)
-        for status, last, ci, check in (
-            (0, "14 passed, 0 failed", all_pass, all_pass),
-            (1, "13 passed, 1 failed", ("6 passed, 1 failed", 1), all_pass),
+        good = ("7 passed, 0 failed", 0)
+        rows = [
+            (0, "14 passed, 0 failed", good, good),
+            (1, "13 passed, 1 failed", ("6 passed, 1 failed", 1), good),
             (1, "13 passed, 3 failed", ("6 passed, 1 failed (in 3 s)", 1), ("7 passed, 2 failed", 2)),
-            *((1, "7 passed, 1 failed", *both[::turn]) for text in ("0 passed, 0 failed", "killed", "7 passed, 0 failed\\nand more")
-              for both in [((text, 0), all_pass)] for turn in (1, -1)),
-            (1, "7 passed, 9 failed", ("0 passed, 9 failed", 1), all_pass),
-            (1, "14 passed, 1 failed", all_pass, (all_pass[0], 2)),
-            (1, "14 passed, 1 failed", (all_pass[0], 1), all_pass),
-        ):
+            (1, "7 passed, 9 failed", ("0 passed, 9 failed", 1), good),
+            (1, "14 passed, 1 failed", good, (good[0], 2)),
+            (1, "14 passed, 1 failed", (good[0], 1), good),
+        ]
+        for text in ("0 passed, 0 failed", "killed", "7 passed, 0 failed\\nand more"):
+            rows += [(1, "7 passed, 1 failed", (text, 0), good), (1, "7 passed, 1 failed", good, (text, 0))]
+        for status, last, ci, check in rows:
             for name, (text, ends) in (("rt", ci), ("make", check), ("apt-get", ("", 0))):
-                write(f"tools/{name}", f'#!/bin/sh\n[ "$CI" = true ] || exit 9\necho "{name} $*"; printf "{text}\\n"; exit {ends}\n')
+                lines = f'[ "$CI" = true ] || exit 9\necho "{name} $*"; printf "{text}\\n"; exit {ends}\n'
+                write(f"tools/{name}", f"#!/bin/sh\n{lines}")
             path = f"{self.folder}/tools:{os.environ['PATH']}"
-            self.ends(status, last, "apt-get -q install", "rt ci\n", "make check", words=(".ci/run",), PATH=path)
+            self.prints(status, last, "apt-get -q install", "rt ci\n", "make check", words=(".ci/run",), PATH=path)
 
     def test_any_argument_of_ci_run_is_refused(self):
+        usage = "usage: .ci/run (no arguments): runs rt ci and then make check\n"
         for words in (["--help"], [""], ["ci", "check"]):
-            ran = run(".ci/run", *words, text=True, env={**self.environment, "PATH": "/usr/bin:/bin"})
-            self.assertEqual((ran.returncode, ran.stdout), (2, ""))
-            self.assertEqual(ran.stderr, "usage: .ci/run (no arguments): runs rt ci and then make check\n")
+            self.ends((2, "", usage), ".ci/run", *words, env={**self.environment, "PATH": "/usr/bin:/bin"})
         self.assertFalse(Path("out").exists())
 
     def test_no_program_names_a_temporary_file_that_two_runs_would_share(self):
