@@ -1,51 +1,48 @@
 """Helpers for the tests of ffosolve-many: they install it, run it, and compare its output and the files it leaves."""
 import os
 import shutil
-import stat
 import sys
 import unittest
 from pathlib import Path
 from unittest import mock
 
-from tests.support import InFolder, built, copy_many, module_folder, positions, run, write
+from tests.support import InFolder, built, change_many, copy_many, module_folder, positions, run, write
 
 BOARD = b"-OXXXXX-XXXXXXXOXXXXXXXXXXXXXXXXXXXOXXXXXXXXXXXXXXXXXXXXXXXXXXXX"  # two empty squares
-# Takes the place of the program @real@ and runs it. Appends its arguments to the file $WORDS. If the input is a part of
-# a list, and not a line that only tests the program, first dies or fails if it has DIE or FAIL, and sleeps $PAUSE
-# seconds, or 45 once $LAST parts are solved. The function $SPOIL, or $SPOIL_KNOWN for a line that tests, changes the
-# output.
+# Takes the place of the program @real@ and runs it. Appends its arguments to the file $WORDS. Dies or fails if its
+# input has DIE or FAIL. With a part of a list, first sleeps $PAUSE seconds, or 45 once $LAST parts are solved, and lets
+# the function $SPOIL change the output; with a line that only tests the program, lets $SPOIL_KNOWN change it.
 ACTING = """\
 #!@python@ -IS
-import os, signal, subprocess, sys, time
-places, text, real = os.environ, sys.stdin.buffer.read(), "@real@"
+import glob, os, signal, subprocess, sys, time
+places, text, command = os.environ, b"", ["@real@", *sys.argv[1:]]
+if sys.stdin.seekable():  # not the pipe with the line that shows the limit of empty squares
+    text = sys.stdin.buffer.read()
+    os.lseek(0, 0, 0)
+is_part = text and b"H1:+62; A1:+52;" not in text
 if "WORDS" in places:
-    open(places["WORDS"], "a").write(" ".join(sys.argv[1:]) + "\\n")
-if b"H1:+62; A1:+52;" not in text and text.strip(b"-") != b" X;" and text:
-    if b"DIE" in text:
-        os.kill(os.getpid(), signal.SIGKILL)
-    if b"FAIL" in text:
-        sys.exit("ffosolve: out of memory")
-    solved = [name for name in os.listdir("results") if "." not in name] if "LAST" in places else []
-    time.sleep(45 if len(solved) >= int(places.get("LAST", 1)) else float(places.get("PAUSE", 0)))
-    spoil = places.get("SPOIL")
-else:
-    spoil = places.get("SPOIL_KNOWN")
-if spoil:
-    ran = subprocess.run([real, *sys.argv[1:]], input=text, stdout=subprocess.PIPE)
-    sys.stdout.buffer.write(eval(spoil)(ran.stdout))
-    sys.exit()
-file = os.memfd_create("text")
-os.write(file, text)
-os.lseek(file, 0, 0)
-os.dup2(file, 0)
-os.execv(real, [real, *sys.argv[1:]])
+    open(places["WORDS"], "a").write(" ".join(command[1:]) + "\\n")
+if b"DIE" in text:
+    os.kill(os.getpid(), signal.SIGKILL)
+if b"FAIL" in text:
+    sys.exit("ffosolve: out of memory")
+if is_part:
+    is_last = len(glob.glob("results/???????")) >= int(places.get("LAST", 10_000))
+    time.sleep(45 if is_last else float(places.get("PAUSE", 0)))
+spoil = places.get("SPOIL" if is_part else "SPOIL_KNOWN")
+if not spoil:
+    os.execv("@real@", command)
+sys.stdout.buffer.write(eval(spoil)(subprocess.run(command, stdout=subprocess.PIPE).stdout))
 """
 
 
-def install(name, script=None):
+def install(name, *changes, script=None):
     """Installs ffosolve-many in a new folder, beside ffosolve and ffoscores or, if `script` is given, beside copies of
-    it that run these two. Returns the path of ffosolve-many."""
+    it that run these two. Each of `changes` is (module, old text, new text) for `change_many`. Returns the path of
+    ffosolve-many."""
     many = copy_many(BASE / name)
+    for change in changes:
+        change_many(many, *change)
     for program in ("ffosolve", "ffoscores"):
         place = shutil.copy(built(program), many.with_name(f"real-{program}" if script else program))
         if script:
@@ -53,67 +50,68 @@ def install(name, script=None):
     return many
 
 
-def set_up_module():
+def setUpModule():
     """Installs ffosolve-many with the programs themselves (MANY) and with the script ACTING in their place (ACTS), and
-    makes a list (SMALL); for setUpModule."""
+    makes a list (SMALL)."""
     global BASE, MANY, ACTS, SMALL
     BASE = module_folder()
-    for name in ("tmp", "python"):
-        (BASE / name).mkdir()
-    os.symlink(sys.executable, BASE / "python/python3")  # not the python3 on the path, which may be a slow wrapper
+    (BASE / "tmp").mkdir()
+    write(BASE / "python/python3", f'#!/bin/sh\nexec "{sys.executable}" "$@"\n')  # the one on the path may be slow
     places = {"TMPDIR": f"{BASE}/tmp", "PATH": f"{BASE}/python:{os.environ['PATH']}"}
     unittest.enterModuleContext(mock.patch.dict(os.environ, places))
-    MANY, ACTS = install("plain"), install("acting prefix", ACTING)
+    MANY, ACTS = install("plain"), install("acting prefix", script=ACTING)
     SMALL = positions(60, 1, 5)
 
 
 class Case(InFolder):
-    """A test in a folder with `list.obf`, which has 60 positions; `self.one` is what ffosolve prints for them."""
+    """A test in a folder with a list of 60 positions, `list.obf`. One run of ffosolve printed `self.one` for that list,
+    and wrote the book `one.book`."""
 
     WORDS = ("--lines=20", "work", "list.obf", "--book-out", "joined.book")
 
     def setUp(self):
         super().setUp()
-        write("list.obf", SMALL)
-        self.one = self.solve("list.obf")
+        self.write_list(SMALL)
 
-    def solve(self, *words):
-        """Returns what one run of ffosolve prints; the run writes its book to `one.book`."""
-        ran = run(MANY.with_name("ffosolve"), "--book-out", "one.book", *words)
+    def write_list(self, text, *options):
+        """Writes `text` to list.obf. Sets `self.one`, and writes one.book, by one run of ffosolve with `options`."""
+        write("list.obf", text)
+        ran = run(MANY.with_name("ffosolve"), "--book-out", "one.book", *options, "list.obf")
         self.assertEqual((ran.returncode, ran.stderr), (0, b""))
-        return ran.stdout
+        self.one = ran.stdout
 
-    def many(self, *words, by=None, places={}, **how):
+    def many(self, *words, status=0, output=None, message="", by=None, places={}, **how):
         """Runs ffosolve-many, by default MANY and otherwise the one at `by`, with the variables `places` added to the
-        environment."""
-        return run(by or MANY, *words, env={**os.environ, **places}, **how)
-
-    def ends(self, status, output, message, *words, **how):
-        """Runs ffosolve-many, asserts its status, its output, and that `message` is in its errors; returns the run."""
-        ran = self.many(*words, **how)
-        self.assertEqual((ran.returncode, ran.stdout), (status, output), ran.stderr.decode())
-        self.assertIn(message, ran.stderr.decode())
-        return ran
-
-    def same(self, *words, text=None, message="", **how):
-        """Asserts that ffosolve-many succeeds, prints `text`, by default `self.one`, and has `message` in its errors;
-        returns the errors."""
-        return self.ends(0, self.one if text is None else text, message, *words, **how).stderr.decode()
+        environment. Asserts its status, its output, and that `message` is in its errors; returns the errors. The output
+        is by default `self.one` if the status is 0, and otherwise empty. If the status is 0 and joined.book is one of
+        `words`, asserts that this book equals one.book, and removes it."""
+        ran = run(by or MANY, *words, env={**os.environ, **places}, **how)
+        errors = ran.stderr.decode()
+        if output is None:
+            output = b"" if status else self.one
+        self.assertEqual((ran.returncode, ran.stdout), (status, output), errors)
+        self.assertIn(message, errors)
+        if status == 0 and "joined.book" in words:
+            self.same_book()
+            Path("joined.book").unlink()
+        return errors
 
     def same_book(self, name="joined.book"):
         self.assertEqual(Path(name).read_bytes(), Path("one.book").read_bytes())
 
     def files(self):
-        """Returns {path: (content, permissions)} for everything in the test's folder, with False as a folder's
-        content."""
-        return {path: (path.is_file() and path.read_bytes(), stat.S_IMODE(path.lstat().st_mode))
+        """Returns {path: (content, mode)} for everything in the test's folder. A folder's content is False."""
+        return {path: (path.is_file() and path.read_bytes(), path.lstat().st_mode)
                 for path in Path(".").rglob("*")}
 
     def refused(self, status, message, *words, **how):
         """Asserts that a run prints only an error of one line, with advice if `status` is 2, and changes no file."""
         before = self.files()
-        lines = self.ends(status, b"", message, *words, **how).stderr.decode().splitlines()
-        self.assertEqual((len(lines), lines[0].startswith("ffosolve-many: ")), (1, True), lines)
+        (line,) = self.many(*words, status=status, message=message, **how).splitlines()
+        advice = "(Try 'ffosolve-many --help'|use |name |merged)" if status == 2 else ""
+        self.assertRegex(line, f"^ffosolve-many: .*{advice}")
         self.assertEqual(self.files(), before)
-        if status == 2:
-            self.assertRegex(lines[0], "Try 'ffosolve-many --help'|use |name |merged|no part can hold it")
+
+    def done(self):
+        """Returns the number of parts that are solved in the folder `work`."""
+        return len(list(Path("work/results").glob("[0-9]" * 7)))

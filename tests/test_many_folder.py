@@ -1,5 +1,4 @@
 """bin/ffosolve-many continues after any interruption, and uses only complete results."""
-import contextlib
 import hashlib
 import json
 import os
@@ -12,13 +11,10 @@ from pathlib import Path
 from unittest import mock
 
 from tests import many
-from tests.many import Case, install, set_up_module as setUpModule
-from tests.support import (MOST_BYTES, SECONDS, InFolder, as_at_a_login, change_many, limited, processes_in, run,
-                           wait_until, write)
+from tests.many import Case, install, setUpModule
+from tests.support import MOST_BYTES, SECONDS, InFolder, as_at_a_login, limited, processes_in, run, wait_until, write
 
 from ffosolve._many import command, folder, parts, solve
-
-KILLS = int(os.environ.get("KILLS", 10))  # runs that are killed at random moments
 
 
 class Functions(InFolder):
@@ -69,73 +65,59 @@ class Functions(InFolder):
 class Resuming(Case):
     """The same command keeps the parts that have complete results, and solves the others."""
 
-    def begin(self, *words):
-        self.same(*self.WORDS, *words)
-        Path("joined.book").unlink()
-
-    def again(self, solved, *words, **how):
-        """Asserts that the same command keeps `solved` solved parts, and prints what one run of ffosolve does."""
-        self.same(*self.WORDS, *words, message=f"in 3 parts, {solved} of them solved before;", **how)
-        self.same_book()
-        Path("joined.book").unlink()
-
     def test_a_part_whose_results_are_not_complete_is_solved_again(self):
-        self.begin()
-        self.again(3)
-        path, task = Path("work", "results/0000001"), json.loads(Path("work", "task.json").read_text())
-        whole = path.read_bytes()
+        self.many(*self.WORDS)
+        self.many(*self.WORDS, message="in 3 parts, 3 of them solved before;")
+        path, task = Path("work/results/0000001"), json.loads(Path("work/task.json").read_text())
+        whole, text = path.read_bytes(), b"".join(many.SMALL.splitlines(keepends=True)[20:40])
         head, _, results = whole.partition(b"\n")
-        report, book = results[:int(head.split()[1])], results[int(head.split()[1]):]
-        seconds, text = float(head.split()[3]), b"".join(many.SMALL.splitlines(keepends=True)[20:40])
+        _, size, _, seconds, _ = head.split()
+        report, book = results[:int(size)], results[int(size):]
 
-        def record(report, book, part=1, status=0):
-            """Returns a record of results that has the right digest."""
-            head = b"%d %d %d %.3f" % (status, len(report), len(book), seconds)
-            return b"%b %b\n%b%b" % (head, solve.digest_of(task, part, head, text, report + book), report, book)
-        self.assertEqual(record(report, book), whole)
-        of_others = record(report, book, part=2)
-        task["options"]["--complete"] = ""
-        of_others_too = record(report, book)
-        task["options"]["--complete"] = None
+        def record(report=report, book=book, part=1, status=0, complete=None):
+            """Returns a record with the right digest, by default the one in the folder."""
+            asked = {"options": {**task["options"], "--complete": complete}}
+            head = b"%d %d %d %b" % (status, len(report), len(book), seconds)
+            return b"%b %b\n%b%b" % (head, solve.digest_of(asked, part, head, text, report + book), report, book)
+
+        self.assertEqual(record(), whole)
         for spoiled in (None, b"", whole[:-1], whole[:whole[:-1].rindex(b"\n") + 1], bytes(len(whole)), whole + b"\n",
-                        whole.replace(b"+", b"-", 1), Path("work/results/0000000").read_bytes(), of_others,
-                        of_others_too, record(report, book, status=1), record(report.replace(b"\n1 ", b"\n2 "), book),
-                        record(report, book.replace(b"winner", b"discs")), record(report, b"")):
+                        whole.replace(b"+", b"-", 1), Path("work/results/0000000").read_bytes(), record(part=2),
+                        record(complete=""), record(status=1), record(report=report.replace(b"\n1 ", b"\n2 ")),
+                        record(book=book.replace(b"winner", b"discs")), record(book=b"")):
             path.unlink() if spoiled is None else path.write_bytes(spoiled)
-            self.again(2)
+            self.many(*self.WORDS, message="in 3 parts, 2 of them solved before;")
             self.assertEqual(path.read_bytes().partition(b"\n")[2], results)
 
     def test_removed_results_are_solved_again(self):
-        self.begin()
-        shutil.rmtree(Path("work", "results"))
-        self.again(0)
-        Path("work", "task.json").unlink()
-        self.again(3)
+        self.many(*self.WORDS)
+        shutil.rmtree("work/results")
+        self.many(*self.WORDS, message="in 3 parts, 0 of them solved before;")
+        Path("work/task.json").unlink()
+        self.many(*self.WORDS, message="in 3 parts, 3 of them solved before;")
 
     def test_the_folder_keeps_the_program_that_it_was_begun_with(self):
-        self.begin()
+        self.many(*self.WORDS)
         before = Path("work", "program-0").read_bytes()
         Path("work", "results/0000001").unlink()
-        self.again(2, by=many.ACTS)
+        self.many(*self.WORDS, by=many.ACTS, message="in 3 parts, 2 of them solved before;")
         self.assertEqual(Path("work", "program-0").read_bytes(), before)
 
     def test_damaged_files_of_the_run_are_written_again(self):
-        read = "--book-in=one.book"
-        self.begin(read)
-        names = ("list", "program-0", "book-in", "solve.py", "task.json")
-        before = {path: path.read_bytes() for path in map(Path("work").joinpath, names)}
-        for path, whole in before.items():
-            path.write_bytes(whole[:-5])
-        self.again(3, read)
-        self.assertEqual({path: path.read_bytes() for path in before}, before)
+        words = (*self.WORDS, "--book-in=one.book")
+        self.many(*words)
+        before = self.files()
+        run("truncate", "--size=-5", "list", "program-0", "book-in", "solve.py", "task.json", cwd="work", check=True)
+        self.many(*words, message="in 3 parts, 3 of them solved before;")
+        self.assertEqual(self.files(), before)
 
     def test_other_options_are_refused_by_name(self):
-        places = ("work", "list.obf")
-        words = ("--lines=20", "--scoring=discs", "--max-empties=07", "--complete", "--book-in=one.book", *places)
+        words = ("--lines=20", "--scoring=discs", "--max-empties=07", "--complete", "--book-in=one.book", "work",
+                 "list.obf")
         write("other.book", b"% ffobook 2 winner\n")
-        self.one = self.solve("--scoring=discs", "list.obf")
+        self.write_list(many.SMALL, "--scoring=discs")
         digest = hashlib.sha256(Path("one.book").read_bytes()).hexdigest()
-        self.same(*words)
+        self.many(*words)
         for old, new, how in (("--lines=20", "--lines=21", "with --lines 20"),
                               ("--scoring=discs", "--scoring=sign", "with --scoring discs"),
                               ("--max-empties=07", "--max-empties=8", "with --max-empties 7"),
@@ -146,92 +128,80 @@ class Resuming(Case):
             self.refused(2, f"work was begun {how}: use another folder, or the same options",
                          *(new if word == old else word for word in words))
         self.refused(2, "begun with --lines 20 and with --scoring discs and with --max-empties 7 and without --scores "
-                        f"and with --complete and with --book-in of SHA-256 {digest}: use another folder", "--scores",
-                     *places)
-        self.same(*words, "--table=9", "--workers=1", "--jobs=3", message=", 3 of them solved before")
-
-    def test_the_folder_of_an_earlier_version_is_refused(self):
-        for name in ("lock", "asked.json", "run-0123456789ab/list"):
-            write(Path("work", name), "the work of ffosolve-many, form 1")
-        self.refused(2, "work has files that are not ffosolve-many's, or those of an earlier version, such as "
-                        "asked.json: name a new or an empty folder", *self.WORDS)
+                        f"and with --complete and with --book-in of SHA-256 {digest}: use another folder",
+                     "--scores", "work", "list.obf")
+        self.many(*words, "--table=9", "--workers=1", "--jobs=3", message=", 3 of them solved before")
 
     def test_a_list_that_grew_at_its_end_goes_on(self):
-        self.begin()
-        for text, message in ((many.SMALL[:68 * 30], "90 lines in 5 parts, 3 of them"),
-                              (many.SMALL[:68 * 30] + b"% more" + many.SMALL[:68 * 40],
-                               "130 lines in 7 parts, 4 of them")):
-            write("list.obf", many.SMALL + text)
-            self.one = self.solve("list.obf")
-            self.same(*self.WORDS, message=message)
-        self.same_book()
-        self.same(*self.WORDS, message="130 lines in 7 parts, 7 of them solved before")
+        self.many(*self.WORDS)
+        grown = many.SMALL + many.SMALL[:68 * 30]
+        more = grown + b"% more" + many.SMALL[:68 * 40]
+        for text, message in ((grown, "90 lines in 5 parts, 3 of them"), (more, "130 lines in 7 parts, 4 of them"),
+                              (more, "130 lines in 7 parts, 7 of them solved before")):
+            self.write_list(text)
+            self.many(*self.WORDS, message=message)
 
     def test_a_list_that_changed_is_refused_by_its_first_line_that_differs(self):
-        self.begin()
+        self.many(*self.WORDS)
         lines = many.SMALL.splitlines(keepends=True)
         for text, line in ((b"".join(lines[:29] + [b"\n"] + lines[30:]), 30), (b"".join(lines[:-1]), 60),
                            (b"%\n" + many.SMALL, 1), (b"", 1)):
             write("list.obf", text)
             self.refused(2, f"from line {line} on: use another folder, or the same list", *self.WORDS)
         write("list.obf", many.SMALL)
-        self.again(3)
+        self.many(*self.WORDS, message="in 3 parts, 3 of them solved before;")
 
     def test_only_the_parts_that_failed_are_solved_again(self):
-        write("list.obf", many.SMALL + b"% FAIL\n" + many.SMALL + b"% DIE\n")
-        self.one = self.solve("list.obf")
+        self.write_list(many.SMALL + b"% FAIL\n" + many.SMALL + b"% DIE\n")
         for _ in range(2):
             message = ("not solved: 2 of 7 parts: part 0000003 (lines 61 to 80), part 0000006 (lines 121 to 122). "
                        "The same command solves only these\n")
-            ran = self.ends(1, b"", message, *self.WORDS, by=many.ACTS)
-            self.assertIn(b": this machine failed part 0000003 (lines 61 to 80): ffosolve: out of memory\n", ran.stderr)
-            self.assertIn(b": this machine failed part 0000006 (lines 121 to 122): killed by SIGKILL\n", ran.stderr)
+            errors = self.many(*self.WORDS, by=many.ACTS, status=1, message=message)
+            self.assertIn(": this machine failed part 0000003 (lines 61 to 80): ffosolve: out of memory\n", errors)
+            self.assertIn(": this machine failed part 0000006 (lines 121 to 122): killed by SIGKILL\n", errors)
             self.assertEqual([*Path("work/results").glob("000000[36]*"), *Path(".").glob("joined.book")], [])
         Path("work", "program-0").unlink()
-        self.same(*self.WORDS, message=", 5 of them solved before")
-        self.same_book()
-        self.ends(3, b"", "not solved: 2 of 7 parts: ", "--scores", "--lines=20", "work2", "list.obf", by=many.ACTS)
+        self.many(*self.WORDS, message=", 5 of them solved before")
+        self.many("--scores", "--lines=20", "work2", "list.obf", by=many.ACTS, status=3,
+                  message="not solved: 2 of 7 parts: ")
 
     def test_what_killed_runs_left_is_removed_and_nothing_else(self):
-        self.begin()
+        self.many(*self.WORDS)
         Path("work", "results/0000002").unlink()
         strays = ["work/results/0000001.0123abcd.new", "work/task.json.0123abcd.new", "work/book.01_3abcd.new/1.book"]
         kept = ["work/results/mine.txt", "work/notes", "work/copy", "work/notes.new"]
         for path in strays + kept:
             write(path, "?")
-        self.again(2)
+        self.many(*self.WORDS, message="in 3 parts, 2 of them solved before;")
         self.assertEqual([os.path.exists(path) for path in strays + kept], [False] * 3 + [True] * 4)
 
     def test_a_full_disk_ends_the_run_and_it_goes_on_when_there_is_room(self):
-        by = install("full")
-        change_many(by, "solve", "file.writelines(pieces)", "file.writelines(pieces) if 'ROOM' in os.environ or "
-                    "not '0000005' <= path.name < '1' else open('/dev/full', 'wb', 0).write(b'?')")
+        writes = "file.writelines(pieces)"
+        fails_late = "open('/dev/full', 'wb', 0).write(b'?') if '0000005' <= path.name < '1' else " + writes
+        by = install("full", ("solve", writes, fails_late))
         words = ("--jobs=1", "--lines=5", *self.WORDS[1:])
-        ran = self.ends(3, b"", ": No space left on device\n", *words, by=by)
-        self.assertIn(b"cannot write work: No space left", ran.stderr)
-        self.same(*words, message=", 5 of them solved before", by=by, places={"ROOM": ""})
-        self.same_book()
+        self.many(*words, by=by, status=3, message="cannot write work: No space left on device\n")
+        self.many(*words, message=", 5 of them solved before")
 
 
 class Files(Case):
     """Which lists are read, from files and from pipes, and which folders are used."""
 
     def test_a_list_is_read_from_standard_input(self):
-        self.same("--lines=20", "work", "-", message="-: 60 lines in 3 parts", input=many.SMALL)
-        self.same("--lines=20", "work", "/dev/stdin", message=", 3 of them solved before", input=many.SMALL)
+        self.many("--lines=20", "work", "-", message="-: 60 lines in 3 parts", input=many.SMALL)
+        self.many("--lines=20", "work", "/dev/stdin", message=", 3 of them solved before", input=many.SMALL)
         names = [folder.LOCK, "list", "program-0", "results", "solve.py", "task.json"]
         self.assertEqual(sorted(os.listdir("work")), names)
         with open("list.obf", "rb") as file:
-            self.same("--lines=20", "work", "-", message=", 3 of them solved before", stdin=file)
+            self.many("--lines=20", "work", "-", message=", 3 of them solved before", stdin=file)
         self.refused(2, "- is not the list that work was begun with, from line 1 on", "--lines=20", "work", "-",
                      input=many.SMALL[68:])
-        ran = run("sh", "-c", '"$0" work - <&-', many.MANY)
-        self.assertEqual((ran.returncode, ran.stdout, ran.stderr),
-                         (3, b"", b"ffosolve-many: cannot read -: standard input is closed\n"))
+        self.ends((3, "", "ffosolve-many: cannot read -: standard input is closed\n"), "sh", "-c", '"$0" work - <&-',
+                  many.MANY)
 
     def test_a_piped_list_and_book_are_read(self):
         command = '"$0" work <(cat list.obf) --book-in <(cat one.book) --book-out joined.book'
-        self.same("-c", command, many.MANY, by="bash")
+        self.many("-c", command, many.MANY, by="bash")
         self.same_book()
         self.assertEqual(Path("work", "book-in").read_bytes(), Path("one.book").read_bytes())
         self.assertEqual(os.listdir(many.BASE / "tmp"), [])
@@ -244,8 +214,8 @@ class Files(Case):
             write("other.obf", text)
             self.refused(3, f"cannot read other.obf: {message}", "other.obf")
             self.refused(3, f"cannot read -: {message}", "work", "-", input=text)
-        write("list.obf", many.SMALL.partition(b"\n")[0].rstrip() + b"\r")  # its only line ends with CR but no LF
-        self.same("list.obf", text=self.solve("list.obf"))
+        self.write_list(many.SMALL.partition(b"\n")[0].rstrip() + b"\r")  # its only line ends with CR but no LF
+        self.many("list.obf")
 
     def test_a_pipe_is_refused_if_there_is_no_room_for_its_copy(self):
         self.refused(3, f"cannot copy - to {many.BASE}/tmp: File too large", "work", "-", input=many.SMALL,
@@ -258,34 +228,34 @@ class Files(Case):
             self.refused(3, f"cannot read -: its line 1 {most}\n", name, "-", input=b"%" * (MOST_BYTES + 1))
             self.refused(2, f"part 0000001 (from line 3 of - on) {most}: use fewer lines, such as --lines 1\n",
                          "--lines=2", name, "-", input=b"\n\n" + (b"%" + half) * 2)
-        self.assertEqual(self.many("--cut", "--lines=2", "work", "-", input=half * 4).stdout[:8], b"2 parts,")
+        self.assertEqual(run(many.MANY, "--cut", "--lines=2", "work", "-", input=half * 4).stdout[:8], b"2 parts,")
 
     def test_a_list_that_changes_while_it_is_read_is_solved_as_it_was_copied(self):
-        by = install("changing")
         copied = '    copy(source, folder / "list")\n'
         write_source = "    source.write_bytes(source.read_bytes()[:{}])\n"
-        change_many(by, "folder", copied, write_source.format(68 * 50) + copied + write_source.format(9))
-        write("fifty.obf", many.SMALL[:68 * 50])
-        self.same("--lines=7", "work", "list.obf", by=by, message=" 50 lines in 8 parts", text=self.solve("fifty.obf"))
+        by = install("changing", ("folder", copied, write_source.format(68 * 50) + copied + write_source.format(9)))
+        self.write_list(many.SMALL[:68 * 50])
+        write("list.obf", many.SMALL)
+        self.many("--lines=7", "work", "list.obf", by=by, message=" 50 lines in 8 parts")
 
-    def test_a_folder_with_other_files_is_refused_and_untouched(self):
-        message = "such as a.new: name a new or an empty folder"
-        for names in ("copy", "lock copy", "a.new", "results/0000000 task.json list"):
+    def test_a_folder_with_other_files_or_of_an_earlier_version_is_refused_and_untouched(self):
+        message = ("has files that are not ffosolve-many's, or those of an earlier version, such as {}: name a new or "
+                   "an empty folder\n")
+        for names, first in (("copy", "copy"), ("lock copy", "copy"), ("results/0000000 task.json list", "list"),
+                             ("a.new", "a.new"), ("lock asked.json run-0123456789ab/list", "asked.json")):
             for name in names.split():
-                write(Path(names, name), "mine")
-            self.refused(2, message.partition(": ")[2], names, "list.obf")
-        self.refused(2, f"a.new has files that are not ffosolve-many's, or those of an earlier version, {message}",
-                     "a.new", "list.obf")
-        self.refused(2, f"or those of an earlier version, {message}", ".", "list.obf")
+                write(Path(names, name), "the work of ffosolve-many, form 1")
+            self.refused(2, message.format(first), names, "list.obf")
+        self.refused(2, message.format("a.new"), ".", "list.obf")
 
     def test_a_folder_that_is_empty_or_was_just_begun_is_used(self):
-        for names in ((), (folder.LOCK,), (folder.LOCK, "list.0123abcd.new"), (folder.LOCK, "task.json")):
-            Path("work").mkdir()
+        Path("empty").mkdir()
+        for at, names in (("empty", ()), ("locked", (folder.LOCK,)), ("copying", (folder.LOCK, "list.0123abcd.new")),
+                          ("begun", (folder.LOCK, "task.json"))):
             for name in names:
-                write(Path("work", name), "[]")
-            self.same("work", "list.obf")
-            self.assertEqual([*Path("work").glob("*.new")], [])
-            shutil.rmtree("work")
+                write(Path(at, name), "[]")
+            self.many(at, "list.obf")
+            self.assertEqual([*Path(at).glob("*.new")], [])
 
 
 class Signals(Case):
@@ -293,95 +263,72 @@ class Signals(Case):
 
     WORDS = ("--jobs=2", "--lines=5", *Case.WORDS[1:])
 
-    def open(self, *program, last="", **how):
+    def open(self, *program, last=99):
         """Starts `program` in its own session. `many.ACTS` takes 45 seconds for a part once `last` parts are solved."""
-        places = {**os.environ, "PAUSE": "0.15", "LAST": str(last or 99)}
-        return self.start(*program, *self.WORDS, start_new_session=True, preexec_fn=as_at_a_login, env=places, **how)
+        places = {**os.environ, "PAUSE": "0.15", "LAST": str(last)}
+        return self.start(*program, *self.WORDS, start_new_session=True, preexec_fn=as_at_a_login, env=places)
 
     def at_work(self, done):
         """Starts a run of twelve parts; returns it once `done` parts are solved and two others are being solved."""
         ran = self.open(many.ACTS, last=done)
-        wait_until(lambda: self.done() >= done and len(self.programs()) == 2)
-        self.assertIsNone(ran.poll(), "it ended too early")
+        wait_until(lambda: self.done() >= done)
+        wait_until(lambda: sum("program-0" in words for words in processes_in(self.folder).values()) == 2)
         return ran
 
-    def done(self):
-        """Returns the number of solved parts."""
-        return len(list(Path("work/results").glob("[0-9]" * 7)))
-
-    def workers(self):
-        """Returns {process ID: command line} of the processes that run in the test's folder."""
-        return processes_in(str(self.folder))
-
-    def programs(self):
-        return [number for number, words in self.workers().items() if "program-0" in words]
-
-    def whole_at_last(self, message=""):
-        """Asserts that the same command ends with the report and the book of one run of ffosolve. Removes its files."""
-        self.same(*self.WORDS, by=many.ACTS, message=message)
-        self.same_book()
-        shutil.rmtree("work")
-        Path("joined.book").unlink()
+    def end(self, ran, *signals):
+        """Sends signals to a run and waits for its end. Asserts that then all processes end within a second, or within
+        more if the machine is busy. Returns the run's output, and its errors as text."""
+        for number in signals:
+            ran.send_signal(number)
+        output, errors = ran.communicate(timeout=SECONDS)
+        wait_until(lambda: not processes_in(self.folder), 1 + os.getloadavg()[0] / os.cpu_count())
+        return output, errors.decode()
 
     def test_a_signal_ends_all_processes_within_a_second_and_the_command_goes_on(self):
         for at, number in enumerate((signal.SIGTERM, signal.SIGINT, signal.SIGHUP, signal.SIGKILL), 1):
             ran = self.at_work(2 * at)
-            ran.send_signal(number)
-            output, errors = ran.communicate(timeout=SECONDS)
-            wait_until(lambda: not self.workers(), 1 + os.getloadavg()[0] / os.cpu_count())
+            output, errors = self.end(ran, number)
             self.assertEqual((ran.returncode, output), (-number, b""))
-            interrupted = b"interrupted; the same command goes on with what is solved\n" in errors
-            self.assertEqual((interrupted, b"Traceback" in errors), (number != signal.SIGKILL, False))
-        self.whole_at_last("lines in 12 parts, 8 of them solved before")
+            interrupted = "interrupted; the same command goes on with what is solved\n" in errors
+            self.assertEqual((interrupted, "Traceback" in errors), (number != signal.SIGKILL, False))
+        self.many(*self.WORDS, by=many.ACTS, message="lines in 12 parts, 8 of them solved before")
 
     def test_two_signals_together_end_it_without_a_traceback(self):
-        pairs = [(signal.SIGINT, signal.SIGTERM), (signal.SIGTERM, signal.SIGINT), (signal.SIGHUP, signal.SIGINT)] * 2
-        runs = []
-        for number in range(len(pairs)):
-            write(f"{number}/list.obf", many.SMALL)
-            runs.append(self.open(many.ACTS, last="0", cwd=f"{number}"))
-        wait_until(lambda: len(self.programs()) == 2 * len(runs))
-        for ran, pair in zip(runs, pairs):
-            for one in (signal.SIGSTOP, *pair, signal.SIGCONT):  # so that both come at once
-                ran.send_signal(one)
-        for ran, pair in zip(runs, pairs):
-            _, errors = ran.communicate(timeout=SECONDS)
+        pairs = [(signal.SIGINT, signal.SIGTERM), (signal.SIGTERM, signal.SIGINT), (signal.SIGHUP, signal.SIGINT)]
+        for pair in pairs * 2:
+            ran = self.at_work(0)
+            _, errors = self.end(ran, signal.SIGSTOP, *pair, signal.SIGCONT)  # so that both come at once
             self.assertIn(-ran.returncode, pair)
-            self.assertRegex(errors.decode(), "^.*\n.*: interrupted; the same command goes on with what is solved\n$")
+            self.assertRegex(errors, "^.*\n.*: interrupted; the same command goes on with what is solved\n$")
 
     def test_an_interrupt_at_the_start_prints_no_traceback(self):
-        by = install("starting")
         slow = "import contextlib, time\nopen('begun', 'w').close()\ntime.sleep(40)\n"
-        change_many(by, "command", "import contextlib\n", slow)
-        ran = self.open(by)
+        ran = self.open(install("starting", ("command", "import contextlib\n", slow)))
         wait_until(Path("begun").exists)
-        ran.send_signal(signal.SIGINT)
-        self.assertEqual((ran.communicate(timeout=SECONDS), ran.returncode), ((b"", b""), -signal.SIGINT))
+        self.assertEqual((self.end(ran, signal.SIGINT), ran.returncode), ((b"", ""), -signal.SIGINT))
 
     def test_a_second_command_in_the_folder_is_refused(self):
         ran = self.at_work(1)
-        self.ends(3, b"", "another run works in work\n", *self.WORDS, by=many.ACTS)
+        self.many(*self.WORDS, by=many.ACTS, status=3, message="another run works in work\n")
         self.assertIsNone(ran.poll())
 
     def test_an_interrupt_that_the_caller_ignores_does_not_end_the_run(self):
         ran = self.open("sh", "-c", 'trap "" INT; exec "$@"', "sh", many.ACTS)
         wait_until(lambda: self.done() > 0)
-        ran.send_signal(signal.SIGINT)
-        self.assertEqual((ran.communicate(timeout=SECONDS)[0], ran.returncode), (self.one, 0))
+        output, _ = self.end(ran, signal.SIGINT)
+        self.assertEqual((output, ran.returncode), (self.one, 0))
 
     def test_kills_at_random_moments_lose_nothing(self):
         """Kills the program, its process group, or one of its processes."""
         rng = random.Random(1)
-        for _ in range(KILLS):
+        for _ in range(10):
             ran = self.open(many.ACTS)
             time.sleep(rng.uniform(0, 2))
-            worker = rng.choice([*self.workers()] or [ran.pid])
-            kill, one = rng.choice(((os.killpg, ran.pid), (os.kill, ran.pid), (os.kill, worker)))
-            with contextlib.suppress(ProcessLookupError):
-                kill(one, signal.SIGKILL)
-            output, _ = ran.communicate(timeout=SECONDS)
+            one = rng.choice([*processes_in(self.folder)] or [ran.pid])
+            run("kill", "-KILL", "--", rng.choice((-ran.pid, ran.pid, one)))  # a negative number names the group
+            output, _ = self.end(ran)
             self.assertIn(ran.returncode, (0, -9) if output else (1, 3, 4, -9))
             self.assertIn(output, (self.one, b""))
-            wait_until(lambda: not self.workers(), 1 + os.getloadavg()[0] / os.cpu_count())
             if ran.returncode == 0 or rng.randrange(4) == 0:
-                self.whole_at_last()
+                self.many(*self.WORDS, by=many.ACTS)
+                shutil.rmtree("work")

@@ -3,8 +3,8 @@ import itertools
 import sys
 import threading
 import time
-import types
 import unittest
+from unittest import mock
 
 from .positions import need_modules, numpy, random_positions
 from .support import ROOT, SECONDS, run
@@ -12,22 +12,19 @@ import ffosolve
 from ffosolve import Answer, Position, Solver
 
 SHARED, WIDE = Position(3, 2), Position(1, 6)
+REFUSED = ((SHARED, ffosolve.SharedSquare), (WIDE, ffosolve.TooManyEmpties))
 
 
-class Meeting:
-    """A stand-in for the library. Its calls wait until `count` of them have begun, and then make the real ones. `asked`
-    has the scoring and the number of table entries of each call."""
+def meeting(library, count):
+    """Returns a mock of a library. Its calls wait until `count` of them have begun, and then make the real calls."""
+    at_once, mocked = threading.Barrier(count), mock.Mock(wraps=library)
 
-    def __init__(self, real, count):
-        self.real, self.at_once, self.asked = real, threading.Barrier(count), []
+    def wait(*words):
+        at_once.wait(SECONDS)
+        return mock.DEFAULT  # so that the mock makes the real call
 
-    def __getattr__(self, name):
-        def call(*words):
-            self.at_once.wait(SECONDS)
-            self.asked.append((int(words[2]), words[3]))
-            return getattr(self.real, name)(*words)
-
-        return call
+    mocked.ffosolve_solve_all.side_effect = mocked.ffosolve_move_scores_all.side_effect = wait
+    return mocked
 
 
 class Lists(unittest.TestCase):
@@ -51,60 +48,54 @@ class Lists(unittest.TestCase):
                 self.assertEqual(list(call([], threads=threads)), [])
 
     def test_results_come_before_an_endless_or_slow_iterable_ends(self):
+        """The iterable is slow for 50 positions, and never ends."""
         def slow():
-            for position in self.positions[:50]:
-                time.sleep(0.02)
+            for position in itertools.cycle(self.positions):
+                time.sleep(0.02 if len(taken) < 50 else 0)
                 taken.append(position)
                 yield position
 
         for threads in (1, 4):
-            counter, taken = itertools.count(), []
-            answers = self.solver.solve_iter((self.positions[number % 300] for number in counter), threads=threads)
-            self.assertIs(iter(answers), answers)
-            self.assertEqual(list(itertools.islice(answers, 400)), self.answers + self.answers[:100])
-            answers.close()
-            self.assertLess(next(counter), 100_000)
+            taken = []
             answers = self.solver.solve_iter(slow(), threads=threads)
+            self.assertIs(iter(answers), answers)
             self.assertEqual(next(answers), self.answers[0])
             self.assertLess(len(taken), 50)
-            self.assertEqual(list(answers), self.answers[1:50])
+            self.assertEqual(list(itertools.islice(answers, 399)), self.answers[1:] + self.answers[:100])
+            answers.close()
+            self.assertLess(len(taken), 100_000)
 
     def test_as_many_threads_as_asked_call_at_once(self):
         """Each call gets the scoring and the number of table entries of the solver."""
         for threads in (3, 6):
             solver, positions = Solver(scoring=2, entries=7), random_positions(threads, [16])  # each is one part
             answers, scores = solver.solve_all(positions), solver.move_scores_all(positions)
-            library = solver._library = Meeting(solver._library, threads)
+            library = solver._library = meeting(solver._library, threads)
             for call, wanted in ((solver.solve_all, answers), (solver.solve_iter, answers),
                                  (solver.move_scores_all, scores), (solver.move_scores_iter, scores)):
                 self.assertEqual(list(call(positions, threads=threads)), wanted)
-            self.assertEqual(library.asked, [(2, 7)] * 4 * threads)
+            self.assertEqual([call.args[2:4] for call in library.method_calls], [(2, 7)] * 4 * threads)
 
     def test_a_closed_iterator_waits_for_nothing_and_begins_nothing(self):
-        calls, ended, asked, closed = [], [], threading.Event(), threading.Event()
+        begun, waited, closed, solver = itertools.count(), [], threading.Event(), Solver()
 
         def solve_all(*words):
-            calls.append(words)
-            ended.append((closed if len(calls) > 1 else asked).wait(SECONDS))
+            if next(begun) == 0:
+                time.sleep(0.5)  # meanwhile, all positions are read
+            else:
+                waited.append(closed.wait(SECONDS))
             return 0
 
-        def positions():
-            for number, position in enumerate(random_positions(20, [20])):
-                if number == 10:
-                    asked.set()
-                yield position
-
-        solver = Solver()
-        solver._library = types.SimpleNamespace(ffosolve_solve_all=solve_all)
-        answers = solver.solve_iter(positions(), threads=2)
+        solver._library = mock.Mock(ffosolve_solve_all=solve_all)
+        answers = solver.solve_iter(random_positions(20, [20]), threads=2)
         next(answers)
         answers.close()
         closed.set()
         for thread in threading.enumerate():
             if thread.name == "ffosolve":
                 thread.join(SECONDS)
-        self.assertTrue(all(ended))
-        self.assertLessEqual(len(calls), 4)
+        self.assertTrue(all(waited))
+        self.assertLessEqual(next(begun), 4)
 
     def test_few_positions_are_read_ahead_of_one_that_takes_long(self):
         """While one thread solves the first position for a second, another thread solves the positions after it."""
@@ -115,29 +106,27 @@ class Lists(unittest.TestCase):
                 time.sleep(1)
             return 0
 
-        solver._library = types.SimpleNamespace(ffosolve_solve_all=solve_all)
+        solver._library = mock.Mock(ffosolve_solve_all=solve_all)
         (long,) = random_positions(1, [20])  # each is a part of its own
-        answers = solver.solve_iter((long for _ in iter(lambda: next(taken), None)), threads=2)
+        answers = solver.solve_iter((long for _ in taken), threads=2)
         next(answers)
         answers.close()
         self.assertLess(next(taken), 100)
 
     def test_an_iterator_yields_the_answers_before_a_refusal(self):
-        for bad, error in ((SHARED, ffosolve.SharedSquare), (WIDE, ffosolve.TooManyEmpties)):
-            calls = ((self.solver.solve_iter, self.answers), (self.solver.move_scores_iter, self.scores))
-            for threads, place, (call, wanted) in itertools.product((1, 2), (0, 7, 299), calls):
-                answers, found = call([*self.positions[:place], bad, *self.positions[place:], SHARED], threads=threads), []
-                with self.assertRaises(error) as refused:
-                    found.extend(answer for answer in answers if found.append(answer))
-                self.assertEqual((found, refused.exception.index), (wanted[:place], place))
+        calls = ((self.solver.solve_iter, self.answers), (self.solver.move_scores_iter, self.scores))
+        for (bad, error), threads, place, (call, wanted) in itertools.product(REFUSED, (1, 2), (0, 7, 299), calls):
+            found, positions = [], [*self.positions[:place], bad, *self.positions[place:], SHARED]
+            with self.assertRaises(error) as refused:
+                for answer in call(positions, threads=threads):
+                    found.append(answer)
+            self.assertEqual((found, refused.exception.index), (wanted[:place], place))
 
     def test_a_list_is_refused_before_anything_is_solved(self):
         """The first position would take hours. The refused position is in the same part of the list or a later one."""
         solver, hopeless = Solver(max_empties=34), random_positions(1, [34])
-        for (bad, error), threads, before, call in itertools.product(
-            ((SHARED, ffosolve.SharedSquare), (WIDE, ffosolve.TooManyEmpties)), (1, 2),
-            (hopeless, hopeless + self.positions), (solver.solve_all, solver.move_scores_all),
-        ):
+        calls, lists = (solver.solve_all, solver.move_scores_all), (hopeless, hopeless + self.positions)
+        for (bad, error), threads, before, call in itertools.product(REFUSED, (1, 2), lists, calls):
             with self.assertRaises(error) as refused:
                 call([*before, bad, SHARED], threads=threads)
             self.assertEqual(refused.exception.index, len(before))
@@ -154,42 +143,42 @@ class Arrays(unittest.TestCase):
         self.solver, self.positions = Solver(), random_positions(400, range(11))
         self.own, self.opp = numpy.array(self.positions, numpy.uint64).T
 
-    def as_lists(self, solver, positions, threads):
-        """Returns what `solve_arrays` and `move_scores_arrays` find, as `solve_all` and `move_scores_all` return it."""
+    def check(self, solver, positions, threads):
+        """Asserts that arrays hold what lists hold: `solve_arrays` and `solve_all` find the same, and so do
+        `move_scores_arrays` and `move_scores_all`."""
         own, opp = numpy.array(positions, numpy.uint64).reshape(-1, 2).T
         answers, scores = (call(own, opp, threads=threads) for call in (solver.solve_arrays, solver.move_scores_arrays))
         self.assertEqual([str(array.dtype) for array in (*answers, scores)], ["int32", "int32", "uint64", "int8"])
         self.assertEqual(scores.shape, (len(positions), 64))
-        return [Answer(*its) for its in zip(*(array.tolist() for array in answers))], [
-            {ffosolve.square_name(at): score for at, score in enumerate(row) if score != ffosolve.NO_SCORE}
-            for row in scores.tolist()]
+        listed = [Answer(*its) for its in zip(*(array.tolist() for array in answers))]
+        self.assertEqual(listed, solver.solve_all(positions, threads=threads))
+        listed = [{ffosolve.square_name(at): score for at, score in enumerate(row) if score != ffosolve.NO_SCORE}
+                  for row in scores.tolist()]
+        self.assertEqual(listed, solver.move_scores_all(positions, threads=threads))
 
     def test_arrays_hold_what_lists_hold(self):
         """Tries each scoring, one thread and several, and empty arrays."""
         for scoring, threads, count in (*((scoring, 1, 90) for scoring in ffosolve.Scoring), (0, 3, 400), (0, 2, 0)):
-            solver, positions = Solver(scoring=scoring), self.positions[:count]
-            wanted = solver.solve_all(positions), solver.move_scores_all(positions)
-            self.assertEqual(self.as_lists(solver, positions, threads), wanted)
+            self.check(Solver(scoring=scoring), self.positions[:count], threads)
 
     def test_the_table_is_for_the_most_empty_squares_of_a_call(self):
         asked, solver = [], Solver()
         for call, name in ((solver.solve_arrays, "solve_all"), (solver.move_scores_arrays, "move_scores_all")):
-            solver._library = types.SimpleNamespace(**{f"ffosolve_{name}": lambda *words: asked.append(words[3]) or 0})
+            solver._library = mock.Mock(**{f"ffosolve_{name}": lambda *words: asked.append(words[3]) or 0})
             for empties in ((3, 16, 9), (16, 3), (3, 16)):
                 call(*numpy.array(random_positions(len(empties), empties), numpy.uint64).T)
         self.assertEqual(asked, [ffosolve.table_entries(16)] * 6)
 
     def test_threads_call_at_once(self):
         for given, entries in ((7, 7), (None, ffosolve.table_entries(16))):
-            solver, positions = Solver(scoring=2, entries=given), random_positions(3, [16])
-            wanted = solver.solve_all(positions), solver.move_scores_all(positions)
-            library = solver._library = Meeting(solver._library, 3)
-            self.assertEqual(self.as_lists(solver, positions, threads=3), wanted)
-            self.assertEqual(library.asked, [(2, entries)] * 6)
+            solver = Solver(scoring=2, entries=given)
+            library = solver._library = meeting(solver._library, 3)
+            self.check(solver, random_positions(3, [16]), threads=3)
+            self.assertEqual([call.args[2:4] for call in library.method_calls], [(2, entries)] * 12)
 
     def test_wrong_positions_and_arrays_are_refused(self):
         for call in (self.solver.solve_arrays, self.solver.move_scores_arrays):
-            for bad, error in ((SHARED, ffosolve.SharedSquare), (WIDE, ffosolve.TooManyEmpties)):
+            for bad, error in REFUSED:
                 own, opp = self.own.copy(), self.opp.copy()
                 (own[57], opp[57]), (own[300], opp[300]) = bad, SHARED
                 with self.assertRaises(error) as refused:
