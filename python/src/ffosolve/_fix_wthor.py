@@ -1,11 +1,12 @@
 """Writes copies of WTHOR files, with exact scores."""
 import contextlib
+import ctypes
 import os
-from typing import BinaryIO, Dict, Iterable, Iterator, List, Mapping, Optional
+from typing import BinaryIO, Dict, Iterable, Iterator, List, Mapping
 
-from ._games import EMPTIES_BYTE, HEADER, REAL, RECORD, SCORE
-from ._games import Game, GameRefused, NotGames, Played, Player, game_of, read_header
-from ._positions import START
+from ._games import (EMPTIES_BYTE, HEADER, REAL, RECORD, SCORE, GameRefused, NotGames, final_discs, game_of, positions_of,
+                     read_header)
+from ._positions import Position
 from ._published import Compared, Unfit
 
 
@@ -14,16 +15,16 @@ class Fixed:
     `with_real`, with the real scores that follow from the moves. A header without the number of empty squares gets that
     of the compared positions. No other byte changes. Raises Unfit, on iterating, if another file was compared."""
 
-    def __init__(self, name: str, file: BinaryIO, compared: List[Compared], player: Player, with_real: bool) -> None:
-        self._name, self._file, self._player, self._with_real = name, file, player, with_real
+    def __init__(self, name: str, file: BinaryIO, compared: List[Compared], library: ctypes.CDLL, with_real: bool) -> None:
+        self._name, self._file, self._library, self._with_real = name, file, library, with_real
         self._compared: Dict[int, Compared] = {it.game: it for it in compared}
-        self._games = self._changed = self._real_changed = self._real_unknown = 0
+        self._games = self._real_changed = self._real_unknown = 0
 
     def summary(self) -> str:
         """Returns text: how many scores were changed and how many were not compared. Call this after iterating."""
-        others = self._games - len(self._compared)
+        changed, others = sum(it.published != it.exact for it in self._compared.values()), self._games - len(self._compared)
         real = f"; real scores changed {self._real_changed}, not checked {self._real_unknown}" if self._with_real else ""
-        return f"theoretical scores changed {self._changed} of {self._games}, not compared {others}{real}"
+        return f"theoretical scores changed {changed} of {self._games}, not compared {others}{real}"
 
     def __iter__(self) -> Iterator[bytes]:
         try:
@@ -55,27 +56,22 @@ class Fixed:
         """Returns a game's record, with the exact scores that are known. Raises Unfit if the position or the published score
         that was compared under the game's number is not this game's."""
         game, it = game_of(self._games, bytes(record)), self._compared.get(self._games)
+        positions: List[Position] = []
+        if it is not None or self._with_real:
+            with contextlib.suppress(GameRefused):
+                positions = positions_of(self._library, game)
         if it is not None:
-            played = self._played(game, it.position.empties)
-            position = played and (*played.position, played.position.side)
-            if position != (*it.position, it.position.side) or game.score != it.published:
+            if it.position.to_obf() not in map(Position.to_obf, positions) or game.score != it.published:
                 raise self._unfit(f"its game {it.game} has another position or theoretical score")
-            self._changed += it.exact != it.published
             record[SCORE] = it.exact
         if self._with_real:
-            played = self._played(game, START.empties)
-            if played is None or played.discs is None:
+            discs = final_discs(positions) if positions else None
+            if discs is None:
                 self._real_unknown += 1
             else:
-                self._real_changed += played.discs != game.real
-                record[REAL] = played.discs
+                self._real_changed += discs != game.real
+                record[REAL] = discs
         return record
-
-    def _played(self, game: Game, empties: int) -> Optional[Played]:
-        try:
-            return self._player.play(game, empties)
-        except GameRefused:
-            return None
 
     def _unfit(self, why: str) -> Unfit:
         return Unfit(f"{self._name} is not the WTHOR file of the list: {why}")

@@ -9,12 +9,12 @@ from typing import Any, BinaryIO, Callable, Iterator, List, NamedTuple, Optional
 from ._boards import OTHER
 from ._library import CPosition
 from ._positions import START, Position
-from ._rules import illegal_move
+from ._rules import NO_SQUARE, illegal_move, moves, size_of
 from ._squares import NAMES, square_name
 from ._text import NotText, text_lines
 from ._transcripts import PASSES, words_of
 
-PASS, NO_SQUARE = 64, 255  # instead of a square's number
+PASS = 64  # instead of a square's number
 WORDS = {**{name.lower(): number for number, name in enumerate(NAMES)}, **dict.fromkeys(PASSES, PASS)}
 HEADER = struct.Struct("<4x I H 2x B B B x")  # games, other records, size of the board, kind, empty squares
 EMPTIES_BYTE = 14  # in the header: the number of empty squares
@@ -72,13 +72,6 @@ class Game(NamedTuple):
         `words`, as text: a word in small letters, or the number of a byte."""
         names = zip(self.moves, self.words)
         return [str(word) if move == NO_SQUARE else square_name(move) for move, word in names if move != PASS]
-
-
-class Played(NamedTuple):
-    """What `Player.play` returns for a game."""
-
-    position: Position  # the first one with the wanted number of empty squares
-    discs: Optional[int]  # Black's at the end, where the winner gets the empty squares; None if the moves stop earlier
 
 
 def read_games(
@@ -180,74 +173,56 @@ def game_of(number: int, record: bytes) -> Game:
     return Game(number, written.translate(SQUARES), written, record[SCORE], record[REAL])
 
 
+def positions_of(library: ctypes.CDLL, game: Game) -> List[Position]:
+    """The positions of a game: the start, and the one after each move. Raises GameRefused."""
+    if game.fault is not None:
+        raise GameRefused(game.fault, game.number)
+    at, found, after = START, [START], CPosition()
+    for index, square in enumerate(game.moves):
+        is_illegal = library.ffosolve_play(CPosition(*at), square, after)
+        if is_illegal and not moves(library, at) and (square == PASS or moves(library, at.passed())):
+            at = at.passed()
+            if square == PASS:
+                continue
+            is_illegal = library.ffosolve_play(CPosition(*at), square, after)
+        if is_illegal:
+            raise GameRefused(why_illegal(library, at, game, index), game.number, len(found))
+        at = Position(after.own, after.opp, OTHER[at.side])
+        found.append(at)
+    return found
+
+
+def why_illegal(library: ctypes.CDLL, position: Position, game: Game, index: int) -> str:
+    square = game.moves[index]
+    if square == NO_SQUARE:
+        return f"{game.words[index]!r} is not a square"
+    return illegal_move(library, position, "a pass" if square == PASS else square_name(square)).reason
+
+
+def position_with(empties: int, game: Game, positions: List[Position]) -> Position:
+    """The first of a game's positions that has `empties` empty squares. Raises GameRefused if there is none."""
+    left = positions[-1].empties
+    if left <= empties:
+        return positions[START.empties - empties]
+    if not game.moves:
+        raise GameRefused("it has no moves", game.number)
+    why = f"it ends here, with {left} empty square{'s' * (left > 1)}; {empties} are asked for"
+    raise GameRefused(why, game.number, len(positions) - 1)
+
+
+def final_discs(positions: List[Position]) -> Optional[int]:
+    """Black's discs at the end of a game, where the winner gets the empty squares; None if the game is not over."""
+    last = positions[-1]
+    return discs_of_black(final_score(*last), last.side) if last.is_over else None
+
+
 def final_score(own: int, opp: int) -> int:
     """The score of a finished game for the mover: the discs in the mask `own` minus those in `opp`; the winner gets the
     empty squares."""
-    mine, theirs = bin(own).count("1"), bin(opp).count("1")
+    mine, theirs = size_of(own), size_of(opp)
     return mine - theirs + (64 - mine - theirs) * ((mine > theirs) - (mine < theirs))
 
 
 def discs_of_black(score: int, side: str) -> int:
     """The number of Black's discs, given the score for the mover, who is "X" (Black) or "O" (White)."""
     return 32 + (score if side == "X" else -score) // 2
-
-
-class Player:
-    """Plays games by the rules of the library."""
-
-    def __init__(self, library: ctypes.CDLL) -> None:
-        self._library, self._play, self._moves = library, library.ffosolve_play, library.ffosolve_moves
-
-    def play(self, game: Game, empties: int) -> Played:
-        """Plays a whole game. Returns its first position with `empties` empty squares, and Black's discs at the end.
-        Raises GameRefused if there is no such position, and for an illegal move even after it, since earlier moves may
-        then be wrong, too."""
-        found = self._played(game)
-        last = position_of(*found[-1])
-        if last.empties > empties:
-            if not game.moves:
-                raise GameRefused("it has no moves", game.number)
-            why = f"it ends here, with {last.empties} empty square{'s' * (last.empties > 1)}; {empties} are asked for"
-            raise GameRefused(why, game.number, len(found) - 1)
-        is_over = not self._has_move(CPosition(*last)) and not self._has_move(CPosition(last.opp, last.own))
-        discs = discs_of_black(final_score(*last), last.side) if is_over else None
-        return Played(position_of(*found[START.empties - empties]), discs)
-
-    def positions(self, game: Game) -> List[Position]:
-        """The positions of a game: the start, and the one after each move. Raises GameRefused."""
-        return [position_of(*it) for it in self._played(game)]
-
-    def _played(self, game: Game) -> List[Tuple[CPosition, str]]:
-        """The positions that `positions` returns, each as a CPosition and the side to move. Raises GameRefused."""
-        if game.fault is not None:
-            raise GameRefused(game.fault, game.number)
-        play, at, side = self._play, CPosition(*START), START.side
-        found = [(at, side)]
-        for index, square in enumerate(game.moves):
-            after = CPosition()
-            if play(at, square, after):
-                other = CPosition(at.opp, at.own)
-                if not self._has_move(at) and (square == PASS or self._has_move(other)):
-                    at, side = other, OTHER[side]
-                    if square == PASS:
-                        continue
-                if play(at, square, after):
-                    raise GameRefused(self._why_illegal(game, index, position_of(at, side)), game.number, len(found))
-            at, side = after, OTHER[side]
-            found.append((at, side))
-        return found
-
-    def _has_move(self, at: CPosition) -> bool:
-        moves = ctypes.c_uint64()
-        self._moves(at, moves)
-        return moves.value != 0
-
-    def _why_illegal(self, game: Game, index: int, position: Position) -> str:
-        square = game.moves[index]
-        if square == NO_SQUARE:
-            return f"{game.words[index]!r} is not a square"
-        return illegal_move(self._library, position, "a pass" if square == PASS else square_name(square)).reason
-
-
-def position_of(at: CPosition, side: str) -> Position:
-    return Position(at.own, at.opp, side)

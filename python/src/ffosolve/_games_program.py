@@ -1,6 +1,7 @@
 """The program ffosolve-games, and its command line."""
 import argparse
 import contextlib
+import ctypes
 import hashlib
 import io
 import os
@@ -12,7 +13,7 @@ from typing import Callable, Dict, Iterator, List, Optional, Sequence
 
 from . import __version__
 from ._fix_wthor import Fixed, write_new
-from ._games import MOST_DISCS, Game, GameRefused, Played, Player, games_in
+from ._games import MOST_DISCS, Game, GameRefused, final_discs, games_in, position_with, positions_of
 from ._library import MOST_EMPTIES, LibraryNotFound, load
 from ._positions import Position
 from ._published import BadList, Compared, Comparison, Unfit, digest_of
@@ -176,18 +177,18 @@ def main(find: Callable[[], Optional[str]] = lambda: None) -> int:
 
 
 def print_games(options: argparse.Namespace, find: Callable[[], Optional[str]], output: Output) -> int:
-    player, status = Player(load(find())), DONE
+    library, status = load(find()), DONE
     for name in options.files or ["-"]:
         try:
             with opened(name) as file:
-                status = max(status, print_file(name, file, options.empties, player, output))
+                status = max(status, print_file(name, file, options.empties, library, output))
         except FileRefused as why:
             status = max(status, report(why, why.status))
     output.end()
     return status
 
 
-def print_file(name: str, file: io.BufferedReader, wanted: Optional[int], player: Player, output: Output) -> int:
+def print_file(name: str, file: io.BufferedReader, wanted: Optional[int], library: ctypes.CDLL, output: Output) -> int:
     """Prints one position of each game of a file, or reports on standard error why there is none. Reports wrong scores,
     too. The position has `wanted` empty squares, or if that is None, as many as the file says. Returns the status."""
     status = DONE
@@ -200,27 +201,29 @@ def print_file(name: str, file: io.BufferedReader, wanted: Optional[int], player
                           "try --empties 22 or 24, the usual numbers", MISUSED)
     for game in games:
         try:
-            played = player.play(game, empties)
+            positions = positions_of(library, game)
+            position = position_with(empties, game, positions)
         except GameRefused as why:
             status = report(f"{shown(name)}, {why}", REMARKED)
             continue
         if game.empties not in (None, empties):
             game = game._replace(score=None)
-        output.game(name, game, played.position)
-        for wrong in wrong_scores(game, played):
+        output.game(name, game, position)
+        for wrong in wrong_scores(game, final_discs(positions)):
             status = report(f"{shown(name)}, game {game.number}: {wrong}", REMARKED)
     return status
 
 
-def wrong_scores(game: Game, played: Played) -> Iterator[str]:
-    """Yields a message for each score of a game that is too high, does not fit the moves, or can't be checked."""
+def wrong_scores(game: Game, discs: Optional[int]) -> Iterator[str]:
+    """Yields a message for each score of a game that is too high, differs from `discs`, Black's discs at the end of the
+    game, or can't be checked since `discs` is None."""
     for kind, score in (("theoretical", game.score), ("real", game.real)):
         if score is not None and score > MOST_DISCS:
             yield f"its {kind} score is {score}, more than {MOST_DISCS} discs"
-        elif kind == "real" and score is not None and played.discs is None:
+        elif kind == "real" and score is not None and discs is None:
             yield f"its moves stop before the end of the game, so its real score {score} is not checked"
-        elif kind == "real" and score not in (None, played.discs):
-            yield f"its real score is {score}, but its moves give {played.discs}"
+        elif kind == "real" and score not in (None, discs):
+            yield f"its real score is {score}, but its moves give {discs}"
 
 
 def compare(options: argparse.Namespace, find: Callable[[], Optional[str]], output: Output) -> int:
@@ -234,7 +237,7 @@ def compare(options: argparse.Namespace, find: Callable[[], Optional[str]], outp
     except Unfit as why:
         raise Stop(f"{shown(solved)} is not a report of {shown(listed)}: {why}") from None
     if options.fix is not None:
-        fix(options.fix, found.compared, Player(load(find())), options.real)
+        fix(options.fix, found.compared, load(find()), options.real)
     for it in found.differences:
         difference = f"published {it.published}, exact {it.exact}, difference {it.published - it.exact:+}"
         output.line(os.fsencode(f"{it.file}, game {it.game}: {difference}"))
@@ -243,7 +246,7 @@ def compare(options: argparse.Namespace, find: Callable[[], Optional[str]], outp
     return REMARKED if found.differences or found.refused else DONE
 
 
-def fix(place: str, compared: Sequence[Compared], player: Player, with_real: bool) -> None:
+def fix(place: str, compared: Sequence[Compared], library: ctypes.CDLL, with_real: bool) -> None:
     """Writes copies of the compared WTHOR files, with exact scores: to `place`, or into it if it is a folder."""
     of_files: Dict[str, List[Compared]] = {}
     for it in compared:
@@ -256,7 +259,7 @@ def fix(place: str, compared: Sequence[Compared], player: Player, with_real: boo
             if os.path.lexists(path):
                 raise would_be_lost(path)
             source = stack.enter_context(opened_again(name))
-            fixed[path] = Fixed(shown(name), source, of_files[name], player, with_real)
+            fixed[path] = Fixed(shown(name), source, of_files[name], library, with_real)
         try:
             write_new(fixed)
         except FileExistsError as error:

@@ -8,7 +8,7 @@ from typing import TYPE_CHECKING, Any, Dict, Iterable, Iterator, List, Optional,
 from ._answers import Answer, Kind, Scoring, scoring_of
 from ._boards import OTHER
 from ._bulk import Part, PartOrRefusal, checked_threads, in_order, interruptible, parts_of
-from ._games import Game, Player
+from ._games import Game, positions_of
 from ._library import MOST_EMPTIES, MOST_ENTRIES, CAnswer, CMoveScores, load
 from ._positions import Position
 from ._refusals import Refused, TooManyEntries, checked_number
@@ -144,7 +144,7 @@ class Solver:
         game = Game.of_text(game) if isinstance(game, str) else game
         if not isinstance(game, Game):
             raise TypeError(f"a game is a Game or the text of a transcript, not {reprlib.repr(game)}")
-        return Player(self._library).positions(game)
+        return positions_of(self._library, game)
 
     def _entries_for(self, empties: int) -> int:
         return table_entries(empties) if self._entries is None else self._entries
