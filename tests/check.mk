@@ -3,9 +3,8 @@
 #
 #     make -f tests/check.mk                          all, as `make check` does after building
 #     make -f tests/check.mk TESTS='books many'       tests/test_books.py and tests/test_many.py
-ifeq ($(filter -j% --jobserver%,$(MAKEFLAGS)),)
-MAKEFLAGS += -j$(shell nproc)
-endif
+jobs := $(if $(filter -j% --jobserver%,$(MAKEFLAGS)),,-j$(shell nproc))
+MAKEFLAGS += $(jobs)
 TESTS = $(patsubst tests/test_%.py,%,$(wildcard tests/test_*.py))
 TEST_SECONDS = 3000# that a module may take before it is ended
 PYTHON = python3
@@ -13,8 +12,7 @@ modules = $(TESTS:%=test_%)
 at = out/tests/$(@:test_%=%)
 
 check: begin $(modules)
-	@git status --porcelain >out/tests/after 2>&1; \
-	diff out/tests/before out/tests/after; echo "0 passed, $$? failed" >out/tests/git.count; \
+	@git status --porcelain 2>&1 | diff out/tests/before -; echo "0 passed, $$? failed" >out/tests/git.count; \
 	awk '{ passed += $$1; failed += $$3; skipped += $$5 } \
 	     END { print passed " passed, " failed " failed" (skipped ? ", " skipped " skipped" : ""); \
 	           exit failed || !(passed + skipped) }' out/tests/*.count

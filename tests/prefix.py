@@ -1,4 +1,4 @@
-"""The library and its packages as users have them: installed under a prefix, with programs outside the checkout.
+"""The library and its packages as users have them, installed under a prefix, and copies of the built checkout.
 
 TEST_PREFIX in the environment names the prefix; if it is not set, `make install` installs under a temporary one.
 """
@@ -10,14 +10,19 @@ import shutil
 import sys
 from pathlib import Path
 
-from .support import ROOT, lack, module_folder, need, run, write
+from .support import ROOT, lack, module_folder, need, run, stored, write
 
 TESTS = ROOT / "tests"
+VERSION = stored("VERSION").decode().strip()
+NUMBER = sum(int(part) * 100 ** place for place, part in enumerate(VERSION.split(".")[::-1]))
+LEVELS = ["x86-64-v2", "x86-64-v3"]
+FIRST_OBF, FIRST = ROOT / "examples/first.obf", stored("examples", "first.report").decode()  # a list, and its report
 STRICT = ["-Wall", "-Wextra", "-Wpedantic", "-Wshadow", "-Wconversion", "-Werror"]
 C = ["cc", "-std=c11", *STRICT, "-O1"]
 CXX = ["c++", "-std=c++11", *STRICT, "-O1", "-x", "c++"]
 PIP = [sys.executable, "-m", "pip", "--disable-pip-version-check", "install", "--quiet", "--no-index"]
 LONGEST = 300  # seconds that a command may take, since compilers and solvers are slow on a busy machine
+WITHOUT_GIT = {name: text for name, text in os.environ.items() if not name.startswith("GIT_")}  # a git hook sets those
 
 
 def need_module(name):
@@ -25,9 +30,44 @@ def need_module(name):
         lack(f"the module {name}")
 
 
+def names_of_files():
+    """Returns the paths of the checkout's files: those that git tracks, and new ones that it does not ignore."""
+    words = ("git", "-c", f"safe.directory={ROOT}", "-C", ROOT, "ls-files", "-zco", "--exclude-standard")
+    names = run(*words, env=WITHOUT_GIT, check=True, text=True).stdout.split("\0")
+    return [name for name in names if name and os.path.lexists(ROOT / name)]
+
+
+def copied_checkout(folder):
+    """Builds all programs, copies the checkout and what was built into `folder`, and returns `folder`. The copies keep
+    the times of the files, and everybody may read them."""
+    run("make", "-s", "-C", ROOT, "levels", stderr=None, timeout=None, check=True)
+    shutil.copytree(ROOT / "out", folder / "out", ignore=shutil.ignore_patterns("tests", "*.log", "*.tar.gz*", "*.new"))
+    run("cp", "--parents", "--preserve=mode,timestamps", *names_of_files(), folder, cwd=ROOT, check=True)
+    run("chmod", "-R", "a+rX,u+w", folder, check=True)
+    return folder
+
+
+def files_below(folder):
+    """Returns the set of the relative paths of all files and symbolic links in a folder and its subfolders."""
+    paths = Path(folder).rglob("*")
+    return {str(path.relative_to(folder)) for path in paths if path.is_symlink() or not path.is_dir()}
+
+
+def path_without(tool, folder):
+    """Returns PATH with each of its folders replaced by a new one in `folder`, which has links to all files of the old
+    one except `tool`."""
+    places = {Path(folder, f"without-{tool}-{at}"): place for at, place in enumerate(os.get_exec_path())}
+    for links, place in places.items():
+        links.mkdir()
+        for command in set(Path(place).glob("*")) - {Path(place, tool)}:
+            (links / command.name).symlink_to(command)
+    return ":".join(map(str, places))
+
+
 class Prefix:
     """The files under a prefix, and the folder `work` for programs that use them. `install` runs once for each test
-    module: it makes `work` and, if TEST_PREFIX is not set, installs the files under a prefix in `work`."""
+    module: it makes `work` and, if TEST_PREFIX is not set, installs the files under a prefix in `work`. It also copies
+    what is installed as documents, such as the packages for Python and Rust, into `work`."""
 
     def install(self):
         vars(self).clear()
@@ -38,6 +78,7 @@ class Prefix:
         self.libraries, self.header = folder / "lib", folder / "include/ffosolve.h"
         self.archive, self.shared = self.libraries / "libffosolve.a", self.libraries / "libffosolve.so"
         self.shipped = folder / "share/doc/ffosolve"
+        shutil.copytree(self.shipped, work, dirs_exist_ok=True)
         self.text = self.header.read_text()
         self.calls = set(re.findall(r"^\w+ (ffosolve_\w+)\(", self.text, re.MULTILINE))
         self.environment = {
@@ -77,19 +118,13 @@ class Prefix:
     def site(self):
         """The folder into which pip has installed the package for Python, without a network."""
         need_module("pip")
-        shutil.copytree(self.shipped / "python", self.work / "python", dirs_exist_ok=True)
-        for name in ("VERSION", "LICENSE"):
-            shutil.copy2(self.shipped / name, self.work)
         self.make(*PIP, "--target", self.work / "site", self.work / "python")
         return self.work / "site"
 
-    @functools.cached_property
+    @property
     def crate(self):
         """The folder of a copy of the crate for Rust; the examples are copied into a folder next to it."""
-        shutil.copy2(self.shipped / "VERSION", self.work)
         need("cargo")
-        for name in ("rust", "examples"):
-            shutil.copytree(self.shipped / name, self.work / name, dirs_exist_ok=True)
         return self.work / "rust"
 
     def cargo(self, verb, manifest, *words, **how):

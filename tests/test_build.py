@@ -7,12 +7,12 @@ import time
 from pathlib import Path
 from unittest import mock
 
-from tests.checkouts import path_without
+from tests.prefix import LEVELS, path_without
 from tests.support import (NOBODY, ROOT, SECONDS, InFolder, as_at_a_login, is_v3, lack, need, processes_in, run,
                            wait_until, write)
 
-# A fake rt. Writes its arguments, descriptors and standard input to files, and waits, fails or changes a source if the
-# environment says so. The program that it builds prints what it was made of, its words, its folder and its input.
+# A fake rt. Writes its arguments, descriptors and standard input to files, and runs the shell code $ACTS. The program
+# that it builds prints what it was made of, its words, its folder and its input.
 RT = r"""#!/bin/sh
 ls -l /proc/$$/fd >>"$STARTS.rt"
 case $1 in
@@ -22,16 +22,12 @@ esac
 cat >>"$STARTS.read"
 echo start "$@" >>"$STARTS"
 printf '%s\n' 'rt: chose --jobs 4 for othello_rules' 'so far: 34 of 83 functions checked; the verdict comes last'
-[ -z "${WAITS:-}" ] || for left in $(seq 450); do [ ! -e "$STARTS.go" ] || break; sleep 0.1; done
-[ -z "${CHANGE:-}" ] || [ -e "$CHANGE.done" ] || { echo 2 >"$CHANGE"; : >"$CHANGE.done"; }
-[ -z "${FAILS:-}" ] || { echo 'src/main.rt:1:2: error: a goal is open'; echo 'one more line'; exit 1; }
-[ ! -e ../ffosolve/out/spoiled ] && [ -z "${SPOILS:-}" ] || { echo 'rt: the kept work of ffosolve cannot be used: remove it'; exit 1; }
+eval "${ACTS:-}"
 mkdir -p out
 [ "$1" != lib ] || exec cp "$KIT_FOLDER/libffosolve_c.a" out
 cat >out/${PWD##*/}.o <<END
 #!/bin/sh
-ls -l /proc/\$\$/fd >"\$STARTS.program"
-echo "process \$\$" >>"\$STARTS.program"
+ls -lR /proc/\$\$/fd >"\$STARTS.program"
 echo "made of $(cat src/main.rt)"
 printf '<%s>' "\$@"
 pwd
@@ -39,9 +35,11 @@ cat
 exit 3
 END
 """
-LINK = '#!/bin/sh\nwhile [ "$1" != -o ]; do shift; done\ncp "$3" "$2" && chmod +x "$2"\n'
-ASSEMBLE = '#!/bin/sh\nwhile [ "$1" != -o ]; do shift; done\n: >"$2"\n'
-LEVEL = "x86-64-v3" if is_v3() else "x86-64-v2"
+WAIT = 'for left in $(seq 450); do [ ! -e "$STARTS.go" ] || break; sleep 0.1; done\n'  # at most 45 seconds
+FAIL = "echo 'src/main.rt:1:2: error: a goal is open'; echo 'one more line'; exit 1\n"
+SPOIL = "echo 'rt: the kept work of ffosolve cannot be used: remove it'; exit 1\n"
+COPY = '#!/bin/sh\nwhile [ "$1" != -o ]; do shift; done\ncp "$3" "$2" && chmod +x "$2"\n'  # a linker and an assembler
+LEVEL = LEVELS[is_v3()]
 HOW = {"text": True, "preexec_fn": as_at_a_login, "cwd": "/"}
 
 
@@ -58,12 +56,13 @@ class Build(InFolder):
         for name in ("ffosolve", "ffoscores", "othello_rules", "ffosolve_c"):
             write(self.root / f"crates/{name}/src/main.rt", "1\n")
         self.source = self.root / "crates/ffosolve/src/main.rt"
-        write(self.root / "crates.txt", "# low first\nothello_rules: std\nother: othello_rules\nffosolve: othello_rules\n"
-              "ffoscores: othello_rules\nffosolve_c staticlib: othello_rules\n")
+        crates = ("# low first", "othello_rules: std", "other: othello_rules", "ffosolve: othello_rules",
+                  "ffoscores: othello_rules", "ffosolve_c staticlib: othello_rules", "")
+        write(self.root / "crates.txt", "\n".join(crates))
         files = ("bin", "packaging", "include", "scripts", "Makefile", "VERSION")
         run("cp", "-r", *(ROOT / name for name in files), self.root, check=True)
-        self.rt, self.link = write(self.tools / "rt", RT), write(self.kit / "bin/rattle-link", LINK)
-        write(self.kit / "toolchain/bin/clang", ASSEMBLE)
+        self.rt, self.link = write(self.tools / "rt", RT), write(self.kit / "bin/rattle-link", COPY)
+        write(self.kit / "toolchain/bin/clang", COPY)
         self.starts = write(self.folder / "starts", "")
         self.script, self.log = self.root / "bin/ffosolve", self.root / "out" / LEVEL / "ffosolve.o.log"
         places = {"PATH": f"{self.tools}:/usr/bin:/bin", "STARTS": str(self.starts), "KIT_FOLDER": str(self.kit)}
@@ -75,8 +74,7 @@ class Build(InFolder):
         return run(self.script, *(words or ("w",)), input="read\n", env={**os.environ, **environment}, **HOW, **who)
 
     def begin(self, **environment):
-        """Starts `self.script` and returns its process. If `environment` has WAITS, the fake rt waits, for at most 45
-        seconds, until the file `starts.go` exists."""
+        """Starts `self.script` and returns its process."""
         return self.start(self.script, "w", env={**os.environ, **environment}, **HOW)
 
     def builds(self):
@@ -88,6 +86,12 @@ class Build(InFolder):
         self.assertEqual((ran.returncode, ran.stdout), (3, f"made of {text}\n{words}/\nread\n"), ran.stderr)
         self.assertEqual(self.builds(), builds or self.builds())
         return ran.stderr
+
+    def after(self, change, text, builds, **environment):
+        """Runs the shell command `change` in the folder of the crate ffosolve, and then `self.script`. Asserts that
+        the script ran a program made of `text`, and that there have been `builds` builds in all; returns its errors."""
+        run("sh", "-euc", change, cwd=self.root / "crates/ffosolve", check=True)
+        return self.ran(self.use(**environment), text, builds=builds)
 
     def refused(self, ran, words, lines=None):
         """Asserts that a run ended with status 4 and without output, that the last line of its errors says that nothing
@@ -125,80 +129,62 @@ class Build(InFolder):
         write(below, below.read_text().replace("\n", '\nls -l /proc/$$/fd >>"$STARTS.rt"\n', 1))
         ran = self.begin()
         ran.communicate(timeout=SECONDS)
-        to_rt, to_program = Path(f"{self.starts}.rt").read_text(), Path(f"{self.starts}.program").read_text()
+        to_rt, to_program = Path("starts.rt").read_text(), Path("starts.program").read_text()
         self.assertIn("/dev/null\n", to_rt)
         self.assertNotIn("/crates\n", to_rt + to_program)
         self.assertEqual(re.findall(r" (\d) -> ", to_program), ["0", "1", "2"])
-        self.assertIn(f"process {ran.pid}\n", to_program)
+        self.assertIn(f"/proc/{ran.pid}/fd:\n", to_program)
         write(self.source, "2\n")
         run("make", "-C", self.root, f"out/{LEVEL}/ffosolve.o", input="read\n", **HOW)
-        self.assertEqual((self.builds(), Path(f"{self.starts}.read").read_text()), (2, ""))
+        self.assertEqual((self.builds(), Path("starts.read").read_text()), (2, ""))
 
     def test_each_change_of_a_source_builds_again_and_a_new_time_does_not(self):
         """The changes are a new text, the old text with its old modification time, a new, a renamed and a removed file,
         a file of another crate that is used, and crates.txt. If nothing was changed, no source is read."""
-        for name in ("out/kept.rt", "must-fail/one.rt"):
-            write(self.root / "crates/ffosolve" / name, "")
-        self.use()
-        os.link(self.root / "out/ffosolve", self.folder / "old")
-        old = os.stat(self.source)
-        write(self.source, "2\n")
-        self.ran(self.use(), 2, builds=2)
-        self.assertIn("made of 1", (self.folder / "old").read_text())  # a running program keeps its file
-        write(self.source, "1\n")
-        os.utime(self.source, ns=(old.st_atime_ns, old.st_mtime_ns))
-        self.ran(self.use(), 1, builds=3)
-        one, other = self.source.with_name("one.rt"), self.source.with_name("other.rt")
-        changes = (lambda: write(one, ""), lambda: one.rename(other), other.unlink,
-                   lambda: write(self.root / "crates/ffosolve/specs/Lib.antt", ""),
-                   lambda: write(self.root / "crates/othello_rules/src/main.rt", "2\n"))
-        for builds, change in enumerate(changes, 4):
-            change()
-            self.ran(self.use(), 1, builds=builds)
+        self.after("mkdir out must-fail; touch out/kept.rt must-fail/one.rt; cp -p src/main.rt out", 1, builds=1)
+        os.link(self.root / "out/ffosolve", "old")
+        self.after("echo 2 >src/main.rt", 2, builds=2)
+        self.assertIn("made of 1", Path("old").read_text())  # a running program keeps its file
+        changes = ("cp -p out/main.rt src", "touch src/one.rt", "mv src/one.rt src/other.rt", "rm src/other.rt",
+                   "mkdir specs; touch specs/Lib.antt", "echo 2 >../othello_rules/src/main.rt")
+        for builds, change in enumerate(changes, 3):
+            self.after(change, 1, builds)
         time.sleep(2.1)  # until the sources are clearly older than the build
         self.use()
-        for name in ("out/two.rt", "must-fail/two.rt"):
-            write(self.root / "crates/ffosolve" / name, "")
         write(self.tools / "sha256sum", "#!/bin/sh\nexit 9\n")
-        self.ran(self.use(), 1, builds=8)
+        self.after("touch out/two.rt must-fail/two.rt", 1, builds=8)
         (self.tools / "sha256sum").unlink()
-        write(self.root / "crates/ffosolve/stdin", "")
-        os.utime(self.source)
-        self.assertEqual(self.ran(self.use(), 1, builds=8), "")
-        write(self.root / "crates.txt", (self.root / "crates.txt").read_text() + "\n")
-        self.ran(self.use(), 1, builds=9)
+        self.assertEqual(self.after("touch stdin src/main.rt", 1, builds=8), "")
+        self.after("echo >>../../crates.txt", 1, builds=9)
 
     def test_a_change_within_the_same_second_builds_again(self):
         """A file's modification time may be up to a second behind the clock."""
         write(self.tools / "date", '#!/bin/sh\necho $(($(/usr/bin/date "$@") + 1))\n')
         self.use()
-        write(self.source, "2\n")
-        self.ran(self.use(), 2, builds=2)
+        self.after("echo 2 >src/main.rt", 2, builds=2)
 
     def test_a_change_during_a_build_builds_again(self):
-        self.ran(self.use(CHANGE=str(self.source)), 2, builds=2)
+        self.ran(self.use(ACTS="[ -e out ] || echo 2 >src/main.rt"), 2, builds=2)
 
     def test_a_program_that_was_removed_is_built_again_and_kept_proofs_are_not(self):
         self.use()
-        for builds, lost in enumerate(("crates/ffosolve/out", "out/ffosolve", "out")):
-            run("rm", "-r", self.root / lost, check=True)
-            self.ran(self.use(), 1, builds=max(builds, 1))
+        for lost, builds in (("crates/ffosolve/out", 1), ("out/ffosolve", 1), ("out", 2)):
+            self.after(f"rm -r ../../{lost}", 1, builds)
 
     def test_a_second_run_says_that_it_waits_and_builds_if_the_first_fails(self):
-        go = Path(f"{self.starts}.go")
-        for number, fails, wanted in ((1, {"FAILS": "yes"}, (4, "")), (2, {}, (3, "made of 2\n<w>/\n"))):
+        for number, act, wanted in ((1, FAIL, (4, "")), (2, "", (3, "made of 2\n<w>/\n"))):
             write(self.source, f"{number}\n")
             begun = self.builds()
-            first = self.begin(WAITS="yes", **fails)
+            first = self.begin(ACTS=WAIT + act)
             wait_until(lambda: self.builds() > begun)
             second = self.begin()
             self.assertIn(f"waiting for another build; its log is in {self.root}/out\n", second.stderr.readline())
-            go.touch()
+            Path("starts.go").touch()
             self.assertEqual((first.communicate(timeout=SECONDS)[0], first.returncode), wanted[::-1])
             output = second.communicate(timeout=SECONDS)
             self.assertEqual((second.returncode, output[0]), (3, f"made of {number}\n<w>/\n"), output)
             self.assertEqual(self.builds(), number + 1)
-            go.unlink()
+            Path("starts.go").unlink()
 
     def test_eight_runs_at_once_build_once(self):
         for ran in [self.begin() for _ in range(8)]:
@@ -213,49 +199,45 @@ class Build(InFolder):
         self.assertEqual((ran.returncode, ran.stdout, ran.stderr.count("\n")), (4, "", 1), ran)
         self.assertIn("make", ran.stderr)
         for builds, kit in enumerate(("rattle-kit-13b", "rattle-kit-13f", "rattle-kit-14a", "rattle-kit-13"), 1):
-            write(self.source, f"{builds}\n")
-            printed = self.ran(self.use(KIT=kit), builds, builds=builds)
-            warning = f"ffosolve: rt is {kit} logic 0123; this checkout was proved with rattle-kit-13b and 13f; trying anyway\n"
-            self.assertEqual(warning in printed, builds > 2, printed)
+            printed = self.after(f"echo {builds} >src/main.rt", builds, builds, KIT=kit)
+            warning = f"rt is {kit} logic 0123; this checkout was proved with rattle-kit-13b and 13f; trying anyway"
+            self.assertEqual(f"ffosolve: {warning}\n" in printed, builds > 2, printed)
 
     def test_a_failed_build_reports_its_first_error_and_runs_no_older_program(self):
         self.use()
         write(self.source, "2\n")
         for _ in range(2):
-            self.refused(self.use(FAILS="yes"), f"src/main.rt:1:2: error: a goal is open; see {self.log}")
-        write(self.source, "1\n")
-        self.ran(self.use(), 1, builds=3)
-        write(self.source, "2\n")
-        self.ran(self.use(), 2, builds=4)
+            self.refused(self.use(ACTS=FAIL), f"src/main.rt:1:2: error: a goal is open; see {self.log}")
+        for text, builds in ((1, 3), (2, 4)):
+            self.after(f"echo {text} >src/main.rt", text, builds)
 
     def test_a_failed_link_reports_its_first_line_and_one_that_succeeds_is_silent(self):
         write(self.link, "#!/bin/sh\necho 'ld.lld: error: no room' >&2\nexit 1\n")
         ran = self.use()
-        self.assertEqual((ran.returncode, ran.stdout, ran.stderr.splitlines()[-1]), (4, "", "ld.lld: error: no room"), ran)
-        write(self.link, LINK + "echo linked >&2\n")
+        last = ran.stderr.splitlines()[-1]
+        self.assertEqual((ran.returncode, ran.stdout, last), (4, "", "ld.lld: error: no room"), ran)
+        write(self.link, COPY + "echo linked >&2\n")
         self.assertEqual(self.ran(self.use(), 1, builds=1), "")
 
     def test_kept_work_that_cannot_be_used_is_dropped_and_built_again(self):
-        for name in ("othello_rules/out/kept", "ffosolve/out/spoiled"):
-            write(self.root / "crates" / name, "")
-        self.assertIn("dropped the old work on ffosolve", self.ran(self.use(), 1, builds=2))
-        self.assertTrue((self.root / "crates/othello_rules/out/kept").exists())
+        kept = write(self.root / "crates/othello_rules/out/kept", "")
+        printed = self.after("mkdir out; touch out/spoiled", 1, builds=2, ACTS=f"[ ! -e out/spoiled ] || {{ {SPOIL} }}")
+        self.assertIn("dropped the old work on ffosolve", printed)
+        self.assertTrue(kept.exists())
         write(self.source, "2\n")
-        self.refused(self.use(SPOILS="yes"), "cannot be used")
+        self.refused(self.use(ACTS=SPOIL), "cannot be used")
         self.assertLess(self.builds(), 15)
 
     def test_a_program_that_cannot_be_written_leaves_nothing_and_runs_no_older_one(self):
+        """The command mv fails before the move and then after it, as if make were ended there."""
         self.use()
         write(self.source, "2\n")
-        write(self.tools / "mv", "#!/bin/sh\nexit 1\n")
-        kept = self.root / "out" / LEVEL / "ffosolve.o"
-        self.refused(self.use(), f"{kept} can't be written")
-        self.assertEqual([name for name in os.listdir(kept.parent) if ".new" in name], [])
-        write(self.tools / "mv", '#!/bin/sh\n/usr/bin/mv "$@"\nexit 1\n')  # as if make were ended after the move
-        self.refused(self.use(), f"{kept} can't be written")
+        for moves in ("", '/usr/bin/mv "$@"\n'):
+            write(self.tools / "mv", f"#!/bin/sh\n{moves}exit 1\n")
+            self.refused(self.use(), f"{self.log.with_suffix('')} can't be written")
+            self.assertEqual([name for name in os.listdir(self.log.parent) if ".new" in name], [])
         (self.tools / "mv").unlink()
-        write(self.source, "1\n")
-        self.ran(self.use(), 1, builds=4)
+        self.after("echo 1 >src/main.rt", 1, builds=4)
 
     def test_a_full_disk_is_reported_and_the_next_run_builds(self):
         """The disk that out/ is on is full from the start, or too small for the program."""
@@ -274,25 +256,25 @@ class Build(InFolder):
         """The program also runs if a source has a new modification time, or can't be read while out/ can't be
         written."""
         def closed(*changes):
-            for *words, name in (("-R", "a-w", "."), *changes):
-                run("chmod", *words, self.root / name, check=True)
+            run("sh", "-euc", "\n".join(("chmod -R a-w .", *changes)), cwd=self.root, check=True)
             ran = self.use(who=NOBODY)
             run("chmod", "-R", "u=rwX,go=rX", self.root, check=True)
             return ran
 
+        unreadable = "chmod a= crates/ffosolve/src/main.rt"
         self.refused(closed(), "can't be written", lines=1)
         self.use()
-        Path(f"{self.starts}.program").chmod(0o666)
-        for changes in ([], [("go=", "crates")], [("a=", self.source)]):
+        Path("starts.program").chmod(0o666)
+        for changes in ((), ("chmod go= crates",), (unreadable,)):
             os.utime(self.source)
             self.assertEqual(self.ran(closed(*changes), 1, builds=1), "")
-        self.assertEqual(closed(("a=", self.source), ("a+w", "out")).returncode, 4)
+        self.assertEqual(closed(unreadable, "chmod a+w out").returncode, 4)
         write(self.source, "2\n")
         self.refused(closed(), "can't be written", lines=1)
 
     def test_a_signal_ends_the_build_and_the_run_that_waits(self):
         for count, number in enumerate((signal.SIGTERM, signal.SIGHUP, signal.SIGINT, signal.SIGKILL), 1):
-            ran = self.begin(WAITS="yes")
+            ran = self.begin(ACTS=WAIT)
             wait_until(lambda: self.builds() >= count)
             waits = self.begin()
             wait_until(lambda: any(words.startswith("flock 9") for words in processes_in(self.root).values()))
@@ -303,14 +285,14 @@ class Build(InFolder):
         self.ran(self.use(), 1, builds=5)
 
     def on_a_terminal(self, keys, shown, go=False, columns=80):
-        """Runs the script on a terminal of `columns` columns with WAITS, types `keys` when `shown` has appeared, and
-        returns (output, status). If `go` is true, the fake rt may end then."""
+        """Runs the script on a terminal of `columns` columns while the fake rt waits, types `keys` when `shown` has
+        appeared, and returns (output, status). If `go` is true, the fake rt may end then."""
         words = ["script", "-qec", f"stty cols {columns}; exec '{self.script}' w", "/dev/null"]
-        ran = self.start(*words, stdin=subprocess.PIPE, env={**os.environ, "WAITS": "yes"}, **{**HOW, "text": False})
+        ran = self.start(*words, stdin=subprocess.PIPE, env={**os.environ, "ACTS": WAIT}, **{**HOW, "text": False})
         output, end = b"", time.monotonic() + SECONDS
         while shown not in output and time.monotonic() < end:
             output += os.read(ran.stdout.fileno(), 4096)
-        go and Path(f"{self.starts}.go").touch()
+        go and Path("starts.go").touch()
         return (output + ran.communicate(keys, timeout=SECONDS)[0]).decode(), ran.returncode
 
     def test_on_a_terminal_one_line_that_fits_shows_the_progress_and_ctrl_c_ends_all(self):
@@ -321,7 +303,7 @@ class Build(InFolder):
         self.assertIn("\r\x1b[Kffosolve: 0 min, crate 1 of 2, othello_rules: 34 of 83 functions\r\x1b[K", output)
         self.assertEqual(("made of 1" in output, status), (True, 3), output)
         write(self.source, "2\n")
-        Path(f"{self.starts}.go").unlink()
+        Path("starts.go").unlink()
         output, _ = self.on_a_terminal(b"\x04", b"crate 1", go=True, columns=30)
         shown = [line for line in re.split(r"\r\n?|\x1b\[K", output) if "crate 1" in line]
         self.assertTrue(shown and all(len(line) < 30 for line in shown), output)
@@ -338,7 +320,7 @@ class Build(InFolder):
         for name, text in (("libffosolve_c.a", crate), ("c/liblibc_c.a", "int heap_call(void) { return 3; }\n")):
             run("cc", "-fPIC", "-c", "-o", "one.o", "-x", "c", "-", input=text.encode(), check=True)
             run("ar", "rcs", self.kit / name, "one.o", check=True)
-        for level in ("x86-64-v2", "x86-64-v3"):
+        for level in LEVELS:
             self.assertEqual(self.make(f"CPU={level}").returncode, 0)
             self.assertIn(f"start run --cpu={level}\nstart lib --cpu={level}\n", self.starts.read_text())
         write(self.root / "VERSION", "2.3.4\n")
@@ -351,13 +333,14 @@ class Build(InFolder):
         self.assertEqual(ran.returncode, 2)
         self.assertIn("CPU is x86-64-v4, but has to be one of: x86-64-v2 x86-64-v3", ran.stderr)
         write(self.tools / "objcopy", "#!/bin/sh\necho 'objcopy: no room' >&2\nexit 1\n")
-        (self.root / "out" / LEVEL / "libffosolve.o").unlink()
+        (self.log.parent / "libffosolve.o").unlink()
         self.assertIn("objcopy: no room", self.make("library").stderr)
         (self.tools / "objcopy").unlink()
         run("ar", "d", self.kit / "c/liblibc_c.a", "one.o", check=True)
-        (self.root / "out" / LEVEL / "libffosolve.so").unlink()
+        shared = self.log.parent / "libffosolve.so"
+        shared.unlink()
         self.assertIn("heap_call", self.make("library").stderr)
-        self.assertFalse((self.root / "out" / LEVEL / "libffosolve.so").exists())
+        self.assertFalse(shared.exists())
 
     def test_help_lists_the_targets_of_both_makefiles(self):
         listed = self.make("help").stdout
@@ -366,12 +349,13 @@ class Build(InFolder):
 
     def test_look_prints_the_report_and_that_nothing_is_proved_or_why_there_is_no_report(self):
         write(self.root / "crates/ffosolve/stdin", "")
-        write(self.rt, '#!/bin/sh\nshift\necho "$@" >"$STARTS"\necho report\necho "checked: ended status=3" >&2\necho "run=ended status=3" >&2\nexit 3\n')
-        write(self.folder / "a list", "")
-        for words, start in (((), "\n"), ((f"LIST={self.folder}/a list",), f"--data list.obf={self.folder}/a list -- list.obf\n")):
-            ran = self.make("look", *words)
-            self.assertEqual(ran.stdout, "report\nnothing is proved yet: bin/ffosolve proves the program, and then runs it\n", ran)
-            self.assertEqual(self.starts.read_text(), start)
+        ended = "echo 'checked: ended status=3' >&2\necho 'run=ended status=3' >&2\nexit 3\n"
+        write(self.rt, f'#!/bin/sh\nshift\necho "$@" >"$STARTS"\necho report\n{ended}')
+        positions = write(self.folder / "a list", "")
+        for words, given in ((), ""), ((f"LIST={positions}",), f"--data list.obf={positions} -- list.obf"):
+            said = self.make("look", *words).stdout
+            self.assertEqual(said, "report\nnothing is proved yet: bin/ffosolve proves the program, and then runs it\n")
+            self.assertEqual(self.starts.read_text(), f"{given}\n")
         self.assertIn("no such list", self.make("look", "LIST=no such list").stderr)
         write(self.rt, "#!/bin/sh\necho 'rt: no answer' >&2\nexit 6\n")
         ran = self.make("look")

@@ -10,8 +10,7 @@ import tarfile
 import unittest
 import zipfile
 
-from .checkouts import VERSION
-from .prefix import CXX, PIP, PREFIX, C, setUpModule
+from .prefix import CXX, PIP, PREFIX, VERSION, C, setUpModule
 from .support import ROOT, built, lack, need, run, stored
 import ffosolve
 

@@ -41,11 +41,11 @@ def made_by_blocks(text):
     return [name for name in found if not name.startswith("/")]
 
 
-def is_ignored(name):
-    """Returns whether git ignores a name in the top folder or, in a copy without `.git`, whether the name is `out`."""
+def ignored(names):
+    """Returns those of `names` that git ignores in the top folder. In a copy without `.git`, returns ["out"]."""
     if not (ROOT / ".git").exists():
-        return name == "out"
-    return run("git", "-C", ROOT, "check-ignore", "-q", "--no-index", name).returncode == 0
+        return ["out"]
+    return run("git", "-C", ROOT, "check-ignore", "--no-index", *names, text=True).stdout.splitlines()
 
 
 def printed_by(commands):
@@ -62,11 +62,10 @@ class Commands(InFolder):
         built()
         for name in DOCUMENTS:
             with self.subTest(name=name):
-                folder = self.folder / name.replace("/", "-")
-                folder.mkdir()
-                os.chdir(folder)
-                for linked in os.listdir(ROOT):
-                    if not linked.startswith(".") and not is_ignored(linked):
+                os.makedirs(self.folder / name)
+                os.chdir(self.folder / name)
+                for linked in set(os.listdir(ROOT)).difference(ignored(os.listdir(ROOT))):
+                    if not linked.startswith("."):
                         os.symlink(ROOT / linked, linked)
                 self.shows(TEXTS[name])
 
@@ -79,7 +78,7 @@ class Commands(InFolder):
                 self.assertEqual(stripped(output), shown)
         left = [name for name in os.listdir() if not os.path.islink(name)] + made_by_blocks(text)
         if (ROOT / ".git").exists():
-            self.assertEqual([name for name in left if not is_ignored(name)], [])
+            self.assertEqual(set(left).difference(ignored(left)), set())
 
     def test_stored_reports_are_what_ffosolve_prints(self):
         reports = sorted(ROOT.glob("examples/*.report"))
@@ -92,8 +91,9 @@ class Commands(InFolder):
 def defines(sources, word):
     """Returns whether one of `sources` declares `word` as a definition, field, function, constant, type or variant."""
     kinds = "record|data|fn|const|struct|enum|trait|type"
-    forms = rf"(?:[\w()]+ )*{word} *:", rf"(?:[\w()]+ )*(?:{kinds}) {word}\b", rf"{word}[,({{]", rf"pub use [^;]*\b{word}\b"
-    declared = re.compile(rf"^ *(?:{'|'.join(forms)})", re.M)
+    words = r"(?:[\w()]+ )*"
+    forms = rf"{words}{word} *:|{words}(?:{kinds}) {word}\b|{word}[,({{]|pub use [^;]*\b{word}\b"
+    declared = re.compile(rf"^ *(?:{forms})", re.M)
     return any(declared.search(source.read_text()) for source in sources)
 
 
@@ -111,11 +111,12 @@ class Names(unittest.TestCase):
             self.assertEqual([to for to in lost if not re.search(r"/out(/|$)|^share/doc/", to)], [], name)
 
     def test_qualified_names_are_declared(self):
-        """`Rules.flips` has to be defined in a specification Rules.antt, and `laws::books_are_one` in a source file that is
-        named laws.rt or has a type `laws`."""
+        """`Rules.flips` has to be defined in a specification Rules.antt, and `laws::books_are_one` in a source file
+        that is named laws.rt or has a type `laws`."""
+        qualified = re.compile(r"`([A-Z]\w*(?=\.)|\w+(?=::))(\.(?!antt|md)|::)(\w+)`")
         sources = {path: path.read_text() for path in ROOT.glob("crates/*/src/**/*.rt")}
         for name in ("definitions.md", "guarantees.md", "architecture.md"):
-            for owner, mark, word in re.findall(r"`([A-Z]\w*(?=\.)|\w+(?=::))(\.(?!antt|md)|::)(\w+)`", TEXTS[f"docs/{name}"]):
+            for owner, mark, word in qualified.findall(TEXTS[f"docs/{name}"]):
                 of_type = re.compile(rf"\b(?:impl(?:<.*>)?|enum) {owner}\b")
                 files = [path for path, text in sources.items() if path.stem == owner or of_type.search(text)]
                 files = files if mark == "::" else ROOT.glob(f"crates/*/specs/{owner}.antt")

@@ -1,4 +1,5 @@
 """bench/ffo solves positions of the FFO endgame test, keeps the results and prints them as in docs/ffo.md."""
+import os
 import re
 from pathlib import Path
 
@@ -14,20 +15,21 @@ class Results(InFolder):
         """Runs bench/ffo with a file of results that contains `kept`; returns the run, and what the file contains
         afterwards."""
         Path("kept.tsv").write_text(kept)
-        programs = programs or built().parent
-        ran = run("env", "RESULTS=kept.tsv", f"PROGRAMS={programs}", ROOT / "bench/ffo", *words, text=True, timeout=LONGEST)
+        places = {**os.environ, "RESULTS": "kept.tsv", "PROGRAMS": str(programs or built().parent)}
+        ran = run(ROOT / "bench/ffo", *words, env=places, text=True, timeout=LONGEST)
         return ran, Path("kept.tsv").read_text()
 
     def test_position_40_is_solved_as_published_and_only_once(self):
         ran, kept = self.ffo("solve", 40)
         self.assertEqual((ran.returncode, ran.stderr), (0, ""))
-        found = "".join(rf"40\t20\t\+38\tA2\t\d+\.\d\d\tffosolve [\d.]+\t[^\t\n]+\t{entries}\n" for entries in (65536, 4000000))
-        self.assertRegex(kept, rf"\A{re.escape(HEAD + KEPT)}{found}\Z")
+        found = r"40\t20\t\+38\tA2\t\d+\.\d\d\tffosolve [\d.]+\t[^\t\n]+\t"
+        self.assertRegex(kept, rf"\A{re.escape(HEAD + KEPT)}{found}65536\n{found}4000000\n\Z")
         ran, again = self.ffo("solve", 40, kept=kept)
         self.assertEqual((ran.returncode, ran.stdout, again), (0, "", kept))
 
     def test_a_refused_and_an_unknown_position_leave_the_results_unchanged(self):
-        write("ffosolve", "#!/bin/sh\n[ x$1 = x--version ] && echo ffosolve 1 || printf '[1]\\n1 refused: limit 19\\n'\n")
+        refused = 'printf "[1]\\n1 refused: limit 19\\n"'
+        write("ffosolve", f'#!/bin/sh\n[ "$1" = --version ] && echo ffosolve 1 || {refused}\n')
         for number, status, why in ((40, 1, "limit 19"), (39, 2, "bench/ffo solve")):
             ran, kept = self.ffo("solve", number, programs=self.folder)
             self.assertEqual((ran.returncode, kept), (status, HEAD + KEPT))
@@ -41,5 +43,6 @@ class Results(InFolder):
                                    ("-12", "G3", "no"), ("+12", "G3,C7", "no")):
             row = f"43\t23\t{score}\t{moves}\t1234.50\tffosolve 9.9.9\tsome processor\t65536\n"
             ran, _ = self.ffo("table", kept=HEAD + row.replace(score, "+64") + row)
-            self.assertIn(f"| 43 | 23 | {score} | {moves.replace(',', ', ')} | -12 G3, C7 | {word} | 1,234.5 |  |\n", ran.stdout)
+            shown = f"| 43 | 23 | {score} | {moves.replace(',', ', ')} | -12 G3, C7 | {word} | 1,234.5 |  |\n"
+            self.assertIn(shown, ran.stdout)
             self.assertIn("| 41 | 22 | not solved |", ran.stdout)

@@ -7,11 +7,14 @@ import stat
 from pathlib import Path
 from unittest import mock
 
-from tests.checkouts import FIRST, LEVELS, NUMBER, VERSION, copied_checkout, names_of_files, path_without
+from tests.prefix import (FIRST, FIRST_OBF, LEVELS, NUMBER, VERSION, copied_checkout, files_below, names_of_files,
+                             path_without)
 from tests.support import NOBODY, ROOT, InFolder, is_v3, lack, module_folder, need, run, stored, write
 
 PREFIX = "/opt/a prefix"
 COMMANDS = ["ffosolve", "ffoscores", "ffosolve-many", "ffosolve-games"]
+DOCUMENTS = "README.md|LICENSE|CHANGELOG.md|VERSION|(docs|examples|python|rust|crates/[^/]*/specs)/"
+LESSER = ("qemu-x86_64", "-cpu", "Nehalem")  # runs a command on a processor of the lower level
 
 
 def setUpModule():
@@ -42,9 +45,6 @@ class Case(InFolder):
         self.assertEqual((ran.returncode, ran.stderr), (0, ""))
         return ran
 
-    def files(self):
-        return {str(path.relative_to(self.root)) for path in self.root.rglob("*") if path.is_symlink() or not path.is_dir()}
-
     def refused(self, ran, words):
         """Asserts that a target failed with an error line that contains `words`; a line from make itself may follow."""
         self.assertEqual((ran.returncode, ran.stdout), (2, ""), ran)
@@ -55,40 +55,40 @@ class Case(InFolder):
 class Install(Case):
     def test_everything_is_installed(self):
         self.assertEqual(self.install().stdout, f"installed under {self.root}\n")
-        libraries = [f"{at}/{name}" for at in ("lib", "lib/glibc-hwcaps/x86-64-v3")
-                     for name in ("libffosolve.so", "libffosolve.so.1", f"libffosolve.so.{VERSION}")]
-        wanted = {*libraries, "lib/libffosolve.a", "lib/libffosolve-x86-64-v3.a", "lib/pkgconfig/ffosolve.pc", "include/ffosolve.h",
-                  *(f"lib/cmake/ffosolve/ffosolve-config{name}.cmake" for name in ("", "-version")), "share/ffosolve/VERSION",
-                  *(f"share/ffosolve/{name}" for name in names_of_files() if name.startswith("python/src/"))}
+        names = names_of_files()
+        wanted = {"lib/libffosolve.a", "lib/libffosolve-x86-64-v3.a", "lib/pkgconfig/ffosolve.pc", "include/ffosolve.h",
+                  *(f"lib/cmake/ffosolve/ffosolve-config{end}.cmake" for end in ("", "-version")),
+                  *(f"share/ffosolve/{name}" for name in names if re.match("VERSION|python/src/", name)),
+                  *(f"share/doc/ffosolve/{name}" for name in names if re.match(DOCUMENTS, name))}
+        for folder in ("lib", "lib/glibc-hwcaps/x86-64-v3"):
+            wanted |= {f"{folder}/libffosolve.so{end}" for end in ("", ".1", f".{VERSION}")}
         for name in COMMANDS:
             wanted |= {f"bin/{name}", f"share/man/man1/{name}.1", f"share/bash-completion/completions/{name}",
                        f"share/zsh/site-functions/_{name}", f"share/fish/vendor_completions.d/{name}.fish"}
-        documents = {name for name in self.files() if name.startswith("share/doc/ffosolve/")}
-        self.assertEqual(self.files() - documents, wanted)
-        for name in ("README.md", "LICENSE", "CHANGELOG.md", "docs/user-guide.md", "examples/first.obf", "python/pyproject.toml",
-                     "rust/Cargo.toml", "crates/othello_rules/specs/Rules.antt"):
-            self.assertIn(f"share/doc/ffosolve/{name}", documents)
+        self.assertEqual(files_below(self.root), wanted)
         for name in ("include/ffosolve.h", "lib/pkgconfig/ffosolve.pc", "lib/cmake/ffosolve/ffosolve-config.cmake"):
             self.assertEqual(re.findall("@[A-Z]+@", (self.root / name).read_text()), [])
 
     def test_in_other_folders_everything_is_found(self):
         """The scripts find their package, and the files for pkg-config and CMake name the folder of the header."""
         need("pkg-config")
-        self.install("BINDIR=/b", "LIBDIR=/usr/lib/x86_64-linux-gnu", "INCLUDEDIR=/usr/include", "MANDIR=/m", prefix="/usr")
-        for name in ("b/ffosolve", "usr/lib/x86_64-linux-gnu/libffosolve.a", "usr/include/ffosolve.h", "m/man1/ffosolve.1"):
+        of_c = ("LIBDIR=/usr/lib/x86_64-linux-gnu", "INCLUDEDIR=/usr/include")
+        self.install("BINDIR=/b", "MANDIR=/m", *of_c, prefix="/usr")
+        libraries = self.stage / "usr/lib/x86_64-linux-gnu"
+        for name in ("b/ffosolve", libraries / "libffosolve.a", "usr/include/ffosolve.h", "m/man1/ffosolve.1"):
             self.assertTrue((self.stage / name).is_file(), name)
         for name in ("ffosolve-many", "ffosolve-games"):
             self.assertEqual(run(self.stage / "b" / name, "--help").returncode, 0, name)
-        libraries = self.stage / "usr/lib/x86_64-linux-gnu"
         os.environ["PKG_CONFIG_PATH"] = f"{libraries}/pkgconfig"
         ran = run("pkg-config", "--cflags", "ffosolve", text=True)
         self.assertTrue(os.path.samefile(ran.stdout.strip()[2:], self.stage / "usr/include"), ran)
         self.assertIn('_libraries}/../../include"', (libraries / "cmake/ffosolve/ffosolve-config.cmake").read_text())
 
     def test_ffosolve_games_finds_the_library_in_each_folder(self):
-        for place, *words in (("bin",), ("bin", f"LIBDIR={PREFIX}/lib64"), ("b/b", f"BINDIR={PREFIX}/b/b", f"LIBDIR={PREFIX}/lib/here")):
+        for bin_folder, lib_folder in (("bin", "lib"), ("bin", "lib64"), ("b/b", "lib/here")):
+            words = (f"BINDIR={PREFIX}/{bin_folder}", f"LIBDIR={PREFIX}/{lib_folder}")
             self.install(*words)
-            ran = run(self.root / place / "ffosolve-games", "--empties=59", input=b"f5")
+            ran = run(self.root / bin_folder / "ffosolve-games", "--empties=59", input=b"f5")
             self.assertEqual((ran.returncode, ran.stdout[64:]), (0, b" O; % -, game 1\n"), ran)
             self.make("uninstall", *words)
 
@@ -101,15 +101,16 @@ class Install(Case):
 
     def test_a_second_install_removes_old_files_and_uninstall_leaves_those_of_others(self):
         self.install()
-        files = self.files()
+        files = files_below(self.root)
         others = {"bin/another", "share/man/man1/another.1"}
         for name in ("share/doc/ffosolve/old", "share/ffosolve/old", "lib/libffosolve.so.1.0.0", *others):
             (self.root / name).touch()
         self.install()
-        self.assertEqual(self.files(), files | others)
+        self.assertEqual(files_below(self.root), files | others)
         self.assertEqual(self.make("uninstall").stdout, f"uninstalled from {self.root}\n")
-        self.assertEqual(self.files(), others)
-        self.assertEqual(sorted(path.name for path in self.root.rglob("*") if path.is_dir()), ["bin", "man", "man1", "share"])
+        self.assertEqual(files_below(self.root), others)
+        folders = sorted(path.name for path in self.root.rglob("*") if path.is_dir())
+        self.assertEqual(folders, ["bin", "man", "man1", "share"])
         for name in others:
             (self.root / name).unlink()
         self.make("uninstall")
@@ -121,7 +122,7 @@ class Install(Case):
         self.assertEqual((os.listdir(self.stage), os.listdir(self.stage / "usr")), (["usr"], ["local"]))
         run(*words, "uninstall")
         self.assertTrue((self.stage / "usr/local/bin").is_dir())
-        self.assertEqual([path for path in self.stage.rglob("*") if not path.is_dir()], [])
+        self.assertEqual(files_below(self.stage), set())
 
     def test_nothing_is_written_elsewhere(self):
         before = times(CHECKOUT.rglob("*"))
@@ -151,7 +152,7 @@ class Install(Case):
         self.addCleanup(run, "chmod", "-R", "u+w", CHECKOUT, check=True)
         os.environ["PATH"] = path_without("rt", self.folder)
         self.install(**NOBODY)
-        self.ends((0, FIRST, ""), self.root / "bin/ffosolve", ROOT / "examples/first.obf")
+        self.ends((0, FIRST, ""), self.root / "bin/ffosolve", FIRST_OBF)
 
     def test_without_python_two_manual_pages_have_no_options_and_that_is_reported(self):
         os.environ["PATH"] = path_without("python3", self.folder)
@@ -171,7 +172,7 @@ class Install(Case):
         self.root.mkdir(parents=True)
         (self.root / "bin").touch()
         self.refused(self.make("install"), f"{self.root}/bin")
-        self.assertEqual(self.files(), {"bin"})
+        self.assertEqual(files_below(self.root), {"bin"})
 
     def test_without_programs_and_rt_nothing_is_installed(self):
         checkout = self.folder / "checkout"
@@ -193,8 +194,7 @@ class Install(Case):
                 self.ends((127, "", error), "qemu-x86_64", "-cpu", lesser, program)
             documents = self.root / "share/doc/ffosolve"
             self.ends((0, FIRST, ""), self.root / "bin/ffosolve", "examples/first.obf", cwd=documents, env={})
-        program = CHECKOUT / "out/x86-64-v2/ffosolve"
-        self.ends((0, FIRST, ""), "qemu-x86_64", "-cpu", "Nehalem", program, ROOT / "examples/first.obf")
+        self.ends((0, FIRST, ""), *LESSER, CHECKOUT / "out/x86-64-v2/ffosolve", FIRST_OBF)
 
     def test_libffosolve_a_is_for_the_lower_level(self):
         need("qemu-x86_64", "cc")
@@ -203,27 +203,28 @@ class Install(Case):
             self.install(f"CPU={level}")
             self.assertIn("\nlevel=x86-64-v2\n", (self.root / "lib/pkgconfig/ffosolve.pc").read_text())
             for name, is_for in (("libffosolve.a", True), ("libffosolve-x86-64-v3.a", False)):
-                run("cc", "-o", "answers", ROOT / "examples/c/answers.c", "-I", self.root / "include", self.root / "lib" / name, check=True)
-                ran = run("qemu-x86_64", "-cpu", "Nehalem", "./answers", input="\n".join(masks), text=True)
+                source, library = ROOT / "examples/c/answers.c", self.root / "lib" / name
+                run("cc", "-o", "answers", source, "-I", self.root / "include", library, check=True)
+                ran = run(*LESSER, "./answers", input="\n".join(masks), text=True)
                 self.assertEqual((ran.returncode == 0, ran.stdout.splitlines()[:4] == wanted), (is_for, is_for), ran)
 
     def test_the_loader_picks_the_library_of_the_best_level(self):
         need("qemu-x86_64", "readelf")
         self.install()
         for level, place in zip(LEVELS, ("lib", "lib/glibc-hwcaps/x86-64-v3")):
-            self.assertRegex(run("readelf", "-n", self.root / place / "libffosolve.so", text=True).stdout, rf"ISA needed: .*{level}\n")
-        say = "import ctypes, re; ctypes.CDLL('libffosolve.so.1'); print(re.findall(r'/lib/(.*/)?libffosolve', open('/proc/self/maps').read())[0])"
+            library = self.root / place / "libffosolve.so"
+            self.assertRegex(run("readelf", "-n", library, text=True).stdout, rf"ISA needed: .*{level}\n")
         os.environ["LD_LIBRARY_PATH"] = str(self.root / "lib")
-        self.ends((0, "glibc-hwcaps/x86-64-v3/\n" if is_v3() else "\n", ""), "/usr/bin/python3", "-c", say)
-        words = ("/lib64/ld-linux-x86-64.so.2", "--preload", "libffosolve.so.1", "--list", "/usr/bin/true")
-        ran = run("qemu-x86_64", "-cpu", "Nehalem", *words, text=True)
-        self.assertIn(f"libffosolve.so.1 => {self.root}/lib/libffosolve.so.1 ", ran.stdout, ran)
+        list_libraries = ("/lib64/ld-linux-x86-64.so.2", "--preload", "libffosolve.so.1", "--list", "/usr/bin/true")
+        for words, place in ((), "lib/glibc-hwcaps/x86-64-v3" if is_v3() else "lib"), (LESSER, "lib"):
+            ran = run(*words, *list_libraries, text=True)
+            self.assertIn(f"libffosolve.so.1 => {self.root}/{place}/libffosolve.so.1 ", ran.stdout, ran)
 
     def test_ffosolve_many_runs_without_the_documents(self):
         self.install()
         shutil.rmtree(self.root / "share/doc")
         os.environ["PATH"] = f"{self.root}/bin:/usr/bin:/bin"
-        self.ends((0, FIRST, ""), "ffosolve-many", "--quiet", "work", ROOT / "examples/first.obf")
+        self.ends((0, FIRST, ""), "ffosolve-many", "--quiet", "work", FIRST_OBF)
 
     def test_programs_pages_library_and_texts_have_the_version_of_the_file_version(self):
         self.install()
@@ -233,7 +234,7 @@ class Install(Case):
             self.ends((0, f"{name} {VERSION}\n", ""), self.root / "bin" / name, "--version")
         for place, text in (
             *((self.root / f"share/man/man1/{name}.1", f'"ffosolve {VERSION}"') for name in COMMANDS),
-            (self.root / "include/ffosolve.h", f'#define FFOSOLVE_VERSION_TEXT "{VERSION}"\n#define FFOSOLVE_VERSION {NUMBER}\n'),
+            (self.root / "include/ffosolve.h", f'_VERSION_TEXT "{VERSION}"\n#define FFOSOLVE_VERSION {NUMBER}\n'),
             (self.root / "lib/pkgconfig/ffosolve.pc", f"Version: {VERSION}\n"),
             (self.root / "lib/cmake/ffosolve/ffosolve-config-version.cmake", f'set(PACKAGE_VERSION "{VERSION}")\n'),
             (ROOT / "rust/Cargo.toml", f'\nversion = "{VERSION}"\n'),
@@ -242,29 +243,41 @@ class Install(Case):
             self.assertIn(text, place.read_text(), place)
 
     def test_make_constants_writes_what_files_repeat(self):
-        table, settings = "crates/bound_table/src/bound_table.rt", "crates/program_settings/src/limits.rt"
-        cargo, readme = "rust/Cargo.toml", "README.md"
-        shown = "docs/user-guide.md", "examples/kinds.report", "examples/kinds.scores"
-        rust, *python = "rust/src/solvers.rs", "python/src/ffosolve/_library.py", "python/src/ffosolve/_solvers.py"
+        table, settings, *others = (
+            "crates/bound_table/src/bound_table.rt", "crates/program_settings/src/limits.rt", "rust/Cargo.toml",
+            "README.md", "docs/user-guide.md", "examples/kinds.report", "examples/kinds.scores", "rust/src/solvers.rs",
+            "python/src/ffosolve/_library.py", "python/src/ffosolve/_solvers.py")
         entries = re.search(r"MOST_ENTRIES: usize = (\w+)", stored(table).decode())[1]
         empties = re.search(r"DEFAULT_EMPTIES: u8 = (\d+)", stored(settings).decode())[1]
-        for source, old, new, *repeated in (
-            ("VERSION", VERSION, "1.12.3", (f"{NUMBER:_}", "11_203")),
-            (table, entries, "1_234_567", (entries.replace("_", ","), "1,234,567")),
-            (settings, f"u8 = {empties}", "u8 = 7", (f'"{empties}"', '"7"'), (f"0 to 60 | {empties} |", "0 to 60 | 7 |"),
-             (f"max_empties: int = {empties}", "max_empties: int = 7"), (f" empties, limit {empties}", " empties, limit 7")),
+        for source, *pairs in (
+            ("VERSION", (VERSION, "1.12.3"), (f"{NUMBER:_}", "11_203")),
+            (table, (entries, "1_234_567"), (entries.replace("_", ","), "1,234,567")),
+            (settings, *((form.format(empties), form.format(7)) for form in (
+                "u8 = {}", '"{}"', "0 to 60 | {} |", "max_empties: int = {}", " empties, limit {}"))),
         ):
-            for name in ("Makefile", "packaging/packages.mk", "VERSION", table, settings, cargo, readme, *shown, rust, *python):
+            for name in ("Makefile", "packaging/packages.mk", "VERSION", table, settings, *others):
                 write(name, stored(name))
-            write(source, stored(source).decode().replace(old, new))
+            write(source, stored(source).decode().replace(*pairs[0]))
             self.assertEqual(run("make", "-s", "constants").returncode, 0)
-            for name in (settings, cargo, readme, *shown, rust, *python):
+            for name in (settings, *others):
                 wanted = stored(name).decode()
-                for pair in ((old, new), *repeated):
+                for pair in pairs:
                     wanted = wanted.replace(*pair)
                 self.assertEqual(Path(name).read_text(), wanted, name)
 
 
+# These scripts print the completions of the last of their arguments, which are a command.
+BASH = r"""
+. /usr/share/bash-completion/bash_completion
+. "$SHARE/bash-completion/completions/${0##*/}"
+compopt() { :; }
+COMP_WORDS=("$0" "$@") COMP_CWORD=$# COMP_LINE="$0 $*"
+COMP_LINE=${COMP_LINE// = /=} COMP_POINT=${#COMP_LINE}
+$(complete -p "${0##*/}" | cut -d " " -f 3) "$0" "${!#}" "${COMP_WORDS[COMP_CWORD-1]}"
+printf "%s\n" "${COMPREPLY[@]}"
+"""
+FISH = 'source $SHARE/fish/vendor_completions.d/(basename $argv[1]).fish; complete -C "$argv"'
+# Completes each line of the file `asked`, and writes them into the file `completed`.
 ZSHRC = """
 fpath=($SHARE/zsh/site-functions $fpath); autoload -Uz compinit; compinit -u -d dump
 zle-line-init() {
@@ -322,10 +335,11 @@ class Texts(Case):
         self.assertRegex(page.split(".SH DESCRIPTION")[0], r"(?m)^ffosolve\\-games compare .*LIST REPORT$")
         self.assertRegex(page.split('.SH "STATUS"')[1], r"with compare: a(.|\n)*REPORT does not belong to it")
 
-    def offered(self, shell, script, name, *words):
-        """Returns the completions that a shell offers for the last of `words`, without their descriptions."""
-        need(shell)
-        ran = run(shell, *script, name, *words, cwd="examples", text=True)
+    def offered(self, *words):
+        """Runs a shell with a script and the words of a command, all of which are `words`. Returns the completions that
+        the shell offers for the last word, without their descriptions."""
+        need(words[0])
+        ran = run(*words, cwd="examples", text=True)
         self.assertEqual((ran.returncode, ran.stderr), (0, ""))
         return sorted({line.split("\t")[0] for line in ran.stdout.splitlines()} - {""})
 
@@ -343,16 +357,13 @@ class Texts(Case):
     def test_bash_completes_options_values_and_files(self):
         if not Path("/usr/share/bash-completion/bash_completion").exists():
             lack("bash_completion (Debian: bash-completion)")
-        script = ('. /usr/share/bash-completion/bash_completion; . "$SHARE/bash-completion/completions/${0##*/}"; COMP_WORDS=("$0" "$@"); '
-                  'COMP_CWORD=$#; COMP_LINE="$0 $*"; COMP_LINE=${COMP_LINE// = /=}; COMP_POINT=${#COMP_LINE}; compopt() { :; }; '
-                  '$(complete -p "${0##*/}" | cut -d " " -f 3) "$0" "${!#}" "${COMP_WORDS[COMP_CWORD-1]}"; printf "%s\\n" "${COMPREPLY[@]}"')
-        self.completes("bash", ("-c", script))
-        self.assertEqual(self.offered("bash", ("-c", script), "ffosolve", "--scoring", "=", "d"), ["discs"])
+        self.completes("bash", "-c", BASH)
+        self.assertEqual(self.offered("bash", "-c", BASH, "ffosolve", "--scoring", "=", "d"), ["discs"])
 
     def test_fish_completes_options_values_and_files(self):
-        script = ("--no-config", "-c", "source $SHARE/fish/vendor_completions.d/(basename $argv[1]).fish; complete -C \"$argv\"")
-        self.completes("fish", script)
-        self.assertEqual(self.offered("fish", script, "ffosolve", "--scoring=d"), ["--scoring=discs"])
+        shell = ("fish", "--no-config", "-c", FISH)
+        self.completes(*shell)
+        self.assertEqual(self.offered(*shell, "ffosolve", "--scoring=d"), ["--scoring=discs"])
 
     def test_zsh_completes_options_values_and_files(self):
         """Runs zsh on a terminal, where its own line editor completes each line."""
@@ -360,9 +371,10 @@ class Texts(Case):
         lines = {"ffosolve --sco": "ffosolve --scoring", "ffosolve --scoring=d": "ffosolve --scoring=discs",
                  "ffoscores --scoring w": "ffoscores --scoring winner", "bin/ffosolve --sco": "bin/ffosolve --scoring",
                  "ffosolve --book-in fir": "ffosolve --book-in first.", "ffosolve kinds.o": "ffosolve kinds.obf",
-                 **{line: line for name in COMMANDS for line in (f"{name} {option}" for option in self.options_of(name))}}
+                 **{f"{name} {option}": f"{name} {option}" for name in COMMANDS for option in self.options_of(name)}}
         Path("examples/asked").write_text("\n".join(lines))
         Path(".zshrc").write_text(ZSHRC)
         run("script", "-qec", "zsh -i", "/dev/null", cwd="examples", check=True,
             env={"PATH": "/usr/bin:/bin", "ZDOTDIR": str(self.folder), "TERM": "dumb", "SHARE": os.environ["SHARE"]})
-        self.assertEqual([line.strip() for line in Path("examples/completed").read_text().splitlines()], list(lines.values()))
+        completed = Path("examples/completed").read_text().splitlines()
+        self.assertEqual([line.strip() for line in completed], list(lines.values()))

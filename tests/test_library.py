@@ -6,8 +6,7 @@ import subprocess
 import unittest
 from concurrent.futures import ThreadPoolExecutor
 
-from .checkouts import NUMBER, VERSION
-from .prefix import CXX, PREFIX, STRICT, TESTS, C, need_module, setUpModule
+from .prefix import CXX, NUMBER, PREFIX, STRICT, TESTS, VERSION, C, need_module, setUpModule
 from .support import limited, need
 from .positions import random_positions
 import ffosolve

@@ -1,6 +1,7 @@
 """The memory and the time that programs and the library's calls take, with tables of several sizes and with a book."""
 import ctypes
 import resource
+import timeit
 
 from .prefix import PREFIX, setUpModule
 from .support import InFolder, built, limited, run, stored
@@ -23,11 +24,7 @@ def spent():
 
 def seconds(call):
     """Makes a call three times, and returns the least processor time that it took, in seconds."""
-    at = [spent()]
-    for _ in range(3):
-        call()
-        at.append(spent())
-    return min(end - begun for begun, end in zip(at, at[1:]))
+    return min(timeit.repeat(call, timer=spent, repeat=3, number=1))
 
 
 class Runs(InFolder):
