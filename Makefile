@@ -142,7 +142,7 @@ install: $(programs:%=out/$(CPU)/%) $(foreach level,$(levels),out/$(level)/libff
 	for program in $(programs:%=out/$(CPU)/%) $(scripts:%=bin/%); do
 	    name=$${program##*/}
 	    said=$$(COLUMNS=80 "$$program" --help) || echo "$$name: its manual page has no options, since --help can't be run" >&2
-	    echo "$$said" | awk -f share/man/page.awk | sed -e '/^@HELP@$$/{r /dev/stdin' -e d -e '}' share/man/$$name.1 |
+	    echo "$$said" | awk -v program=$$name -f share/man/page.awk |
 	        $(call fill,/dev/stdin,"$(DESTDIR)$(MANDIR)/man1/$$name.1")
 	    $(call fill,share/completions/bash,$(share)/bash-completion/completions/$$name")
 	    $(call fill,share/completions/zsh,$(share)/zsh/site-functions/_$$name")

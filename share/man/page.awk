@@ -1,6 +1,7 @@
-# Makes the middle of a manual page from what a program prints for --help. A heading begins a section. An indented line with two
-# blanks after a name begins an entry, and a line that is indented further continues it.
-BEGIN { title = "DESCRIPTION" }
+# Makes the manual page of `program` from what it prints for --help, and from share/man/PROGRAM.1: a description in one
+# line, and the last sections. A heading of the help begins a section. An indented line with two blanks after a name
+# begins an entry, and a line that is indented further continues it.
+BEGIN { title = "DESCRIPTION"; page = "share/man/" program ".1"; getline what <page }
 { gsub(/\\/, "\\e"); gsub(/-/, "\\-") }
 /^[Uu]sage: / { title = "SYNOPSIS"; sub(/^[^ ]* /, ".nf\n") }
 /^[A-Za-z][^:]*:$/ { title = toupper(substr($0, 1, length - 1)); order[++count] = title; next }
@@ -15,6 +16,8 @@ BEGIN { title = "DESCRIPTION" }
 /^$/ { if (title == "SYNOPSIS") { text[title] = text[title] ".fi\n"; title = "DESCRIPTION" } else $0 = ".PP" }
 /./ { sub(/^ +/, ""); sub(/\n +/, "\n"); text[title] = text[title] $0 "\n" }
 END {
+    printf ".TH %s 1 \"\" \"ffosolve @VERSION@\" \"User Commands\"\n.SH NAME\n%s\n", toupper(program), what
     printf ".SH SYNOPSIS\n%s.SH DESCRIPTION\n%s", text["SYNOPSIS"], text["DESCRIPTION"]
     for (at = 1; at <= count; at++) printf ".SH \"%s\"\n%s", order[at], text[order[at]]
+    while ((getline <page) > 0) print
 }
