@@ -214,11 +214,11 @@ class Packages(Case):
     def test_without_git_and_at_the_release_the_version_is_plain(self):
         checkout = copied_checkout(self.folder / "plain")
         wheel = checkout / f"out/ffosolve-{VERSION}-py3-none-manylinux_2_34_x86_64.whl"
-        for _ in range(2):
+        for prepare in ("true", COMMIT_ALL):
+            run("sh", "-euc", prepare, cwd=checkout, check=True)
             ran = make("wheel", checkout)
             self.assertEqual((ran.returncode, ran.stdout), (0, f"made: {wheel}\n"), ran)
             wheel.unlink()
-            run("sh", "-euc", COMMIT_ALL, cwd=checkout, check=True)
 
     def test_a_change_that_is_not_committed_is_refused(self):
         self.addCleanup(ARCHIVES[1].write_bytes, ARCHIVES[1].read_bytes())
