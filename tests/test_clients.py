@@ -182,29 +182,22 @@ class RustCrate(unittest.TestCase):
 
 
 class Documents(unittest.TestCase):
-    def prints(self, wanted, *command):
-        self.assertNotEqual(wanted, "")
-        self.assertEqual(PREFIX.make(*command).stdout, wanted)
+    def command(self, language, block):
+        """Returns the words of the command that runs a block of code."""
+        if language == "python":
+            return PREFIX.site and sys.executable, "-c", block
+        if language == "rust":
+            program = f"fn main() -> Result<(), Box<dyn std::error::Error>> {{\n{block}Ok(())\n}}\n"
+            return [PREFIX.rust_client("readme", program)]
+        return [PREFIX.compile(C if language == "c" else CXX, "shown", [PREFIX.write(f"shown.{language}", block)])]
 
-    def test_programs_in_c_and_cxx_print_what_is_shown(self):
-        for language, compiler in (("c", C), ("cpp", CXX)):
-            with self.subTest(language=language):
-                block, wanted = shown(language)
-                self.prints(wanted, PREFIX.compile(compiler, "shown", [PREFIX.write(f"shown.{language}", block)]))
-
-    def test_the_program_in_python_prints_what_is_shown(self):
-        block, wanted = shown("python")
-        self.prints(wanted, PREFIX.site and sys.executable, "-c", block)
-
-    def test_the_program_over_a_list_of_scores_prints_what_is_shown(self):
-        page = "docs/check-evaluation.md"
+    def test_each_program_prints_what_is_shown(self):
+        page = "docs/check-evaluation.md"  # its program reads a list of positions, and their scores
         listed = re.search(r"^> (\S{64} X; .*\n)", (ROOT / page).read_text(), re.MULTILINE)[1]
         PREFIX.write("list.obf", listed)
         PREFIX.write("list.scores", run(built("ffoscores"), input=listed.encode()).stdout)
-        block, wanted = shown("python", page)
-        self.prints(wanted, PREFIX.site and sys.executable, "-c", block)
-
-    def test_the_program_in_rust_prints_what_is_shown(self):
-        block, wanted = shown("rust")
-        program = "fn main() -> Result<(), Box<dyn std::error::Error>> {\n" + block + "Ok(())\n}\n"
-        self.prints(wanted, PREFIX.rust_client("readme", program))
+        for language, *names in (["c"], ["cpp"], ["python"], ["python", page], ["rust"]):
+            with self.subTest(language=language, names=names):
+                block, wanted = shown(language, *names)
+                self.assertNotEqual(wanted, "")
+                self.assertEqual(PREFIX.make(*self.command(language, block)).stdout, wanted)

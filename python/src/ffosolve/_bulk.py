@@ -4,7 +4,7 @@ import threading
 import time
 from collections import deque
 from concurrent.futures import Future
-from typing import Any, Callable, Deque, Iterable, Iterator, List, NamedTuple, Sequence, Tuple, TypeVar, Union
+from typing import Any, Callable, Deque, Iterable, Iterator, List, NamedTuple, Sequence, TypeVar, Union
 
 from ._refusals import Refused, checked_number
 from ._rules import not_a_position, refusal_for, size_of
@@ -73,10 +73,10 @@ def in_order(call: Callable[[A], B], parts: Iterable[A], threads: int) -> Iterat
     try:
         for part in parts:
             if started < threads:
-                start_worker(iter(tasks.get, None), call)
+                start_worker(iter(tasks.get, None))
                 started += 1
             waiting.append(Future())
-            tasks.put((waiting[-1], part))
+            tasks.put((waiting[-1], call, part))
             while waiting and (waiting[0].done() or len(waiting) >= AHEAD * threads):
                 yield waiting.popleft().result()
         while waiting:
@@ -96,21 +96,21 @@ def interruptible(call: Callable[..., A], count: int, empties: int, *arguments: 
         return call(*arguments)
     future: "Future[A]" = Future()
     try:
-        start_worker([(future, arguments)], lambda them: call(*them))
+        start_worker([(future, call, *arguments)])
     except RuntimeError:  # no further thread can be started
         return call(*arguments)
     return future.result()
 
 
-def start_worker(tasks: Iterable[Tuple["Future[B]", A]], call: Callable[[A], B]) -> None:
-    """Starts a daemon thread that takes each (Future, argument) of `tasks`, calls `call` with the argument, and gives
-    the result or the exception to the Future."""
+def start_worker(tasks: Iterable[Any]) -> None:
+    """Starts a daemon thread that takes each (Future, function, arguments..) of `tasks`, calls the function with the
+    arguments, and gives the result or the exception to the Future."""
 
     def work() -> None:
-        for future, part in tasks:
+        for future, call, *arguments in tasks:
             if future.set_running_or_notify_cancel():
                 try:
-                    future.set_result(call(part))
+                    future.set_result(call(*arguments))
                 except BaseException as error:
                     future.set_exception(error)
 
