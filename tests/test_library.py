@@ -20,8 +20,8 @@ int main(void) { return ffosolve_version() != FFOSOLVE_VERSION || ffosolve_statu
 # The texts of the header that Python does not have.
 TEXTS_OF_LINES = {"SKIPPED": "no position: the line is blank or a comment", "SHORT_BOARD": "fewer than 64 squares",
                   "BAD_SQUARE": "bad square", "BAD_SIDE": "bad side"}
-# The values of the names in tests/library_calls.txt: positions with two empty squares, before a pass, at the end of a
-# game, and refused ones; boards, numbers and texts.
+# The values of the names in braces in tests/library_calls.txt: positions with two empty squares, before a pass, at the
+# end of a game, and refused ones; boards, numbers and texts.
 NAMES = {
     "CORNERS": "0xfffffff7ffff7f7c 0x0000000800008002", "PASSED": "0x0000000800008002 0xfffffff7ffff7f7c",
     "PASS": "0x7e 0xffffffffffffff80", "OVER": "0xffffffff 0xffff000000000000", "EMPTY": "0 0xffffffffffffffff",
@@ -44,11 +44,6 @@ fn main() {
     }
 }
 """
-
-
-def named(text):
-    """Returns the text with each @NAME@ replaced by that name's value in NAMES."""
-    return re.sub(r"@(\w+)@", lambda name: str(NAMES[name[1]]), text)
 
 
 class Library(unittest.TestCase):
@@ -130,11 +125,11 @@ class Calls(unittest.TestCase):
         for row in (TESTS / "library_calls.txt").read_text().splitlines():
             call, wanted = row.rsplit(" = ", 1)
             for words in itertools.product(*(word.split("|") for word in call.split(" "))):
-                call = named(" ".join(words))
+                call = " ".join(words).format_map(NAMES)
                 if call.startswith("read_line"):
                     call = call[:12] + call[12:].encode().decode("unicode_escape").encode().hex()
                 self.calls.append(call)
-                self.wanted += f"{named(wanted)}\n"
+                self.wanted += wanted.format_map(NAMES) + "\n"
 
     def printed(self, compiler, header, folder):
         """Compiles library_nulls.c and library_calls.c in `folder` with `header`; returns a pair of what they print."""
@@ -176,9 +171,10 @@ class Calls(unittest.TestCase):
                 self.assertTrue(noticed, wrong[number])
 
     def test_a_call_without_memory_returns_its_status(self):
-        calls = ("solve {} 0 {}", "confirm {} 0 {} 62 0 0x80", "move_scores {} 0 {}", "solve_all 0 {1} 1 {0}",
-                 "move_scores_all 0 {1} 1 {0}", "long_line", "solve {} 0 0")
-        calls = [call.format(NAMES["CORNERS"], ffosolve.MOST_ENTRIES) for call in calls]
+        calls = ("solve {CORNERS} 0 {ENTRIES}", "confirm {CORNERS} 0 {ENTRIES} 62 0 0x80",
+                 "move_scores {CORNERS} 0 {ENTRIES}", "solve_all 0 {ENTRIES} 1 {CORNERS}",
+                 "move_scores_all 0 {ENTRIES} 1 {CORNERS}", "long_line", "solve {CORNERS} 0 0")
+        calls = [call.format_map(NAMES) for call in calls]
         printed = PREFIX.called(calls, preexec_fn=limited("RLIMIT_AS", 60_000_000))
         self.assertEqual(printed, ["7"] * 6 + ["0 62/0/80"])
 
@@ -191,7 +187,8 @@ class Calls(unittest.TestCase):
         printed = PREFIX.called(calls, env={}, preexec_fn=limited("RLIMIT_STACK", 32 << 10))
         self.assertEqual([line[:2] for line in printed], ["0 "] * len(calls))
         with self.assertRaises(subprocess.TimeoutExpired):
-            PREFIX.called([named("solve @START@ 0 1024")], env={}, preexec_fn=limited("RLIMIT_STACK", 128 << 10), timeout=2)
+            call = "solve {START} 0 1024".format_map(NAMES)
+            PREFIX.called([call], env={}, preexec_fn=limited("RLIMIT_STACK", 128 << 10), timeout=2)
 
 
 class Statuses(unittest.TestCase):
