@@ -15,7 +15,7 @@ from .support import ROOT, built, need, run
 from .games import NAMES, can_move, passed, positions_of, random_game, squares_of
 from .positions import PIL, need_modules, numpy, random_positions
 import ffosolve
-from ffosolve import Position, Scoring, Solver
+from ffosolve import NoMove, Position, Scoring, Solver
 
 # In the first position White has no move; in the second neither side has one, and 16 squares are empty.
 AT_PASS = "-OOOOOOXXXXXXXXXXXXXXXXXXXXXXXXXXXXXXXXXXXXXXXXXXXXXXXXXXXXXXXXX O;"
@@ -71,16 +71,15 @@ class Rules(unittest.TestCase):
         finished = Position.from_obf(FINISHED)
         third, no_square = start.play_all("f5d6"), "a square is a name such as 'F5' or a number from 0 to 63, not "
         for error, call, move, why in (
-            (ffosolve.NoMove, start.play, "e3", f"E3 is not a legal move for Black in {start.to_obf()}"),
-            (ffosolve.NoMove, after.play, 37, f"F5 is not a legal move for White in {after.to_obf()}"),
-            (ffosolve.NoMove, lambda move: Solver().play(after, move), "f5",
-             f"F5 is not a legal move for White in {after.to_obf()}"),
-            (ffosolve.NoMove, start.play, 64, f"square 64 is not a legal move for Black in {start.to_obf()}"),
-            (ffosolve.NoMove, at_pass.play, "A1", f"A1 is not a legal move: White has to pass in {AT_PASS}"),
-            (ffosolve.NoMove, finished.play, "A5", f"A5 is not a legal move: the game is over in {FINISHED}"),
-            (ffosolve.NoMove, start.play_all, "f5d6d6", f"move 3: D6 is not a legal move for Black in {third.to_obf()}"),
-            (ffosolve.NoMove, start.play_all, "f5 --", f"move 2: a pass is not a legal move for White in {after.to_obf()}"),
-            (ffosolve.NoMove, start.play_all, "f5z9", "move 2: no square has the name 'z9'"),
+            (NoMove, start.play, "e3", f"E3 is not a legal move for Black in {start.to_obf()}"),
+            (NoMove, after.play, 37, f"F5 is not a legal move for White in {after.to_obf()}"),
+            (NoMove, lambda it: Solver().play(after, it), "f5", f"F5 is not a legal move for White in {after.to_obf()}"),
+            (NoMove, start.play, 64, f"square 64 is not a legal move for Black in {start.to_obf()}"),
+            (NoMove, at_pass.play, "A1", f"A1 is not a legal move: White has to pass in {AT_PASS}"),
+            (NoMove, finished.play, "A5", f"A5 is not a legal move: the game is over in {FINISHED}"),
+            (NoMove, start.play_all, "f5d6d6", f"move 3: D6 is not a legal move for Black in {third.to_obf()}"),
+            (NoMove, start.play_all, "f5 --", f"move 2: a pass is not a legal move for White in {after.to_obf()}"),
+            (NoMove, start.play_all, "f5z9", "move 2: no square has the name 'z9'"),
             (ValueError, start.play, "I9", "no square has the name 'I9'"),
             (TypeError, start.play, None, f"{no_square}None"),
             (TypeError, start.play, 1.5, f"{no_square}1.5"),
@@ -179,8 +178,8 @@ class Boards(unittest.TestCase):
         position, corners = Position.from_obf(BOARD), [(22 + 44 * (at % 8), 22 + 44 * (at // 8)) for at in range(64)]
         self.assertEqual("".join(re.findall(r">(\w)</text>", position._repr_svg_())), "A1B2C3D4E5F6G7H8")
         black, white, green, yellow = "111111", "fafafa", "2f8f5b", "ffd54a"
-        for svg, mover, other in ((position._repr_svg_(), black, white), (position.show(side="O")._repr_svg_(), white, black)):
-            at = self.picture(svg)
+        for board, mover, other in ((position, black, white), (position.show(side="O"), white, black)):
+            at = self.picture(board._repr_svg_())
             colours = {"X": mover, "O": other, "-": green}
             self.assertEqual([at(x + 22, y + 22) for x, y in corners], [colours[letter] for letter in BOARD[:64]])
             self.assertEqual(({at(x + 4, y + 4) for x, y in corners}, at(32, 391)), ({green}, mover))

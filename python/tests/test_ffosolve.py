@@ -204,14 +204,12 @@ class Refusals(unittest.TestCase):
                 self.refused(ffosolve.NoMemory, read, CORNERS)
 
     def test_an_object_that_is_not_a_position_is_named(self):
-        solver = Solver()
-        for call in (*ONE, *MANY):
+        solver, why = Solver(), r"^a position is two masks, as Position\(own, opp\) and .* not "
+        for call in (*ONE, *(lambda solver, it, call=call: call(solver, [POSITION, it]) for call in MANY)):
             for it in ("x", "ab", None, 5, ANSWER, (1,), (1, 2, 3), (0.5, 1), Position("a", "b"), CORNERS):
-                with self.assertRaisesRegex(TypeError, r"^a position is two masks, as Position\(own, opp\) and .* not "):
-                    call(solver, it if call in ONE else [POSITION, it])
+                self.assertRaisesRegex(TypeError, why, call, solver, it)
             for it in (Position(-1, 0), Position(0, 2**64)):
-                with self.assertRaisesRegex(ValueError, r"^a mask is a number from 0 to 2\*\*64 - 1$"):
-                    call(solver, it if call in ONE else [POSITION, it])
+                self.assertRaisesRegex(ValueError, r"^a mask is a number from 0 to 2\*\*64 - 1$", call, solver, it)
         for call in MANY:
             self.assertRaisesRegex(TypeError, "^a position is two masks, .* not [0-9.]+$", call, solver, POSITION)
 
@@ -224,8 +222,8 @@ class Refusals(unittest.TestCase):
             with self.assertRaisesRegex(TypeError, "^scores are an Answer, or a mapping from squares' names .* not "):
                 POSITION.show(it)
         self.assertEqual(str(line.show(ANSWER)), str(line.show({"H1": 62})))
-        for it, state in ((Answer(-64, Kind.PASS, 0), "has to pass: -64"), (Answer(32, Kind.OVER, 0), "scores +32: the game is over")):
-            self.assertEqual(str(line.show(it)), str(line).replace("is to move", state))
+        for score, kind, state in (-64, Kind.PASS, "has to pass: -64"), (32, Kind.OVER, "scores +32: the game is over"):
+            self.assertEqual(str(line.show(Answer(score, kind, 0))), str(line).replace("is to move", state))
         for it in (5, None, ["a"]):
             for read in (Position.from_obf, lambda it: list(parse_lines(it))):
                 self.assertRaisesRegex(TypeError, "^OBF text is of the type str or bytes, not ", read, it)
@@ -242,7 +240,7 @@ class Refusals(unittest.TestCase):
         folder, name = os.path.dirname(ffosolve.__file__), "libffosolve.so.1"
         of_package = [f"{folder}/{level}/{name}" for level in ("x86-64-v3", "x86-64-v2")]
         others = [f"{prefix}/lib/{name}" for prefix in ("/of/venv", "/of/python", "/usr/local")]
-        with mock.patch.dict(os.environ, {"FFOSOLVE_LIBRARY": ""}), mock.patch.object(os.path, "exists", lambda _: True), \
+        with mock.patch.dict(os.environ, {"FFOSOLVE_LIBRARY": ""}), mock.patch("os.path.exists", lambda _: True), \
                 mock.patch.multiple(sys, prefix="/of/venv", base_prefix="/of/python"):
             self.assertEqual(places(), [*of_package, name, *others])
 
@@ -261,8 +259,9 @@ class Obf(unittest.TestCase):
         lines = ["", CORNERS, "% H1", CORNERS[:63], CORNERS[:64] + " O;", "?" + CORNERS]
         for end in ("\n", "\r\n"):
             text = end.join(lines) + end
-            of_lines = lines, [line + end for line in lines], io.StringIO(text), io.BytesIO(text.encode())
-            for read, given in (*((parse_lines, it) for it in (text, text.encode())), *((read_lines, it) for it in of_lines)):
+            for read, given in ((parse_lines, text), (parse_lines, text.encode()), (read_lines, lines),
+                                (read_lines, [line + end for line in lines]), (read_lines, io.StringIO(text)),
+                                (read_lines, io.BytesIO(text.encode()))):
                 wrong = []
                 found = pickle.loads(pickle.dumps(list(read(given, refused=wrong.append))))
                 self.assertEqual([(line, line.number, line.side, line.listed) for line in found],
@@ -284,7 +283,8 @@ class Obf(unittest.TestCase):
             for source in (path, str(path)):
                 self.assertEqual([(line, line.number) for line in read_lines(source)], [(POSITION, 2)])
             self.assertRaises(FileNotFoundError, read_lines, pathlib.Path(folder, "none.obf"))
-        for it, what in ((CORNERS + "\n", "a text, which parse_lines reads"), (b"", "a text, .*"), (5, "5"), (None, "None")):
+        text = "a text, which parse_lines reads"
+        for it, what in ((CORNERS + "\n", text), (b"", text), (5, "5"), (None, "None")):
             self.assertRaisesRegex(TypeError, f"^lines are read from a path or .*, not from {what}$", read_lines, it)
 
     def test_squares_have_names_and_numbers(self):

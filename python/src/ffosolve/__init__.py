@@ -47,7 +47,7 @@ from ._solvers import NO_SCORE, Solver, table_entries
 from ._squares import square_name, square_number, square_names
 
 _FOLDER = os.path.dirname(os.path.abspath(__file__))
-_PLACES = [os.path.join(_FOLDER, place, "VERSION") for place in ("", "../../..")]  # as it is installed, and in a checkout
+_PLACES = [os.path.join(_FOLDER, place, "VERSION") for place in ("", "../../..")]  # installed, and in a checkout
 with open(next(filter(os.path.exists, _PLACES)), encoding="utf-8") as _file:
     __version__ = _file.read().strip()
 

@@ -36,8 +36,8 @@ def places() -> List[str]:
     if named:
         return [named]
     own = [os.path.join(os.path.dirname(__file__), level, NAME) for level in ("x86-64-v3", "x86-64-v2")]
-    prefixes = [sys.prefix, sys.base_prefix, "/usr/local"]
-    return [*filter(os.path.exists, own), NAME, *(os.path.join(prefix, "lib", NAME) for prefix in dict.fromkeys(prefixes))]
+    prefixes = dict.fromkeys([sys.prefix, sys.base_prefix, "/usr/local"])
+    return [*filter(os.path.exists, own), NAME, *(os.path.join(prefix, "lib", NAME) for prefix in prefixes)]
 
 
 def load(path: Union[str, "os.PathLike[str]", None] = None) -> ctypes.CDLL:

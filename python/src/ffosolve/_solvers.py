@@ -163,7 +163,7 @@ class Solver:
         return Answer(answer.score, KINDS[answer.kind], answer.best)
 
     def _all_parts(self, positions: Iterable[Position], whole: bool = False) -> List[PartOrRefusal]:
-        """Cuts positions into parts, or makes one of them. Raises the refusal of the first refused position."""
+        """Returns positions in parts; if `whole`, all in one. Raises the refusal of the first refused position."""
         parts = list(parts_of(positions, self._max_empties, whole))
         if parts and isinstance(parts[-1], Refused):
             raise parts[-1]
