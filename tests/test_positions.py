@@ -67,18 +67,19 @@ class Rules(unittest.TestCase):
                 self.assertTrue(found.is_over)
 
     def test_an_illegal_move_is_named_with_its_board_and_side(self):
-        start, after, at_pass = Position.start(), Position.start().play("F5"), Position.from_obf(AT_PASS)
-        finished = Position.from_obf(FINISHED)
-        third, no_square = start.play_all("f5d6"), "a square is a name such as 'F5' or a number from 0 to 63, not "
+        start, after = Position.start(), Position.start().play("F5")
+        at_pass, finished = Position.from_obf(AT_PASS), Position.from_obf(FINISHED)
+        first, second, third = start.to_obf(), after.to_obf(), after.play("D6").to_obf()
+        no_square = "a square is a name such as 'F5' or a number from 0 to 63, not "
         for error, call, move, why in (
-            (NoMove, start.play, "e3", f"E3 is not a legal move for Black in {start.to_obf()}"),
-            (NoMove, after.play, 37, f"F5 is not a legal move for White in {after.to_obf()}"),
-            (NoMove, lambda it: Solver().play(after, it), "f5", f"F5 is not a legal move for White in {after.to_obf()}"),
-            (NoMove, start.play, 64, f"square 64 is not a legal move for Black in {start.to_obf()}"),
+            (NoMove, start.play, "e3", f"E3 is not a legal move for Black in {first}"),
+            (NoMove, after.play, 37, f"F5 is not a legal move for White in {second}"),
+            (NoMove, lambda it: Solver().play(after, it), "f5", f"F5 is not a legal move for White in {second}"),
+            (NoMove, start.play, 64, f"square 64 is not a legal move for Black in {first}"),
             (NoMove, at_pass.play, "A1", f"A1 is not a legal move: White has to pass in {AT_PASS}"),
             (NoMove, finished.play, "A5", f"A5 is not a legal move: the game is over in {FINISHED}"),
-            (NoMove, start.play_all, "f5d6d6", f"move 3: D6 is not a legal move for Black in {third.to_obf()}"),
-            (NoMove, start.play_all, "f5 --", f"move 2: a pass is not a legal move for White in {after.to_obf()}"),
+            (NoMove, start.play_all, "f5d6d6", f"move 3: D6 is not a legal move for Black in {third}"),
+            (NoMove, start.play_all, "f5 --", f"move 2: a pass is not a legal move for White in {second}"),
             (NoMove, start.play_all, "f5z9", "move 2: no square has the name 'z9'"),
             (ValueError, start.play, "I9", "no square has the name 'I9'"),
             (TypeError, start.play, None, f"{no_square}None"),
