@@ -10,7 +10,7 @@ from tests import many
 from tests.many import ACTING, BOARD, Case, install, setUpModule
 from tests.support import NOBODY, ROOT, SECONDS, limited, positions, run, stored, worked, write
 
-from ffosolve._many import books, messages, parts, progress
+from ffosolve._many import books, engine, files, folder
 
 
 class Results(Case):
@@ -339,9 +339,9 @@ class Progress(unittest.TestCase):
 
     def progress(self, texts, lines=1):
         """Returns the Progress of a run whose parts have `lines` lines each, and the weights of `texts`."""
-        a_run = parts.Run.__new__(parts.Run)
+        a_run = folder.Run.__new__(folder.Run)
         a_run.lines, a_run.all_lines, a_run.parts, a_run.text = lines, len(texts) * lines, len(texts), texts.__getitem__
-        return progress.Progress(a_run, range(len(texts)), 20)
+        return engine.Progress(a_run, range(len(texts)), 20)
 
     def test_the_time_left_is_known_within_a_factor_of_two_from_a_tenth_of_the_work_on(self):
         lines, ends = positions(264, 8, 18, 3).splitlines(keepends=True), []
@@ -389,16 +389,16 @@ class Progress(unittest.TestCase):
         self.assertEqual(one.text(), "25%, no machine at work, parts 1 of 4")
 
     def test_work_grows_with_the_empty_squares_of_both_spellings(self):
-        growth = progress.GROWTH
+        growth = engine.GROWTH
         for empty in (b"-", b"."):
             text = (BOARD + b" X\n\n% -----\n" + b"-" * 30 + b"X" * 34 + b" X\n").replace(b"-", empty)
-            self.assertEqual(progress.weight_of(text, 20), growth ** 2 + 1)
+            self.assertEqual(engine.weight_of(text, 20), growth ** 2 + 1)
         for empties, seconds in ((6, 0.666 / 0.0042), (8, 8.76 / 0.0042)):  # 20 and 22 empty squares against 14
             self.assertTrue(0.5 < growth ** empties / seconds < 2)
 
     def test_times_are_shown_in_words(self):
         for seconds, words in ((0, "0 s"), (119, "119 s"), (120, "2 min"), (3599, "1 h 0 min"), (7500, "2 h 5 min")):
-            self.assertEqual(progress.span_of(seconds), words)
+            self.assertEqual(engine.span_of(seconds), words)
 
     def test_the_line_fits_a_terminal(self):
         one = self.progress([self.FULL] * 1200, 200)
@@ -411,7 +411,7 @@ class Progress(unittest.TestCase):
         for columns, line in ((80, whole), (50, "54%, 8 h 19 min left"), (200, whole)):
             size = mock.patch.object(os, "get_terminal_size", return_value=os.terminal_size((columns, 24)))
             with size, mock.patch.object(sys, "stderr", mock.Mock()), mock.patch("builtins.print") as printed:
-                messages.show(whole)
+                files.show(whole)
             self.assertEqual(printed.call_args[0][0], f"\r\033[Kffosolve-many: {line}")
 
     def test_a_part_that_runs_long_is_named(self):

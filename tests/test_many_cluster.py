@@ -41,12 +41,12 @@ class Interfaces(unittest.TestCase):
         client.get_executor.assert_called_once_with(pure=False, resources={one.name: 1})
         for has_program in (False, True):
             client.run_on_scheduler.return_value = has_program, workers, set()
-            self.assertEqual((one.look(), one.room()), ({}, 6))
+            self.assertEqual((one.look({}), one.room), ({}, 6))
         client.loop.add_callback.assert_called_once_with(client.register_plugin, one.program, name=one.name)
         one.submit(0, ())
         pool.submit.assert_called_once_with(mock.ANY, 0, "0", key=mock.ANY, workers=None)
-        client.run_on_scheduler.return_value = True, workers, {pool.submit.call_args.kwargs["key"]}
-        one.look()
+        client.run_on_scheduler.return_value = True, workers, [0]
+        one.look({pool.submit.return_value: 0})
         pool.submit.return_value.cancel.assert_called_once_with()
 
 

@@ -14,7 +14,7 @@ from tests import many
 from tests.many import Case, install, setUpModule
 from tests.support import MOST_BYTES, SECONDS, InFolder, as_at_a_login, limited, processes_in, run, wait_until, write
 
-from ffosolve._many import command, folder, parts, solve
+from ffosolve._many import command, folder, solve
 
 
 class Functions(InFolder):
@@ -28,20 +28,20 @@ class Functions(InFolder):
 
     def test_a_report_is_taken_if_it_is_complete(self):
         whole, numbers = b"[1]\n1 +02 A1 right\n2 refused: bad side at column 65\nsolved 1 refused 1\n", [1, 2]
-        self.assertTrue(parts.is_report(whole, numbers))
-        self.assertEqual([*parts.rows_of(whole)], [(1, b"+02 A1 right"), (2, b"refused: bad side at column 65")])
+        self.assertTrue(folder.is_report(whole, numbers))
+        self.assertEqual([*folder.rows_of(whole)], [(1, b"+02 A1 right"), (2, b"refused: bad side at column 65")])
         for end in range(len(whole)):
-            self.assertFalse(parts.is_report(whole[:end], numbers), end)
+            self.assertFalse(folder.is_report(whole[:end], numbers), end)
         for old, new in ((b"[1]", b"[2]"), (b"1 +", b"2 +"), (b"1 +", b"01 +"), (b"A1", b"\0\0"), (b" right", b""),
                          (b"solved 1", b"solved 2"), (b"refused 1", b"refused 0"), (b"2 refused: ", b"2 refused "),
                          (b"solved 1 refused 1", b"solved 2 refused 0"), (b"solved", b"Solved"),
                          (b"\nsolved", b"\n\nsolved"), (b"2 refused: bad side at column 65\n", b"")):
-            self.assertFalse(parts.is_report(whole.replace(old, new), numbers), new)
+            self.assertFalse(folder.is_report(whole.replace(old, new), numbers), new)
         for others in ([1, 3], [1], [1, 2, 3]):
-            self.assertFalse(parts.is_report(whole, others))
+            self.assertFalse(folder.is_report(whole, others))
 
     def test_scores_are_complete_with_a_line_for_each_of_the_part(self):
-        one = parts.Run.__new__(parts.Run)
+        one = folder.Run.__new__(folder.Run)
         one.options = {"--scores": ""}
         for text, is_whole in ((b"a\nb\nc\n", True), (b"a\nb\n", False), (b"a\nb\nc", False), (b"a\nb\nc\nd\n", False)):
             self.assertEqual(one.is_whole(b"1\n2\n3\n", 0, text, b""), is_whole)

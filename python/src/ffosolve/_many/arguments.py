@@ -3,8 +3,7 @@ import argparse
 import re
 from pathlib import Path
 
-from .files import path_of
-from .messages import NAME, misused, shown
+from .files import NAME, misused, path_of, shown
 
 GONE = {
     "--hosts": "start a cluster with `dask ssh --hostfile FILE`, and use --scheduler (nor is PARALLEL_SSH read)",

@@ -11,9 +11,9 @@ from pathlib import Path
 
 from .._positions import BLACK, WHITE, NoPosition, Position
 from .._squares import NAMES
-from .files import is_same, print_all, regular, replace
-from .messages import DONE, NAME, REFUSED, UNBUILT, UNREADABLE, Refusal, misused, shown
-from .parts import HEADER
+from .files import (DONE, NAME, REFUSED, UNBUILT, UNREADABLE, Refusal, is_same, misused, print_all, regular, replace,
+                    shown)
+from .folder import HEADER
 from .programs import Program
 
 READ = 4096  # bytes of a book that are read at once, and the rest of their last line
@@ -35,22 +35,33 @@ def entries_of(lines, name):
     """Yields (masks, (name, number of the line), line as ffosolve writes it) for each entry of a book. Raises
     ValueError for a wrong line."""
     for number, text in enumerate(lines, 1):
-        if ENTRY.fullmatch(text):
-            yield (*(int(text[63::-1].translate(side), 2) for side in (BLACK, WHITE)),), (name, number), text
-            continue
-        with contextlib.suppress(NoPosition):
-            line = Position.from_obf(text)
+        if not ENTRY.fullmatch(text):
+            try:
+                line = Position.from_obf(text)
+            except NoPosition:
+                continue
             greatest = max(score for _, score in line.listed)
             moves = {move for move, score in line.listed if score == greatest}
             best = [square for square in NAMES if square in moves] or [max(moves)]  # PS if listed, otherwise --
             text = f"{line.to_obf()}{''.join(f' {move}:{greatest:+03d};' for move in best)}\n".encode()
-            yield tuple(line), (name, number), text
+        yield [int(text[63::-1].translate(side), 2) for side in (BLACK, WHITE)], (name, number), text
 
 
-def merged(books):
-    """Yields one line for each position in `books`, which `entries_of` has read. Refuses entries that disagree about a
-    position. Raises ValueError if one book has a position twice."""
-    for _, ((_, place, line), *others) in itertools.groupby(heapq.merge(*books), key=operator.itemgetter(0)):
+def merged(names, books):
+    """Yields the lines of a book with all entries of `books`, each of which yields its lines. Refuses different scorings,
+    and entries that disagree about a position, with the `names` of their books. Raises ValueError if one book has a
+    position twice."""
+    books = list(map(iter, books))
+    firsts = [next(book, b"") for book in books]
+    scorings = [first.decode("latin-1").removeprefix("% ffobook 2 ").rstrip() if first.startswith(b"% ffobook ")
+                else "winner" for first in firsts]
+    for name, scoring in zip(names, scorings):
+        if scoring != scorings[0]:
+            raise Refusal(REFUSED, f"{names[0]} has the scoring {scorings[0]} and {name} {scoring}: "
+                                   "only books of one scoring can be merged")
+    yield HEADER.format(scorings[0]).encode()
+    entries = (entries_of(itertools.chain([first], book), name) for name, first, book in zip(names, firsts, books))
+    for _, ((_, place, line), *others) in itertools.groupby(heapq.merge(*entries), key=operator.itemgetter(0)):
         for _, other_place, other in others:
             if place[0] == other_place[0] and place != other_place:
                 raise ValueError("{} line {} is not in order".format(*other_place))
@@ -67,9 +78,9 @@ def book_of(run, folder):
     while batch := list(itertools.islice(books, BATCH)):
         paths.append(Path(folder, f"{len(paths)}.book"))
         with paths[-1].open("wb") as file:
-            file.writelines(merged(entries_of(lines, number) for number, lines in enumerate(batch)))
-    yield HEADER.format(run.options["--scoring"]).encode()
-    yield from merged(entries_of(lines_of(path), path.name) for path in paths)
+            file.writelines(merged(range(BATCH), batch))
+    header = HEADER.format(run.options["--scoring"]).encode()  # the whole book if the list has no lines
+    yield from merged(["", *(path.name for path in paths)], [[header], *map(lines_of, paths)])
 
 
 def check_place(name, source, program, *options):
@@ -78,22 +89,9 @@ def check_place(name, source, program, *options):
         if is_same(name, other):
             raise misused(f"--book-out {shown(name)} is {what}: name another file")
     with open("/dev/full", "wb") as full:  # so that the program tests the file, and writes nothing
-        _, errors = program.try_run(*options, f"--book-out={name}", "/dev/null", stdout=full, close_fds=False)
+        _, errors = program.try_run(*options, f"--book-out={name}", "/dev/null", stdout=full)
     if errors != "cannot write standard output":
         raise Refusal(UNREADABLE, errors.replace(os.fsencode(name).decode(errors="replace"), shown(name)))
-
-
-def merged_book(names, paths):
-    """Yields the lines of a book with all entries of the books at `paths`. Refuses books with different scorings."""
-    firsts = [next(lines_of(path), b"").decode("latin-1") for path in paths]
-    scorings = [first.removeprefix("% ffobook 2 ").rstrip() if first.startswith("% ffobook ") else "winner"
-                for first in firsts]
-    for name, scoring in zip(names, scorings):
-        if scoring != scorings[0]:
-            raise Refusal(REFUSED, f"{names[0]} has the scoring {scorings[0]} and {name} {scoring}: "
-                                   "only books of one scoring can be merged")
-    yield HEADER.format(scorings[0]).encode()
-    yield from merged(map(entries_of, map(lines_of, paths), names))
 
 
 def read_books(program, names, paths):
@@ -115,7 +113,7 @@ def merge_books(command, programs):
         paths = [regular(name, stack) for name in command.words]
         whole = stack.enter_context(tempfile.NamedTemporaryFile(prefix=f"{NAME}-"))
         try:
-            whole.writelines(merged_book(names, paths))
+            whole.writelines(merged(names, map(lines_of, paths)))
             whole.seek(0)
             read_books(program, ["the merged book"], [whole.name])
         except (ValueError, Refusal) as why:

@@ -2,6 +2,7 @@
 import asyncio
 import collections
 import contextlib
+import itertools
 import logging
 import os
 import shutil
@@ -10,7 +11,7 @@ import time
 import warnings
 from pathlib import Path
 
-from .messages import UNBUILT, UNREADABLE, Refusal, say
+from .files import UNBUILT, UNREADABLE, Refusal, say
 from .solve import Failed, fit_program, solve
 
 try:
@@ -30,7 +31,7 @@ class Program(distributed.WorkerPlugin):
     the worker's metrics say what is wrong."""
 
     def __init__(self, name, task, files):
-        self.name, self.task, self.files, self.is_over = name, task, files, False
+        self.name, self.task, self.files = name, task, files
 
     async def setup(self, worker):
         self.worker, self.folder = worker, Path(worker.local_directory).absolute() / self.name
@@ -49,40 +50,39 @@ class Program(distributed.WorkerPlugin):
         return fit_program(self.task, self.folder)[0]
 
     def solve(self, number, text):
-        """Solves a part. Returns (the worker's address, the record of the results, an empty text) or, if that fails,
-        (the worker's address, None, the reason)."""
+        """Solves a part, and kills the program once the task is cancelled or `teardown` has removed the folder. Returns
+        the worker's address with what `solve.solve` returns."""
         key = self.worker.get_current_task()
 
         def is_wanted():
             state = getattr(self.worker.state.tasks.get(key), "state", None)
-            return state == "executing" and not self.is_over
-        try:
-            return self.worker.address, solve(self.task, self.folder, self.program, number, text, is_wanted), ""
-        except Failed as why:
-            return self.worker.address, None, str(why)
+            return state == "executing" and self.folder.exists()
+        return self.worker.address, *solve(self.task, self.folder, self.program, number, text, is_wanted)
 
     def teardown(self, worker):
-        self.is_over = True
         worker.metrics.pop(self.name, None)
         shutil.rmtree(self.folder, ignore_errors=True)
 
 
 def look_at(name, left_out, dask_scheduler):
     """Runs on the scheduler. Takes the resource `name` from the workers `left_out`. Returns whether the scheduler has
-    the plugin `name`; {worker's address: (fault or None, resource or None, host, threads, keys of its parts)}; and the
-    keys of the tasks that no worker can take."""
+    the plugin `name`; {worker's address: (fault or None, resource or None, host, threads, its parts)}; and the parts
+    that no worker can take."""
+    def parts_of(tasks):
+        keys = sorted(task.key for task in tasks if str(task.key).startswith(name))
+        return [int(key.rpartition("-")[2]) for key in keys]
     for address in left_out & dask_scheduler.workers.keys():
         dask_scheduler.add_resources(address, {name: 0})
     workers = {address: (worker.metrics.get(name), worker.resources.get(name), worker.host, worker.nthreads,
-                         sorted(task.key for task in worker.processing if str(task.key).startswith(name)))
-               for address, worker in dask_scheduler.workers.items()}
-    return name in dask_scheduler.worker_plugins, workers, {task.key for task in dask_scheduler.unrunnable}
+                         parts_of(worker.processing)) for address, worker in dask_scheduler.workers.items()}
+    return name in dask_scheduler.worker_plugins, workers, parts_of(dask_scheduler.unrunnable)
 
 
 class Cluster:
     """An engine: the workers of a cluster. It can be used in place of `engine.Threads`."""
 
     tries = 3  # after which a part has failed
+    room = 0  # how many parts may be submitted but unfinished at a time
 
     def __init__(self, address, run):
         logging.disable()
@@ -90,9 +90,9 @@ class Cluster:
         for module in ("solve", "cluster"):  # workers do not have these modules
             cloudpickle.register_pickle_by_value(sys.modules[f"{__package__}.{module}"])
         files = {path.name: path.read_bytes() for name in ("program-?", "book-in") for path in run.folder.glob(name)}
-        self.address, self.run, self.name, self.count = address, run, f"ffosolve-{os.urandom(6).hex()}", 0
+        self.address, self.run, self.name, self.count = address, run, f"ffosolve-{os.urandom(6).hex()}", itertools.count()
         self.program, self.heard = Program(self.name, run.task, files), time.monotonic()
-        self.ready, self.flying, self.left_out, self.fails = {}, {}, set(), collections.Counter()
+        self.ready, self.left_out, self.fails = {}, set(), collections.Counter()
         place = {"scheduler_file" if os.path.isfile(address) or ":" not in address else "address": address}
         try:
             if "scheduler_file" in place:
@@ -102,23 +102,14 @@ class Cluster:
             raise Refusal(UNREADABLE, f"cannot reach the scheduler {address}: {str(why).splitlines()[0]}") from None
         self.pool = self.client.get_executor(pure=False, resources={self.name: 1})
 
-    def room(self):
-        """Returns how many parts may be submitted but unfinished at a time: 0 until a worker has the program."""
-        threads = sum(self.ready.values())
-        return 2 * threads + 2 if threads else 0
-
     def submit(self, number, failed):
         """Submits a part, if possible to a worker that is not in `failed`; returns a future of the part's results."""
-        self.count += 1
-        name, key = self.name, f"{self.name}-{self.count:09d}-{number}"
+        name, key = self.name, f"{self.name}-{next(self.count):09d}-{number}"
         others = [address for address in self.ready if address not in failed] if failed else []
-        future = self.pool.submit(lambda *words: distributed.get_worker().plugins[name].solve(*words), number,
-                                  self.run.text(number), key=key, workers=others or None)
-        self.flying[key] = future
-        future.add_done_callback(lambda _: self.flying.pop(key, None))
-        return future
+        return self.pool.submit(lambda *words: distributed.get_worker().plugins[name].solve(*words), number,
+                                self.run.text(number), key=key, workers=others or None)
 
-    def result(self, future, number):
+    def result(self, future):
         try:
             machine, record, why = future.result()
         except Exception as fault:  # such as KilledWorker
@@ -134,10 +125,10 @@ class Cluster:
         self.left_out.add(machine)
         self.ready.pop(machine, None)
 
-    def look(self):
+    def look(self, flying):
         """Notes ready workers, and leaves out those where the program does not work. Returns {part: host} of the parts
         being solved, or {} while the scheduler does not answer. Raises Refusal if that lasts LOST_SECONDS."""
-        running, self.ready = {}, {}
+        running, self.ready, self.room = {}, {}, 0
         try:
             if self.client.status != "running":
                 raise OSError("Dask connects again")
@@ -151,14 +142,15 @@ class Cluster:
         if not has_program:  # in the client's own thread, since the call hangs while a worker is silent
             register = getattr(self.client, "register_plugin", None) or self.client.register_worker_plugin
             self.client.loop.add_callback(register, self.program, name=self.name)
-        for address, (why, is_fit, host, threads, keys) in workers.items():
+        for address, (why, is_fit, host, threads, parts) in workers.items():
             if why and address not in self.left_out:
                 self.leave_out(address, why)
             if is_fit:
                 self.ready[address] = threads
-                running.update((int(key.rpartition("-")[2]), host) for key in keys[:threads])
-        for key, future in list(self.flying.items()):
-            if key in strays:  # since workers that join later would not get it
+                running.update(dict.fromkeys(parts[:threads], host))
+        self.room = 2 * sum(self.ready.values()) + 2 if self.ready else 0
+        for future, number in flying.items():
+            if number in strays:  # since workers that join later would not get it
                 future.cancel()
         return running
 

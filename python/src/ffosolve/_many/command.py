@@ -9,17 +9,16 @@ from .. import __version__
 from .arguments import complete, parse
 from .books import book_of, check_place, merge_books
 from .engine import Threads, solve_parts
-from .files import is_same, path_of, print_all, regular, replace
+from .files import (DONE, NAME, UNREADABLE, UNSOLVED, Refusal, counted, is_same, misused, path_of, print_all, refusing,
+                    regular, replace, say, shown)
 from .folder import prepare
-from .messages import DONE, NAME, UNREADABLE, UNSOLVED, Refusal, cannot, counted, misused, say, shown
 from .programs import Program, run_options
 
 SIGNALS = (signal.SIGINT, signal.SIGTERM, signal.SIGHUP)
 
 
 def begin(command, programs):
-    """Checks the options and files of a command, and begins or continues its run. Returns the run, and the path of the
-    program that solves parts on this machine."""
+    """Checks the options and files of a command, and begins or continues its run. Returns the run."""
     complete(command)
     if is_same(path_of(command.list), 1):
         raise misused(f"standard output is the list {shown(command.list)}: name another file")
@@ -31,17 +30,15 @@ def begin(command, programs):
         command.max_empties = program.check(run_options(command) + read)
         if command.book_out:
             check_place(command.book_out, path_of(command.list), program, *read)
-        try:
+        with refusing("write", command.folder):
             return prepare(command, source, program, book_in)
-        except OSError as why:
-            raise cannot("write", command.folder, why) from why
 
 
 def solve_list(command, programs):
     """Solves a command's list and prints the results, or with --cut only cuts it into parts; returns the status."""
     if command.scheduler:
         from .cluster import Cluster  # refuses if its package is missing
-    run, program = begin(command, programs)
+    run = begin(command, programs)
     unsolved, parts, folder = len(run.unsolved()), counted(run.parts, "part"), shown(run.folder)
     if command.cut:
         print_all([os.fsencode(f"{parts}, {run.parts - unsolved} of them solved; python3 {folder}/solve.py NAME solves "
@@ -52,15 +49,12 @@ def solve_list(command, programs):
             f"solved before; folder {folder}")
     if unsolved:
         jobs = command.jobs or len(os.sched_getaffinity(0))
-        engine = Cluster(command.scheduler, run) if command.scheduler else Threads(run, program, jobs)
-        try:
-            failed = solve_parts(run, engine, int(command.max_empties), command.quiet)
-        finally:
-            engine.close()
-        if failed:
-            named = ", ".join(map(run.span, sorted(failed)[:3])) + (", .." if len(failed) > 3 else "")
-            raise Refusal(UNREADABLE if command.scores else UNSOLVED,
-                          f"not solved: {len(failed)} of {parts}: {named}. The same command solves only these")
+        with contextlib.closing(Cluster(command.scheduler, run) if command.scheduler else Threads(run, jobs)) as engine:
+            solve_parts(run, engine, command.quiet)
+    if failed := run.unsolved():
+        named = ", ".join(map(run.span, failed[:3])) + (", .." if len(failed) > 3 else "")
+        raise Refusal(UNREADABLE if command.scores else UNSOLVED,
+                      f"not solved: {len(failed)} of {parts}: {named}. The same command solves only these")
     run.sweep()
     print_all(run.output())
     if command.book_out:
@@ -111,8 +105,6 @@ def main(programs, words):
         say("interrupted; the same command goes on with what is solved")
         status = -why.args[0]
     if status < 0:
-        signal.pthread_sigmask(signal.SIG_BLOCK, SIGNALS)
         signal.signal(-status, signal.SIG_DFL)
         os.kill(os.getpid(), -status)
-        signal.pthread_sigmask(signal.SIG_UNBLOCK, [-status])
     os._exit(status)  # without waiting for threads whose programs still run

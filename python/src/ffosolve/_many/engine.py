@@ -1,18 +1,78 @@
 """Solves the unsolved parts of a list on an engine: threads of this machine, or the workers of a cluster."""
 import array
-import collections
 import concurrent.futures
 import queue
 import resource
 import sys
 import time
 
-from .messages import say, show
-from .progress import Progress
-from .solve import Failed, solve
+from .files import counted, say, show
+from .folder import asked_lines
+from .solve import solve
 
-FILES = 8  # that a job has open while it starts its program; three while that runs
 HERE = "this machine"
+FILES = 8  # that a job has open while it starts its program; three while that runs
+LONG_SECONDS = 600  # after which a part that is still being solved is named
+GROWTH = 2.5  # factor of the work for each further empty square
+POWERS = [GROWTH ** count for count in range(65)]
+
+
+def weight_of(text, most):
+    """Returns the expected work for the lines in `text`. A full board counts 1, and so does one with more than `most`
+    empty squares, which is refused."""
+    fronts = [line.lstrip()[:64] for line in asked_lines(text).values()]
+    empties = [front.count(b"-") + front.count(b".") for front in fronts]
+    return sum(POWERS[count] if count <= most else 1 for count in empties)
+
+
+def span_of(seconds):
+    hours, minutes = divmod(round(seconds / 60), 60)
+    return f"{seconds:.0f} s" if seconds < 120 else f"{hours} h {minutes} min" if hours else f"{minutes} min"
+
+
+class Progress:
+    """The work that is left, the time that solved parts took, and the machine and start of each part being solved."""
+
+    def __init__(self, run, parts, most):
+        self.run, self.weights, self.running = run, array.array("d", bytes(8 * run.parts)), {}
+        self.parts, self.lines, self.seconds, self.weight = len(parts), sum(map(run.size, parts)), 0.0, 0.0
+        for number in parts:
+            self.weights[number] = weight_of(run.text(number), most)
+        self.left_weight = sum(self.weights)
+
+    def update(self, at_work):
+        """Notes which machine is solving each part now."""
+        before, now = self.running, time.monotonic()
+        self.running = {number: (machine, before[number][1] if number in before else now)
+                        for number, machine in at_work.items()}
+
+    def end(self, number, seconds):
+        """Notes that a part was solved, and how many seconds that took."""
+        self.seconds += seconds
+        self.weight, self.left_weight = self.weight + self.weights[number], self.left_weight - self.weights[number]
+        self.parts, self.lines, self.weights[number] = self.parts - 1, self.lines - self.run.size(number), 0
+
+    def left(self):
+        """Returns the expected seconds until all is solved, or None before a tenth of the work is done."""
+        if not self.weight or self.weight * 9 < self.left_weight:
+            return None
+        rate, now = self.seconds / self.weight, time.monotonic()
+        rests = [max(0, self.weights[number] * rate - now + since) for number, (_, since) in self.running.items()]
+        waiting = self.left_weight - sum(self.weights[number] for number in self.running)
+        return max(rests + [(waiting * rate + sum(rests)) / max(1, len(rests))])
+
+    def text(self):
+        """Returns the line to show. It names the part that has been running longest, if for ten minutes or more."""
+        run, machines, now = self.run, len({machine for machine, _ in self.running.values()}), time.monotonic()
+        left = self.left() if machines else None
+        text = f"{100 * (run.all_lines - self.lines) // max(1, run.all_lines)}%, "
+        text += f"{span_of(left)} left, " if left is not None else ""
+        text += f"{counted(machines, 'machine') if machines else 'no machine'} at work, "
+        text += f"parts {run.parts - self.parts} of {run.parts}"
+        number, (machine, since) = min(self.running.items(), key=lambda one: one[1][1], default=(0, ("", now)))
+        if now - since >= LONG_SECONDS:
+            text += f"; {run.span(number)} has been running for {span_of(now - since)} on {machine}"
+        return text
 
 
 class Threads:
@@ -20,62 +80,51 @@ class Threads:
 
     tries = 1  # after which a part has failed
 
-    def __init__(self, run, program, jobs):
+    def __init__(self, run, jobs):
         files = resource.getrlimit(resource.RLIMIT_NOFILE)[1]
         resource.setrlimit(resource.RLIMIT_NOFILE, (files, files))
-        self.run, self.program, self.running = run, program, {}
-        self.jobs = jobs if files == resource.RLIM_INFINITY else max(1, min(jobs, files // FILES - 4))
-        if self.jobs < jobs:
-            say(f"{self.jobs} of {jobs} jobs work at a time, since no more than {files} files may be open (ulimit -n)")
-        self.pool = concurrent.futures.ThreadPoolExecutor(self.jobs)
-
-    def room(self):
-        """Returns how many parts may be submitted but unfinished at a time."""
-        return 2 * self.jobs
+        most = jobs if files == resource.RLIM_INFINITY else max(1, min(jobs, files // FILES - 4))
+        if most < jobs:
+            say(f"{most} of {jobs} jobs work at a time, since no more than {files} files may be open (ulimit -n)")
+        self.run, self.pool = run, concurrent.futures.ThreadPoolExecutor(most)
+        self.room = 2 * most  # how many parts may be submitted but unfinished at a time
 
     def submit(self, number, failed):
         """Submits a part; returns a future of the part's results. `failed` is not used, since there is one machine."""
         return self.pool.submit(self.solve, number)
 
     def solve(self, number):
-        self.running[number] = HERE
-        try:
-            record = solve(self.run.task, self.run.folder, self.program, number, self.run.text(number))
-            return HERE, self.run.keep(number, record), ""
-        except Failed as why:
-            return HERE, None, str(why)
-        finally:
-            del self.running[number]
+        record, why = solve(self.run.task, self.run.folder, self.run.program, number, self.run.text(number))
+        return HERE, record and self.run.keep(number, record), why
 
-    def result(self, future, number):
+    def result(self, future):
         """Returns (the machine that had a part, the seconds that the part took or None if it failed, the reason for
         that or an empty text)."""
         return future.result()
 
-    def look(self):
-        """Returns {part: machine} of the parts that are being solved."""
-        return dict(self.running)
+    def look(self, flying):
+        """Returns {part: machine} of the parts that are being solved; `flying` is {future: part}."""
+        return {number: HERE for future, number in flying.items() if future.running()}
 
     def close(self):
         """Does nothing, since the programs end with this process."""
 
 
-def solve_parts(run, engine, most, quiet):
-    """Solves the unsolved parts of a run on an engine; returns the numbers of the parts that failed. `most` is the
-    greatest number of empty squares in a position that is solved."""
-    parts, failed, failures = run.unsolved(), array.array("L"), {}
-    progress, waiting, again = Progress(run, parts, most), iter(parts), collections.deque()
-    flying, done, left, is_terminal = {}, queue.SimpleQueue(), len(parts), sys.stderr.isatty()
-    due, shown = 0, time.monotonic()
-    while left:
-        while len(flying) < engine.room() and (number := again.popleft() if again else next(waiting, None)) is not None:
+def solve_parts(run, engine, quiet):
+    """Solves the unsolved parts of a run on an engine. Those that fail stay unsolved."""
+    waiting, flying, failures, done = run.unsolved()[::-1], {}, {}, queue.SimpleQueue()
+    progress = Progress(run, run.unsolved(), int(run.options["--max-empties"]))
+    is_terminal, due, shown = sys.stderr.isatty(), 0, time.monotonic()
+    while waiting or flying:
+        while waiting and len(flying) < engine.room:
+            number = waiting.pop()
             future = engine.submit(number, failures.get(number, ()))
             flying[future] = number
             future.add_done_callback(done.put)
         now = time.monotonic()
         if now >= due:
             due = now + (1 if flying else 0.2)
-            progress.update(engine.look())
+            progress.update(engine.look(flying))
             if not quiet and now >= shown + (1 if is_terminal else 60):
                 shown = now
                 (show if is_terminal else say)(progress.text())
@@ -85,20 +134,15 @@ def solve_parts(run, engine, most, quiet):
             continue
         number = flying.pop(future)
         if future.cancelled():
-            again.append(number)
+            waiting.append(number)
             continue
-        machine, seconds, why = engine.result(future, number)
+        machine, seconds, why = engine.result(future)
         if seconds is not None:
             progress.end(number, seconds)
-            left -= 1
             continue
         say(f"{machine} failed {run.span(number)}: {why or 'its results are not complete'}")
         machines = (*failures.pop(number, ()), machine)
         if len(machines) < engine.tries:
             failures[number] = machines
-            again.append(number)
-        else:
-            failed.append(number)
-            left -= 1
+            waiting.append(number)
     show("")
-    return failed

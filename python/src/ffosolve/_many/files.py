@@ -1,4 +1,4 @@
-"""Files that are read or written, and standard output."""
+"""Messages, the refusals that end the command, files that are read or written, and standard output."""
 import contextlib
 import os
 import shutil
@@ -7,8 +7,52 @@ import sys
 import tempfile
 from pathlib import Path
 
-from .messages import NAME, UNREADABLE, Refusal, cannot, shown
+from .._text import shown
 from .solve import write_whole
+
+NAME = "ffosolve-many"
+DONE, UNSOLVED, REFUSED, UNREADABLE, UNBUILT = range(5)
+
+
+class Refusal(Exception):
+    """Ends the command. The arguments are the command's status and a line for standard error."""
+
+
+def misused(text):
+    return Refusal(REFUSED, f"{text}. Try '{NAME} --help'")
+
+
+@contextlib.contextmanager
+def refusing(verb, name, passed=()):
+    """Turns an OSError of its block into a Refusal, such as "cannot write list.book: No space left on device". Exceptions
+    of the types `passed` stay as they are."""
+    try:
+        yield
+    except passed:
+        raise
+    except OSError as why:
+        raise Refusal(UNREADABLE, f"cannot {verb} {shown(name)}: {why.strerror or why}") from why
+
+
+def counted(count, name):
+    return f"{count} {name}" if count == 1 else f"{count} {name}s"
+
+
+def say(text):
+    """Prints a line on standard error. On a terminal, it replaces the line that `show` left there."""
+    with contextlib.suppress(OSError):
+        show("")
+        print(f"{NAME}: {text}", file=sys.stderr, flush=True)
+
+
+def show(text):
+    """Shows a line on a terminal in place of the one before. A line that is too long is cut at one of its commas."""
+    with contextlib.suppress(OSError):
+        columns = os.get_terminal_size(sys.stderr.fileno()).columns or 80
+        line = f"{NAME}: {text}" if text else ""
+        while len(line) >= columns:
+            line = line.rpartition(", ")[0]
+        print(f"\r\033[K{line}", end="", file=sys.stderr, flush=True)
 
 
 def is_same(one, other):
@@ -26,42 +70,32 @@ def path_of(name):
 def regular(name, stack):
     """Returns the path of a regular file to read: `name` itself or, if that is a pipe or the like, a copy that `stack`
     removes."""
-    path, doing = path_of(name), ("read", name)
+    path = path_of(name)
     if str(path) == "/dev/stdin" and sys.stdin is None:
         raise Refusal(UNREADABLE, f"cannot read {name}: standard input is closed")
-    try:
-        with path.open("rb") as source:
-            if path.is_file():
-                return path
-            doing = f"copy {shown(name)} to", tempfile.gettempdir()
+    with refusing("read", name), path.open("rb") as source:
+        if path.is_file():
+            return path
+        with refusing(f"copy {shown(name)} to", tempfile.gettempdir()):
             copy = stack.enter_context(tempfile.NamedTemporaryFile(prefix=f"{NAME}-"))
             with open(copy.name, "wb") as target:
                 shutil.copyfileobj(source, target)
             return Path(copy.name)
-    except OSError as why:
-        raise cannot(*doing, why) from why
 
 
 def replace(name, pieces):
     """Writes a file. A regular file is replaced as a whole and keeps its permissions; anything else, such as a pipe, is
     written into."""
-    try:
-        with open(name, "ab") as file:
-            mode = os.fstat(file.fileno()).st_mode
-            if stat.S_ISREG(mode):
-                write_whole(Path(os.path.realpath(name)), pieces, stat.S_IMODE(mode))
-            else:
-                file.writelines(pieces)
-    except OSError as why:
-        raise cannot("write", name, why) from why
+    with refusing("write", name), open(name, "ab") as file:
+        mode = os.fstat(file.fileno()).st_mode
+        if stat.S_ISREG(mode):
+            write_whole(Path(os.path.realpath(name)), pieces, stat.S_IMODE(mode))
+        else:
+            file.writelines(pieces)
 
 
 def print_all(pieces):
     """Writes pieces to standard output. Refuses if that fails, but raises BrokenPipeError if its reader has gone."""
-    try:
-        with open(1, "wb", closefd=False) as output:  # sys.stdout may write only a part if PYTHONUNBUFFERED is set
-            output.writelines(pieces)
-    except BrokenPipeError:
-        raise
-    except OSError as why:
-        raise cannot("write", "standard output", why) from why
+    # sys.stdout may write only a part if PYTHONUNBUFFERED is set.
+    with refusing("write", "standard output", BrokenPipeError), open(1, "wb", closefd=False) as output:
+        output.writelines(pieces)

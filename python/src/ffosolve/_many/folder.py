@@ -1,4 +1,5 @@
 """The folder of a run: a copy of the list, the options, the programs, and the results of the parts."""
+import array
 import contextlib
 import fcntl
 import filecmp
@@ -6,34 +7,163 @@ import hashlib
 import itertools
 import json
 import os
+import re
+import shutil
 import time
 from pathlib import Path
 
 from . import solve
-from .._text import MOST_BYTES
-from .messages import NAME, REFUSED, UNBUILT, UNREADABLE, Refusal, shown
-from .parts import Run, cut_list
+from .._text import MOST_BYTES, NotText, text_lines
+from .files import NAME, REFUSED, UNBUILT, UNREADABLE, UNSOLVED, Refusal, refusing, shown
 from .programs import run_options
-from .solve import Failed, fit_program, write_whole
+from .solve import HEAD, Failed, digest_of, fit_program, write_whole
 
 LOCK = "ffosolve-many.lock"
 LOCK_SECONDS = 2  # in which a run that was killed has to release the lock
+HEADER = "% ffobook 2 {}\n"  # the first line of a book, with its scoring
+UNKNOWN = 255  # stands for the status of an unsolved part
+SKIPPED = re.compile(rb"[ \t]*(?:%.*|\r?)", re.DOTALL)
+ROW = re.compile(rb"(\d+) ([+-]\d\d (?:[A-H][1-8](?:,[A-H][1-8])*|PS|--) [a-z]+|refused: [^\0\n]+)\n")
+
+
+def cut_list(path, lines, name):
+    """Cuts a list into parts of `lines` lines. Returns the offsets in bytes of the parts and of the list's end, and the
+    number of all lines. Refuses a file that is not a list, and a part with more than MOST_BYTES bytes."""
+    starts, count = array.array("Q", [0]), 0
+    with path.open("rb") as file:
+        try:
+            texts = text_lines(file, name, may_have_nul=True)
+            while ends := list(itertools.accumulate(map(len, itertools.islice(texts, lines)))):
+                if ends[-1] > MOST_BYTES:
+                    raise Refusal(REFUSED, f"part {len(starts) - 1:07d} (from line {count + 1} of {name} on) has more "
+                                           f"than {MOST_BYTES} bytes: use fewer lines, such as --lines "
+                                           f"{sum(end <= MOST_BYTES for end in ends)}")
+                starts.append(starts[-1] + ends[-1])
+                count += len(ends)
+        except NotText as why:
+            raise Refusal(UNREADABLE, str(why)) from None
+    return starts, count
+
+
+def asked_lines(part):
+    """Returns {number: line} for the lines of a part, numbered from 1, except blank ones and comments, which have no
+    row in a report."""
+    return {number: line for number, line in enumerate(part.split(b"\n"), 1) if not SKIPPED.fullmatch(line)}
+
+
+def report_lines(rows):
+    """Yields the lines of a report with these rows, each a pair of a line's number and the rest of the row."""
+    count = refused = 0
+    yield b"[1]\n"
+    for number, rest in rows:
+        count, refused = count + 1, refused + rest.startswith(b"refused: ")
+        yield b"%d %b\n" % (number, rest)
+    yield b"solved %d refused %d\n" % (count - refused, refused)
+
+
+def rows_of(report):
+    """Returns the rows of a report, each a pair of a line's number and the rest of the row."""
+    return [(int(number), rest) for number, rest in ROW.findall(report)]
+
+
+def is_report(text, numbers):
+    """Returns whether a text is the complete report on lines with these numbers."""
+    rows = rows_of(text)
+    return text == b"".join(report_lines(rows)) and [number for number, _ in rows] == [*numbers]
+
+
+class Run:
+    """The parts of a list, numbered from 0, and the records of their results in the folder `results`."""
+
+    def __init__(self, folder, task, program, starts, all_lines):
+        self.folder, self.task, self.program, self.starts, self.all_lines = folder, task, program, starts, all_lines
+        self.options, self.lines, self.parts = task["options"], task["options"]["--lines"], len(starts) - 1
+        self.list, self.statuses = (folder / "list").open("rb"), bytearray([UNKNOWN]) * self.parts
+        for entry in os.scandir(folder / "results"):
+            if re.fullmatch("[0-9]{7}", entry.name) and int(entry.name) < self.parts:
+                found = self.results(int(entry.name))
+                self.statuses[int(entry.name)] = found[0] if found else UNKNOWN
+
+    def text(self, number):
+        """Returns the bytes of a part's lines, as they are in the list."""
+        return os.pread(self.list.fileno(), self.starts[number + 1] - self.starts[number], self.starts[number])
+
+    def size(self, number):
+        """Returns the number of lines in a part."""
+        return min(self.lines, self.all_lines - number * self.lines)
+
+    def span(self, number):
+        first = number * self.lines + 1
+        return f"part {number:07d} (lines {first} to {first + self.size(number) - 1})"
+
+    def unsolved(self):
+        return array.array("L", (number for number in range(self.parts) if self.statuses[number] == UNKNOWN))
+
+    def read(self, number, record):
+        """Returns (status, output, book, seconds) from a record, or None if it is not a complete record of the part."""
+        head, text = HEAD.match(record), self.text(number)
+        results = record[head.end():] if head else b""
+        if not head or digest_of(self.task, number, head[1], text, results) != head[6]:
+            return None
+        found = int(head[2]), results[:int(head[3])], results[int(head[3]):], float(head[5])
+        return found if self.is_whole(text, *found[:3]) else None
+
+    def is_whole(self, text, status, output, book):
+        """Returns whether the results of a part with the lines `text` are complete."""
+        if self.options["--scores"] is not None:
+            return output.count(b"\n") == text.count(b"\n") + (text[-1:] != b"\n") and output.endswith(b"\n")
+        has_book = book.startswith(HEADER.format(self.options["--scoring"]).encode()) and book.endswith(b"\n")
+        is_book = has_book == (self.options["--book-out"] is not None)
+        return status == 0 and is_book and is_report(output, asked_lines(text))
+
+    def results(self, number):
+        """Returns (status, output, book, seconds) of a part, or None if it is not solved."""
+        with contextlib.suppress(OSError):
+            return self.read(number, (self.folder / f"results/{number:07d}").read_bytes())
+
+    def keep(self, number, record):
+        """If a part's record is complete, stores it and returns the seconds that the part took; otherwise returns
+        None."""
+        if not (found := self.read(number, record)):
+            return None
+        with refusing("write", self.folder):
+            write_whole(self.folder / f"results/{number:07d}", [record])
+        self.statuses[number] = found[0]
+        return found[3]
+
+    def solved(self):
+        """Yields (status, output, book, seconds) of each part. Refuses if a part is no longer solved."""
+        for number in range(self.parts):
+            found = self.results(number)
+            if found is None:
+                raise Refusal(UNSOLVED, f"{self.span(number)} was changed meanwhile; the same command solves it again")
+            yield found
+
+    def output(self):
+        """Returns what one run of the program would print for the whole list, in pieces."""
+        outputs = (output for _, output, _, _ in self.solved())
+        if self.options["--scores"] is not None:
+            return outputs
+        return report_lines((number * self.lines + line, rest)
+                            for number, output in enumerate(outputs) for line, rest in rows_of(output))
+
+    def sweep(self):
+        """Removes the unfinished files and folders that killed runs left in the folder."""
+        for folder in (self.folder, self.folder / "results"):
+            for entry in os.scandir(folder):  # one by one: there may be a million
+                if re.search(r"\.\w{8}\.new$", entry.name):
+                    shutil.rmtree(entry) if entry.is_dir() else os.unlink(entry)
 
 
 def digest_of_file(path):
-    """Returns the SHA-256 of a file in hexadecimal, or that of an empty file if it can't be read."""
-    digest = hashlib.sha256()
-    with contextlib.suppress(OSError), path.open("rb") as file:
-        while block := file.read(MOST_BYTES):
-            digest.update(block)
-    return digest.hexdigest()
+    return hashlib.sha256(path.read_bytes()).hexdigest()
 
 
-def copy(source, path):
+def copy(source, path, mode=None):
     """Copies a file to `path`, unless the same content is there."""
     if not path.is_file() or not filecmp.cmp(source, path, shallow=False):
         with source.open("rb") as file:
-            write_whole(path, iter(lambda: file.read(MOST_BYTES), b""))
+            write_whole(path, file, mode)
 
 
 def lock_folder(folder):
@@ -53,12 +183,13 @@ def lock_folder(folder):
 
 
 def begun(folder):
-    """Returns the task that `prepare` wrote to task.json in a folder, or {} if none can be read."""
-    try:
+    """Returns the task that `prepare` wrote to task.json in a folder. If none can be read, it has no options and no
+    programs."""
+    with contextlib.suppress(OSError, ValueError, TypeError, KeyError):
         task = json.loads((folder / "task.json").read_bytes())
-        return task if task["options"] and task["programs"] else {}
-    except (OSError, ValueError, TypeError, KeyError):
-        return {}
+        if task["options"] and task["programs"]:
+            return task
+    return {"options": {}, "programs": []}
 
 
 def check_options(before, options, folder):
@@ -80,20 +211,13 @@ def check_list(kept, source, command):
                                        "grown at its end)")
 
 
-def keep_programs(folder, program, digests):
-    """Copies a program's files to a folder, unless the programs in the folder already have the `digests`. Returns the
-    digests of the programs that the folder has at the end."""
-    def kept():
-        return [digest_of_file(path) for path in sorted(folder.glob("program-?"))]
-    if not digests or kept() != digests:
-        for number, content in enumerate(program.files()):
-            write_whole(folder / f"program-{number}", [content], 0o755)
-    return kept()
+def programs_in(folder):
+    """Returns the digests of the programs in a folder."""
+    return [digest_of_file(path) for path in sorted(folder.glob("program-?"))]
 
 
 def prepare(command, source, program, book_in):
-    """Begins a run in a folder, or continues the one there. Returns the run, and the path of the program that solves
-    parts on this machine."""
+    """Begins a run in a folder, or continues the one there. Returns the run."""
     folder, name = command.folder, shown(command.list)
     cut_list(source, command.lines, name)  # refuses what is not a list
     lock_folder(folder)
@@ -103,16 +227,18 @@ def prepare(command, source, program, book_in):
                "--book-in": f"of SHA-256 {digest_of_file(book_in)}" if book_in else None,
                "--book-out": None if command.book_out is None else ""}
     before = begun(folder)
-    check_options(before.get("options", {}), options, folder)
+    check_options(before["options"], options, folder)
     check_list(folder / "list", source, command)
     (folder / "results").mkdir(exist_ok=True)
     copy(source, folder / "list")
     copy(Path(solve.__file__), folder / "solve.py")
     if book_in:
         copy(book_in, folder / "book-in")
+    if not before["programs"] or programs_in(folder) != before["programs"]:
+        for number, path in enumerate(program.files()):
+            copy(path, folder / f"program-{number}", 0o755)
     starts, all_lines = cut_list(folder / "list", command.lines, name)
-    programs = keep_programs(folder, program, before.get("programs"))
-    task = {"options": options, "programs": programs, "parts": len(starts) - 1,
+    task = {"options": options, "programs": programs_in(folder), "parts": len(starts) - 1,
             "words": run_options(command) + ["--book-in=book-in"] * bool(book_in)}
     try:
         program, task["known"] = fit_program(task, folder)
@@ -120,4 +246,4 @@ def prepare(command, source, program, book_in):
         raise Refusal(UNBUILT, f"on this machine {why}") from None
     if task != before:
         write_whole(folder / "task.json", [json.dumps(task, indent=1).encode()])
-    return Run(folder, task, starts, all_lines), program
+    return Run(folder, task, program, starts, all_lines)

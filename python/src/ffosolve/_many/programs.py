@@ -1,11 +1,12 @@
 """The programs ffosolve and ffoscores, in the folder of ffosolve-many."""
+import itertools
 import os
 import re
 import shutil
 import subprocess
 from pathlib import Path
 
-from .messages import NAME, UNBUILT, Refusal
+from .files import NAME, UNBUILT, Refusal
 from .solve import guarded
 
 NO_DISCS = b"-" * 64 + b" X;"  # refused with any options; the message has the limit of empty squares
@@ -23,16 +24,16 @@ class Program:
             raise Refusal(UNBUILT, f"{name} is missing: it has to be next to {NAME}, in {folder}")
 
     def files(self):
-        """Returns a list of the contents of the program's files, one for each processor level, the highest first; if
-        there are none, it has only the content of `start`."""
-        places = (self.start.parent.parent / place for place in ("out", "libexec/ffosolve"))
-        levels = [path for place in places for path in place.glob(f"x86-64-v?/{self.start.name}")]
-        return [path.read_bytes() for path in sorted(levels, reverse=True) or [self.start]]
+        """Returns the paths of the program's files, one for each processor level, the highest first; if there are none,
+        only `start`."""
+        places = (f"{place}/x86-64-v?/{self.start.name}" for place in ("out", "libexec/ffosolve"))
+        return sorted(itertools.chain(*map(self.start.parent.parent.glob, places)), reverse=True) or [self.start]
 
-    def try_run(self, *words, stdout=subprocess.PIPE, **how):
-        """Runs the program; returns its status, and its messages in one line, without `ffosolve: ` before each."""
-        streams = {"stdin": subprocess.DEVNULL, "stdout": stdout, "stderr": subprocess.PIPE}
-        ran = subprocess.run([self.start, *words], **streams, **how)
+    def try_run(self, *words, stdout=subprocess.DEVNULL):
+        """Runs the program; returns its status, and its messages in one line, without `ffosolve: ` before each. A word
+        may name a descriptor of this process, such as /dev/fd/63."""
+        ran = subprocess.run([self.start, *words], close_fds=False, stdin=subprocess.DEVNULL, stdout=stdout,
+                             stderr=subprocess.PIPE)
         lines = ran.stderr.decode(errors="replace").splitlines()
         return ran.returncode, ": ".join(line.removeprefix("ffosolve: ") for line in lines)
 

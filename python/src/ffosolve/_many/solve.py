@@ -19,7 +19,7 @@ HEAD = re.compile(rb"(([01]) (\d+) (\d+) (\d+\.\d+)) ([0-9a-f]{64})\n")
 
 
 class Failed(Exception):
-    """A part was not solved. The argument says why."""
+    """A part was not solved, or no program works. The argument says why."""
 
 
 def guarded(words):
@@ -34,11 +34,12 @@ def digest_of(task, part, head, text, results):
 
 
 def solve(task, folder, program, part, text, is_wanted=lambda: True):
-    """Solves the lines `text` with a program, and returns the record of their results: a line with the program's
-    status, the sizes of its output and book, the seconds that it took, and the digest; then the output and the book.
+    """Solves the lines `text` with a program. Returns (the record of their results, an empty text) or, if the program
+    fails, (None, the reason). A record is a line with the program's status, the sizes of its output and book, the
+    seconds that it took, and the digest; then the output and the book.
 
     `task` has the program's arguments as `words`, and the `options` of the list. The program runs in `folder`, which
-    has the book that it reads. It is killed once `is_wanted` returns false. Raises Failed if the program fails.
+    has the book that it reads. It is killed once `is_wanted` returns false.
     """
     # The program writes its book to the pipe of standard error, so that it needs no room on a disk.
     has_book, most = task["options"]["--book-out"] is not None, task["options"]["--scores"] is not None
@@ -51,7 +52,7 @@ def solve(task, folder, program, part, text, is_wanted=lambda: True):
             process = subprocess.Popen(command, cwd=folder, start_new_session=True, stdin=file, stdout=subprocess.PIPE,
                                        stderr=subprocess.PIPE)
     except OSError as why:
-        raise Failed(f"{why.filename or 'part'}: {why.strerror}") from None
+        return None, f"{why.filename or 'part'}: {why.strerror}"
     with process:
         while True:
             try:
@@ -63,10 +64,10 @@ def solve(task, folder, program, part, text, is_wanted=lambda: True):
     status = process.returncode
     if not 0 <= status <= most:
         name = f"status {status}" if status >= 0 else f"killed by {signal.Signals(-status).name}"
-        raise Failed((errors.decode(errors="replace").strip() or name).splitlines()[0])
+        return None, (errors.decode(errors="replace").strip() or name).splitlines()[0]
     book = errors[max(0, errors.find(b"% ffobook ")):] if has_book else b""
     head = b"%d %d %d %.3f" % (status, len(output), len(book), time.monotonic() - begun)
-    return b"%b %b\n%b%b" % (head, digest_of(task, part, head, text, output + book), output, book)
+    return b"%b %b\n%b%b" % (head, digest_of(task, part, head, text, output + book), output, book), ""
 
 
 def fit_program(task, folder):
@@ -75,15 +76,16 @@ def fit_program(task, folder):
     why = "is missing"
     for program in sorted(folder.absolute().glob("program-?")):
         end = time.monotonic() + KNOWN_SECONDS
-        try:
-            record = solve(task, folder, program, 0, KNOWN, lambda end=end: time.monotonic() < end)
+        record, fault = solve(task, folder, program, 0, KNOWN, lambda end=end: time.monotonic() < end)
+        if record:
             results = record.partition(b"\n")[2].decode("latin-1")
             if results == task.get("known", results):
                 return program, results
             why = "solves a known line wrong"
-        except Failed as fault:
-            late = f"needs more than {KNOWN_SECONDS} seconds for a known line"
-            why = late if time.monotonic() >= end else f"can't solve a known line: {fault}"
+        elif time.monotonic() < end:
+            why = f"can't solve a known line: {fault}"
+        else:
+            why = f"needs more than {KNOWN_SECONDS} seconds for a known line"
     raise Failed(f"the program {why}")
 
 
@@ -110,7 +112,10 @@ def main(folder, part):
     first, lines = int(part) * task["options"]["--lines"], task["options"]["--lines"]
     with (folder / "list").open("rb") as file:
         text = b"".join(itertools.islice(file, first, first + lines))
-    write_whole(folder / "results" / part, [solve(task, folder, fit_program(task, folder)[0], int(part), text)])
+    record, fault = solve(task, folder, fit_program(task, folder)[0], int(part), text)
+    if not record:
+        raise Failed(fault)
+    write_whole(folder / "results" / part, [record])
 
 
 if __name__ == "__main__":
