@@ -109,7 +109,7 @@ class Cluster:
         return self.pool.submit(lambda *words: distributed.get_worker().plugins[name].solve(*words), number,
                                 self.run.text(number), key=key, workers=others or None)
 
-    def result(self, future):
+    def result(self, future, number):
         try:
             machine, record, why = future.result()
         except Exception as fault:  # such as KilledWorker

@@ -97,7 +97,7 @@ class Threads:
         record, why = solve(self.run.task, self.run.folder, self.run.program, number, self.run.text(number))
         return HERE, record and self.run.keep(number, record), why
 
-    def result(self, future):
+    def result(self, future, number):
         """Returns (the machine that had a part, the seconds that the part took or None if it failed, the reason for
         that or an empty text)."""
         return future.result()
@@ -136,7 +136,7 @@ def solve_parts(run, engine, quiet):
         if future.cancelled():
             waiting.append(number)
             continue
-        machine, seconds, why = engine.result(future)
+        machine, seconds, why = engine.result(future, number)
         if seconds is not None:
             progress.end(number, seconds)
             continue
