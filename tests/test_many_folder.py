@@ -231,8 +231,8 @@ class Files(Case):
         self.assertEqual(run(many.MANY, "--cut", "--lines=2", "work", "-", input=half * 4).stdout[:8], b"2 parts,")
 
     def test_a_list_that_changes_while_it_is_read_is_solved_as_it_was_copied(self):
-        copied = '    copy(source, folder / "list")\n'
-        write_source = "    source.write_bytes(source.read_bytes()[:{}])\n"
+        copied = '        copy(source, self.folder / "list")\n'
+        write_source = "        source.write_bytes(source.read_bytes()[:{}])\n"
         by = install("changing", ("folder", copied, write_source.format(68 * 50) + copied + write_source.format(9)))
         self.write_list(many.SMALL[:68 * 50])
         write("list.obf", many.SMALL)

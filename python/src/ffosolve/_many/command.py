@@ -11,7 +11,7 @@ from .books import book_of, check_place, merge_books
 from .engine import Threads, solve_parts
 from .files import (DONE, NAME, UNREADABLE, UNSOLVED, Refusal, counted, is_same, misused, path_of, print_all, refusing,
                     regular, replace, say, shown)
-from .folder import prepare
+from .folder import Run
 from .programs import Program, run_options
 
 SIGNALS = (signal.SIGINT, signal.SIGTERM, signal.SIGHUP)
@@ -31,7 +31,7 @@ def begin(command, programs):
         if command.book_out:
             check_place(command.book_out, path_of(command.list), program, *read)
         with refusing("write", command.folder):
-            return prepare(command, source, program, book_in)
+            return Run(command, source, program, book_in)
 
 
 def solve_list(command, programs):

@@ -72,14 +72,100 @@ def is_report(text, numbers):
     return text == b"".join(report_lines(rows)) and [number for number, _ in rows] == [*numbers]
 
 
-class Run:
-    """The parts of a list, numbered from 0, and the records of their results in the folder `results`."""
+def copy(source, path, mode=None):
+    """Copies a file to `path`, unless the same content is there."""
+    if not path.is_file() or not filecmp.cmp(source, path, shallow=False):
+        with source.open("rb") as file:
+            write_whole(path, file, mode)
 
-    def __init__(self, folder, task, program, starts, all_lines):
-        self.folder, self.task, self.program, self.starts, self.all_lines = folder, task, program, starts, all_lines
-        self.options, self.lines, self.parts = task["options"], task["options"]["--lines"], len(starts) - 1
-        self.list, self.statuses = (folder / "list").open("rb"), bytearray([UNKNOWN]) * self.parts
-        for entry in os.scandir(folder / "results"):
+
+def lock_folder(folder):
+    """Makes a folder if there is none, and locks it until this process ends. Refuses a folder that has files but no
+    lock file, or that another run has locked."""
+    folder.mkdir(parents=True, exist_ok=True)
+    found = sorted(os.listdir(folder))
+    if found and LOCK not in found:
+        raise Refusal(REFUSED, f"{shown(folder)} has files that are not {NAME}'s, or those of an earlier version, such "
+                               f"as {shown(found[0])}: name a new or an empty folder")
+    descriptor, end = os.open(folder / LOCK, os.O_RDWR | os.O_CREAT, 0o666), time.monotonic() + LOCK_SECONDS
+    while time.monotonic() < end:
+        with contextlib.suppress(BlockingIOError):
+            return fcntl.flock(descriptor, fcntl.LOCK_EX | fcntl.LOCK_NB)
+        time.sleep(0.05)
+    raise Refusal(UNREADABLE, f"another run works in {shown(folder)}")
+
+
+def begun(folder):
+    """Returns what a Run wrote to task.json in a folder or, if it can't be read, a task without options and programs."""
+    with contextlib.suppress(OSError, ValueError, TypeError, KeyError):
+        task = json.loads((folder / "task.json").read_bytes())
+        if task["options"] and task["programs"]:
+            return task
+    return {"options": {}, "programs": []}
+
+
+def check_options(before, options, folder):
+    """Refuses options other than those that the folder was begun with."""
+    differing = [f"with {name} {kept}".strip() if kept is not None else f"without {name}"
+                 for name, kept in before.items() if kept != options[name]]
+    if differing:
+        raise Refusal(REFUSED, f"{shown(folder)} was begun {' and '.join(differing)}: use another folder, or the same "
+                               "options")
+
+
+def check_list(kept, source, command):
+    """Refuses a list that differs from `kept`, the copy in the folder, unless it has only grown at its end."""
+    with source.open("rb") as new, open(kept if kept.is_file() else os.devnull, "rb") as old:
+        for line, (before, now) in enumerate(itertools.zip_longest(old, new, fillvalue=b""), 1):
+            if not now.startswith(before):
+                raise Refusal(REFUSED, f"{shown(command.list)} is not the list that {shown(command.folder)} was begun "
+                                       f"with, from line {line} on: use another folder, or the same list (it may have "
+                                       "grown at its end)")
+
+
+def programs_in(folder):
+    """Returns the SHA-256 of each program in a folder, in hexadecimal."""
+    return [hashlib.sha256(path.read_bytes()).hexdigest() for path in sorted(folder.glob("program-?"))]
+
+
+class Run:
+    """A list that is solved in parts, numbered from 0. Its folder has a copy of the list, and in `results` the records of
+    the parts."""
+
+    def __init__(self, command, source, program, book_in):
+        """Begins a run in the folder of a command, or continues the one there. `source` and `book_in` are the paths of
+        the list and of the book to read, or None."""
+        self.folder, self.lines, name = command.folder, command.lines, shown(command.list)
+        cut_list(source, self.lines, name)  # refuses what is not a list
+        lock_folder(self.folder)
+        # The options that may not differ if results are to be used again. None stands for an option that is not given.
+        book = f"of SHA-256 {hashlib.sha256(book_in.read_bytes()).hexdigest()}" if book_in else None
+        self.options = {"--lines": self.lines, "--scoring": command.scoring, "--max-empties": command.max_empties,
+                        "--scores": "" if command.scores else None, "--complete": "" if command.complete else None,
+                        "--book-in": book, "--book-out": "" if command.book_out else None}
+        before = begun(self.folder)
+        check_options(before["options"], self.options, self.folder)
+        check_list(self.folder / "list", source, command)
+        (self.folder / "results").mkdir(exist_ok=True)
+        copy(source, self.folder / "list")
+        copy(Path(solve.__file__), self.folder / "solve.py")
+        if book_in:
+            copy(book_in, self.folder / "book-in")
+        if not before["programs"] or programs_in(self.folder) != before["programs"]:
+            for number, path in enumerate(program.files()):
+                copy(path, self.folder / f"program-{number}", 0o755)
+        self.starts, self.all_lines = cut_list(self.folder / "list", self.lines, name)
+        self.parts, self.list = len(self.starts) - 1, (self.folder / "list").open("rb")
+        self.task = {"options": self.options, "programs": programs_in(self.folder), "parts": self.parts,
+                     "words": run_options(command) + ["--book-in=book-in"] * bool(book_in)}
+        try:
+            self.program, self.task["known"] = fit_program(self.task, self.folder)
+        except Failed as why:
+            raise Refusal(UNBUILT, f"on this machine {why}") from None
+        if self.task != before:
+            write_whole(self.folder / "task.json", [json.dumps(self.task, indent=1).encode()])
+        self.statuses = bytearray([UNKNOWN]) * self.parts
+        for entry in os.scandir(self.folder / "results"):
             if re.fullmatch("[0-9]{7}", entry.name) and int(entry.name) < self.parts:
                 found = self.results(int(entry.name))
                 self.statuses[int(entry.name)] = found[0] if found else UNKNOWN
@@ -122,20 +208,17 @@ class Run:
             return self.read(number, (self.folder / f"results/{number:07d}").read_bytes())
 
     def keep(self, number, record):
-        """If a part's record is complete, stores it and returns the seconds that the part took; otherwise returns
-        None."""
-        if not (found := self.read(number, record)):
-            return None
-        with refusing("write", self.folder):
-            write_whole(self.folder / f"results/{number:07d}", [record])
-        self.statuses[number] = found[0]
-        return found[3]
+        """Stores a part's record. Returns the seconds that the part took, or None if the record is not complete."""
+        if found := self.read(number, record):
+            with refusing("write", self.folder):
+                write_whole(self.folder / f"results/{number:07d}", [record])
+            self.statuses[number] = found[0]
+        return found and found[3]
 
     def solved(self):
         """Yields (status, output, book, seconds) of each part. Refuses if a part is no longer solved."""
         for number in range(self.parts):
-            found = self.results(number)
-            if found is None:
+            if not (found := self.results(number)):
                 raise Refusal(UNSOLVED, f"{self.span(number)} was changed meanwhile; the same command solves it again")
             yield found
 
@@ -153,97 +236,3 @@ class Run:
             for entry in os.scandir(folder):  # one by one: there may be a million
                 if re.search(r"\.\w{8}\.new$", entry.name):
                     shutil.rmtree(entry) if entry.is_dir() else os.unlink(entry)
-
-
-def digest_of_file(path):
-    return hashlib.sha256(path.read_bytes()).hexdigest()
-
-
-def copy(source, path, mode=None):
-    """Copies a file to `path`, unless the same content is there."""
-    if not path.is_file() or not filecmp.cmp(source, path, shallow=False):
-        with source.open("rb") as file:
-            write_whole(path, file, mode)
-
-
-def lock_folder(folder):
-    """Makes a folder if there is none, and locks it until this process ends. Refuses a folder that has files but no
-    lock file, or that another run has locked."""
-    folder.mkdir(parents=True, exist_ok=True)
-    found = sorted(os.listdir(folder))
-    if found and LOCK not in found:
-        raise Refusal(REFUSED, f"{shown(folder)} has files that are not {NAME}'s, or those of an earlier version, such "
-                               f"as {shown(found[0])}: name a new or an empty folder")
-    descriptor, end = os.open(folder / LOCK, os.O_RDWR | os.O_CREAT, 0o666), time.monotonic() + LOCK_SECONDS
-    while time.monotonic() < end:
-        with contextlib.suppress(BlockingIOError):
-            return fcntl.flock(descriptor, fcntl.LOCK_EX | fcntl.LOCK_NB)
-        time.sleep(0.05)
-    raise Refusal(UNREADABLE, f"another run works in {shown(folder)}")
-
-
-def begun(folder):
-    """Returns the task that `prepare` wrote to task.json in a folder. If none can be read, it has no options and no
-    programs."""
-    with contextlib.suppress(OSError, ValueError, TypeError, KeyError):
-        task = json.loads((folder / "task.json").read_bytes())
-        if task["options"] and task["programs"]:
-            return task
-    return {"options": {}, "programs": []}
-
-
-def check_options(before, options, folder):
-    """Refuses options other than those that the folder was begun with."""
-    differing = [f"with {name} {kept}".strip() if kept is not None else f"without {name}"
-                 for name, kept in before.items() if kept != options[name]]
-    if differing:
-        raise Refusal(REFUSED, f"{shown(folder)} was begun {' and '.join(differing)}: use another folder, or the same "
-                               "options")
-
-
-def check_list(kept, source, command):
-    """Refuses a list that differs from `kept`, the copy in the folder, unless it has only grown at its end."""
-    with source.open("rb") as new, open(kept if kept.is_file() else os.devnull, "rb") as old:
-        for line, (before, now) in enumerate(itertools.zip_longest(old, new, fillvalue=b""), 1):
-            if not now.startswith(before):
-                raise Refusal(REFUSED, f"{shown(command.list)} is not the list that {shown(command.folder)} was begun "
-                                       f"with, from line {line} on: use another folder, or the same list (it may have "
-                                       "grown at its end)")
-
-
-def programs_in(folder):
-    """Returns the digests of the programs in a folder."""
-    return [digest_of_file(path) for path in sorted(folder.glob("program-?"))]
-
-
-def prepare(command, source, program, book_in):
-    """Begins a run in a folder, or continues the one there. Returns the run."""
-    folder, name = command.folder, shown(command.list)
-    cut_list(source, command.lines, name)  # refuses what is not a list
-    lock_folder(folder)
-    # The options that may not differ if results are to be used again. None stands for an option that is not given.
-    options = {"--lines": command.lines, "--scoring": command.scoring, "--max-empties": command.max_empties,
-               "--scores": "" if command.scores else None, "--complete": "" if command.complete else None,
-               "--book-in": f"of SHA-256 {digest_of_file(book_in)}" if book_in else None,
-               "--book-out": None if command.book_out is None else ""}
-    before = begun(folder)
-    check_options(before["options"], options, folder)
-    check_list(folder / "list", source, command)
-    (folder / "results").mkdir(exist_ok=True)
-    copy(source, folder / "list")
-    copy(Path(solve.__file__), folder / "solve.py")
-    if book_in:
-        copy(book_in, folder / "book-in")
-    if not before["programs"] or programs_in(folder) != before["programs"]:
-        for number, path in enumerate(program.files()):
-            copy(path, folder / f"program-{number}", 0o755)
-    starts, all_lines = cut_list(folder / "list", command.lines, name)
-    task = {"options": options, "programs": programs_in(folder), "parts": len(starts) - 1,
-            "words": run_options(command) + ["--book-in=book-in"] * bool(book_in)}
-    try:
-        program, task["known"] = fit_program(task, folder)
-    except Failed as why:
-        raise Refusal(UNBUILT, f"on this machine {why}") from None
-    if task != before:
-        write_whole(folder / "task.json", [json.dumps(task, indent=1).encode()])
-    return Run(folder, task, program, starts, all_lines)
