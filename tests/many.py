@@ -101,8 +101,7 @@ class Case(InFolder):
 
     def files(self):
         """Returns {path: (content, mode)} for everything in the test's folder. A folder's content is False."""
-        return {path: (path.is_file() and path.read_bytes(), path.lstat().st_mode)
-                for path in Path(".").rglob("*")}
+        return {path: (path.is_file() and path.read_bytes(), path.lstat().st_mode) for path in Path(".").rglob("*")}
 
     def refused(self, status, message, *words, **how):
         """Asserts that a run prints only an error of one line, with advice if `status` is 2, and changes no file."""

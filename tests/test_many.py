@@ -125,13 +125,12 @@ class Results(Case):
     def test_progress_rises_in_a_log_and_on_a_terminal(self):
         by = install("often", ("engine", "(1 if is_terminal else 60)", "(0.1 if is_terminal else 0.3)"),
                      ("engine", "due = now + (1 if flying else 0.2)", "due = now + 0.1"), script=ACTING)
-        line = re.compile(r"\d+%, .*?(?:1|no) machine at work, parts (\d+) of 10")
         for place, shell in (("log", ("sh", "-c")), ("terminal", ("script", "/dev/null", "-qec"))):
             command = f"'{by}' --jobs=2 --lines=6 {place} list.obf >report"
             ran = run(*shell, command, env={**os.environ, "PAUSE": "0.3", "SHELL": "/bin/sh"})
             self.assertEqual(Path("report").read_bytes(), self.one)
             lines = (ran.stderr or ran.stdout).decode()
-            counts = [int(found[1]) for found in line.finditer(lines)]
+            counts = [*map(int, re.findall(r"\d+%, .*?(?:1|no) machine at work, parts (\d+) of 10", lines))]
             is_one_line = "\033" in lines and lines.count("\n") == 1  # the first, then one that changes
             self.assertEqual((counts, is_one_line), (sorted(counts), place == "terminal"))
             self.assertGreater(len(set(counts)), 2, lines)
@@ -159,8 +158,6 @@ class Words(Case):
             write(os.fsdecode(name), many.SMALL)
         os.symlink("kept", "link")
         os.symlink("/proc/self/fd/1", "out")
-        read = ("one.book is read and would be overwritten: write --book-out NEW, then ffosolve-many --merge-books "
-                "one.book NEW")
         for status, message, *words in (
                 (2, "no list is named"),
                 (2, "'two.obf' is one word too many", "work", "list.obf", "two.obf"),
@@ -194,7 +191,8 @@ class Words(Case):
                 (3, "link is not a book and would be overwritten", "list.obf", "--book-out", "link"),
                 (2, r"--book-out: $'not\xff' is empty or not UTF-8", "list.obf", "--book-out", b"not\xff"),
                 (3, "kept is not a book and would be overwritten", "--merge-books", "one.book", "--book-out", "kept"),
-                (3, read, "list.obf", "--book-in=one.book", "--book-out=one.book"),
+                (3, "one.book is read and would be overwritten: write --book-out NEW, then ffosolve-many --merge-books "
+                    "one.book NEW", "list.obf", "--book-in=one.book", "--book-out=one.book"),
                 (3, "cannot read none.obf: No such file or directory", "none.obf"),
                 (3, r"cannot read $'a\xff\n\'': No such file or directory", b"a\xff\n'"),
                 (3, "cannot read .: Is a directory", "work", "."),
@@ -296,9 +294,8 @@ class Merging(Case):
 
     def test_books_that_cannot_be_merged_are_named(self):
         write("discs.book", b"% ffobook 2 discs\r\n")
-        for others in (["discs.book"], ["discs.book", "one.book"]):
-            message = "one.book has the scoring winner and discs.book discs"
-            self.refused(2, message, "--merge-books", "one.book", *others)
+        for names in (("one.book", "discs.book"), ("one.book", "discs.book", "one.book")):
+            self.refused(2, "one.book has the scoring winner and discs.book discs", "--merge-books", *names)
         self.many("--merge-books", "discs.book", "discs.book", output=b"% ffobook 2 discs\n")
         first, lying = ROOT / "examples/first.book", ROOT / "examples/lying.book"
         self.refused(3, f"{first} line 2 and {lying} line 2 disagree: -XOOOOO-", "--merge-books", first, lying)
@@ -333,7 +330,6 @@ class Progress(unittest.TestCase):
     FULL = b"X" * 64 + b" X\n"  # a line of weight 1
 
     def setUp(self):
-        super().setUp()
         self.now = 0.0
         self.enterContext(mock.patch("time.monotonic", lambda: self.now))
 

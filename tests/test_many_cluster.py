@@ -62,7 +62,7 @@ class Cluster(Case):
         """Starts a scheduler or worker, which logs to NAME.log and ends with the test. The scheduler gives up workers
         that are silent for 5 seconds."""
         settings = {"DASK_DISTRIBUTED__SCHEDULER__WORKER_TTL": "5s", "DASK_DISTRIBUTED__COMM__TIMEOUTS__CONNECT": "3s"}
-        with open(f"{name}.log", "ab") as log:
+        with open(f"{name}.log", "wb") as log:
             ran = self.start(*command, "--no-dashboard", stdout=log, stderr=log, start_new_session=True,
                              env={**os.environ, **settings, **places})
         self.addCleanup(lambda: ran.poll() is None and os.killpg(ran.pid, signal.SIGKILL))
@@ -76,16 +76,13 @@ class Cluster(Case):
         self.port = Path("scheduler.json").read_text().partition("tcp://127.0.0.1:")[2].partition('"')[0]
 
     def start_workers(self, *names, **places):
-        """Starts workers with one thread each, and waits until the scheduler knows them. A worker that ends, as it does
-        when the scheduler gives it up, is started again."""
-        def known():
-            return Path("scheduler.log").read_text().count("Register worker")
-
-        before, command = known(), ("sh", "-c", 'while :; do "$@"; sleep 0.1; done', "sh", PYTHON, "-m")
+        """Starts workers with one thread each, and waits until they are registered. A worker that ends, as it does when
+        the scheduler gives it up, is started again."""
+        command = ("sh", "-c", 'while :; do "$@"; sleep 0.1; done', "sh", PYTHON, "-m")
         for name in names:
             words = (f"127.0.0.1:{self.port}", "--nthreads=1", f"--local-directory=workers/{name}")
             self.workers[name] = self.daemon(name, *command, "distributed.cli.dask_worker", *words, **places)
-        wait_until(lambda: known() >= before + len(names))
+        wait_until(lambda: all("Registered to" in Path(f"{name}.log").read_text() for name in names))
 
     def signal(self, number, *names):
         """Sends a signal to all processes of the workers of these names."""

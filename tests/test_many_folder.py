@@ -190,8 +190,7 @@ class Files(Case):
     def test_a_list_is_read_from_standard_input(self):
         self.many("--lines=20", "work", "-", message="-: 60 lines in 3 parts", input=many.SMALL)
         self.many("--lines=20", "work", "/dev/stdin", message=", 3 of them solved before", input=many.SMALL)
-        names = [folder.LOCK, "list", "program-0", "results", "solve.py", "task.json"]
-        self.assertEqual(sorted(os.listdir("work")), names)
+        self.assertEqual({*os.listdir("work")}, {folder.LOCK, "list", "program-0", "results", "solve.py", "task.json"})
         with open("list.obf", "rb") as file:
             self.many("--lines=20", "work", "-", message=", 3 of them solved before", stdin=file)
         self.refused(2, "- is not the list that work was begun with, from line 1 on", "--lines=20", "work", "-",

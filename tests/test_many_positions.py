@@ -7,7 +7,7 @@ import unittest
 from unittest import mock
 
 from .positions import need_modules, numpy, random_positions
-from .support import ROOT, SECONDS, run
+from .support import ROOT, SECONDS, run, wait_until
 import ffosolve
 from ffosolve import Answer, Position, Solver
 
@@ -91,9 +91,7 @@ class Lists(unittest.TestCase):
         next(answers)
         answers.close()
         closed.set()
-        for thread in threading.enumerate():
-            if thread.name == "ffosolve":
-                thread.join(SECONDS)
+        wait_until(lambda: "ffosolve" not in [thread.name for thread in threading.enumerate()])
         self.assertTrue(all(waited))
         self.assertLessEqual(next(begun), 4)
 
@@ -162,12 +160,12 @@ class Arrays(unittest.TestCase):
             self.check(Solver(scoring=scoring), self.positions[:count], threads)
 
     def test_the_table_is_for_the_most_empty_squares_of_a_call(self):
-        asked, solver = [], Solver()
-        for call, name in ((solver.solve_arrays, "solve_all"), (solver.move_scores_arrays, "move_scores_all")):
-            solver._library = mock.Mock(**{f"ffosolve_{name}": lambda *words: asked.append(words[3]) or 0})
-            for empties in ((3, 16, 9), (16, 3), (3, 16)):
-                call(*numpy.array(random_positions(len(empties), empties), numpy.uint64).T)
-        self.assertEqual(asked, [ffosolve.table_entries(16)] * 6)
+        solver, empties = Solver(), ((3, 16, 9), (16, 3), (3, 16))
+        solver._library = library = mock.Mock()
+        library.ffosolve_solve_all.return_value = library.ffosolve_move_scores_all.return_value = 0
+        for call, some in itertools.product((solver.solve_arrays, solver.move_scores_arrays), empties):
+            call(*numpy.array(random_positions(len(some), some), numpy.uint64).T)
+        self.assertEqual([call.args[3] for call in library.method_calls], [ffosolve.table_entries(16)] * 6)
 
     def test_threads_call_at_once(self):
         for given, entries in ((7, 7), (None, ffosolve.table_entries(16))):

@@ -23,7 +23,6 @@ SlurmdSpoolDir={place}/spool
 SlurmctldPidFile={place}/slurmctld.pid
 SlurmdPidFile={place}/slurmd.pid
 ProctrackType=proctrack/linuxproc
-ReturnToService=2
 SelectType=select/cons_tres
 SelectTypeParameters=CR_CPU
 NodeName={host} NodeAddr=127.0.0.1 CPUs=2
@@ -37,8 +36,6 @@ class Slurm(Case):
         if os.geteuid() != 0:
             self.skipTest("Slurm's daemons are started by root alone")
         need("slurmctld", "slurmd", "sbatch")
-        for name in ("state", "spool"):
-            Path(name).mkdir()
         with socket.create_server(("127.0.0.1", 0)) as one, socket.create_server(("127.0.0.1", 0)) as other:
             ports = [server.getsockname()[1] for server in (one, other)]
         host = socket.gethostname().partition(".")[0]
