@@ -37,7 +37,7 @@ class Examples(unittest.TestCase):
     def answers(self, *command, count=LARGE):
         """Asserts what an example prints in three runs: for the first `count` positions of masks.txt; for two
         positions, of which one has two best moves; and for a list with a refused one."""
-        masks, answers = ((ROOT / "examples" / name).read_text().splitlines(True) for name in ("masks.txt", "answers.txt"))
+        masks, answers = (stored("examples", f"{name}.txt").decode().splitlines(True) for name in ("masks", "answers"))
         ran = PREFIX.run(*command, text="".join(masks[:count]))
         self.assertEqual((ran.returncode, ran.stdout), (0, "".join(answers[:count] + answers[LARGE:])), ran.stderr)
         ran = PREFIX.run(*command, text=masks[2] + "fffffff8 7fffffff00000007\n")
@@ -93,8 +93,9 @@ class PythonPackage(unittest.TestCase):
         self.assertRegex(ran.stderr, r"Ran [1-9]\d* tests")
 
     def test_pip_installs_its_program(self):
-        for words, wanted in ((["--version"], f"ffosolve-games {VERSION}\n"), (["--empties", "59"], r"\S{64} O; % -, game 1\n")):
-            self.assertRegex(PREFIX.make(PREFIX.site / "bin/ffosolve-games", *words, text="f5").stdout, rf"\A{wanted}\Z")
+        program = PREFIX.site / "bin/ffosolve-games"
+        self.assertEqual(PREFIX.make(program, "--version").stdout, f"ffosolve-games {VERSION}\n")
+        self.assertRegex(PREFIX.make(program, "--empties=59", text="f5").stdout, r"\A\S{64} O; % -, game 1\n\Z")
 
     def test_a_library_of_another_version_or_without_a_call_is_refused(self):
         need("cc")
@@ -113,7 +114,8 @@ class PythonPackage(unittest.TestCase):
     def built(self, source, *kinds):
         """Builds archives of these kinds, such as "sdist", with the build hooks of the package in the folder `source`,
         and returns their paths."""
-        hooks = "import sys, ffosolve_wheel as made; [print(getattr(made, f'build_{it}')(sys.argv[1])) for it in sys.argv[2:]]"
+        hooks = "import sys, ffosolve_wheel as made\n"
+        hooks += "for kind in sys.argv[2:]: print(getattr(made, f'build_{kind}')(sys.argv[1]))"
         names = PREFIX.make(sys.executable, "-Bc", hooks, PREFIX.work, *kinds, cwd=source / "backend").stdout.split()
         return [PREFIX.work / name for name in names]
 
@@ -125,16 +127,17 @@ class PythonPackage(unittest.TestCase):
         self.assertEqual((PREFIX.work / "editable/ffosolve.pth").read_text(), f"{PREFIX.work / 'python/src'}\n")
 
     def test_the_wheel_and_the_source_archive_are_fit_to_be_published(self):
-        paths = self.built(ROOT / "python", "wheel", "sdist")
-        self.assertEqual([path.name for path in paths], [f"ffosolve-{VERSION}-py3-none-any.whl", f"ffosolve-{VERSION}.tar.gz"])
+        head, paths = f"ffosolve-{VERSION}", self.built(ROOT / "python", "wheel", "sdist")
+        self.assertEqual([path.name for path in paths], [f"{head}-py3-none-any.whl", f"{head}.tar.gz"])
         with zipfile.ZipFile(paths[0]) as wheel, tarfile.open(paths[1]) as archive:
-            licence, metadata = (wheel.read(f"ffosolve-{VERSION}.dist-info/{name}") for name in ("LICENSE", "METADATA"))
-            of_archive = [archive.extractfile(f"ffosolve-{VERSION}/{name}").read() for name in ("LICENSE", "PKG-INFO")]
+            licence, metadata = (wheel.read(f"{head}.dist-info/{name}") for name in ("LICENSE", "METADATA"))
+            of_archive = [archive.extractfile(f"{head}/{name}").read() for name in ("LICENSE", "PKG-INFO")]
         self.assertEqual((licence, of_archive), (stored("LICENSE"), [licence, metadata]))
         fields = email.message_from_string(metadata.decode())
         for field in ("Summary", "Home-page", "Author", "Author-email", "License", "Project-URL", "Requires-Python"):
             self.assertTrue(fields[field], field)
-        self.assertEqual((fields["Version"], fields["Description-Content-Type"]), (ffosolve.__version__, "text/markdown"))
+        self.assertEqual(fields["Version"], ffosolve.__version__)
+        self.assertEqual(fields["Description-Content-Type"], "text/markdown")
         self.assertEqual(fields.get_payload(), inspect.getdoc(ffosolve) + "\n")
         need("twine")
         ran = run("twine", "check", "--strict", *paths)

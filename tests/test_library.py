@@ -79,7 +79,8 @@ class Header(unittest.TestCase):
 
     def test_swig_wraps_it(self):
         need("swig")
-        PREFIX.write("wrap.i", '%module wrap\n%{\n#include "ffosolve.h"\n%}\n%include "stdint.i"\n%include "ffosolve.h"\n')
+        include = '%include "stdint.i"\n%include "ffosolve.h"\n'
+        PREFIX.write("wrap.i", '%module wrap\n%{\n#include "ffosolve.h"\n%}\n' + include)
         PREFIX.make("swig", "-Wall", "-Werror", "-python", f"-I{PREFIX.header.parent}", "wrap.i")
         made = (PREFIX.work / "wrap.py").read_text()
         for name in [f"def {name}(" for name in PREFIX.calls] + ["class ffosolve_position(", "class ffosolve_answer("]:
@@ -101,7 +102,7 @@ class Header(unittest.TestCase):
         declared = re.findall(r"^(?:static __inline__ )?int32_t (ffosolve_\w+)\(([^)]*)\)", PREFIX.text, re.MULTILINE)
         names = {name for name, _ in declared}
         self.assertLessEqual({"ffosolve_solve", "ffosolve_solve_all_or_null", "ffosolve_read_line_or_null"}, names)
-        source = '#include "ffosolve.h"\n#undef ffosolve_solve_all\n#undef ffosolve_move_scores_all\n#undef ffosolve_read_line\n'
+        source = '#include "ffosolve.h"\n' + "".join(f"#undef {name}\n" for name in names)
         for name, parameters in declared:
             arguments = re.findall(r"(\w+)(?:\[\d+\])?(?:,|$)", parameters)
             source += f"void {name}_unused({parameters}) {{ {name}({', '.join(arguments)}); }}\n"
@@ -133,9 +134,9 @@ class Calls(unittest.TestCase):
 
     def printed(self, compiler, header, folder):
         """Compiles library_nulls.c and library_calls.c in `folder` with `header`; returns a pair of what they print."""
-        words = ("-I", header.parent), ("-I", header.parent, "-x", "none", PREFIX.archive)
-        nulls, calls = (PREFIX.compile(compiler, folder / name, [TESTS / f"library_{name}.c"], *more)
-                        for name, more in zip(("nulls", "calls"), words))
+        words = ("-I", header.parent, "-x", "none", PREFIX.archive)
+        nulls, calls = (PREFIX.compile(compiler, folder / name, [TESTS / f"library_{name}.c"], *words)
+                        for name in ("nulls", "calls"))
         return PREFIX.make(nulls).stdout, PREFIX.make(calls, text="\n".join(self.calls)).stdout
 
     def test_c_and_cxx_get_what_the_header_says(self):
@@ -147,9 +148,9 @@ class Calls(unittest.TestCase):
         """Each wrong header has one fault: a number that is too great by 1, two members or parameters exchanged, or a
         null pointer that is passed on."""
         wrong = [
-            PREFIX.text[:found.start()] + (new(found) if callable(new) else found.expand(new)) + PREFIX.text[found.end():]
+            PREFIX.text[:found.start()] + found.expand(new) + PREFIX.text[found.end():]
             for pattern, new in (
-                (r"(?<=[A-Z] = )\d+|(?<=MOST_\w{7} )\d+|(?<=NO_SCORE )\d+", lambda found: str(int(found[0]) + 1)),
+                (r"(?<=[A-Z] = )\d+|(?<=MOST_\w{7} )\d+|(?<=NO_SCORE )\d+", r"\g<0> + 1"),
                 (r"(    \w+ \w+(?:\[64\])?;\n)(    \w+ \w+;\n)(?=.*\n?} ffosolve)", r"\2\1"),
                 (r"(size_t room),(\s+)(size_t \*at)\);", r"\3,\2\1);"),
                 (r"(\w+)(?: \|\| \w+)? \? \1 : (?:&\w+|\"\")", r"\1"),
@@ -182,8 +183,8 @@ class Calls(unittest.TestCase):
         """Calls for 14 empty squares return on a stack of 32 KiB. On one of 128 KiB, a game's first position is still
         being solved after two seconds."""
         self.assertTrue("32 KiB are enough for 14 empty squares and 128 KiB for 60" in re.sub(r"\s+", " ", PREFIX.text))
-        calls = [call.format(f"{own:#x} {opp:#x}") for own, opp in random_positions(20, [14])
-                 for call in ("solve {} 0 1024", "confirm {} 1 0 0 0 1", "move_scores {} 2 1024", "solve_all 0 1024 1 {}")]
+        calls = "solve {} {} 0 1024", "confirm {} {} 1 0 0 0 1", "move_scores {} {} 2 1024", "solve_all 0 1024 1 {} {}"
+        calls = [call.format(*position) for position in random_positions(20, [14]) for call in calls]
         printed = PREFIX.called(calls, env={}, preexec_fn=limited("RLIMIT_STACK", 32 << 10))
         self.assertEqual([line[:2] for line in printed], ["0 "] * len(calls))
         with self.assertRaises(subprocess.TimeoutExpired):

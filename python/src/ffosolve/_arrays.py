@@ -1,4 +1,4 @@
-"""Solves positions in NumPy arrays. Only this module needs NumPy; the methods of Solver for arrays import it."""
+"""Solves positions in NumPy arrays. Only this module needs NumPy, so it is imported by the methods that need it."""
 import ctypes
 from collections import deque
 from typing import Any, List, NamedTuple, Tuple

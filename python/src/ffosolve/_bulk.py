@@ -15,7 +15,7 @@ B = TypeVar("B")
 # Positions of this weight together are solved in some hundredths of a second. A position with up to 8 empty squares
 # weighs 1, and each further empty square doubles that, so one with 16 is heavy enough for a part of its own.
 MOST_WEIGHT, LIGHTEST = 256, 8
-MOST_SECONDS = 0.01  # a position that comes later than this after the start of its part is the last one in it
+MOST_SECONDS = 0.01  # a part ends with the first position that comes later than this after the start of the part
 AHEAD = 32  # parts that are read ahead for each thread, so that a long one does not hold up the other threads
 # A call is brief if it solves one position with 14 empty squares, which takes at most 0.15 s, or 4 times as many
 # positions for each empty square less, down to 8.
@@ -31,8 +31,8 @@ PartOrRefusal = Union[Part, Refused]
 
 
 def parts_of(positions: Iterable[Sequence[int]], max_empties: int, whole: bool = False) -> Iterator[PartOrRefusal]:
-    """Yields positions in parts; if `whole`, all in one. At the first refused position, yields the positions before it,
-    maybe none, that are in no earlier part; then its refusal; and ends. Raises TypeError for an object that is not a
+    """Yields positions in parts; if `whole`, in one. If a position is refused, the last part has the positions before
+    it, maybe none, that are in no earlier part; then comes the refusal. Raises TypeError for an object that is not a
     position."""
     clock = time.monotonic
     before, most, weight, part, end = 0, 0, 0, [], clock() + MOST_SECONDS  # type: ignore[var-annotated]
