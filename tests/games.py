@@ -2,7 +2,6 @@
 
 A position is (own, opp, is_black): the masks of the mover's and the other side's discs, and whether Black is the mover.
 """
-import functools
 import hashlib
 import struct
 import sys
@@ -12,7 +11,6 @@ from bench import player
 from .support import ROOT, InFolder, run
 
 PROGRAM = ROOT / "bin/ffosolve-games"
-UNREADABLE = "ffosolve-games: {}: {}\n"
 NAMES = [column + row for row in "12345678" for column in "ABCDEFGH"]
 SQUARE_BYTES = [10 * row + column for row in range(1, 9) for column in range(1, 9)]  # for A1, B1, .. H8 in a WTHOR file
 
@@ -32,11 +30,11 @@ def random_game(rng):
 
 
 def positions_of(squares):
-    """Plays moves, given without passes, up to the first illegal one. Returns {number of empty squares: position} for
-    the start and after each move."""
+    """Plays moves up to the first illegal one; a pass may be None or left out. Returns {number of empty squares:
+    position} for the start and after each move."""
     at = (*player.START, True)
     found = {60: at}
-    for square in squares:
+    for square in squares_of(squares):
         own, opp, is_black = at if can_move(at) else passed(at)
         if not player.moves(own, opp) >> square & 1:
             break
@@ -54,11 +52,10 @@ def discs_of_black(position):
     return 32 + (score(position) if position[2] else -score(position)) // 2
 
 
-@functools.cache
-def real_score(squares):
+def real_score(game):
     """Returns the number of Black's discs after a game, where the winner also gets the empty squares; 40 if the game is
     not over."""
-    positions = positions_of(squares)
+    positions = positions_of(game)
     last = positions[min(positions)]
     return 40 if can_move(last) or can_move(passed(last)) else discs_of_black(last)
 
@@ -73,9 +70,8 @@ def transcript(game):
 
 def record(game, theoretical=33, real=None):
     """Returns the record of a game in a WTHOR file. `real` is the real score in it, by default that of `real_score`."""
-    squares = squares_of(game)
-    real = real_score(tuple(squares)) if real is None else real
-    return struct.pack("<HHHBB", 7, 300, 301, real, theoretical) + bytes(map(SQUARE_BYTES.__getitem__, squares)).ljust(60, b"\0")
+    head = struct.pack("<HHHBB", 7, 300, 301, real_score(game) if real is None else real, theoretical)
+    return head + bytes(SQUARE_BYTES[square] for square in squares_of(game)).ljust(60, b"\0")
 
 
 def wthor(records, empties=22, count=None, board=8, kind=0, another=0):
@@ -114,14 +110,11 @@ def report_of(listed, refused=None):
 class Case(InFolder):
     maxDiff = 2000
 
-    def games(self, *words, status=0, out=None, err=None, **how):
-        """Runs ffosolve-games and returns (output, errors). Asserts its status and, if they are given, that it prints
-        `out` followed by the digest, and that its errors are `err`."""
+    def games(self, *words, status=0, out="", err="", **how):
+        """Runs ffosolve-games. Asserts its status, that it prints `out` followed by the digest, and that its errors are
+        the lines of `err`, each after the program's name. If `out` is None, asserts nothing about what it prints."""
         ran = run(sys.executable, PROGRAM, *words, **how)
-        self.assertNotIn(b"Traceback", ran.stderr)
-        if err is not None:
-            self.assertEqual(ran.stderr.decode(), err)
+        self.assertEqual(ran.stderr.decode(), "".join(f"ffosolve-games: {line}\n" for line in err.splitlines()))
         if out is not None:
             self.assertEqual(ran.stdout.decode(), with_digest(out))
-        self.assertEqual(ran.returncode, status, ran.stderr)
-        return ran.stdout.decode(), ran.stderr.decode()
+        self.assertEqual(ran.returncode, status)

@@ -19,20 +19,6 @@ import ffosolve
 from ffosolve import Position, Solver
 
 
-def expected(name, games, empties, more=""):
-    """Returns what ffosolve-games prints for `games`, a list of (squares, positions), and its messages about the games
-    that never reach `empties` empty squares. `more` is at the end of each line."""
-    lines, err = "", ""
-    for number, (squares, positions) in enumerate(games, 1):
-        if empties in positions:
-            lines += line_of(positions[empties], f"{name}, game {number}{more}")
-        else:
-            left = f"{60 - len(squares)} empty square" + "s" * (len(squares) < 59)
-            err += (f"ffosolve-games: {name}, game {number}, move {len(squares)}: "
-                     f"it ends here, with {left}; {empties} are asked for\n")
-    return lines, err
-
-
 class RandomGames(Case):
     """Random games played to their end: some have passes, and some end early."""
 
@@ -40,7 +26,20 @@ class RandomGames(Case):
     def setUpClass(cls):
         rng = random.Random(53)
         cls.played = [random_game(rng) for _ in range(1000)]
-        cls.known = [(squares, positions_of(squares)) for squares in map(squares_of, cls.played)]
+        cls.known = list(map(positions_of, cls.played))
+
+    def prints(self, name, empties, known, more):
+        """Asserts what is printed for the games in a file, whose positions are `known`: a line for each game, with `more`
+        at its end, or a message if it never reaches `empties` empty squares."""
+        out = err = ""
+        for number, positions in enumerate(known, 1):
+            left = min(positions)
+            if empties in positions:
+                out += line_of(positions[empties], f"{name}, game {number}{more}")
+            else:
+                err += (f"{name}, game {number}, move {60 - left}: it ends here, with {left} empty square{'s' * (left > 1)}; "
+                        f"{empties} are asked for\n")
+        self.games(name, f"--empties={empties}", status=1 if err else 0, out=out, err=err)
 
     def test_positions_of_transcripts_and_records_are_those_of_the_plain_player(self):
         self.assertGreater(sum(None in game for game in self.played), 100)
@@ -48,25 +47,30 @@ class RandomGames(Case):
         write("games.txt", "\n".join(map(transcript, self.played)))
         write("games.wtb", wthor(list(map(record, self.played))))
         for empties in (22, 9):
-            for name, score in (("games.txt", ""), ("games.wtb", ", theoretical score 33" * (empties == 22))):
-                out, err = expected(name, self.known, empties, score)
-                self.games("--empties", empties, name, status=1 if err else 0, out=out, err=err)
+            self.prints("games.txt", empties, self.known, "")
+            self.prints("games.wtb", empties, self.known, ", theoretical score 33" * (empties == 22))
 
     def test_every_number_of_empty_squares_is_taken(self):
         write("games.wtb", wthor([record(game) for game in self.played[:5]], empties=0))
         for empties in range(61):
-            out, err = expected("games.wtb", self.known[:5], empties, ", theoretical score 33")
-            self.games("games.wtb", f"--empties={empties}", status=1 if err else 0, out=out, err=err)
+            self.prints("games.wtb", empties, self.known[:5], ", theoretical score 33")
 
 
 class Faults(Case):
     """Faults of games and of files: each is reported in one line, and what can be read is printed."""
 
+    def setUp(self):
+        super().setUp()
+        self.game = squares_of(random_game(random.Random(2)))
+        self.at = positions_of(self.game)
+        self.whole = record(self.game)
+        self.line = line_of(self.at[22], "it.wtb, game 1, theoretical score 33")
+
     def reads(self, content, out, *why, name="it.wtb", words=(), status=None):
         """Asserts what is printed for one file: `out`, and for each of `why` a message of the file's name and that
         text. The status is `status`, by default 1 if `why` is given and otherwise 0."""
         write(name, content)
-        err = "".join(f"ffosolve-games: {name}{it}\n" for it in why)
+        err = "".join(f"{name}{it}\n" for it in why)
         self.games(*words, name, status=len(why) > 0 if status is None else status, out=out, err=err)
 
     def test_wrong_moves_of_transcripts_are_reported(self):
@@ -92,25 +96,24 @@ class Faults(Case):
         self.reads("\n".join(text for text, _ in lines).encode("latin-1"), out, *why, name="games", words=["--empties=58"])
 
     def test_only_a_pass_may_follow_the_end_of_a_game(self):
-        game = squares_of(random_game(random.Random(1)))
-        end = player.line(*positions_of(game)[60 - len(game)])
-        for more in (game[:1], game[-1:]):
-            why = f", game 1, move {len(game) + 1}: {NAMES[more[0]]} is not a legal move: the game is over in {end}"
-            self.reads(transcript(game + more), "", why, name="long", words=["--empties=30"])
-        self.reads(transcript(game) + "--pass", line_of(positions_of(game)[30], "passes, game 1"), name="passes", words=["--empties=30"])
+        end = player.line(*self.at[60 - len(self.game)])
+        for more in (self.game[:1], self.game[-1:]):
+            why = f", game 1, move {len(self.game) + 1}: {NAMES[more[0]]} is not a legal move: the game is over in {end}"
+            self.reads(transcript(self.game + more), "", why, words=["--empties=30"], name="long")
+        out = line_of(self.at[30], "passes, game 1")
+        self.reads(transcript(self.game) + "--pass", out, words=["--empties=30"], name="passes")
 
     def test_a_game_that_ends_before_the_position_is_reported(self):
         rng = random.Random(1)
-        game = next(squares for squares in iter(lambda: squares_of(random_game(rng)), None) if len(squares) == 59)
+        game = next(game for game in iter(lambda: random_game(rng), None) if len(squares_of(game)) == 59)
         why = ", game 1, move 59: it ends here, with 1 empty square; 0 are asked for"
         self.reads(transcript(game), "", why, name="text", words=["--empties=0"])
 
     def test_wrong_records_are_reported(self):
-        game = squares_of(random_game(random.Random(2)))
-        line = line_of(positions_of(game)[22], "it.wtb, game 1, theoretical score 33")
-        whole = record(game)
-        at = positions_of(game)[50]
-        illegal = f"{NAMES[game[9]]} is not a legal move for {'Black' if at[2] else 'White'} in {player.line(*at)}"
+        own, opp, is_black = self.at[50]
+        illegal = (f"{NAMES[self.game[9]]} is not a legal move for {'Black' if is_black else 'White'} in "
+                   f"{player.line(own, opp, is_black)}")
+        whole = self.whole
         gap, no_square, twice = (whole[:18] + bytes([byte]) + whole[19:] for byte in (0, 99, whole[17]))
         for records, count, why in (
             ([whole, whole[:67]], 2, "game 2: the file ends after 67 of the 68 bytes of this game, but its header counts 2 games"),
@@ -122,15 +125,15 @@ class Faults(Case):
             ([whole, no_square], 2, "game 2, move 11: 99 is not a square"),
             ([whole, twice], 2, f"game 2, move 11: {illegal}"),
             ([whole, record([])], 2, "game 2: it has no moves"),
-            ([whole, record(game[:37])], 2, "game 2, move 37: it ends here, with 23 empty squares; 22 are asked for"),
+            ([whole, record(self.game[:37])], 2, "game 2, move 37: it ends here, with 23 empty squares; 22 are asked for"),
         ):
-            self.reads(wthor(records, count=count), line, f", {why}")
+            self.reads(wthor(records, count=count), self.line, f", {why}")
 
     def test_wrong_scores_of_records_are_reported_and_the_line_is_printed(self):
         rng = random.Random(3)
         with_pass = next(it for it in iter(lambda: random_game(rng), None) if None in it[38:])
-        game, before = squares_of(with_pass), squares_of(with_pass[:with_pass.index(None, 38)])
-        at, real = positions_of(game), real_score(tuple(game))
+        game, before = squares_of(with_pass), with_pass[:with_pass.index(None, 38)]
+        at, real = positions_of(game), real_score(game)
         wrong = f"its real score is {real + 1}, but its moves give {real}"
         for squares, theoretical, written, empties, why in (
             (game, 64, real, 22, ()),
@@ -147,39 +150,35 @@ class Faults(Case):
                        words=[f"--empties={empties}"])
 
     def test_a_file_of_another_kind_is_refused(self):
-        game = squares_of(random_game(random.Random(2)))
-        whole, line = record(game), line_of(positions_of(game)[22], "it.wtb, game 1, theoretical score 33")
         for board, kind in ((0, 0), (8, 0), (8, 1)):
-            self.reads(wthor([whole], board=board, kind=kind), line)
+            self.reads(wthor([self.whole], board=board, kind=kind), self.line)
         for content, why in (
             (b"", "it is empty"),
             (wthor([])[:15], "it ends within its header of 16 bytes"),
-            (wthor([whole], board=10), "its board has 10 by 10 squares"),
-            (wthor([whole], another=9),
+            (wthor([self.whole], board=10), "its board has 10 by 10 squares"),
+            (wthor([self.whole], another=9),
              "its header counts 9 records of another kind, like a file of players or tournaments"),
-            (wthor([whole], kind=2), "byte 14 of its header is 2, and has to be 0 or 1"),
-            (wthor([whole], empties=61), "its theoretical scores are for 61 empty squares, but a game has only 60"),
+            (wthor([self.whole], kind=2), "byte 14 of its header is 2, and has to be 0 or 1"),
+            (wthor([self.whole], empties=61), "its theoretical scores are for 61 empty squares, but a game has only 60"),
             (b"f5d6c3d3c4f4c5b3c2\n", "it begins like a text"),
         ):
             for name in ("NONE.WTB", "none.wtb"):
                 self.reads(content, "", f" is not a WTHOR file of games: {why}", name=name, status=3)
-        write("it.wtb", wthor([whole]))
-        self.games("none.wtb", "it.wtb", status=3, out=line)
+        self.games("none.wtb", "it.wtb", status=3, out=self.line, err=f"none.wtb is not a WTHOR file of games: {why}")
 
     def test_a_theoretical_score_is_printed_only_for_its_number_of_empty_squares(self):
-        game = squares_of(random_game(random.Random(2)))
-        at = {empties: line_of(position, "it.wtb, game 1") for empties, position in positions_of(game).items()}
-        scored = {empties: line[:-1] + ", theoretical score 20\n" for empties, line in at.items()}
-        for words, empties, out in (((), 24, scored[24]), (("--empties", "24"), 24, scored[24]), (("--empties", "22"), 24, at[22]),
-                                    (("--empties", "22"), 0, scored[22])):
-            self.reads(wthor([record(game, 20)], empties=empties), out, words=words)
+        plain = {empties: line_of(position, "it.wtb, game 1") for empties, position in self.at.items()}
+        scored = {empties: line.rstrip() + ", theoretical score 20\n" for empties, line in plain.items()}
+        for words, empties, out in (([], 24, scored[24]), (["--empties", "24"], 24, scored[24]),
+                                    (["--empties", "22"], 24, plain[22]), (["--empties", "22"], 0, scored[22])):
+            self.reads(wthor([record(self.game, 20)], empties=empties), out, words=words)
         why = " does not say how many squares are empty at its theoretical scores; try --empties 22 or 24, the usual numbers"
-        self.reads(wthor([record(game, 20)], empties=0), "", why, status=2)
-        self.reads(transcript(game), "", " is a text: its games need --empties N", name="text", status=2)
+        self.reads(wthor([record(self.game, 20)], empties=0), "", why, status=2)
+        self.reads(transcript(self.game), "", " is a text: its games need --empties N", name="text", status=2)
 
     def test_each_changed_byte_leads_to_a_position_of_the_changed_game(self):
         rng = random.Random(5)
-        whole = wthor([record(squares_of(random_game(rng))) for _ in range(2)])
+        whole = wthor([record(random_game(rng)) for _ in range(2)])
         files = {}
         for place in range(16 + 68):
             for byte in {whole[place] ^ 255, whole[place] + 1 & 255, 0, rng.choice(SQUARE_BYTES)} - {whole[place]}:
@@ -206,13 +205,10 @@ class ReadByPython(InFolder):
         cls.played = [random_game(rng) for _ in range(60)]
         cls.solver = Solver()
 
-    def shown(self, positions):
-        return [position.to_obf() for position in positions]
-
-    def expected(self, game):
-        """Returns the positions of a game that bench/player.py finds, as OBF lines, from the start on."""
-        at = positions_of(squares_of(game))
-        return [player.line(*at[empties]) for empties in sorted(at, reverse=True)]
+    def has_positions(self, read, game):
+        """Asserts that the Game or transcript `read` has the positions that bench/player.py finds for the moves `game`."""
+        wanted = [player.line(*position) for position in positions_of(game).values()]
+        self.assertEqual([position.to_obf() for position in self.solver.positions(read)], wanted, read)
 
     def test_transcripts_are_read_in_each_form(self):
         rng = random.Random(5)
@@ -229,9 +225,8 @@ class ReadByPython(InFolder):
                 texts.append(rng.choice((" ", "-", "", ", ")).join(name or word for name in with_passes))
             for text in texts:
                 end = rng.choice(("", " 33-31", " (40:24)", ", 1-0", " 1/2-1/2", " +2", " -12", " [+4]", " 0", "\r\n", "  % f5"))
-                found = ffosolve.Game.of_text(text + end)
-                self.assertEqual(found.squares, [name.upper() for name in names], text + end)
-                self.assertEqual(self.shown(self.solver.positions(text + end)), self.expected(game), text + end)
+                self.assertEqual(ffosolve.Game.of_text(text + end).squares, [name.upper() for name in names], text + end)
+                self.has_positions(text + end, game)
 
     def test_a_wrong_transcript_is_refused_with_the_move_and_the_reason(self):
         for text, move, why in (
@@ -254,24 +249,24 @@ class ReadByPython(InFolder):
             (records, "it.wtb", [(at + 1, 20 + at, 40, 22) for at in range(30)]),
             (text, "it.txt", [(2 * at + 1, None, None, None) for at in range(30)]),
         ):
-            (self.folder / name).write_bytes(content)
-            (self.folder / "packed").write_bytes(gzip.compress(content))
+            write(name, content)
+            write("packed", gzip.compress(content))
             with open(name, "rb") as file, open(name, "rb", buffering=0) as raw, gzip.open("packed") as packed:
                 inside = io.BytesIO(content)
                 for source in (name, self.folder / name, file, raw, packed, inside):
                     games = list(ffosolve.read_games(source))
                     self.assertEqual([(it.number, it.score, it.real, it.empties) for it in games], wanted)
                     for it, game in zip(games, self.played):
-                        self.assertEqual(self.shown(self.solver.positions(it)), self.expected(game))
+                        self.has_positions(it, game)
                 self.assertEqual((inside.read(), file.closed, raw.closed), (b"", False, False))
-        (self.folder / "it.wtb").write_bytes(wthor([record(self.played[0])], empties=0))
+        write("it.wtb", wthor([record(self.played[0])], empties=0))
         self.assertEqual([it.empties for it in ffosolve.read_games("it.wtb")], [None])
 
     def test_the_example_of_read_games_finds_wrong_theoretical_scores(self):
-        games = [game for game in self.played if 6 in positions_of(squares_of(game))][:20]
-        exact = [discs_of_black(positions_of(squares_of(game))[6]) for game in games]
+        games = [game for game in self.played if 6 in positions_of(game)][:20]
+        exact = [discs_of_black(positions_of(game)[6]) for game in games]
         published = [it ^ (at in (3, 11)) for at, it in enumerate(exact)]
-        (self.folder / "WTH_2001.wtb").write_bytes(wthor(map(record, games, published), empties=6, count=20))
+        write("WTH_2001.wtb", wthor(list(map(record, games, published)), empties=6))
         code = textwrap.dedent(inspect.getdoc(ffosolve.read_games).split(":\n\n")[1])
         printed = io.StringIO()
         with contextlib.redirect_stdout(printed):
@@ -281,13 +276,13 @@ class ReadByPython(InFolder):
     def test_a_game_is_refused_after_those_before_it_and_a_wrong_file_at_once(self):
         whole = record(self.played[0])
         for count, why in ((2, "the file ends"), (0, "the file goes on")):
-            (self.folder / "it.wtb").write_bytes(wthor([whole], count=count))
+            write("it.wtb", wthor([whole], count=count))
             wrong = []
             self.assertEqual(len(list(ffosolve.read_games("it.wtb", refused=wrong.append))), min(count, 1))
             self.assertEqual([(it.game, it.move) for it in wrong], [(count or 1, None)])
             with self.assertRaisesRegex(ffosolve.GameRefused, f"^game {count or 1}: {why}"):
                 list(ffosolve.read_games("it.wtb"))
-        (self.folder / "it.wtb").write_bytes(wthor([whole], board=10))
+        write("it.wtb", wthor([whole], board=10))
         for source, error, why in (
             ("it.wtb", ValueError, "it.wtb is not a WTHOR file of games: "),
             (io.BytesIO(b"f5" * 1_000_000), ValueError, "cannot read the file: its line 1 has more than [0-9]+ bytes$"),
