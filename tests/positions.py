@@ -21,9 +21,9 @@ def need_modules():
         lack("numpy or PIL (Debian: python3-numpy, python3-pil)")
 
 
-def random_positions(count, empties, seed=1):
+def random_positions(count, empties):
     """Returns `count` positions from random games. Their numbers of empty squares are those in `empties`, in turn."""
-    rng, found = random.Random(seed), []
+    rng, found = random.Random(1), []
     while len(found) < count:
         discs = 64 - empties[len(found) % len(empties)]
         at = [(own, opp) for own, opp, *_ in player.random_game(rng) if player.count(own | opp) == discs]

@@ -24,17 +24,13 @@ static int refused(void) {
 void *malloc(size_t size) { return refused() ? NULL : NEXT(malloc)(size); }
 void *realloc(void *old, size_t size) { return refused() ? NULL : NEXT(realloc)(old, size); }
 
-static void show(const char *call) {
-    if (getenv("WATCHED")) dprintf(STDERR_FILENO, "%s ", call);
-}
-
 int fsync(int file) {
-    show("sync");
+    if (getenv("WATCHED")) dprintf(STDERR_FILENO, "sync ");
     errno = EIO;
     return getenv("NO_SYNC") ? -1 : NEXT(fsync)(file);
 }
 
 int rename(const char *from, const char *to) {
-    show("rename");
+    if (getenv("WATCHED")) dprintf(STDERR_FILENO, "rename ");
     return NEXT(rename)(from, to);
 }

@@ -75,9 +75,10 @@ def positions(*words):
     return run(sys.executable, ROOT / "bench/positions", *words, check=True).stdout
 
 
-def module_folder():
-    """Returns a new folder that everybody may read. It is removed after the module's tests; for setUpModule."""
-    folder = Path(unittest.enterModuleContext(tempfile.TemporaryDirectory(prefix="ffosolve-tests-")))
+def module_folder(enter=unittest.enterModuleContext):
+    """Returns a new folder that everybody may read. It is removed after the module's tests, so this is for setUpModule;
+    or after a test, if `enter` is its method enterContext."""
+    folder = Path(enter(tempfile.TemporaryDirectory(prefix="ffosolve-test-")))
     folder.chmod(0o755)
     return folder
 
@@ -129,8 +130,7 @@ class InFolder(unittest.TestCase):
     """A test that runs in a new folder of its own, which everybody may read."""
 
     def setUp(self):
-        self.folder = Path(self.enterContext(tempfile.TemporaryDirectory(prefix="ffosolve-test-")))
-        self.folder.chmod(0o755)
+        self.folder = module_folder(self.enterContext)
         self.addCleanup(os.umask, os.umask(0o022))
         self.enterContext(contextlib.chdir(self.folder))
 
@@ -179,8 +179,8 @@ def as_at_a_login():
 
 def refuse_threads():
     """Makes every start of a thread fail, since its stack would take more memory than is allowed; for `preexec_fn`."""
-    for limit, size in ((resource.RLIMIT_STACK, 1_000_000_000 << 10), (resource.RLIMIT_AS, 500_000_000 << 10)):
-        resource.setrlimit(limit, (size, resource.getrlimit(limit)[1]))
+    limited("RLIMIT_STACK", 1_000_000_000 << 10)()
+    limited("RLIMIT_AS", 500_000_000 << 10)()
 
 
 def processes_in(place):

@@ -23,7 +23,6 @@ def unwritten(cause, name="it.book", report=b""):
 
 
 DONE = (0, REPORT, b"")
-UNREAD = (3, b"", b"ffosolve: cannot read it.book\nffosolve: permission denied\n")
 NO_BOOK = (3, b"", b"ffosolve: it.book is not a book and would be overwritten\n")
 
 
@@ -85,12 +84,14 @@ class Books(InFolder):
         self.left({"it.book": BOOK, "twin.book": OLD})
 
     def test_a_place_without_permission_is_refused(self):
+        late = unwritten(DENIED, report=REPORT)
+        unread = (3, b"", b"ffosolve: cannot read it.book\nffosolve: permission denied\n")
         for place, folder_mode, mode, wanted in (
             ("it.book", 0o555, 0o666, unwritten(DENIED)),
             ("it.book", 0o777, 0o444, unwritten(DENIED)),
             ("there", 0o777, 0o444, unwritten(DENIED)),
-            ("it.book", 0o777, 0o222, UNREAD),  # what can't be read might not be a book
-            ("it.book", 0o1777, 0o666, unwritten(DENIED, report=REPORT) if NOBODY else DONE),  # only its owner may replace it
+            ("it.book", 0o777, 0o222, unread),  # what can't be read might not be a book
+            ("it.book", 0o1777, 0o666, late if NOBODY else DONE),  # only its owner may replace it
         ):
             with self.subTest(place=place, folder_mode=oct(folder_mode), mode=oct(mode)):
                 self.solves_over(OLD, wanted, place, mode, folder_mode, **NOBODY)
@@ -197,8 +198,7 @@ class Books(InFolder):
         script = """mkdir one two; mount -t tmpfs none one; mount -t tmpfs none two; cp list one; : >two/it.book
             [ $(stat -c %i one/list) = $(stat -c %i two/it.book) ]
             "$0" --book-out two/it.book one/list >&2; cat two/it.book"""
-        ran = run("unshare", "--mount", "sh", "-ec", script, PROGRAM)
-        self.assertEqual((ran.returncode, ran.stdout), (0, BOOK), ran.stderr)
+        self.ends((0, BOOK, REPORT), "unshare", "--mount", "sh", "-ec", script, PROGRAM)
 
     def test_the_book_is_read_before_the_lists_and_the_lists_before_anything_is_printed(self):
         write("list", TEXT)

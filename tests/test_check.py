@@ -26,10 +26,6 @@ class Check(InFolder):
         run("git", "init", "-q", check=True)
         self.environment = {name: text for name, text in os.environ.items() if name != "CI"}
 
-    @staticmethod
-    def module(name, tests):
-        write(f"tests/test_{name}.py", MODULE + tests)
-
     def prints(self, status, last, *texts, words=MAKE, **variables):
         """Runs a command, by default MAKE, and asserts its status, the last line that it prints, and that its output
         has all `texts`."""
@@ -40,7 +36,7 @@ class Check(InFolder):
 
     def test_passes_and_failures_are_counted_and_failures_are_shown(self):
         self.prints(2, "0 passed, 0 failed")
-        self.module("check", PASSES)  # a module with the name of a target of make
+        write("tests/test_check.py", MODULE + PASSES)  # a module with the name of a target of make
         for tests, passed, failed, shown in (
             (PASSES + PASSES.replace("_a", "_c"), 2, 0, "tests.test_one: 2 passed, 0 failed, in "),
             (PASSES + FAILS + FAILS.replace("_b", "_c"), 1, 2, "(0, '2\\n', '') != (0, 'b', '')"),
@@ -52,22 +48,22 @@ class Check(InFolder):
             ('    def test_a(self):\n        (ROOT / "new-file").write_text("")\n', 1, 1, "?? new-file"),
         ):
             with self.subTest(tests=tests):
-                self.module("one", tests)
+                write("tests/test_one.py", MODULE + tests)
                 self.prints(2 if failed else 0, f"{passed + 1} passed, {failed} failed", shown, words=(*MAKE, "TEST_SECONDS=8"))
         self.prints(0, "1 passed, 0 failed", words=(*MAKE, "TESTS=check"))
         self.prints(2, "0 passed, 1 failed", words=(*MAKE, "TESTS=three"))
 
     def test_a_missing_tool_skips_a_test_and_fails_it_if_ci_is_true(self):
-        self.module("check", PASSES)
-        self.module("one", PASSES + LACKS)
+        write("tests/test_check.py", MODULE + PASSES)
+        write("tests/test_one.py", MODULE + PASSES + LACKS)
         self.prints(0, "2 passed, 0 failed, 1 skipped")
         self.prints(2, "2 passed, 1 failed", "no-such is missing", CI="true")
-        self.module("one", PASSES + "\n\ndef setUpModule():\n" + LACKS.splitlines(keepends=True)[1][4:])
+        write("tests/test_one.py", MODULE + PASSES + "\n\ndef setUpModule():\n" + LACKS.splitlines(keepends=True)[1][4:])
         self.prints(0, "1 passed, 0 failed, 1 skipped")
         self.prints(2, "1 passed, 1 failed", CI="true")
 
     def test_an_interrupt_from_the_terminal_and_a_signal_to_make_alone_end_all_processes(self):
-        self.module("one", f"    def test_a(self):\n        run('sh', '-c', 'echo >{self.folder}/begun; exec sleep 50')\n")
+        write("tests/test_one.py", MODULE + f"    def test_a(self):\n        run('sh', '-c', 'echo >{self.folder}/begun; exec sleep 50')\n")
         for kill, number in ((os.killpg, signal.SIGINT), (os.kill, signal.SIGTERM)):
             Path("begun").unlink(missing_ok=True)
             make = self.start(*MAKE, stderr=subprocess.STDOUT, preexec_fn=as_at_a_login, start_new_session=True)
@@ -79,7 +75,7 @@ class Check(InFolder):
 
     def test_a_module_inherits_no_flags_of_make_and_no_ignored_interrupt(self):
         Path("Makefile").write_text("check:\n\t$(MAKE) -f tests/check.mk\n\nsome:\n\techo made\n")
-        self.module("one", """    def test_a(self):
+        write("tests/test_one.py", MODULE + """    def test_a(self):
         self.assertEqual(run("sh", "-c", "make -s some 2>&1", cwd=ROOT).stdout, b"made\\n")
         self.assertIs(signal.getsignal(signal.SIGINT), signal.default_int_handler)
 """)

@@ -4,7 +4,7 @@ import re
 import unittest
 
 from .prefix import PREFIX, setUpModule
-from .support import built, stored, worked
+from .support import built, run, stored, worked
 import ffosolve
 from ffosolve._refusals import refusal_of
 
@@ -62,9 +62,7 @@ class OddLines(unittest.TestCase):
             self.assertEqual(list(read_in_c(text)), wanted)
 
     def test_the_report_of_odd_lines_is_what_python_finds(self):
-        file = PREFIX.work / "odd.obf"
-        file.write_bytes(self.text)
-        report = PREFIX.make(built("ffosolve"), "--max-empties=20", file).stdout.splitlines()[1:-1]
+        report = run(built(), "--max-empties=20", input=self.text, check=True).stdout.decode().splitlines()[1:-1]
         solver = ffosolve.Solver(str(PREFIX.shared))
         self.assertEqual(report, [self.reported(solver, row) for row in self.rows])
         kinds = {re.sub(r"\d+", "N", row.partition(" ")[2]) if "refused" in row else row.split()[-1] for row in report}
