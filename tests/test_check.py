@@ -1,7 +1,5 @@
 """How `make check` runs and counts tests, and how .ci/run adds the counts of `rt ci`, in a small checkout."""
 import os
-import re
-import shutil
 import signal
 import subprocess
 from pathlib import Path
@@ -11,7 +9,8 @@ from tests.support import ROOT, SECONDS, InFolder, as_at_a_login, need, processe
 MODULE = "import os, time, unittest\nfrom tests.support import *\n\n\nclass Some(InFolder):\n"
 PASSES = "    def test_a(self):\n        pass\n"
 FAILS = "    def test_b(self):\n        self.ends((0, 'b', ''), 'echo', 1)\n        self.ends((0, 'b', ''), 'echo', 2)\n"
-LACKS = '    def test_b(self):\n        need("make", "no-such")\n'
+NEEDS = '    need("make", "no-such")\n'
+LACKS = f"    def test_b(self):\n    {NEEDS}"
 MAKE = ("make", "-f", "tests/check.mk")
 
 
@@ -19,9 +18,8 @@ class Check(InFolder):
     def setUp(self):
         super().setUp()
         need("make", "git")
-        for name in ("tests/__init__.py", "tests/support.py", "tests/check.mk", "tests/count.awk", ".ci/run"):
-            Path(name).parent.mkdir(exist_ok=True)
-            shutil.copy(ROOT / name, name)
+        names = ("tests/__init__.py", "tests/support.py", "tests/check.mk", "tests/count.awk", ".ci/run")
+        run("cp", "--parents", *names, self.folder, cwd=ROOT, check=True)
         Path(".gitignore").write_text("__pycache__/\nout/\n")
         run("git", "init", "-q", check=True)
         self.environment = {name: text for name, text in os.environ.items() if name != "CI"}
@@ -44,12 +42,13 @@ class Check(InFolder):
             ("    pass\n", 0, 1, "tests.test_check: 1 passed"),
             (PASSES + "\n\ndef setUpModule():\n    1 / 0\n", 0, 1, "ZeroDivisionError"),
             (PASSES + "    def test_b(self):\n        os.kill(os.getpid(), 9)\n", 1, 1, ""),
-            (PASSES + "    def test_b(self):\n        time.sleep(50)\n", 1, 1, "ended, since it took longer than 8 seconds"),
+            (PASSES + "    def test_b(self):\n        time.sleep(50)\n", 1, 1, "since it took longer than 8 seconds"),
             ('    def test_a(self):\n        (ROOT / "new-file").write_text("")\n', 1, 1, "?? new-file"),
         ):
             with self.subTest(tests=tests):
                 write("tests/test_one.py", MODULE + tests)
-                self.prints(2 if failed else 0, f"{passed + 1} passed, {failed} failed", shown, words=(*MAKE, "TEST_SECONDS=8"))
+                status, last = 2 if failed else 0, f"{passed + 1} passed, {failed} failed"
+                self.prints(status, last, shown, words=(*MAKE, "TEST_SECONDS=8"))
         self.prints(0, "1 passed, 0 failed", words=(*MAKE, "TESTS=check"))
         self.prints(2, "0 passed, 1 failed", words=(*MAKE, "TESTS=three"))
 
@@ -58,12 +57,13 @@ class Check(InFolder):
         write("tests/test_one.py", MODULE + PASSES + LACKS)
         self.prints(0, "2 passed, 0 failed, 1 skipped")
         self.prints(2, "2 passed, 1 failed", "no-such is missing", CI="true")
-        write("tests/test_one.py", MODULE + PASSES + "\n\ndef setUpModule():\n" + LACKS.splitlines(keepends=True)[1][4:])
+        write("tests/test_one.py", MODULE + PASSES + "\n\ndef setUpModule():\n" + NEEDS)
         self.prints(0, "1 passed, 0 failed, 1 skipped")
         self.prints(2, "1 passed, 1 failed", CI="true")
 
     def test_an_interrupt_from_the_terminal_and_a_signal_to_make_alone_end_all_processes(self):
-        write("tests/test_one.py", MODULE + f"    def test_a(self):\n        run('sh', '-c', 'echo >{self.folder}/begun; exec sleep 50')\n")
+        waits = f"    def test_a(self):\n        run('sh', '-c', 'echo >{self.folder}/begun; exec sleep 50')\n"
+        write("tests/test_one.py", MODULE + waits)
         for kill, number in ((os.killpg, signal.SIGINT), (os.kill, signal.SIGTERM)):
             Path("begun").unlink(missing_ok=True)
             make = self.start(*MAKE, stderr=subprocess.STDOUT, preexec_fn=as_at_a_login, start_new_session=True)
@@ -107,7 +107,5 @@ class Check(InFolder):
         self.assertFalse(Path("out").exists())
 
     def test_no_program_names_a_temporary_file_that_two_runs_would_share(self):
-        for folder in ("bin", "scripts", "tests"):
-            for path in ROOT.joinpath(folder).iterdir():
-                if path.is_file() and path.name != "test_check.py":
-                    self.assertEqual(re.findall(r".*(?:/tmp/\w|gettempdir).*", path.read_text(errors="replace")), [], path)
+        words = ("grep", "-rInE", "--exclude=test_check.py", r"/tmp/\w|gettempdir", "bin", "scripts", "tests")
+        self.ends((1, "", ""), *words, cwd=ROOT)
