@@ -88,7 +88,7 @@ class Crates(InFolder):
             run("rt", "test", "--", TESTS[0], cwd=CRATE, stdout=None, stderr=None, timeout=2700, check=True)
 
     def test_each_refused_request_ends_a_test_or_changes_nothing(self):
-        """A test has to pass or to report only that it is out of memory. A crash and a run without an end are faults."""
+        """A test has to pass or to report only that it is out of memory; a crash and a run without end are faults."""
         listed = run(CRATE_TESTS, "--list", check=True, text=True).stdout
         self.assertEqual([part for part in TESTS if part not in listed], [])
         requests = 0
@@ -99,7 +99,7 @@ class Crates(InFolder):
                 self.assertEqual(last[0], 0, last)
                 for number, (_, _, errors, _) in ended:
                     reports = re.findall(r"^\w+: (.*)$", errors, re.M)
-                    self.assertTrue(len(reports) == 1 and reports[0] in REPORTS, f"with request {number} refused: {errors}")
+                    self.assertTrue(len(reports) == 1 and reports[0] in REPORTS, f"request {number}: {errors}")
                 if test in ENDED:
                     self.assertEqual((len(refused), len(ended)), (ENDED[test] or len(refused),) * 2)
                 requests += len(refused)

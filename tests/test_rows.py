@@ -82,7 +82,7 @@ class Rows(InFolder):
 
     def test_a_line_across_the_first_65536_bytes_is_judged_as_a_whole(self):
         for line, error in ((LEFT, ""), (LEFT[:63], "board has 63 of 64 squares"), (LEFT[:64], "bad side at column 65"),
-                           (LEFT[:66] + b"\n", "no moves"), (LEFT[:66] + b"; G8:+6x", "no moves"), (b"%" + LEFT, "")):
+                            (LEFT[:66] + b"\n", "no moves"), (LEFT[:66] + b"; G8:+6x", "no moves"), (b"%" + LEFT, "")):
             for size in range(1, len(line) + 1):
                 self.reads(b"%" * (65_536 - size - 1) + b"\n" + line, error and f"2: {error}")
 
@@ -92,9 +92,10 @@ class Rows(InFolder):
         name = os.ttyname(number)
         error = f"ffosolve: cannot read {name}\nffosolve: it is neither a file nor a pipe\n"
         self.ends((3, "", error), built(), "--book-in", name, timeout=20)
-        for lines, error in (("yes ?", "1: bad square at column 1"), ("yes ? | tr -d '\\n'", "1: bad square at column 1"),
-                            ("(echo '% ffobook 3 winner'; yes %)", "1: unknown header"),
-                            (f"(echo; yes '{'X' * 64}')", "2: bad side at column 65")):
+        for lines, error in (("yes ?", "1: bad square at column 1"),
+                             ("yes ? | tr -d '\\n'", "1: bad square at column 1"),
+                             ("(echo '% ffobook 3 winner'; yes %)", "1: unknown header"),
+                             (f"(echo; yes '{'X' * 64}')", "2: bad side at column 65")):
             words = f"{lines} 2>/dev/null | (ulimit -v 1000000; exec '{built()}' --book-in /dev/stdin)"
             self.ends((3, "", f"ffosolve: book line {error}\n"), "sh", "-c", words, timeout=20)
 
@@ -172,8 +173,8 @@ class Scores(InFolder):
             self.ends((1, rows + SCORES + rows, b""), "--complete", *words.split(), "rows.obf", "kinds.obf", "rows.obf")
 
     def test_its_own_output_is_unchanged_and_right_for_ffosolve(self):
-        cells = [cell for table in ("unlisted", "remarks") for cell in worked(f"ffoscores/{table}")[1]["--scoring winner"]]
-        for text in (SCORES, b"".join(cell.removesuffix(b"\r") + b"\n" for cell in cells)):
+        tables = [worked(f"ffoscores/{name}")[1]["--scoring winner"] for name in ("unlisted", "remarks")]
+        for text in (SCORES, *(whole_lines(cells).replace(b"\r", b"") for cells in tables)):
             self.ends((0, text, b""), input=text)
         rows = run(built(), input=SCORES, check=True).stdout.splitlines()[1:-1]
         self.assertEqual([row.split()[-1] for row in rows], [RIGHT] * 8)
@@ -203,7 +204,8 @@ class Scores(InFolder):
         board, comment = re.escape(line[:66]), re.escape(line[line.index(b" % 40"):])
         ran = run(built("ffoscores"), input=line, timeout=5 * SECONDS)  # for a busy machine
         self.assertEqual((ran.returncode, ran.stderr), (0, b""))
-        found = re.fullmatch(board + rb"; A2:\+38; [A-H][1-8]:(...);( [A-H][1-8]:[+-]\d\d;){8,}" + comment + b"\n", ran.stdout)
+        moves = rb"; A2:\+38; [A-H][1-8]:(...);( [A-H][1-8]:[+-]\d\d;){8,}"
+        found = re.fullmatch(board + moves + comment + b"\n", ran.stdout)
         self.assertTrue(found and int(found[1]) < 38, ran.stdout)
 
     def test_all_files_are_read_then_measured_and_counted_before_anything_is_printed(self):

@@ -12,14 +12,7 @@ OFTEN = 500  # runs; one in fifteen hung while a fault left a thread asleep
 WORKERS = (0, 1, 3, 64)
 HOURS = b"-" * 27 + b"OX------XO" + b"-" * 27 + b" X;\n"
 HARD = b"-XXXXX----XOOX--XXXXOOOO-OXOOOO-OOXOOX--OOX-OOOOOXXXXXX-X----XXX O\n"  # 17 empty squares, 0.2 seconds
-# Positions with two empty squares, and the first one with its scores.
-EASY = [
-    b"-OXXXXX-XXXXXXXOXXXXXXXXXXXXXXXXXXXOXXXXXXXXXXXXXXXXXXXXXXXXXXXX X;\n",
-    b"-OXXXXX-XXXXXXXOXXXXXXXXXXXXXXXXXXXOXXXXXXXXXXXXXXXXXXXXXXXXXXXX O\n",
-    b"--OOOOOXXXXXXXXXXXXXXXXXXXXXXXXXXXXXXXXXXXXXXXXXXXXXXXXXXXXXXXXX X\n",
-    b"-OOXXOO-XXXXXXXXXXXXXXXXXXXXXXXXXXXXXXXXXXXXXXXXXXXXXXXXXXXXXXXX X\n",
-]
-SCORED = EASY[0][:-1] + b" H1:+62; A1:+52;\n"
+EASY = stored("examples", "first.obf").splitlines(True)[1:]  # positions with two empty squares, and their scores
 HARD_FILES = ["hard-0.obf", "hard-1.obf"]
 MANY_FILES = [f"{number}.obf" for number in range(64)]
 
@@ -32,7 +25,7 @@ class Files(InFolder):
     def setUp(self):
         super().setUp()
         for number, name in enumerate(MANY_FILES):
-            write(name, b"".join(EASY[number % 4:] + EASY))
+            write(name, b"".join(EASY[number % 3:] + EASY))
         for number, name in enumerate(HARD_FILES):
             write(name, b"".join([HARD][number:] + EASY + [HARD]))
 
@@ -140,7 +133,7 @@ class Lines(InFolder):
         for workers in WORKERS[1:]:
             with self.subTest(workers=workers):
                 program = self.begin(text, "--workers", workers)
-                self.assertEqual(program.stdout.readline(), SCORED)
+                self.assertEqual(program.stdout.readline(), EASY[0])
                 program.stdout.close()
                 error = program.stderr.read()
                 self.assertEqual((program.wait(SECONDS), error), (3, b"ffoscores: cannot write standard output\n"))
@@ -149,7 +142,7 @@ class Lines(InFolder):
         shell = f"{ROOT}/bin/ffoscores --max-empties 60 --workers 3 list.obf | cat"
         write("list.obf", EASY[0] + HOURS * 9)
         begun = self.start("sh", "-c", shell, start_new_session=True, preexec_fn=as_at_a_login)
-        self.assertEqual(begun.stdout.readline(), SCORED)
+        self.assertEqual(begun.stdout.readline(), EASY[0])
         os.killpg(begun.pid, signal.SIGINT)
         self.assertEqual(begun.stdout.read(), b"")
         begun.wait(SECONDS)
