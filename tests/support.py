@@ -111,19 +111,15 @@ def built(name="ffosolve"):
 def copy_many(root):
     """Copies ffosolve-many and its package into a folder, as they are in a checkout; returns the program's path."""
     shutil.copytree(ROOT / "python/src", Path(root, "python/src"), ignore=shutil.ignore_patterns("__pycache__"))
-    Path(root, "bin").mkdir(exist_ok=True)
-    for name in ("VERSION", "bin/ffosolve-many"):
-        shutil.copy(ROOT / name, Path(root, name))
+    run("cp", "--parents", "VERSION", "bin/ffosolve-many", Path(root).absolute(), cwd=ROOT, check=True)
     return Path(root, "bin/ffosolve-many")
 
 
 def change_many(many, module, old, new):
-    """Replaces the text `old`, which occurs once, in a module of the copy of ffosolve-many that `copy_many` made."""
+    """Replaces the text `old` in a module of the copy of ffosolve-many that `copy_many` made."""
     path = many.parent.parent / f"python/src/ffosolve/_many/{module}.py"
-    text = path.read_text()
-    if text.count(old) != 1:
-        raise AssertionError(f"{path} has this {text.count(old)} times, not once: {old}")
-    path.write_text(text.replace(old, new))
+    before, after = path.read_text().split(old)  # fails unless the text occurs once
+    path.write_text(before + new + after)
 
 
 class InFolder(unittest.TestCase):

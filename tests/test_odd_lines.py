@@ -23,28 +23,27 @@ def odd_line(chance, lines):
 
 
 def read(source, reader=ffosolve.parse_lines):
-    """Returns what Python reads in a text or in some lines, as a row for each line that is not skipped: the line's
-    number, then its masks, side and moves, or why the line is refused."""
+    """Reads a text or some lines in Python. Returns {number of a line: row} for the lines that are not skipped. The row
+    has the line's masks, side and moves, or why the line is refused."""
     refused = []
     rows = {line.number: f"{line.own:016x} {line.opp:016x} {line.side}" + "".join(" %s:%s" % it for it in line.listed)
             for line in reader(source, refused=refused.append)}
-    rows.update((error.line, "refused: " + str(error).split(": ", 1)[1]) for error in refused)
-    return [f"{number} {rows[number]}" for number in sorted(rows)]
+    return rows | {error.line: "refused: " + str(error).split(": ", 1)[1] for error in refused}
 
 
 def read_in_c(text):
-    """Yields what ffosolve_read_line finds in each line of a text, as rows like those of `read`."""
-    lines = [line.removesuffix(b"\r") for line in text.split(b"\n")]
+    """Returns what ffosolve_read_line finds in the lines of a text, in the form of `read`."""
+    rows, lines = {}, [line.removesuffix(b"\r") for line in text.split(b"\n")]
     printed = PREFIX.called(f"read_line 8 {line.hex()}" for line in lines)
     for number, (status, *words) in enumerate(map(str.split, printed), 1):
         if status == "0":
             own, opp, side, _, *listed = words
-            row = f"{number} {own:0>16} {opp:0>16} {'XO'[int(side)]}"
+            rows[number] = f"{own:0>16} {opp:0>16} {'XO'[int(side)]}"
             for kind, square, score in (map(int, it.split("/")) for it in listed):
-                row += f" {('PS', '--')[kind - 1] if kind else ffosolve.square_name(square)}:{score}"
-            yield row
+                rows[number] += f" {('PS', '--')[kind - 1] if kind else ffosolve.square_name(square)}:{score}"
         elif status != "8":
-            yield f"{number} refused: {refusal_of(int(status), int(words[1]))}"
+            rows[number] = f"refused: {refusal_of(int(status), int(words[1]))}"
+    return rows
 
 
 class OddLines(unittest.TestCase):
@@ -55,32 +54,32 @@ class OddLines(unittest.TestCase):
         cls.rows = read(cls.text)
 
     def test_python_and_c_read_worked_and_odd_lines_alike(self):
-        rows = [f"{number} {cell.decode()}" for number, cell in enumerate(self.columns["read"], 1) if cell]
+        rows = {number: cell.decode() for number, cell in enumerate(self.columns["read"], 1) if cell}
         for text, wanted in ((b"\n".join(self.lines), rows), (self.text, self.rows)):
             self.assertEqual(read(text), wanted)
             self.assertEqual(read((line + b"\n" for line in text.split(b"\n")), ffosolve.read_lines), wanted)
-            self.assertEqual(list(read_in_c(text)), wanted)
+            self.assertEqual(read_in_c(text), wanted)
 
     def test_the_report_of_odd_lines_is_what_python_finds(self):
         report = run(built(), "--max-empties=20", input=self.text, check=True).stdout.decode().splitlines()[1:-1]
         solver = ffosolve.Solver(str(PREFIX.shared))
-        self.assertEqual(report, [self.reported(solver, row) for row in self.rows])
+        self.assertEqual(report, [f"{number} {self.reported(solver, row)}" for number, row in sorted(self.rows.items())])
         kinds = {re.sub(r"\d+", "N", row.partition(" ")[2]) if "refused" in row else row.split()[-1] for row in report}
         refused = ("N empties, limit N", "board has N of N squares", "bad square at column N", "bad side at column N")
         self.assertLessEqual({RIGHT, WRONG, NONE, *(f"refused: {why}" for why in refused)}, kinds)
 
     def reported(self, solver, row):
-        """Returns the row that ffosolve's report must have, worked out from a row of `read`."""
+        """Returns the row that ffosolve's report must have, without its number, worked out from a row of `read`."""
         if "refused" in row:
             return row
-        number, own, opp, _, *listed = row.split()
+        own, opp, _, *listed = row.split()
         position = ffosolve.Position(int(own, 16), int(opp, 16))
         if position.empties > 20:
-            return f"{number} refused: {position.empties} empties, limit 20"
+            return f"refused: {position.empties} empties, limit 20"
         answer = solver.solve(position)
         best = str(answer).split()[1].split(",")
         claims = [(int(score), move) for move, score in (word.split(":") for word in listed)]
         most, _ = max(claims, default=(None, None))
         is_right = most == answer.score and all(move in best for score, move in claims if score == most)
         check = NONE if not claims else RIGHT if is_right else WRONG
-        return f"{number} {answer} {check}"
+        return f"{answer} {check}"

@@ -174,7 +174,7 @@ class Scores(InFolder):
 
     def test_its_own_output_is_unchanged_and_right_for_ffosolve(self):
         tables = [worked(f"ffoscores/{name}")[1]["--scoring winner"] for name in ("unlisted", "remarks")]
-        for text in (SCORES, *(whole_lines(cells).replace(b"\r", b"") for cells in tables)):
+        for text in (SCORES, *(whole_lines(cells).replace(b"\r\n", b"\n") for cells in tables)):
             self.ends((0, text, b""), input=text)
         rows = run(built(), input=SCORES, check=True).stdout.splitlines()[1:-1]
         self.assertEqual([row.split()[-1] for row in rows], [RIGHT] * 8)

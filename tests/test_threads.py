@@ -42,27 +42,23 @@ class Files(InFolder):
         self.assertEqual(process.returncode, 0)
         return process.communicate(), max(seen)
 
-    def test_each_file_and_each_worker_has_a_thread(self):
+    def test_each_file_and_each_worker_has_a_thread_and_the_report_is_the_same_if_none_can_be_started(self):
         wanted, _ = self.solve(*HARD_FILES)
         for workers in (0, 1, 4, 64):
             with self.subTest(workers=workers):
-                self.assertEqual(self.solve("--workers", workers, *HARD_FILES), (wanted, 1 + workers + len(HARD_FILES)))
+                words = ["--workers", workers, *HARD_FILES]
+                self.assertEqual(self.solve(*words), (wanted, 1 + workers + len(HARD_FILES)))
+                self.assertEqual(self.solve(*words, preexec_fn=refuse_threads), (wanted, 1))
 
     def test_workers_end_if_there_is_no_position(self):
         for workers in (1, 64):
             self.ends((0, "[1]\nsolved 0 refused 0\n", ""), built(), "--workers", workers, "/dev/null")
 
-    def test_the_report_is_the_same_if_no_thread_can_be_started(self):
-        for workers, files in ((0, HARD_FILES), (1, HARD_FILES), (4, HARD_FILES), (64, HARD_FILES + MANY_FILES[:62])):
-            with self.subTest(workers=workers):
-                words = ["--workers", workers, *files]
-                wanted, _ = self.solve(*words)
-                self.assertEqual(self.solve(*words, preexec_fn=refuse_threads), (wanted, 1))
-
     def test_64_files_with_64_workers_always_have_the_same_report(self):
         words = ["--workers", 64, *MANY_FILES]
         wanted, _ = self.solve(*words)
         self.assertTrue(wanted[0].endswith(b"refused 0\n") and wanted[0].count(b"[") == 64, wanted[0][-100:])
+        self.assertEqual(self.solve(*words, preexec_fn=refuse_threads), (wanted, 1))
         for number in range(RUNS):
             self.assertEqual(self.solve(*words)[0], wanted, f"run {number}")
 
