@@ -139,7 +139,8 @@ class Build(InFolder):
     def test_each_change_of_a_source_builds_again_and_a_new_time_does_not(self):
         """The changes are a new text, the old text with its old modification time, a new, a renamed and a removed file,
         a file of another crate that is used, and crates.txt. If nothing was changed, no source is read."""
-        self.after("mkdir out must-fail; touch out/kept.rt must-fail/one.rt; cp -p src/main.rt out", 1, builds=1)
+        make_old = "find ../../crates* -exec touch -d yesterday {} +; cp -p src/main.rt out"
+        self.after(f"mkdir out must-fail; touch out/kept.rt must-fail/one.rt; {make_old}", 1, builds=1)
         os.link(self.root / "out/ffosolve", "old")
         self.after("echo 2 >src/main.rt", 2, builds=2)
         self.assertIn("made of 1", Path("old").read_text())  # a running program keeps its file
