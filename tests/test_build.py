@@ -35,10 +35,12 @@ cat
 exit 3
 END
 """
-WAIT = 'for left in $(seq 450); do [ ! -e "$STARTS.go" ] || break; sleep 0.1; done\n'  # at most 45 seconds
+# Values of ACTS: rt waits up to 45 seconds for the file starts.go; reports an error; or says that it can't use its work.
+WAIT = 'for left in $(seq 450); do [ ! -e "$STARTS.go" ] || break; sleep 0.1; done\n'
 FAIL = "echo 'src/main.rt:1:2: error: a goal is open'; echo 'one more line'; exit 1\n"
 SPOIL = "echo 'rt: the kept work of ffosolve cannot be used: remove it'; exit 1\n"
-COPY = '#!/bin/sh\nwhile [ "$1" != -o ]; do shift; done\ncp "$3" "$2" && chmod +x "$2"\n'  # a linker and an assembler
+# A fake linker and assembler: copies its first input to its output.
+COPY = '#!/bin/sh\nwhile [ "$1" != -o ]; do shift; done\ncp "$3" "$2" && chmod +x "$2"\n'
 LEVEL = LEVELS[is_v3()]
 HOW = {"text": True, "preexec_fn": as_at_a_login, "cwd": "/"}
 

@@ -11,11 +11,11 @@ from unittest import mock
 from tests.prefix import FIRST, FIRST_OBF, LEVELS, VERSION, WITHOUT_GIT, copied_checkout, files_below, path_without
 from tests.support import ROOT, InFolder, is_v3, lack, module_folder, need, run, stored, write
 
-# The environment of all tests: commits have the same author and time in each run.
+# The environment of all tests, in which every commit has the same author and time.
 PLACES = {**WITHOUT_GIT, **{f"GIT_{who}_{what}": text for who in ("AUTHOR", "COMMITTER") for what, text in (
     ("NAME", "a"), ("EMAIL", "a@b"), ("DATE", "1700000000 +0000"))}}
 COMMIT_ALL = "git init -q; git add -A; git commit -q -m all"
-# Solves the position $1; prints the versions, the best moves, and the files of the loaded package and library.
+# A Python program: solves the position in its argument, and prints versions, best moves, and the files that it loaded.
 SOLVE = """
 import importlib.metadata, re, sys, ffosolve
 solver = ffosolve.Solver()
@@ -31,7 +31,8 @@ def make(target, folder, **how):
 
 
 def made(target, folder, name, **how):
-    """Runs make for a target in a checkout. Asserts that it prints only that it made out/NAME; returns that path."""
+    """Runs make for a target in the checkout `folder`. Asserts that make prints only that it made out/NAME; returns the
+    path of this file."""
     path, ran = folder / "out" / name, make(target, folder, **how)
     if (ran.returncode, ran.stdout, ran.stderr) != (0, f"made: {path}\n", ""):
         raise AssertionError(ran)
@@ -47,8 +48,8 @@ def setUpModule():
     work = module_folder()
     CHECKOUTS = [copied_checkout(work / name) for name in ("a", "another place")]
     for checkout in CHECKOUTS:
-        first = "git init -q; git add VERSION; git commit -q -m one"
-        run("sh", "-euc", f"{first}; {COMMIT_ALL}", cwd=checkout, check=True)
+        commit = f"git init -q; git add VERSION; git commit -q -m one; {COMMIT_ALL}"
+        run("sh", "-euc", commit, cwd=checkout, check=True)
     COMMIT = run("git", "rev-parse", "HEAD", cwd=CHECKOUTS[0], text=True).stdout.strip()
     PACKAGE = f"{VERSION}+1.g{COMMIT[:7]}"
     NAME = f"ffosolve-{PACKAGE}-linux-x86-64"
@@ -148,7 +149,6 @@ class Packages(Case):
                 words = re.findall(r"[\w./-]+", " ".join(re.findall(r"^(?:\$ |bin/).*$", text, re.M)))
                 missing = [word for word in words if (ROOT / word).is_file() and not (UNPACKED / word).is_file()]
                 self.assertEqual(missing, [], path)
-
 
     def test_the_commands_of_readme_print_what_it_shows(self):
         how = {"cwd": UNPACKED, "env": WITHOUT_RT, "text": True, "timeout": 300}

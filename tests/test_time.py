@@ -30,11 +30,10 @@ def seconds(call):
 class Runs(InFolder):
     def test_the_greatest_table_takes_more_memory(self):
         for name, refused in OUT_OF_MEMORY.items():
-            with self.subTest(name=name):
-                words, little = (built(name), "--workers", "0"), limited("RLIMIT_AS", LIMIT)
-                usual = run(*words, input=KINDS, text=True)
-                self.ends((usual.returncode, usual.stdout, ""), *words, input=KINDS, preexec_fn=little)
-                self.ends(refused, *words, "--table", MOST_ENTRIES, input=KINDS, preexec_fn=little)
+            words, little = (built(name), "--workers", "0"), limited("RLIMIT_AS", LIMIT)
+            usual = run(*words, input=KINDS, text=True)
+            self.ends((usual.returncode, usual.stdout, ""), *words, input=KINDS, preexec_fn=little)
+            self.ends(refused, *words, "--table", MOST_ENTRIES, input=KINDS, preexec_fn=little)
 
     def test_a_right_book_saves_time_with_workers_and_with_progress(self):
         run(built(), "--book-out", "right.book", input=ADVISED, check=True)
