@@ -34,11 +34,8 @@ changed = $(if $(shell find crates crates.txt -name out -prune -o -name must-fai
 level = $(notdir $(@D))
 objects := $(foreach level,$(levels),$(programs:%=out/$(level)/%.o))
 
-$(objects): $$(call changed,$$@)
-	exec scripts/prove $@ $(basename $(@F)) run $(level) $(tell)
-
-$(levels:%=out/%/libffosolve_c.a): $$(call changed,$$@)
-	exec scripts/prove $@ ffosolve_c lib $(level) $(tell)
+$(objects) $(levels:%=out/%/libffosolve_c.a): $$(call changed,$$@)
+	exec scripts/prove $@ $(tell)
 
 # What is linked from that. It gets another name at first, since another make may be running.
 kit = $$(dirname "$$(rt doc)")
