@@ -6,7 +6,7 @@ import unittest
 from pathlib import Path
 from unittest import mock
 
-from tests.support import InFolder, built, change_many, copy_many, module_folder, positions, run, write
+from tests.support import InFolder, built, copy_many, module_folder, positions, run, write
 
 BOARD = b"-OXXXXX-XXXXXXXOXXXXXXXXXXXXXXXXXXXOXXXXXXXXXXXXXXXXXXXXXXXXXXXX"  # two empty squares
 # Takes the place of the program @real@ and runs it. Appends its arguments to the file $WORDS. Dies or fails if its
@@ -38,11 +38,13 @@ sys.stdout.buffer.write(eval(spoil)(subprocess.run(command, stdout=subprocess.PI
 
 def install(name, *changes, script=None):
     """Installs ffosolve-many in a new folder, beside ffosolve and ffoscores or, if `script` is given, beside copies of
-    it that run these two. Each of `changes` is (module, old text, new text) for `change_many`. Returns the path of
-    ffosolve-many."""
+    it that run these two. For each (module, old text, new text) of `changes`, replaces the text in a module of
+    ffosolve-many. Returns the path of ffosolve-many."""
     many = copy_many(BASE / name)
-    for change in changes:
-        change_many(many, *change)
+    for module, old, new in changes:
+        path = many.parent.parent / f"python/src/ffosolve/_many/{module}.py"
+        before, after = path.read_text().split(old)  # fails unless the text occurs once
+        path.write_text(before + new + after)
     for program in ("ffosolve", "ffoscores"):
         place = shutil.copy(built(program), many.with_name(f"real-{program}" if script else program))
         if script:

@@ -115,13 +115,6 @@ def copy_many(root):
     return Path(root, "bin/ffosolve-many")
 
 
-def change_many(many, module, old, new):
-    """Replaces the text `old` in a module of the copy of ffosolve-many that `copy_many` made."""
-    path = many.parent.parent / f"python/src/ffosolve/_many/{module}.py"
-    before, after = path.read_text().split(old)  # fails unless the text occurs once
-    path.write_text(before + new + after)
-
-
 class InFolder(unittest.TestCase):
     """A test that runs in a new folder of its own, which everybody may read."""
 
