@@ -1,14 +1,13 @@
 """How `make check` runs and counts tests, and how .ci/run adds the counts of `rt ci`, in a small checkout."""
 import os
 import signal
-import subprocess
 from pathlib import Path
 
 from tests.support import ROOT, SECONDS, InFolder, as_at_a_login, need, processes_in, run, wait_until, write
 
 MODULE = "import os, time, unittest\nfrom tests.support import *\n\n\nclass Some(InFolder):\n"
 PASSES = "    def test_a(self):\n        pass\n"
-FAILS = "    def test_b(self):\n        self.ends((0, 'b', ''), 'echo', 1)\n        self.ends((0, 'b', ''), 'echo', 2)\n"
+FAILS = "    def test_b(self):\n        self.ends((0, 'b', ''), 'true')\n        self.ends((0, 'b', ''), 'true')\n"
 NEEDS = '    need("make", "no-such")\n'
 LACKS = f"    def test_b(self):\n    {NEEDS}"
 MAKE = ("make", "-f", "tests/check.mk")
@@ -37,7 +36,7 @@ class Check(InFolder):
         write("tests/test_check.py", MODULE + PASSES)  # a module with the name of a target of make
         for tests, passed, failed, shown in (
             (PASSES + PASSES.replace("_a", "_c"), 2, 0, "tests.test_one: 2 passed, 0 failed, in "),
-            (PASSES + FAILS + FAILS.replace("_b", "_c"), 1, 2, "(0, '2\\n', '') != (0, 'b', '')"),
+            (PASSES + FAILS + FAILS.replace("_b", "_c"), 1, 2, "(0, '', '') != (0, 'b', '')"),
             ("    def test_a(self)\n", 0, 1, "SyntaxError"),
             ("    pass\n", 0, 1, "tests.test_check: 1 passed"),
             (PASSES + "\n\ndef setUpModule():\n    1 / 0\n", 0, 1, "ZeroDivisionError"),
@@ -66,7 +65,7 @@ class Check(InFolder):
         write("tests/test_one.py", MODULE + waits)
         for kill, number in ((os.killpg, signal.SIGINT), (os.kill, signal.SIGTERM)):
             Path("begun").unlink(missing_ok=True)
-            make = self.start(*MAKE, stderr=subprocess.STDOUT, preexec_fn=as_at_a_login, start_new_session=True)
+            make = self.start(*MAKE, preexec_fn=as_at_a_login, start_new_session=True)
             wait_until(Path("begun").exists)
             kill(make.pid, number)
             make.communicate(timeout=SECONDS)

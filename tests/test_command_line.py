@@ -78,17 +78,14 @@ class CommandLines(InFolder):
         for name in PROGRAMS:
             self.ends((2, "", f"{name}: cannot read the command line\n"), name, b"\xff.obf")
 
-    def test_help_is_printed_whatever_follows(self):
+    def test_help_is_printed_whatever_follows_and_names_the_limits(self):
+        """That these limits hold is shown by the next test, by rows of REFUSED and, for files, by test_rows.py."""
         for name in PROGRAMS:
             text = run(built(name), "--help", text=True).stdout
             self.assertIn(f"\n\nUsage: {name} [OPTIONS] [FILES]...\n", text)
             for line in ("--help", "-h", "-hx", "--help --best", "none.obf -h"):
                 self.ends((0, text, ""), name, *line.split())
-
-    def test_help_names_the_limits(self):
-        """That they hold is shown by the next test, by rows of REFUSED and, for files, by test_rows.py."""
-        for name in PROGRAMS:
-            text = " ".join(run(built(name), "--help", text=True).stdout.split())
+            text = " ".join(text.split())
             limits = re.findall(r"--(\S+) <N> [^<]*?\b0 to (\d+)", text)
             self.assertEqual(limits, [("max-empties", "60"), ("workers", "64")])
             files, size = r"(?:files, at most|more than) (\d+)", r"(\d+) MiB"
