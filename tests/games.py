@@ -3,12 +3,13 @@
 A position is (own, opp, is_black): the masks of the mover's and the other side's discs, and whether Black is the mover.
 """
 import hashlib
+import random
 import struct
 import sys
 
 from bench import player
 
-from .support import ROOT, InFolder, run
+from .support import ROOT, InFolder, run, write
 
 PROGRAM = ROOT / "bin/ffosolve-games"
 NAMES = [column + row for row in "12345678" for column in "ABCDEFGH"]
@@ -108,13 +109,24 @@ def report_of(listed, refused=None):
 
 
 class Case(InFolder):
-    maxDiff = 2000
+    """Has the squares of a random game up to its end, its positions as `positions_of` returns them, and its record."""
 
-    def games(self, *words, status=0, out="", err="", **how):
-        """Runs ffosolve-games. Asserts its status, that it prints `out` followed by the digest, and that its errors are
-        the lines of `err`, each after the program's name. If `out` is None, asserts nothing about what it prints."""
+    maxDiff = 2000
+    GAME = squares_of(random_game(random.Random(3)))
+    AT = positions_of(GAME)
+    RECORD = record(GAME)
+
+    def games(self, *words, status=None, out="", err="", **how):
+        """Runs ffosolve-games. Asserts that it prints `out` followed by the digest, and that its errors are the lines of
+        `err`, each after the program's name. If `out` is None, asserts nothing about what it prints. Asserts its status,
+        by default 1 if `err` has a line and otherwise 0."""
         ran = run(sys.executable, PROGRAM, *words, **how)
         self.assertEqual(ran.stderr.decode(), "".join(f"ffosolve-games: {line}\n" for line in err.splitlines()))
         if out is not None:
             self.assertEqual(ran.stdout.decode(), with_digest(out))
-        self.assertEqual(ran.returncode, status)
+        self.assertEqual(ran.returncode, bool(err) if status is None else status)
+
+    def reads(self, name, content, *words, **expected):
+        """Writes a file, and calls `games` for it."""
+        write(name, content)
+        self.games(*words, name, **expected)

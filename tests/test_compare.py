@@ -1,6 +1,5 @@
 """ffosolve-games compare: prints the wrong theoretical scores of a list; --fix writes corrected WTHOR files."""
 import contextlib
-import glob
 import os
 import random
 import re
@@ -168,7 +167,9 @@ class Fix(Case):
         self.published = [it + {2: -2, 5: 7}.get(number, 0) for number, it in enumerate(self.exact)]
         self.records = list(map(record, self.played, self.published))
         self.exact_records = list(map(record, self.played, self.exact))
-        self.write_source(wthor(self.records, empties=5) + b"more")
+        self.whole = wthor(self.records, empties=5) + b"more"
+        write("it.wtb", self.whole)
+        self.write_list("it.wtb")
         self.wanted = wthor(self.exact_records, empties=5) + b"more"
         self.err = f"new.wtb: theoretical scores changed 2 of {len(self.exact)}, not compared 0"
 
@@ -178,17 +179,9 @@ class Fix(Case):
                 for at, less in ((2, "-2"), (5, "+7"))]
         return "".join(rows) + f"compared {len(self.exact)} differ 2 refused 0 unscored 0\n"
 
-    def write_source(self, content, *words, skipped=()):
-        """Writes `content` to it.wtb, and then a list and its report, as `write_list` does."""
-        self.whole = content
-        write("it.wtb", content)
-        self.write_list(*words, "it.wtb", skipped=skipped)
-
     def write_list(self, *words, skipped=(), **how):
         """Writes the list that `ffosolve-games WORDS` prints, and a report of it that refuses the lines `skipped`."""
-        self.write_report(run(PROGRAM, *words, **how).stdout.decode(), skipped)
-
-    def write_report(self, listed, skipped=()):
+        listed = run(PROGRAM, *words, **how).stdout.decode()
         write("list", listed)
         write("report", report_of(listed, dict.fromkeys(skipped, "5 empties, limit 4")))
 
@@ -211,13 +204,15 @@ class Fix(Case):
     def test_games_that_are_not_compared_stay_as_they_are(self):
         """One game is refused in the report. Another has an illegal move, so it is not in the list."""
         self.records[0] = self.records[0][:8] + b"\x63" + self.records[0][9:]
-        self.write_source(wthor(self.records, empties=5), skipped=[2])
+        write("it.wtb", wthor(self.records, empties=5))
+        self.write_list("it.wtb", skipped=[2])
         self.records[5] = self.exact_records[5]
         self.fix(1, f"new.wtb: theoretical scores changed 1 of {len(self.exact)}, not compared 2",
                  written={"new.wtb": wthor(self.records, empties=5)})
 
     def test_a_header_without_a_number_of_empty_squares_gets_that_of_the_list(self):
-        self.write_source(wthor(self.records, empties=0), "--empties=5")
+        write("it.wtb", wthor(self.records, empties=0))
+        self.write_list("--empties=5", "it.wtb")
         self.fix(1, self.err, written={"new.wtb": self.wanted.removesuffix(b"more")})
 
     def test_real_scores_are_changed_only_if_asked(self):
@@ -225,7 +220,8 @@ class Fix(Case):
         self.records[0] = more = record(self.played[0], self.published[0], real=70)
         self.records[1] = record(self.played[1][:-1], self.published[1], real=1)
         self.records[2] = self.records[2][:6] + b"\1" + self.records[2][7:67] + b"\x63"
-        self.write_source(wthor(self.records, empties=5) + more)
+        write("it.wtb", wthor(self.records, empties=5) + more)
+        self.write_list("it.wtb")
         changed = f"theoretical scores changed 1 of {len(self.exact)}, not compared 1"
         self.records[5] = self.exact_records[5]
         self.fix(1, f"new.wtb: {changed}", written={"new.wtb": wthor(self.records, empties=5) + more})
@@ -297,19 +293,21 @@ class Fix(Case):
 
     def test_a_file_that_is_not_that_of_the_list_is_refused(self):
         why = "it.wtb is not the WTHOR file of the list: "
-        games = "".join(Path("list").read_text().splitlines(True)[:-4])
-        self.write_report(with_digest(games.replace(", game 1,", ", game 0,")))
+        lines = Path("list").read_text().replace(", game 1,", ", game 0,").splitlines(True)
+        listed = with_digest("".join(lines[:-4]))
+        write("list", listed)
+        write("report", report_of(listed))
         self.fix(3, why + "it has no game 0")
         self.write_list("it.wtb")
         another = "its game 4 has another position or theoretical score"
-        for self.whole, err in (
+        for content, err in (
             *((wthor([*self.records[:3], record(game, score), *self.records[4:]], empties=5), another) for game, score in
               ((self.played[0], self.published[3]), ([], self.published[3]), (self.played[3], self.exact[3] + 1))),
             (wthor(self.records[:3], empties=5), "it has no game 4"),
             (wthor(self.records, empties=6), "game 1 was compared with 5 empty squares, and not 6"),
             (b"text", "it ends within its header of 16 bytes"),
         ):
-            write("it.wtb", self.whole)
+            write("it.wtb", content)
             self.fix(3, why + err)
         os.remove("it.wtb")
         self.fix(3, "cannot read it.wtb, which the list names: No such file or directory")
@@ -337,12 +335,12 @@ class Fix(Case):
         os.truncate("it.wtb", 16 + 68 * 10 ** 8)
         for number in (signal.SIGINT, signal.SIGKILL):
             child = self.start(*self.FIX, preexec_fn=as_at_a_login)
-            wait_until(lambda: glob.glob("new.wtb.*.new"))
+            wait_until(lambda: list(Path().glob("new.wtb.*.new")))
             child.send_signal(number)
             child.communicate(timeout=SECONDS)
             self.assertEqual(child.returncode, 128 + number if number == signal.SIGINT else -number)
             self.assertFalse(os.path.exists("new.wtb"))
-            self.assertEqual(bool(glob.glob("new.wtb.*.new")), number == signal.SIGKILL)
+            self.assertEqual(bool(list(Path().glob("new.wtb.*.new"))), number == signal.SIGKILL)
         write("it.wtb", self.whole)
         self.fix(1, self.err, written={"new.wtb": self.wanted})
 

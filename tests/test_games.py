@@ -39,7 +39,7 @@ class RandomGames(Case):
             else:
                 err += (f"{name}, game {number}, move {60 - left}: it ends here, with {left} empty square{'s' * (left > 1)}; "
                         f"{empties} are asked for\n")
-        self.games(name, f"--empties={empties}", status=1 if err else 0, out=out, err=err)
+        self.games(name, f"--empties={empties}", out=out, err=err)
 
     def test_positions_of_transcripts_and_records_are_those_of_the_plain_player(self):
         self.assertGreater(sum(None in game for game in self.played), 100)
@@ -59,22 +59,11 @@ class RandomGames(Case):
 class Faults(Case):
     """Faults of games and of files: each is reported in one line, and what can be read is printed."""
 
-    def setUp(self):
-        super().setUp()
-        self.game = squares_of(random_game(random.Random(2)))
-        self.at = positions_of(self.game)
-        self.whole = record(self.game)
-        self.line = line_of(self.at[22], "it.wtb, game 1, theoretical score 33")
-
-    def reads(self, content, out, *why, name="it.wtb", words=(), status=None):
-        """Asserts what is printed for one file: `out`, and for each of `why` a message of the file's name and that
-        text. The status is `status`, by default 1 if `why` is given and otherwise 0."""
-        write(name, content)
-        err = "".join(f"{name}{it}\n" for it in why)
-        self.games(*words, name, status=len(why) > 0 if status is None else status, out=out, err=err)
+    LINE = line_of(Case.AT[22], "it.wtb, game 1, theoretical score 33")
 
     def test_wrong_moves_of_transcripts_are_reported(self):
-        start, after = (f"for Black in {player.line(*positions_of(squares)[60 - len(squares)])}" for squares in ([], [37, 43]))
+        f5d6 = positions_of([37, 43])
+        start, after = (f"for Black in {player.line(*f5d6[empties])}" for empties in (60, 58))
         lines = (
             ("f5d6c3", None),
             ("% a comment", None),
@@ -91,29 +80,28 @@ class Faults(Case):
             ("f5", "move 1: it ends here, with 59 empty squares; 58 are asked for"),
             ("f5d6c3d3c4f4c5b3c2\xff", "move 10: '\ufffd' is not a square"),
         )
-        why = (f", game {number}, {why}" for number, (_, why) in enumerate(lines, 1) if why)
-        out = line_of(positions_of([37, 43])[58], "games, game 1")
-        self.reads("\n".join(text for text, _ in lines).encode("latin-1"), out, *why, name="games", words=["--empties=58"])
+        err = "".join(f"games, game {number}, {why}\n" for number, (_, why) in enumerate(lines, 1) if why)
+        content = "\n".join(text for text, _ in lines).encode("latin-1")
+        self.reads("games", content, "--empties=58", out=line_of(f5d6[58], "games, game 1"), err=err)
 
     def test_only_a_pass_may_follow_the_end_of_a_game(self):
-        end = player.line(*self.at[60 - len(self.game)])
-        for more in (self.game[:1], self.game[-1:]):
-            why = f", game 1, move {len(self.game) + 1}: {NAMES[more[0]]} is not a legal move: the game is over in {end}"
-            self.reads(transcript(self.game + more), "", why, words=["--empties=30"], name="long")
-        out = line_of(self.at[30], "passes, game 1")
-        self.reads(transcript(self.game) + "--pass", out, words=["--empties=30"], name="passes")
+        end = player.line(*self.AT[60 - len(self.GAME)])
+        for more in (self.GAME[:1], self.GAME[-1:]):
+            why = f"move {len(self.GAME) + 1}: {NAMES[more[0]]} is not a legal move: the game is over in {end}"
+            self.reads("long", transcript(self.GAME + more), "--empties=30", err=f"long, game 1, {why}")
+        out = line_of(self.AT[30], "passes, game 1")
+        self.reads("passes", transcript(self.GAME) + "--pass", "--empties=30", out=out)
 
     def test_a_game_that_ends_before_the_position_is_reported(self):
         rng = random.Random(1)
         game = next(game for game in iter(lambda: random_game(rng), None) if len(squares_of(game)) == 59)
-        why = ", game 1, move 59: it ends here, with 1 empty square; 0 are asked for"
-        self.reads(transcript(game), "", why, name="text", words=["--empties=0"])
+        err = "text, game 1, move 59: it ends here, with 1 empty square; 0 are asked for"
+        self.reads("text", transcript(game), "--empties=0", err=err)
 
     def test_wrong_records_are_reported(self):
-        own, opp, is_black = self.at[50]
-        illegal = (f"{NAMES[self.game[9]]} is not a legal move for {'Black' if is_black else 'White'} in "
-                   f"{player.line(own, opp, is_black)}")
-        whole = self.whole
+        own, opp, is_black = self.AT[50]
+        side, whole = "Black" if is_black else "White", self.RECORD
+        illegal = f"{NAMES[self.GAME[9]]} is not a legal move for {side} in {player.line(own, opp, is_black)}"
         gap, no_square, twice = (whole[:18] + bytes([byte]) + whole[19:] for byte in (0, 99, whole[17]))
         for records, count, why in (
             ([whole, whole[:67]], 2, "game 2: the file ends after 67 of the 68 bytes of this game, but its header counts 2 games"),
@@ -125,9 +113,9 @@ class Faults(Case):
             ([whole, no_square], 2, "game 2, move 11: 99 is not a square"),
             ([whole, twice], 2, f"game 2, move 11: {illegal}"),
             ([whole, record([])], 2, "game 2: it has no moves"),
-            ([whole, record(self.game[:37])], 2, "game 2, move 37: it ends here, with 23 empty squares; 22 are asked for"),
+            ([whole, record(self.GAME[:37])], 2, "game 2, move 37: it ends here, with 23 empty squares; 22 are asked for"),
         ):
-            self.reads(wthor(records, count=count), self.line, f", {why}")
+            self.reads("it.wtb", wthor(records, count=count), out=self.LINE, err=f"it.wtb, {why}")
 
     def test_wrong_scores_of_records_are_reported_and_the_line_is_printed(self):
         rng = random.Random(3)
@@ -136,45 +124,45 @@ class Faults(Case):
         at, real = positions_of(game), real_score(game)
         wrong = f"its real score is {real + 1}, but its moves give {real}"
         for squares, theoretical, written, empties, why in (
-            (game, 64, real, 22, ()),
-            (game, 65, real, 22, ("its theoretical score is 65, more than 64 discs",)),
-            (game, 33, real + 1, 22, (wrong,)),
-            (game, 255, real + 1, 20, (wrong,)),
-            (game, 255, 65, 22, ("its theoretical score is 255, more than 64 discs", "its real score is 65, more than 64 discs")),
-            (game[:-1], 33, 0, 22, ("its moves stop before the end of the game, so its real score 0 is not checked",)),
-            (game[:-1], 33, 200, 22, ("its real score is 200, more than 64 discs",)),
-            (before, 33, 20, 22, ("its moves stop before the end of the game, so its real score 20 is not checked",)),
+            (game, 64, real, 22, []),
+            (game, 65, real, 22, ["its theoretical score is 65, more than 64 discs"]),
+            (game, 33, real + 1, 22, [wrong]),
+            (game, 255, real + 1, 20, [wrong]),
+            (game, 255, 65, 22, ["its theoretical score is 255, more than 64 discs", "its real score is 65, more than 64 discs"]),
+            (game[:-1], 33, 0, 22, ["its moves stop before the end of the game, so its real score 0 is not checked"]),
+            (game[:-1], 33, 200, 22, ["its real score is 200, more than 64 discs"]),
+            (before, 33, 20, 22, ["its moves stop before the end of the game, so its real score 20 is not checked"]),
         ):
-            line = line_of(at[empties], "it.wtb, game 1" + f", theoretical score {theoretical}" * (empties == 22))
-            self.reads(wthor([record(squares, theoretical, written)]), line, *(f", game 1: {it}" for it in why),
-                       words=[f"--empties={empties}"])
+            out = line_of(at[empties], "it.wtb, game 1" + f", theoretical score {theoretical}" * (empties == 22))
+            err = "".join(f"it.wtb, game 1: {it}\n" for it in why)
+            self.reads("it.wtb", wthor([record(squares, theoretical, written)]), f"--empties={empties}", out=out, err=err)
 
     def test_a_file_of_another_kind_is_refused(self):
         for board, kind in ((0, 0), (8, 0), (8, 1)):
-            self.reads(wthor([self.whole], board=board, kind=kind), self.line)
+            self.reads("it.wtb", wthor([self.RECORD], board=board, kind=kind), out=self.LINE)
         for content, why in (
             (b"", "it is empty"),
             (wthor([])[:15], "it ends within its header of 16 bytes"),
-            (wthor([self.whole], board=10), "its board has 10 by 10 squares"),
-            (wthor([self.whole], another=9),
+            (wthor([self.RECORD], board=10), "its board has 10 by 10 squares"),
+            (wthor([self.RECORD], another=9),
              "its header counts 9 records of another kind, like a file of players or tournaments"),
-            (wthor([self.whole], kind=2), "byte 14 of its header is 2, and has to be 0 or 1"),
-            (wthor([self.whole], empties=61), "its theoretical scores are for 61 empty squares, but a game has only 60"),
+            (wthor([self.RECORD], kind=2), "byte 14 of its header is 2, and has to be 0 or 1"),
+            (wthor([self.RECORD], empties=61), "its theoretical scores are for 61 empty squares, but a game has only 60"),
             (b"f5d6c3d3c4f4c5b3c2\n", "it begins like a text"),
         ):
             for name in ("NONE.WTB", "none.wtb"):
-                self.reads(content, "", f" is not a WTHOR file of games: {why}", name=name, status=3)
-        self.games("none.wtb", "it.wtb", status=3, out=self.line, err=f"none.wtb is not a WTHOR file of games: {why}")
+                self.reads(name, content, status=3, err=f"{name} is not a WTHOR file of games: {why}")
+        self.games("none.wtb", "it.wtb", status=3, out=self.LINE, err=f"none.wtb is not a WTHOR file of games: {why}")
 
     def test_a_theoretical_score_is_printed_only_for_its_number_of_empty_squares(self):
-        plain = {empties: line_of(position, "it.wtb, game 1") for empties, position in self.at.items()}
+        plain = {empties: line_of(position, "it.wtb, game 1") for empties, position in self.AT.items()}
         scored = {empties: line.rstrip() + ", theoretical score 20\n" for empties, line in plain.items()}
         for words, empties, out in (([], 24, scored[24]), (["--empties", "24"], 24, scored[24]),
                                     (["--empties", "22"], 24, plain[22]), (["--empties", "22"], 0, scored[22])):
-            self.reads(wthor([record(self.game, 20)], empties=empties), out, words=words)
-        why = " does not say how many squares are empty at its theoretical scores; try --empties 22 or 24, the usual numbers"
-        self.reads(wthor([record(self.game, 20)], empties=0), "", why, status=2)
-        self.reads(transcript(self.game), "", " is a text: its games need --empties N", name="text", status=2)
+            self.reads("it.wtb", wthor([record(self.GAME, 20)], empties=empties), *words, out=out)
+        self.reads("it.wtb", wthor([self.RECORD], empties=0), status=2, err=(
+            "it.wtb does not say how many squares are empty at its theoretical scores; try --empties 22 or 24, the usual numbers"))
+        self.reads("text", transcript(self.GAME), status=2, err="text is a text: its games need --empties N")
 
     def test_each_changed_byte_leads_to_a_position_of_the_changed_game(self):
         rng = random.Random(5)

@@ -18,13 +18,8 @@ TOKEN = re.compile(
 
 
 def words_of(text: str) -> List[str]:
-    """The words of a transcript, in small letters: squares, passes, and words that are neither. Skips
-    blanks, commas, a hyphen between moves, move numbers such as `1.` and `12`, a result at the end such as `33-31` or
-    `+2`, and everything from `%` on."""
-    words = [move or other for move, other in TOKEN.findall(text.partition("%")[0].lower()) if move or other]
-    return [word if len(word) < 3 else plain(word) for word in words]
-
-
-def plain(word: str) -> str:
-    """Returns a move in its plain form: `--` for several hyphens, other passes as they are, squares without blanks."""
-    return "--" if word[0] == "-" else word if word in PASSES else word[0] + word[-1]
+    """The words of a transcript, in small letters: squares without blanks in them, passes (several hyphens become `--`),
+    and words that are neither. Skips blanks, commas, a hyphen between moves, move numbers such as `1.` and `12`, a
+    result at the end such as `33-31` or `+2`, and everything from `%` on."""
+    words = (move or other for move, other in TOKEN.findall(text.partition("%")[0].lower()))
+    return ["--" if word.startswith("--") else "".join(word.split()) for word in words if word]
