@@ -41,22 +41,15 @@ def package_files():
     yield "ffosolve/VERSION", VERSION
 
 
-def libraries():
-    """Yields (path in the wheel, bytes) for the shared library of each processor level; nothing without LIBRARIES."""
-    for level in ("x86-64-v2", "x86-64-v3") if LIBRARIES else ():
-        yield f"ffosolve/{level}/libffosolve.so.1", Path(LIBRARIES, level, "libffosolve.so").read_bytes()
-
-
-def digest(content):
-    return base64.urlsafe_b64encode(hashlib.sha256(content).digest()).rstrip(b"=").decode()
-
-
 def write_wheel(folder, files):
     name, info = f"{HEAD}-{TAG}.whl", f"{HEAD}.dist-info"
     tags = f"Wheel-Version: 1.0\nGenerator: ffosolve\nRoot-Is-Purelib: {str(not LIBRARIES).lower()}\nTag: {TAG}\n"
     about = (("METADATA", metadata()), ("WHEEL", tags.encode()), ("LICENSE", LICENSE), ("entry_points.txt", PROGRAMS))
     files = [*files, *((f"{info}/{part}", content) for part, content in about)]
-    records = "".join(f"{path},sha256={digest(content)},{len(content)}\n" for path, content in files)
+    records = ""
+    for path, content in files:
+        digest = base64.urlsafe_b64encode(hashlib.sha256(content).digest()).rstrip(b"=").decode()
+        records += f"{path},sha256={digest},{len(content)}\n"
     with zipfile.ZipFile(os.path.join(folder, name), "w") as wheel:
         for path, content in (*files, (f"{info}/RECORD", f"{records}{info}/RECORD,,\n")):
             wheel.writestr(zipfile.ZipInfo(path, (2020, 1, 1, 0, 0, 0)), content, zipfile.ZIP_DEFLATED)
@@ -64,7 +57,10 @@ def write_wheel(folder, files):
 
 
 def build_wheel(wheel_directory, config_settings=None, metadata_directory=None):
-    return write_wheel(wheel_directory, [*package_files(), *libraries()])
+    files = list(package_files())
+    for level in ("x86-64-v2", "x86-64-v3") if LIBRARIES else ():
+        files.append((f"ffosolve/{level}/libffosolve.so.1", Path(LIBRARIES, level, "libffosolve.so").read_bytes()))
+    return write_wheel(wheel_directory, files)
 
 
 def build_editable(wheel_directory, config_settings=None, metadata_directory=None):

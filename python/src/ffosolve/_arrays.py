@@ -21,17 +21,6 @@ class Answers(NamedTuple):
     best: Any
 
 
-def masks_of(own: Any, opp: Any) -> Any:
-    """Returns an array with a row (own, opp) for each position, laid out as CPositions. Raises TypeError unless
-    both arrays are of uint64, and ValueError unless they have one dimension and equal lengths."""
-    own, opp = numpy.asarray(own), numpy.asarray(opp)
-    if own.dtype != numpy.uint64 or opp.dtype != numpy.uint64:
-        raise TypeError("the masks are arrays of uint64")
-    if own.ndim != 1 or own.shape != opp.shape:
-        raise ValueError("the masks are two arrays of one dimension and of equal length")
-    return numpy.stack((own, opp), axis=1)
-
-
 def runs_of(solver: Solver, masks: Any, threads: int) -> List[Tuple[int, int, int]]:
     """Cuts positions into parts for threads. Returns for each part the index of its first position, the index after its
     last one, and the greatest number of empty squares in it. Raises the refusal of the first refused position."""
@@ -45,9 +34,16 @@ def runs_of(solver: Solver, masks: Any, threads: int) -> List[Tuple[int, int, in
     return [(start, end, int(empties[start:end].max())) for start, end in zip(bounds, bounds[1:]) if start < end]
 
 
-def found_by(solver: Solver, call: Any, record: Any, masks: Any, threads: int) -> Any:
+def found_by(solver: Solver, call: Any, record: Any, own: Any, opp: Any, threads: int) -> Any:
     """Calls the library's function `call` for each part of the positions, on up to `threads` threads. Returns an array
-    of what the calls write: one `record` for each position."""
+    of what the calls write: one `record` for each position. Raises TypeError unless both arrays of masks are of uint64,
+    and ValueError unless they have one dimension and equal lengths."""
+    own, opp = numpy.asarray(own), numpy.asarray(opp)
+    if own.dtype != numpy.uint64 or opp.dtype != numpy.uint64:
+        raise TypeError("the masks are arrays of uint64")
+    if own.ndim != 1 or own.shape != opp.shape:
+        raise ValueError("the masks are two arrays of one dimension and of equal length")
+    masks = numpy.stack((own, opp), axis=1)  # each row is laid out as a CPosition
     found: Any = numpy.empty(len(masks), record)
 
     def call_for(run: Tuple[int, int, int]) -> None:
@@ -61,10 +57,10 @@ def found_by(solver: Solver, call: Any, record: Any, masks: Any, threads: int) -
 
 
 def solve(solver: Solver, own: Any, opp: Any, threads: int) -> Answers:
-    answers = found_by(solver, solver._library.ffosolve_solve_all, CAnswer, masks_of(own, opp), threads)
+    answers = found_by(solver, solver._library.ffosolve_solve_all, CAnswer, own, opp, threads)
     return Answers(*(numpy.ascontiguousarray(answers[name]) for name in Answers._fields))
 
 
 def move_scores(solver: Solver, own: Any, opp: Any, threads: int) -> Any:
-    found = found_by(solver, solver._library.ffosolve_move_scores_all, CMoveScores, masks_of(own, opp), threads)
+    found = found_by(solver, solver._library.ffosolve_move_scores_all, CMoveScores, own, opp, threads)
     return numpy.ascontiguousarray(found["scores"])
