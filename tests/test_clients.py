@@ -85,6 +85,26 @@ class Examples(unittest.TestCase):
         PREFIX.cargo("build", PREFIX.work / "examples/rust", "--quiet")
         self.answers(PREFIX.work / "target/debug/answers")
 
+    def command(self, language, block):
+        """Returns the words of the command that runs a block of code."""
+        if language == "python":
+            return PREFIX.site and sys.executable, "-c", block
+        if language == "rust":
+            program = f"fn main() -> Result<(), Box<dyn std::error::Error>> {{\n{block}Ok(())\n}}\n"
+            return [PREFIX.rust_client("readme", program)]
+        return [PREFIX.compile(C if language == "c" else CXX, "shown", [PREFIX.write(f"shown.{language}", block)])]
+
+    def test_each_program_of_the_documents_prints_what_is_shown(self):
+        page = "docs/check-evaluation.md"  # its program reads a list of positions, and their scores
+        listed = re.search(r"^> (\S{64} X; .*\n)", (ROOT / page).read_text(), re.MULTILINE)[1]
+        PREFIX.write("list.obf", listed)
+        PREFIX.write("list.scores", run(built("ffoscores"), input=listed.encode()).stdout)
+        for language, *names in (["c"], ["cpp"], ["python"], ["python", page], ["rust"]):
+            with self.subTest(language=language, names=names):
+                block, wanted = shown(language, *names)
+                self.assertNotEqual(wanted, "")
+                self.assertEqual(PREFIX.make(*self.command(language, block)).stdout, wanted)
+
 
 class PythonPackage(unittest.TestCase):
     def test_its_own_tests_pass(self):
@@ -182,25 +202,3 @@ class RustCrate(unittest.TestCase):
         self.assertNotEqual(ran.returncode, 0)
         why = "/nowhere/libffosolve.a is missing: install ffosolve, or set FFOSOLVE_LIB_DIR to its folder"
         self.assertIn(why, ran.stderr)
-
-
-class Documents(unittest.TestCase):
-    def command(self, language, block):
-        """Returns the words of the command that runs a block of code."""
-        if language == "python":
-            return PREFIX.site and sys.executable, "-c", block
-        if language == "rust":
-            program = f"fn main() -> Result<(), Box<dyn std::error::Error>> {{\n{block}Ok(())\n}}\n"
-            return [PREFIX.rust_client("readme", program)]
-        return [PREFIX.compile(C if language == "c" else CXX, "shown", [PREFIX.write(f"shown.{language}", block)])]
-
-    def test_each_program_prints_what_is_shown(self):
-        page = "docs/check-evaluation.md"  # its program reads a list of positions, and their scores
-        listed = re.search(r"^> (\S{64} X; .*\n)", (ROOT / page).read_text(), re.MULTILINE)[1]
-        PREFIX.write("list.obf", listed)
-        PREFIX.write("list.scores", run(built("ffoscores"), input=listed.encode()).stdout)
-        for language, *names in (["c"], ["cpp"], ["python"], ["python", page], ["rust"]):
-            with self.subTest(language=language, names=names):
-                block, wanted = shown(language, *names)
-                self.assertNotEqual(wanted, "")
-                self.assertEqual(PREFIX.make(*self.command(language, block)).stdout, wanted)

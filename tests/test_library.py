@@ -12,8 +12,8 @@ from .positions import random_positions
 import ffosolve
 from ffosolve._refusals import refusal_of
 
-C_STANDARDS = ("c90", "c99", "c11", "c17", "c2x")
-CXX_STANDARDS = ("c++11", "c++14", "c++17", "c++20")
+COMPILERS = [*itertools.product(("cc", "clang"), ("c90", "c99", "c11", "c17", "c2x"), ("c",)),
+             *itertools.product(("c++", "clang++"), ("c++11", "c++14", "c++17", "c++20"), ("cpp",))]
 PROGRAM = """#include "ffosolve.h"
 int main(void) { return ffosolve_version() != FFOSOLVE_VERSION || ffosolve_status_text(FFOSOLVE_DONE)[0] != 'd'; }
 """
@@ -70,12 +70,10 @@ class Library(unittest.TestCase):
 
 class Header(unittest.TestCase):
     def test_each_compiler_takes_it_in_each_standard(self):
-        for compiler in ("cc", "clang", "c++", "clang++"):
-            end, standards = ("cpp", CXX_STANDARDS) if "++" in compiler else ("c", C_STANDARDS)
-            for standard in standards:
-                with self.subTest(compiler=compiler, standard=standard):
-                    source = PREFIX.write(f"header.{end}", PROGRAM)
-                    PREFIX.make(PREFIX.compile([compiler, f"-std={standard}", *STRICT], "header", [source]))
+        for compiler, standard, language in COMPILERS:
+            with self.subTest(compiler=compiler, standard=standard):
+                source = PREFIX.write(f"header.{language}", PROGRAM)
+                PREFIX.make(PREFIX.compile([compiler, f"-std={standard}", *STRICT], "header", [source]))
 
     def test_swig_wraps_it(self):
         need("swig")
@@ -106,15 +104,31 @@ class Header(unittest.TestCase):
         for name, parameters in declared:
             arguments = re.findall(r"(\w+)(?:\[\d+\])?(?:,|$)", parameters)
             source += f"void {name}_unused({parameters}) {{ {name}({', '.join(arguments)}); }}\n"
-        standards = (("cc", "c11"), ("clang", "c11"), ("c++", "c++11"), ("c++", "c++17"), ("clang++", "c++17"))
-        for compiler, standard in standards:
+        for compiler, standard, language in COMPILERS:
             with self.subTest(compiler=compiler, standard=standard):
                 need(compiler)
-                file = PREFIX.write("unused.cpp" if "+" in standard else "unused.c", source)
+                file = PREFIX.write(f"unused.{language}", source)
                 command = (compiler, f"-std={standard}", "-c", "-o", os.devnull, "-I", PREFIX.header.parent, file)
                 self.assertEqual(PREFIX.run(*command, "-Wno-unused-result").returncode, 0)
                 errors = PREFIX.run(*command, "-Werror=unused-result").stderr
                 self.assertEqual(len(re.findall(r"\[-Werror[=,](?:-W)?unused-result\]", errors)), len(names), errors)
+
+    def test_a_status_has_one_name_number_and_text_in_each_language(self):
+        """Links the Rust program with a library whose functions return 1 at first, then 2, 3 and so on."""
+        listed = re.findall(r"FFOSOLVE_(\w+) = (\d+)", PREFIX.text.split("enum ffosolve_status {")[1].split("}")[0])
+        self.assertEqual(listed, [(it.name, str(it.value)) for it in ffosolve.Status])
+        source = "".join(f"int {name}(void) {{ static int status; return ++status; }}\n" for name in PREFIX.calls)
+        folder = PREFIX.write("of-statuses/calls.c", source).parent
+        PREFIX.make("cc", "-c", "calls.c", cwd=folder)
+        PREFIX.make("ar", "rcs", "libffosolve.a", "calls.o", cwd=folder)
+        program = PREFIX.rust_client("statuses", STATUSES_IN_RUST, FFOSOLVE_LIB_DIR=str(folder))
+        for number, in_rust in enumerate(PREFIX.make(program).stdout.splitlines(), 1):
+            refusal, other = refusal_of(number), f"refused with status {number}"
+            text, is_of_line = refusal.reason, isinstance(refusal, ffosolve.LineRefused)
+            # The crate has no text for 3, adds an index to that of 5, and reports 7, out of memory, from both calls.
+            special = {3: (other, other), 5: (f"position at index 0: {text}", other), 7: (text, text)}
+            solved, read = special.get(number, (other, text) if is_of_line else (text, other))
+            self.assertEqual(in_rust, f"{solved}; {read}")
 
 
 class Calls(unittest.TestCase):
@@ -190,22 +204,3 @@ class Calls(unittest.TestCase):
         with self.assertRaises(subprocess.TimeoutExpired):
             call = "solve {START} 0 1024".format_map(NAMES)
             PREFIX.called([call], env={}, preexec_fn=limited("RLIMIT_STACK", 128 << 10), timeout=2)
-
-
-class Statuses(unittest.TestCase):
-    def test_a_status_has_one_name_number_and_text_in_each_language(self):
-        """Links the Rust program with a library whose functions return 1 at first, then 2, 3 and so on."""
-        listed = re.findall(r"FFOSOLVE_(\w+) = (\d+)", PREFIX.text.split("enum ffosolve_status {")[1].split("}")[0])
-        self.assertEqual(listed, [(it.name, str(it.value)) for it in ffosolve.Status])
-        source = "".join(f"int {name}(void) {{ static int status; return ++status; }}\n" for name in PREFIX.calls)
-        folder = PREFIX.write("of-statuses/calls.c", source).parent
-        PREFIX.make("cc", "-c", "calls.c", cwd=folder)
-        PREFIX.make("ar", "rcs", "libffosolve.a", "calls.o", cwd=folder)
-        program = PREFIX.rust_client("statuses", STATUSES_IN_RUST, FFOSOLVE_LIB_DIR=str(folder))
-        for number, in_rust in enumerate(PREFIX.make(program).stdout.splitlines(), 1):
-            refusal, other = refusal_of(number), f"refused with status {number}"
-            text, is_of_line = refusal.reason, isinstance(refusal, ffosolve.LineRefused)
-            # The crate has no text for 3, adds an index to that of 5, and reports 7, out of memory, from both calls.
-            special = {3: (other, other), 5: (f"position at index 0: {text}", other), 7: (text, text)}
-            solved, read = special.get(number, (other, text) if is_of_line else (text, other))
-            self.assertEqual(in_rust, f"{solved}; {read}")

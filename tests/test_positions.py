@@ -121,7 +121,9 @@ class Rules(unittest.TestCase):
         self.assertEqual(ran.stdout, shown + found, ran.stderr)
 
 
-class Answers(unittest.TestCase):
+class Shown(unittest.TestCase):
+    SCORES = {"A2": 38, "b1": 36, "H8": -12, "A1": 38, "H1": 0}
+
     def test_an_answer_reads_as_its_row_of_a_report_and_its_board_names_a_pass_and_an_end(self):
         for line, text, mover, state in (
             (AT_PASS, "-64 PS", "White", "has to pass: -64"),
@@ -138,10 +140,6 @@ class Answers(unittest.TestCase):
         two = ffosolve.Answer(0, ffosolve.Kind.MOVES, 0x81)
         self.assertEqual((str(two), f"{two}"), ("+00 A1,H1", "+00 A1,H1"))
         self.assertEqual(repr(two), "Answer(score=0, kind=<Kind.MOVES: 0>, best=129)")
-
-
-class Boards(unittest.TestCase):
-    SCORES = {"A2": 38, "b1": 36, "H8": -12, "A1": 38, "H1": 0}
 
     def test_a_board_as_text_has_letters_scores_and_the_side_to_move(self):
         position = Position.from_obf(BOARD)
