@@ -1,6 +1,5 @@
 """Solves positions in NumPy arrays. Only this module needs NumPy, so it is imported by the methods that need it."""
 import ctypes
-from collections import deque
 from typing import Any, List, NamedTuple, Tuple
 
 import numpy
@@ -46,13 +45,14 @@ def found_by(solver: Solver, call: Any, record: Any, own: Any, opp: Any, threads
     masks = numpy.stack((own, opp), axis=1)  # each row is laid out as a CPosition
     found: Any = numpy.empty(len(masks), record)
 
-    def call_for(run: Tuple[int, int, int]) -> None:
+    def call_for(run: Tuple[int, int, int]) -> Tuple[()]:
         start, end, empties = run
         asked = (CPosition * (end - start)).from_buffer(masks, start * ctypes.sizeof(CPosition))
         to = (record * (end - start)).from_buffer(found, start * ctypes.sizeof(record))
         solver._fill(to, call, asked, empties)
+        return ()  # the results are in `found`
 
-    deque(in_order(call_for, runs_of(solver, masks, threads), threads), 0)
+    list(in_order(call_for, runs_of(solver, masks, threads), threads))
     return found
 
 

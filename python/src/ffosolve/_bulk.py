@@ -62,10 +62,12 @@ def checked_threads(threads: int) -> int:
     return checked_number("threads", threads, 1)
 
 
-def in_order(call: Callable[[A], B], parts: Iterable[A], threads: int) -> Iterator[B]:
-    """Yields what `call` returns for each part, in the order of the parts; up to `threads` threads make the calls."""
+def in_order(call: Callable[[A], Iterable[B]], parts: Iterable[A], threads: int) -> Iterator[B]:
+    """Calls `call` with each part, on up to `threads` threads. Yields the results of each call, in the order of the
+    parts."""
     if threads == 1:
-        yield from map(call, parts)
+        for part in parts:
+            yield from call(part)
         return
     tasks: "queue.SimpleQueue[Any]" = queue.SimpleQueue()
     waiting: Deque[Any] = deque()
@@ -78,9 +80,9 @@ def in_order(call: Callable[[A], B], parts: Iterable[A], threads: int) -> Iterat
             waiting.append(Future())
             tasks.put((waiting[-1], call, part))
             while waiting and (waiting[0].done() or len(waiting) >= AHEAD * threads):
-                yield waiting.popleft().result()
+                yield from waiting.popleft().result()
         while waiting:
-            yield waiting.popleft().result()
+            yield from waiting.popleft().result()
     finally:
         for future in waiting:
             future.cancel()

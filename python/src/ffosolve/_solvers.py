@@ -3,7 +3,7 @@ import ctypes
 import os
 import reprlib
 import struct
-from typing import TYPE_CHECKING, Any, Dict, Iterable, Iterator, List, Optional, Sequence, TypeVar, Union
+from typing import TYPE_CHECKING, Any, Dict, Iterable, Iterator, List, Optional, Sequence, Union
 
 from ._answers import Answer, Kind, Scoring, scoring_of
 from ._boards import OTHER
@@ -18,7 +18,6 @@ from ._squares import NAMES
 if TYPE_CHECKING:
     from ._arrays import Answers
 
-A = TypeVar("A")
 NO_SCORE = 127  # in an array of scores, for a square that is not a legal move
 KINDS = tuple(Kind)
 ANSWER, MOVE_SCORES = struct.Struct("iiQ"), struct.Struct("64bQ")  # the layouts of CAnswer and CMoveScores
@@ -97,21 +96,21 @@ class Solver:
         list. Raises the same as `solve`; all positions are checked before any is solved, and `index` of SharedSquare
         and TooManyEmpties is that of the first refused position."""
         parts = self._all_parts(positions, whole=checked_threads(threads) == 1)
-        return list(one_by_one(in_order(self._solve_part, parts, threads)))
+        return list(in_order(self._solve_part, parts, threads))
 
     def solve_iter(self, positions: Iterable[Position], *, threads: int = 1) -> Iterator[Answer]:
         """Yields the answers for positions, in their order, and reads only some positions ahead. Raises the same as
         `solve`. SharedSquare and TooManyEmpties have the `index` of the refused position, and come after the answers
         for the positions before it."""
-        return one_by_one(in_order(self._solve_part, parts_of(positions, self._max_empties), checked_threads(threads)))
+        return in_order(self._solve_part, parts_of(positions, self._max_empties), checked_threads(threads))
 
     def move_scores_all(self, positions: Iterable[Position], *, threads: int = 1) -> List[Dict[str, int]]:
         """What `move_scores` returns for each position, in the same order. Raises the same as `solve_all`."""
-        return list(one_by_one(in_order(self._score_part, self._all_parts(positions), checked_threads(threads))))
+        return list(in_order(self._score_part, self._all_parts(positions), checked_threads(threads)))
 
     def move_scores_iter(self, positions: Iterable[Position], *, threads: int = 1) -> Iterator[Dict[str, int]]:
         """Yields what `move_scores` returns for each position, in the way that `solve_iter` yields answers."""
-        return one_by_one(in_order(self._score_part, parts_of(positions, self._max_empties), checked_threads(threads)))
+        return in_order(self._score_part, parts_of(positions, self._max_empties), checked_threads(threads))
 
     def solve_arrays(self, own: Any, opp: Any, *, threads: int = 1) -> "Answers":
         """The answers for positions whose masks are in two arrays of uint64. The result has three arrays of the same
@@ -192,8 +191,3 @@ class Solver:
         count = len(asked)
         more = asked, count, self._scoring, self._entries_for(empties), found, count, ctypes.c_size_t()
         accept(interruptible(call, count, empties, *more))
-
-
-def one_by_one(parts: Iterable[List[A]]) -> Iterator[A]:
-    for results in parts:
-        yield from results
