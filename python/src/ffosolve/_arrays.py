@@ -1,11 +1,10 @@
 """Solves positions in NumPy arrays. Only this module needs NumPy, so it is imported by the methods that need it."""
-import ctypes
 from typing import Any, List, NamedTuple, Tuple
 
 import numpy
 
 from ._bulk import LIGHTEST, MOST_WEIGHT, in_order
-from ._library import CAnswer, CMoveScores, CPosition
+from ._library import CPosition
 from ._rules import refusal_for
 from ._solvers import Solver
 
@@ -20,9 +19,9 @@ class Answers(NamedTuple):
     best: Any
 
 
-def runs_of(solver: Solver, masks: Any, threads: int) -> List[Tuple[int, int, int]]:
-    """Cuts positions into parts for threads. Returns for each part the index of its first position, the index after its
-    last one, and the greatest number of empty squares in it. Raises the refusal of the first refused position."""
+def runs_of(solver: Solver, masks: Any, threads: int) -> List[Tuple[slice, int]]:
+    """Cuts positions into parts for threads. Returns a pair for each part: its slice of `masks`, and the greatest number
+    of empty squares in a position. Raises the refusal of the first refused position."""
     own, opp = masks[:, 0], masks[:, 1]
     empties = 64 - SIZES[(own | opp).view(numpy.uint8)].reshape(-1, 8).sum(axis=1, dtype=numpy.int64)
     for index in numpy.flatnonzero((own & opp != 0) | (empties > solver.max_empties)).tolist():
@@ -30,13 +29,14 @@ def runs_of(solver: Solver, masks: Any, threads: int) -> List[Tuple[int, int, in
     weights = numpy.left_shift(1, numpy.clip(empties - LIGHTEST, 0, None)) * (threads > 1)
     ends = numpy.flatnonzero(numpy.diff(weights.cumsum() // MOST_WEIGHT)) + 1
     bounds = [0, *ends.tolist(), len(masks)]
-    return [(start, end, int(empties[start:end].max())) for start, end in zip(bounds, bounds[1:]) if start < end]
+    parts = [slice(start, end) for start, end in zip(bounds, bounds[1:]) if start < end]
+    return [(part, int(empties[part].max())) for part in parts]
 
 
-def found_by(solver: Solver, call: Any, record: Any, own: Any, opp: Any, threads: int) -> Any:
-    """Calls the library's function `call` for each part of the positions, on up to `threads` threads. Returns an array
-    of what the calls write: one `record` for each position. Raises TypeError unless both arrays of masks are of uint64,
-    and ValueError unless they have one dimension and equal lengths."""
+def found_by(solver: Solver, call: Any, record: Any, own: Any, opp: Any, threads: int) -> List[Any]:
+    """Calls the library's function `call` for each part of the positions, on up to `threads` threads. The calls write a
+    `record` for each position. Returns a list with an array for each field of `record`. Raises TypeError unless both
+    arrays of masks are of uint64, and ValueError unless they have one dimension and equal lengths."""
     own, opp = numpy.asarray(own), numpy.asarray(opp)
     if own.dtype != numpy.uint64 or opp.dtype != numpy.uint64:
         raise TypeError("the masks are arrays of uint64")
@@ -45,22 +45,11 @@ def found_by(solver: Solver, call: Any, record: Any, own: Any, opp: Any, threads
     masks = numpy.stack((own, opp), axis=1)  # each row is laid out as a CPosition
     found: Any = numpy.empty(len(masks), record)
 
-    def call_for(run: Tuple[int, int, int]) -> Tuple[()]:
-        start, end, empties = run
-        asked = (CPosition * (end - start)).from_buffer(masks, start * ctypes.sizeof(CPosition))
-        to = (record * (end - start)).from_buffer(found, start * ctypes.sizeof(record))
-        solver._fill(to, call, asked, empties)
+    def call_for(run: Tuple[slice, int]) -> Tuple[()]:
+        part, empties = run
+        asked = (CPosition * len(masks[part])).from_buffer(masks[part])
+        solver._fill((record * len(asked)).from_buffer(found[part]), call, asked, empties)
         return ()  # the results are in `found`
 
     list(in_order(call_for, runs_of(solver, masks, threads), threads))
-    return found
-
-
-def solve(solver: Solver, own: Any, opp: Any, threads: int) -> Answers:
-    answers = found_by(solver, solver._library.ffosolve_solve_all, CAnswer, own, opp, threads)
-    return Answers(*(numpy.ascontiguousarray(answers[name]) for name in Answers._fields))
-
-
-def move_scores(solver: Solver, own: Any, opp: Any, threads: int) -> Any:
-    found = found_by(solver, solver._library.ffosolve_move_scores_all, CMoveScores, own, opp, threads)
-    return numpy.ascontiguousarray(found["scores"])
+    return [numpy.ascontiguousarray(found[name]) for name, _ in record._fields_]

@@ -116,17 +116,19 @@ class Solver:
         """The answers for positions whose masks are in two arrays of uint64. The result has three arrays of the same
         length: `score` and `kind` of int32, and `best` of uint64. Needs NumPy. Raises the same as `solve_all`, and
         TypeError and ValueError for other arrays."""
-        from . import _arrays
+        from ._arrays import Answers, found_by
 
-        return _arrays.solve(self, own, opp, checked_threads(threads))
+        call = self._library.ffosolve_solve_all
+        return Answers(*found_by(self, call, CAnswer, own, opp, checked_threads(threads)))
 
     def move_scores_arrays(self, own: Any, opp: Any, *, threads: int = 1) -> Any:
         """The scores of all moves in positions whose masks are in two arrays of uint64. The result is an array of int8
         with a row of 64 scores for each position, in the order A1, B1, .. H8, with NO_SCORE for an illegal move. Needs
         NumPy. Raises the same as `solve_arrays`."""
-        from . import _arrays
+        from ._arrays import found_by
 
-        return _arrays.move_scores(self, own, opp, checked_threads(threads))
+        call = self._library.ffosolve_move_scores_all
+        return found_by(self, call, CMoveScores, own, opp, checked_threads(threads))[0]
 
     def moves(self, position: Position) -> int:
         """The mask of the legal moves, 0 for none. `Position.legal_moves` has their names. Raises SharedSquare."""
