@@ -1,16 +1,18 @@
-"""What the benchmarks share: the programs, lists of positions, and processor times."""
+"""What the benchmarks share: the programs, lists of positions, and times."""
 import os
 import subprocess
 import sys
 import tempfile
+import time
 from functools import cache
 from pathlib import Path
 
 sys.dont_write_bytecode = True
 BENCH = Path(__file__).resolve().parent
 ROOT = BENCH.parent
-CORE = max(os.sched_getaffinity(0))
-LEVELS = ("x86-64-v2", "x86-64-v3")
+CORES = os.sched_getaffinity(0)
+CORE = max(CORES)
+FOLDER = tempfile.TemporaryDirectory(prefix="ffosolve-bench-")  # removed when the program ends
 
 
 @cache
@@ -24,23 +26,17 @@ def built(name="ffosolve", level=""):
     return ROOT / path
 
 
-def build_peer(folder, level, *words):
-    """Compiles bench/peer.rs for a level of processors, and returns the path of the program."""
-    peer = Path(folder, f"{level}-peer")
-    subprocess.run(["rustc", "-C", "opt-level=3", "-C", f"target-cpu={level}", *words, "-o", peer, BENCH / "peer.rs"], check=True)
-    return peer
-
-
 def options(entries, scoring="winner"):
     """Returns options for ffosolve: up to 60 empty squares, one thread, a table of `entries` entries, and a scoring."""
     return ["--max-empties", 60, "--workers", 0, "--table", entries, "--scoring", scoring]
 
 
 def published():
-    """Returns (board and side, [[move, score], ..]), all of them texts, for each of the positions 40 to 51 of the FFO
-    endgame test. The moves are those published as best."""
+    """Returns {number: (board and side, [[move, score], ..])}, all but the number texts, for positions 40 to 51 of the
+    FFO endgame test. The moves are those published as best."""
     lines = [line for line in open(ROOT / "examples/ffo-40-51.obf") if line[0] != "%"]
-    return [(line[:66], [claim.strip().split(":") for claim in line.split("%")[0].split(";")[1:-1]]) for line in lines]
+    positions = ((line[:66], [claim.strip().split(":") for claim in line.split("%")[0].split(";")[1:-1]]) for line in lines)
+    return dict(enumerate(positions, 40))
 
 
 def agrees(score, moves, claims):
@@ -49,26 +45,34 @@ def agrees(score, moves, claims):
     return score == claims[0][1] and {move for move, _ in claims} <= set(moves.split(","))
 
 
-def write(path, lines):
-    Path(path).write_text("".join(f"{line}\n" for line in lines))
-    return path
+def write(lines):
+    """Writes a new file, which is removed when the program ends, and returns its path."""
+    with tempfile.NamedTemporaryFile("w", dir=FOLDER.name, delete=False) as file:
+        file.writelines(f"{line}\n" for line in lines)
+    return file.name
 
 
-def race(*commands, cores=None):
-    """Runs commands at the same time, all on one core or on the set `cores`; returns (output, processor seconds) for
-    each. Exits if one fails."""
-    outputs = [tempfile.TemporaryFile() for _ in commands]
-    how = {"stdin": subprocess.DEVNULL, "preexec_fn": lambda: os.sched_setaffinity(0, cores or {CORE})}
-    started = [subprocess.Popen([*map(str, command)], stdout=out, **how) for command, out in zip(commands, outputs)]
-    ended = [os.wait4(ran.pid, 0) for ran in started]
+def race(*commands, cores=(CORE,)):
+    """Runs commands at the same time, all on the processors with the numbers `cores`, by default one. Returns (output,
+    processor seconds, seconds by the clock) for each. Exits if one fails."""
+    outputs, begun = [tempfile.TemporaryFile("w+") for _ in commands], time.monotonic()
+    how = {"stdin": subprocess.DEVNULL, "preexec_fn": lambda: os.sched_setaffinity(0, cores)}
+    started = [subprocess.Popen([*map(str, command)], stdout=output, **how) for command, output in zip(commands, outputs)]
     results = []
-    for ran, out, (_, status, usage) in zip(started, outputs, ended):
-        ran.returncode = os.waitstatus_to_exitcode(status)
+    for ran, output in zip(started, outputs):
+        _, status, usage = os.wait4(ran.pid, 0)
+        ran.returncode, clock = os.waitstatus_to_exitcode(status), time.monotonic() - begun
         if ran.returncode:
             sys.exit(f"{' '.join(ran.args)} ended with {ran.returncode}")
-        out.seek(0)
-        results.append((out.read().decode(), usage.ru_utime + usage.ru_stime))
+        output.seek(0)
+        results.append((output.read(), usage.ru_utime + usage.ru_stime, clock))
     return results
+
+
+def least(rounds, *commands):
+    """Runs `race` with the commands `rounds` times. Returns (set of its outputs, least processor seconds) for each."""
+    columns = [zip(*column) for column in zip(*(race(*commands) for _ in range(rounds)))]
+    return [(set(outputs), min(seconds)) for outputs, seconds, _ in columns]
 
 
 def table(heads, rows):

@@ -20,10 +20,11 @@ def moves(own, opp):
     found = 0
     for step, reached in STEPS:
         run = shifted(own, step, reached) & opp
-        for _ in range(5):
-            run |= shifted(run, step, reached) & opp
-        found |= shifted(run, step, reached)
-    return found & ~(own | opp) & FULL
+        while run:
+            run = shifted(run, step, reached)
+            found |= run & ~(own | opp)
+            run &= opp
+    return found
 
 
 def after(own, opp, square):
@@ -52,23 +53,18 @@ def random_game(rng):
         own, opp, is_black = *(after(own, opp, move) if can else (opp, own)), not is_black
 
 
-def random_position(rng, empties):
-    """Plays a random game to the position with `empties` empty squares, and returns (own, opp, whether Black is to
-    move). Returns None if the game is over there or earlier."""
-    for own, opp, is_black, _ in random_game(rng):
-        if count(own | opp) == 64 - empties:
-            return (own, opp, is_black) if moves(own, opp) or moves(opp, own) else None
-
-
 def random_lines(number, least, most, seed=1):
-    """Yields OBF lines of `number` positions from random games that are not over yet. The positions have `least` to
-    `most` empty squares in turn."""
-    rng = random.Random(seed)
-    for at in range(number):
-        found = None
-        while found is None:
-            found = random_position(rng, least + at % (most - least + 1))
-        yield line(*found)
+    """Yields OBF lines of `number` positions, each from a random game of its own that is not over yet. The positions have
+    `least` to `most` empty squares in turn."""
+    rng, found = random.Random(seed), 0
+    while found < number:
+        empties = least + found % (most - least + 1)
+        for own, opp, is_black, _ in random_game(rng):
+            if count(own | opp) == 64 - empties:
+                if moves(own, opp) or moves(opp, own):
+                    yield line(own, opp, is_black)
+                    found += 1
+                break
 
 
 def squares_in(mask):
