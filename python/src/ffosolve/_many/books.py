@@ -1,9 +1,7 @@
 """Merges books: those of the parts of a list, or those that the command line names."""
-import contextlib
 import heapq
 import io
 import itertools
-import operator
 import os
 import re
 import tempfile
@@ -61,7 +59,7 @@ def merged(names, books):
                                    "only books of one scoring can be merged")
     yield HEADER.format(scorings[0]).encode()
     entries = (entries_of(itertools.chain([first], book), name) for name, first, book in zip(names, firsts, books))
-    for _, ((_, place, line), *others) in itertools.groupby(heapq.merge(*entries), key=operator.itemgetter(0)):
+    for _, ((_, place, line), *others) in itertools.groupby(heapq.merge(*entries), lambda entry: entry[0]):
         for _, other_place, other in others:
             if place[0] == other_place[0] and place != other_place:
                 raise ValueError("{} line {} is not in order".format(*other_place))
@@ -109,9 +107,8 @@ def merge_books(command, programs):
     program, names = Program(programs, "ffosolve"), list(map(shown, command.words))
     if command.book_out:
         check_place(command.book_out, os.devnull, program)
-    with contextlib.ExitStack() as stack:
-        paths = [regular(name, stack) for name in command.words]
-        whole = stack.enter_context(tempfile.NamedTemporaryFile(prefix=f"{NAME}-"))
+    paths = [regular(name) for name in command.words]
+    with tempfile.NamedTemporaryFile(prefix=f"{NAME}-") as whole:
         try:
             whole.writelines(merged(names, map(lines_of, paths)))
             whole.seek(0)

@@ -1,8 +1,6 @@
 """Solves parts on the workers of a Dask cluster."""
 import asyncio
-import collections
 import contextlib
-import itertools
 import logging
 import os
 import shutil
@@ -90,9 +88,9 @@ class Cluster:
         for module in ("solve", "cluster"):  # workers do not have these modules
             cloudpickle.register_pickle_by_value(sys.modules[f"{__package__}.{module}"])
         files = {path.name: path.read_bytes() for name in ("program-?", "book-in") for path in run.folder.glob(name)}
-        self.address, self.run, self.name, self.count = address, run, f"ffosolve-{os.urandom(6).hex()}", itertools.count()
+        self.address, self.run, self.name = address, run, f"ffosolve-{os.urandom(6).hex()}"
         self.program, self.heard = Program(self.name, run.task, files), time.monotonic()
-        self.ready, self.left_out, self.fails = {}, set(), collections.Counter()
+        self.ready, self.left_out, self.fails = {}, set(), {}
         place = {"scheduler_file" if os.path.isfile(address) or ":" not in address else "address": address}
         try:
             if "scheduler_file" in place:
@@ -104,7 +102,7 @@ class Cluster:
 
     def submit(self, number, failed):
         """Submits a part, if possible to a worker that is not in `failed`; returns a future of the part's results."""
-        name, key = self.name, f"{self.name}-{next(self.count):09d}-{number}"
+        name, key = self.name, f"{self.name}-{time.monotonic_ns():020d}-{number}"
         others = [address for address in self.ready if address not in failed] if failed else []
         return self.pool.submit(lambda *words: distributed.get_worker().plugins[name].solve(*words), number,
                                 self.run.text(number), key=key, workers=others or None)
@@ -115,7 +113,7 @@ class Cluster:
         except Exception as fault:  # such as KilledWorker
             return self.address, None, str(fault).partition("\n")[0] or repr(fault)
         seconds = record and self.run.keep(number, record)
-        self.fails[machine] = self.fails[machine] + 1 if seconds is None else 0
+        self.fails[machine] = self.fails.get(machine, 0) + 1 if seconds is None else 0
         if self.fails[machine] >= MOST_FAILS and machine in self.ready and len(self.ready) > 1:
             self.leave_out(machine, f"{MOST_FAILS} parts failed in a row")
         return machine, seconds, why

@@ -22,16 +22,14 @@ def begin(command, programs):
     complete(command)
     if is_same(path_of(command.list), 1):
         raise misused(f"standard output is the list {shown(command.list)}: name another file")
-    with contextlib.ExitStack() as stack:
-        source = regular(command.list, stack)
-        book_in = regular(command.book_in, stack) if command.book_in else None
-        read = [f"--book-in={book_in}"] if book_in else []
-        program = Program(programs, "ffoscores" if command.scores else "ffosolve")
-        command.max_empties = program.check(run_options(command) + read)
-        if command.book_out:
-            check_place(command.book_out, path_of(command.list), program, *read)
-        with refusing("write", command.folder):
-            return Run(command, source, program, book_in)
+    source, book_in = regular(command.list), regular(command.book_in) if command.book_in else None
+    read = [f"--book-in={book_in}"] if book_in else []
+    program = Program(programs, "ffoscores" if command.scores else "ffosolve")
+    command.max_empties = program.check(run_options(command) + read)
+    if command.book_out:
+        check_place(command.book_out, path_of(command.list), program, *read)
+    with refusing("write", command.folder):
+        return Run(command, source, program, book_in)
 
 
 def solve_list(command, programs):

@@ -31,7 +31,7 @@ def span_of(seconds):
 
 
 class Progress:
-    """The work that is left, the time that solved parts took, and the machine and start of each part being solved."""
+    """The work that is left, the time that solved parts took, and {(part, machine): start} of the parts being solved."""
 
     def __init__(self, run, parts, most):
         self.run, self.weights, self.running = run, array.array("d", bytes(8 * run.parts)), {}
@@ -41,10 +41,9 @@ class Progress:
         self.left_weight = sum(self.weights)
 
     def update(self, at_work):
-        """Notes which machine is solving each part now."""
-        before, now = self.running, time.monotonic()
-        self.running = {number: (machine, before[number][1] if number in before else now)
-                        for number, machine in at_work.items()}
+        """Notes which machine is solving each part now: `at_work` is {part: machine}."""
+        now = time.monotonic()
+        self.running = {work: self.running.get(work, now) for work in at_work.items()}
 
     def end(self, number, seconds):
         """Notes that a part was solved, and how many seconds that took."""
@@ -57,21 +56,21 @@ class Progress:
         if not self.weight or self.weight * 9 < self.left_weight:
             return None
         rate, now = self.seconds / self.weight, time.monotonic()
-        rests = [max(0, self.weights[number] * rate - now + since) for number, (_, since) in self.running.items()]
-        waiting = self.left_weight - sum(self.weights[number] for number in self.running)
+        rests = [max(0, self.weights[number] * rate - now + since) for (number, _), since in self.running.items()]
+        waiting = self.left_weight - sum(self.weights[number] for number, _ in self.running)
         return max(rests + [(waiting * rate + sum(rests)) / max(1, len(rests))])
 
     def text(self):
         """Returns the line to show. It names the part that has been running longest, if for ten minutes or more."""
-        run, machines, now = self.run, len({machine for machine, _ in self.running.values()}), time.monotonic()
+        run, machines, now = self.run, len({machine for _, machine in self.running}), time.monotonic()
         left = self.left() if machines else None
         text = f"{100 * (run.all_lines - self.lines) // max(1, run.all_lines)}%, "
         text += f"{span_of(left)} left, " if left is not None else ""
         text += f"{counted(machines, 'machine') if machines else 'no machine'} at work, "
         text += f"parts {run.parts - self.parts} of {run.parts}"
-        number, (machine, since) = min(self.running.items(), key=lambda one: one[1][1], default=(0, ("", now)))
-        if now - since >= LONG_SECONDS:
-            text += f"; {run.span(number)} has been running for {span_of(now - since)} on {machine}"
+        for (number, machine), since in sorted(self.running.items(), key=lambda work: work[1])[:1]:
+            if now - since >= LONG_SECONDS:
+                text += f"; {run.span(number)} has been running for {span_of(now - since)} on {machine}"
         return text
 
 

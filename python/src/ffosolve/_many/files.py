@@ -24,8 +24,7 @@ def misused(text):
 
 @contextlib.contextmanager
 def refusing(verb, name, passed=()):
-    """Turns an OSError of its block into a Refusal, such as "cannot write list.book: No space left on device". Exceptions
-    of the types `passed` stay as they are."""
+    """Turns an OSError of its block into a Refusal: "cannot {verb} {name}", and why. An exception `passed` goes on."""
     try:
         yield
     except passed:
@@ -67,20 +66,19 @@ def path_of(name):
     return Path("/dev/stdin" if name == "-" else name)
 
 
-def regular(name, stack):
-    """Returns the path of a regular file to read: `name` itself or, if that is a pipe or the like, a copy that `stack`
-    removes."""
+def regular(name):
+    """Returns the path of a regular file to read: `name` itself or, if that is a pipe or the like, a copy without a name,
+    which is there as long as this process."""
     path = path_of(name)
     if str(path) == "/dev/stdin" and sys.stdin is None:
         raise Refusal(UNREADABLE, f"cannot read {name}: standard input is closed")
     with refusing("read", name), path.open("rb") as source:
         if path.is_file():
             return path
-        with refusing(f"copy {shown(name)} to", tempfile.gettempdir()):
-            copy = stack.enter_context(tempfile.NamedTemporaryFile(prefix=f"{NAME}-"))
-            with open(copy.name, "wb") as target:
-                shutil.copyfileobj(source, target)
-            return Path(copy.name)
+        with refusing(f"copy {shown(name)} to", tempfile.gettempdir()), tempfile.TemporaryFile() as copy:
+            shutil.copyfileobj(source, copy)
+            copy.flush()
+            return Path(f"/proc/{os.getpid()}/fd/{os.dup(copy.fileno())}")
 
 
 def replace(name, pieces):

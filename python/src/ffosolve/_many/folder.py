@@ -95,22 +95,20 @@ def lock_folder(folder):
     raise Refusal(UNREADABLE, f"another run works in {shown(folder)}")
 
 
-def begun(folder):
-    """Returns what a Run wrote to task.json in a folder or, if it can't be read, a task without options and programs."""
-    with contextlib.suppress(OSError, ValueError, TypeError, KeyError):
+def begun(folder, options):
+    """Returns what a Run wrote to task.json in a folder or, if it can't be read, a task without programs. Refuses
+    options other than those that the folder was begun with."""
+    try:
         task = json.loads((folder / "task.json").read_bytes())
-        if task["options"] and task["programs"]:
-            return task
-    return {"options": {}, "programs": []}
-
-
-def check_options(before, options, folder):
-    """Refuses options other than those that the folder was begun with."""
+        before, _ = task["options"], task["programs"]
+    except (OSError, ValueError, TypeError, KeyError):
+        return {"programs": []}
     differing = [f"with {name} {kept}".strip() if kept is not None else f"without {name}"
                  for name, kept in before.items() if kept != options[name]]
     if differing:
         raise Refusal(REFUSED, f"{shown(folder)} was begun {' and '.join(differing)}: use another folder, or the same "
                                "options")
+    return task
 
 
 def check_list(kept, source, command):
@@ -143,8 +141,7 @@ class Run:
         self.options = {"--lines": self.lines, "--scoring": command.scoring, "--max-empties": command.max_empties,
                         "--scores": "" if command.scores else None, "--complete": "" if command.complete else None,
                         "--book-in": book, "--book-out": "" if command.book_out else None}
-        before = begun(self.folder)
-        check_options(before["options"], self.options, self.folder)
+        before = begun(self.folder, self.options)
         check_list(self.folder / "list", source, command)
         (self.folder / "results").mkdir(exist_ok=True)
         copy(source, self.folder / "list")
