@@ -48,13 +48,13 @@ class Program(distributed.WorkerPlugin):
         return fit_program(self.task, self.folder)[0]
 
     def solve(self, number, text):
-        """Solves a part, and kills the program once the task is cancelled or `teardown` has removed the folder. Returns
-        the worker's address with what `solve.solve` returns."""
+        """Returns the worker's address, and what `solve.solve` returns for a part. The program is killed once the task is
+        cancelled or `teardown` has removed the program."""
         key = self.worker.get_current_task()
 
         def is_wanted():
             state = getattr(self.worker.state.tasks.get(key), "state", None)
-            return state == "executing" and self.folder.exists()
+            return state == "executing" and self.program.exists()
         return self.worker.address, *solve(self.task, self.folder, self.program, number, text, is_wanted)
 
     def teardown(self, worker):

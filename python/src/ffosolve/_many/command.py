@@ -61,17 +61,6 @@ def solve_list(command, programs):
     return max(run.statuses, default=DONE)
 
 
-def run_command(programs, words):
-    """Runs ffosolve-many with the arguments `words`; returns the status."""
-    if sys.stdout is None:
-        raise Refusal(UNREADABLE, "cannot write standard output: it is closed")
-    command = parse(words)
-    if command.help or command.version:
-        print_all([(command.help or f"{NAME} {__version__}\n").encode()])
-        return DONE
-    return (merge_books if command.merge_books else solve_list)(command, programs)
-
-
 def catch(number, _):
     """Handles a signal: raises KeyboardInterrupt with its number, and makes later signals do nothing. (If they were set
     to SIG_IGN, Python could print an error.)"""
@@ -90,10 +79,17 @@ def main(programs, words):
         if signal.getsignal(number) != signal.SIG_IGN:
             signal.signal(number, catch)
     try:
-        status = run_command(programs, words)
+        if sys.stdout is None:
+            raise Refusal(UNREADABLE, "cannot write standard output: it is closed")
+        command = parse(words)
+        if command.help or command.version:
+            print_all([(command.help or f"{NAME} {__version__}\n").encode()])
+            status = DONE
+        else:
+            status = (merge_books if command.merge_books else solve_list)(command, programs)
     except Refusal as why:
-        status = why.args[0]
-        say(why.args[1])
+        status, text = why.args
+        say(text)
     except BrokenPipeError:  # standard output is no longer read
         status = -signal.SIGPIPE
     except OSError as why:

@@ -31,7 +31,7 @@ def span_of(seconds):
 
 
 class Progress:
-    """The work that is left, the time that solved parts took, and {(part, machine): start} of the parts being solved."""
+    """The work that is left, the time that solved parts took, and {(part, machine): start} of parts at work."""
 
     def __init__(self, run, parts, most):
         self.run, self.weights, self.running = run, array.array("d", bytes(8 * run.parts)), {}
@@ -68,9 +68,9 @@ class Progress:
         text += f"{span_of(left)} left, " if left is not None else ""
         text += f"{counted(machines, 'machine') if machines else 'no machine'} at work, "
         text += f"parts {run.parts - self.parts} of {run.parts}"
-        for (number, machine), since in sorted(self.running.items(), key=lambda work: work[1])[:1]:
-            if now - since >= LONG_SECONDS:
-                text += f"; {run.span(number)} has been running for {span_of(now - since)} on {machine}"
+        (number, machine), since = min(self.running.items(), key=lambda work: work[1], default=((0, ""), now))
+        if now - since >= LONG_SECONDS:
+            text += f"; {run.span(number)} has been running for {span_of(now - since)} on {machine}"
         return text
 
 
@@ -97,8 +97,7 @@ class Threads:
         return HERE, record and self.run.keep(number, record), why
 
     def result(self, future, number):
-        """Returns (the machine that had a part, the seconds that the part took or None if it failed, the reason for
-        that or an empty text)."""
+        """Returns (the part's machine, the seconds that the part took or None if it failed, the reason or "")."""
         return future.result()
 
     def look(self, flying):

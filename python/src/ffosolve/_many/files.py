@@ -67,8 +67,8 @@ def path_of(name):
 
 
 def regular(name):
-    """Returns the path of a regular file to read: `name` itself or, if that is a pipe or the like, a copy without a name,
-    which is there as long as this process."""
+    """Returns the path of a regular file to read: `name` itself or, if that is a pipe or the like, a copy that vanishes
+    with this process."""
     path = path_of(name)
     if str(path) == "/dev/stdin" and sys.stdin is None:
         raise Refusal(UNREADABLE, f"cannot read {name}: standard input is closed")

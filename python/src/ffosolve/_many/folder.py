@@ -19,7 +19,6 @@ from .programs import run_options
 from .solve import HEAD, Failed, digest_of, fit_program, write_whole
 
 LOCK = "ffosolve-many.lock"
-LOCK_SECONDS = 2  # in which a run that was killed has to release the lock
 HEADER = "% ffobook 2 {}\n"  # the first line of a book, with its scoring
 UNKNOWN = 255  # stands for the status of an unsolved part
 SKIPPED = re.compile(rb"[ \t]*(?:%.*|\r?)", re.DOTALL)
@@ -46,8 +45,7 @@ def cut_list(path, lines, name):
 
 
 def asked_lines(part):
-    """Returns {number: line} for the lines of a part, numbered from 1, except blank ones and comments, which have no
-    row in a report."""
+    """Returns {number from 1: line} of a part's lines, except blank ones and comments, which a report leaves out."""
     return {number: line for number, line in enumerate(part.split(b"\n"), 1) if not SKIPPED.fullmatch(line)}
 
 
@@ -87,8 +85,8 @@ def lock_folder(folder):
     if found and LOCK not in found:
         raise Refusal(REFUSED, f"{shown(folder)} has files that are not {NAME}'s, or those of an earlier version, such "
                                f"as {shown(found[0])}: name a new or an empty folder")
-    descriptor, end = os.open(folder / LOCK, os.O_RDWR | os.O_CREAT, 0o666), time.monotonic() + LOCK_SECONDS
-    while time.monotonic() < end:
+    descriptor = os.open(folder / LOCK, os.O_RDWR | os.O_CREAT, 0o666)
+    for _ in range(40):  # for two seconds, in which a run that was killed has to release the lock
         with contextlib.suppress(BlockingIOError):
             return fcntl.flock(descriptor, fcntl.LOCK_EX | fcntl.LOCK_NB)
         time.sleep(0.05)
@@ -127,8 +125,7 @@ def programs_in(folder):
 
 
 class Run:
-    """A list that is solved in parts, numbered from 0. Its folder has a copy of the list, and in `results` the records of
-    the parts."""
+    """A list that is solved in a folder, in parts that are numbered from 0. The folder `results` has their records."""
 
     def __init__(self, command, source, program, book_in):
         """Begins a run in the folder of a command, or continues the one there. `source` and `book_in` are the paths of

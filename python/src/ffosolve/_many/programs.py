@@ -1,5 +1,4 @@
 """The programs ffosolve and ffoscores, in the folder of ffosolve-many."""
-import itertools
 import os
 import re
 import shutil
@@ -26,8 +25,9 @@ class Program:
     def files(self):
         """Returns the paths of the program's files, one for each processor level, the highest first; if there are none,
         only `start`."""
-        places = (f"{place}/x86-64-v?/{self.start.name}" for place in ("out", "libexec/ffosolve"))
-        return sorted(itertools.chain(*map(self.start.parent.parent.glob, places)), reverse=True) or [self.start]
+        root, files = self.start.parent.parent, f"x86-64-v?/{self.start.name}"
+        found = [*root.glob(f"out/{files}"), *root.glob(f"libexec/ffosolve/{files}")]
+        return sorted(found, reverse=True) or [self.start]
 
     def try_run(self, *words, stdout=subprocess.DEVNULL):
         """Runs the program; returns its status, and its messages in one line, without `ffosolve: ` before each. A word
@@ -39,8 +39,7 @@ class Program:
 
     def check(self, options):
         """Builds the program if needed, and lets it refuse wrong options or a wrong book, which ends this process.
-        Returns, as text, the greatest number of empty squares in a position that the program solves with these
-        options."""
+        Returns, as text, how many empty squares a position may have for the program to solve it with these options."""
         if not shutil.which("setpriv"):
             raise Refusal(UNBUILT, "setpriv is not on the path: apt-get install util-linux")
         ran = subprocess.run(guarded([self.start, *options, "/dev/stdin"]), input=NO_DISCS, stdout=subprocess.PIPE)
