@@ -1,3 +1,1 @@
-"""The program ffosolve-many, which `bin/ffosolve-many` runs. It needs Python 3.10 or later but not ffosolve's library,
-and no wheel contains it.
-"""
+"""The program ffosolve-many, for Python 3.10 or later. It does not need ffosolve's library, and no wheel contains it."""

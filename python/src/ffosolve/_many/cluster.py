@@ -48,8 +48,8 @@ class Program(distributed.WorkerPlugin):
         return fit_program(self.task, self.folder)[0]
 
     def solve(self, number, text):
-        """Returns the worker's address, and what `solve.solve` returns for a part. The program is killed once the task is
-        cancelled or `teardown` has removed the program."""
+        """Returns the worker's address, and what `solve.solve` returns for a part. Kills the program once the task is
+        cancelled or `teardown` has removed the program's file."""
         key = self.worker.get_current_task()
 
         def is_wanted():
