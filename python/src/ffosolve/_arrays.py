@@ -20,8 +20,8 @@ class Answers(NamedTuple):
 
 
 def runs_of(solver: Solver, masks: Any, threads: int) -> List[Tuple[slice, int]]:
-    """Cuts positions into parts for threads. Returns a pair for each part: its slice of `masks`, and the greatest number
-    of empty squares in a position. Raises the refusal of the first refused position."""
+    """Cuts positions into parts for threads. Returns a pair for each part: its slice of `masks`, and the greatest
+    number of empty squares in a position. Raises the refusal of the first refused position."""
     own, opp = masks[:, 0], masks[:, 1]
     empties = 64 - SIZES[(own | opp).view(numpy.uint8)].reshape(-1, 8).sum(axis=1, dtype=numpy.int64)
     for index in numpy.flatnonzero((own & opp != 0) | (empties > solver.max_empties)).tolist():
