@@ -127,20 +127,16 @@ class Calls(unittest.TestCase):
 
 
 class Refusals(unittest.TestCase):
-    def refused(self, error, call, *words, index=None):
-        with self.assertRaises(error) as refused:
-            call(*words)
-        self.assertIsInstance(refused.exception, ffosolve.Refused)
-        self.assertEqual(refused.exception.index, index)
-
     def test_positions_are_refused_by_each_call(self):
-        solver = Solver()
-        for call in ONE:
-            self.refused(ffosolve.SharedSquare, call, solver, SHARED)
-        for call in SEARCHES:
-            self.refused(ffosolve.TooManyEmpties, call, solver, WIDE)
-        for call in MANY:
-            self.refused(ffosolve.TooManyEmpties, call, solver, [POSITION, WIDE, SHARED], index=1)
+        for calls, given, error, index in (
+            (ONE, SHARED, ffosolve.SharedSquare, None),
+            (SEARCHES, WIDE, ffosolve.TooManyEmpties, None),
+            (MANY, [POSITION, WIDE, SHARED], ffosolve.TooManyEmpties, 1),
+        ):
+            for call in calls:
+                with self.assertRaises(ffosolve.Refused) as refused:
+                    call(Solver(), given)
+                self.assertEqual((type(refused.exception), refused.exception.index), (error, index))
 
     def test_settings_are_refused_by_their_names(self):
         for name, error, why, *values in (
@@ -201,7 +197,9 @@ class Refusals(unittest.TestCase):
         with mock.patch("ffosolve._positions.LISTED") as listed:
             listed.findall.side_effect = MemoryError
             for read in (Position.from_obf, lambda line: next(read_lines([line], refused=print))):
-                self.refused(ffosolve.NoMemory, read, CORNERS)
+                with self.assertRaises(ffosolve.Refused) as refused:
+                    read(CORNERS)
+                self.assertEqual((type(refused.exception), refused.exception.index), (ffosolve.NoMemory, None))
 
     def test_an_object_that_is_not_a_position_is_named(self):
         solver, why = Solver(), r"^a position is two masks, as Position\(own, opp\) and .* not "
