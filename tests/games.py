@@ -117,9 +117,9 @@ class Case(InFolder):
     RECORD = record(GAME)
 
     def games(self, *words, status=None, out="", err="", **how):
-        """Runs ffosolve-games. Asserts that it prints `out` followed by the digest, and that its errors are the lines of
-        `err`, each after the program's name. If `out` is None, asserts nothing about what it prints. Asserts its status,
-        by default 1 if `err` has a line and otherwise 0."""
+        """Runs ffosolve-games. Asserts that it prints `out` followed by the digest, unless `out` is None, and that its
+        errors are the lines of `err`, each after the program's name. Asserts its status, by default 1 if `err` has a
+        line and otherwise 0."""
         ran = run(sys.executable, PROGRAM, *words, **how)
         self.assertEqual(ran.stderr.decode(), "".join(f"ffosolve-games: {line}\n" for line in err.splitlines()))
         if out is not None:

@@ -186,8 +186,8 @@ class Fix(Case):
         write("report", report_of(listed, dict.fromkeys(skipped, "5 empties, limit 4")))
 
     def fix(self, status, err, *words, place="new.wtb", written=None, out=None, **how):
-        """Runs `compare --fix`. Asserts its status, its errors and, unless it is None, its output `out`. Asserts that the
-        run writes the files of `written`, {path: content}, or none if that is None, and changes no other file."""
+        """Runs `compare --fix`. Asserts its status, its errors and, unless it is None, its output `out`. Asserts that
+        the run writes the files of `written`, {path: content}, or none if that is None, and changes no other file."""
         before = contents()
         self.games("compare", "list", "report", "--fix", place, *words, status=status, err=err, out=out, **how)
         self.assertEqual(contents(), {**before, **(written or {})})
@@ -301,7 +301,7 @@ class Fix(Case):
         self.write_list("it.wtb")
         another = "its game 4 has another position or theoretical score"
         for content, err in (
-            *((wthor([*self.records[:3], record(game, score), *self.records[4:]], empties=5), another) for game, score in
+            *((wthor([*self.records[:3], record(*it), *self.records[4:]], empties=5), another) for it in
               ((self.played[0], self.published[3]), ([], self.published[3]), (self.played[3], self.exact[3] + 1))),
             (wthor(self.records[:3], empties=5), "it has no game 4"),
             (wthor(self.records, empties=6), "game 1 was compared with 5 empty squares, and not 6"),

@@ -29,16 +29,16 @@ class RandomGames(Case):
         cls.known = list(map(positions_of, cls.played))
 
     def prints(self, name, empties, known, more):
-        """Asserts what is printed for the games in a file, whose positions are `known`: a line for each game, with `more`
-        at its end, or a message if it never reaches `empties` empty squares."""
+        """Asserts what is printed for the games in a file, whose positions are `known`: a line for each game, with
+        `more` at its end, or a message if it never reaches `empties` empty squares."""
         out = err = ""
         for number, positions in enumerate(known, 1):
             left = min(positions)
             if empties in positions:
                 out += line_of(positions[empties], f"{name}, game {number}{more}")
             else:
-                err += (f"{name}, game {number}, move {60 - left}: it ends here, with {left} empty square{'s' * (left > 1)}; "
-                        f"{empties} are asked for\n")
+                err += (f"{name}, game {number}, move {60 - left}: it ends here, with {left} empty square"
+                        f"{'s' * (left > 1)}; {empties} are asked for\n")
         self.games(name, f"--empties={empties}", out=out, err=err)
 
     def test_positions_of_transcripts_and_records_are_those_of_the_plain_player(self):
@@ -135,7 +135,8 @@ class Faults(Case):
         ):
             out = line_of(at[empties], "it.wtb, game 1" + f", theoretical score {theoretical}" * (empties == 22))
             err = "".join(f"it.wtb, game 1: {it}\n" for it in why)
-            self.reads("it.wtb", wthor([record(squares, theoretical, written)]), f"--empties={empties}", out=out, err=err)
+            content = wthor([record(squares, theoretical, written)])
+            self.reads("it.wtb", content, f"--empties={empties}", out=out, err=err)
 
     def test_a_file_of_another_kind_is_refused(self):
         for board, kind in ((0, 0), (8, 0), (8, 1)):
@@ -160,8 +161,9 @@ class Faults(Case):
         for words, empties, out in (([], 24, scored[24]), (["--empties", "24"], 24, scored[24]),
                                     (["--empties", "22"], 24, plain[22]), (["--empties", "22"], 0, scored[22])):
             self.reads("it.wtb", wthor([record(self.GAME, 20)], empties=empties), *words, out=out)
-        self.reads("it.wtb", wthor([self.RECORD], empties=0), status=2, err=(
-            "it.wtb does not say how many squares are empty at its theoretical scores; try --empties 22 or 24, the usual numbers"))
+        self.reads("it.wtb", wthor([self.RECORD], empties=0), status=2,
+                   err="it.wtb does not say how many squares are empty at its theoretical scores; "
+                       "try --empties 22 or 24, the usual numbers")
         self.reads("text", transcript(self.GAME), status=2, err="text is a text: its games need --empties N")
 
     def test_each_changed_byte_leads_to_a_position_of_the_changed_game(self):
@@ -194,7 +196,7 @@ class ReadByPython(InFolder):
         cls.solver = Solver()
 
     def has_positions(self, read, game):
-        """Asserts that the Game or transcript `read` has the positions that bench/player.py finds for the moves `game`."""
+        """Asserts that a Game or transcript, `read`, has the positions that bench/player.py finds for the moves `game`."""
         wanted = [player.line(*position) for position in positions_of(game).values()]
         self.assertEqual([position.to_obf() for position in self.solver.positions(read)], wanted, read)
 

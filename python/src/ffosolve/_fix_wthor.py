@@ -4,10 +4,11 @@ import ctypes
 import os
 from typing import BinaryIO, Dict, Iterable, Iterator, List, Mapping
 
-from ._games import (EMPTIES_BYTE, HEADER, REAL, RECORD, SCORE, GameRefused, NotGames, final_discs, game_of, positions_of,
-                     read_header)
+from ._games import EMPTIES_BYTE, HEADER, REAL, RECORD, SCORE
+from ._games import GameRefused, final_discs, game_of, positions_of, read_header
 from ._positions import Position
 from ._published import Compared, Unfit
+from ._text import NotText
 
 
 class Fixed:
@@ -22,14 +23,15 @@ class Fixed:
 
     def summary(self) -> str:
         """Returns text: how many scores were changed and how many were not compared. Call this after iterating."""
-        changed, others = sum(it.published != it.exact for it in self._compared.values()), self._games - len(self._compared)
+        changed = sum(it.published != it.exact for it in self._compared.values())
+        others = self._games - len(self._compared)
         real = f"; real scores changed {self._real_changed}, not checked {self._real_unknown}" if self._with_real else ""
         return f"theoretical scores changed {changed} of {self._games}, not compared {others}{real}"
 
     def __iter__(self) -> Iterator[bytes]:
         try:
             count, empties = read_header(self._file)
-        except NotGames as why:
+        except NotText as why:
             raise self._unfit(str(why)) from None
         self._file.seek(0)
         yield self._exact_header(bytearray(self._file.read(HEADER.size)), empties)
@@ -53,13 +55,12 @@ class Fixed:
         return header
 
     def _exact(self, record: bytearray) -> bytearray:
-        """Returns a game's record, with the exact scores that are known. Raises Unfit if the position or the published score
-        that was compared under the game's number is not this game's."""
+        """Returns a game's record, with the exact scores that are known. Raises Unfit if the position or the published
+        score that was compared under the game's number is not this game's."""
         game, it = game_of(self._games, bytes(record)), self._compared.get(self._games)
         positions: List[Position] = []
-        if it is not None or self._with_real:
-            with contextlib.suppress(GameRefused):
-                positions = positions_of(self._library, game)
+        with contextlib.suppress(GameRefused):
+            positions = positions_of(self._library, game)
         if it is not None:
             if it.position.to_obf() not in map(Position.to_obf, positions) or game.score != it.published:
                 raise self._unfit(f"its game {it.game} has another position or theoretical score")

@@ -25,10 +25,6 @@ SQUARES = bytes(WORDS.get(f"{chr(96 + byte % 10)}{byte // 10}", NO_SQUARE) for b
 TEXT = bytes([*b"\t\n\v\f\r", *range(32, 256)])  # a text begins with one of these; a WTHOR file begins with the century
 
 
-class NotGames(NotText):
-    """The file is neither a text nor a WTHOR file of games."""
-
-
 class GameRefused(ValueError):
     """A game can't be read or played. `game` is its number. `move` is the number of its illegal or last move, from 1
     and without passes, or None if the game can't be read or has no moves."""
@@ -115,13 +111,13 @@ def read_games(
 
 def games_in(file: Any, name: str) -> Tuple[Iterator[Game], Optional[int]]:
     """Returns the games of a file, and how many squares are empty in the positions of their theoretical scores: 0 if a
-    WTHOR file does not say it, None for a text. Raises NotGames; iterating over the games may raise NotText."""
+    WTHOR file does not say it, None for a text. Raises NotText, perhaps only on iterating over the games."""
     if not name.lower().endswith(".wtb") and file.peek(1)[:1].strip(TEXT) == b"":
         return transcripts(file, name), None
     try:
         count, empties = read_header(file)
-    except NotGames as why:
-        raise NotGames(f"{name} is not a WTHOR file of games: {why}") from None
+    except NotText as why:
+        raise NotText(f"{name} is not a WTHOR file of games: {why}") from None
     return records(file, count, empties), empties
 
 
@@ -135,10 +131,10 @@ def transcripts(file: BinaryIO, name: str) -> Iterator[Game]:
 
 def read_header(file: BinaryIO) -> Tuple[int, int]:
     """Reads the header of a WTHOR file. Returns the number of games, and the number of empty squares in the positions
-    of their theoretical scores, or 0 if the header does not say it. Raises NotGames."""
+    of their theoretical scores, or 0 if the header does not say it. Raises NotText."""
     head = file.read(HEADER.size)
     if len(head) < HEADER.size:
-        raise NotGames(f"it ends within its header of {HEADER.size} bytes" if head else "it is empty")
+        raise NotText(f"it ends within its header of {HEADER.size} bytes" if head else "it is empty")
     count, other, board, kind, empties = HEADER.unpack(head)
     for is_wrong, why in (
         (b"\0" not in head, "it begins like a text"),
@@ -148,7 +144,7 @@ def read_header(file: BinaryIO) -> Tuple[int, int]:
         (empties > 60, f"its theoretical scores are for {empties} empty squares, but a game has only 60"),
     ):
         if is_wrong:
-            raise NotGames(why)
+            raise NotText(why)
     return count, empties
 
 

@@ -253,13 +253,19 @@ def fix(place: str, compared: Sequence[Compared], library: ctypes.CDLL, with_rea
         of_files.setdefault(it.file, []).append(it)
     if not of_files:
         raise Stop("no theoretical score is compared, so --fix has none to write")
+    paths = [place]
+    if os.path.isdir(place):
+        paths = [os.path.join(place, os.path.basename(name)) for name in of_files]
+    elif len(of_files) > 1:
+        raise Stop(f"--fix takes a folder, since the list names {len(of_files)} WTHOR files")
+    if len(set(paths)) < len(of_files):
+        raise Stop("two WTHOR files of the list have one name, so --fix can't write them into one folder")
     with contextlib.ExitStack() as stack:
         fixed: Dict[str, Fixed] = {}
-        for path, name in places_of(place, list(of_files)).items():
+        for path, (name, of_file) in zip(paths, of_files.items()):
             if os.path.lexists(path):
                 raise would_be_lost(path)
-            source = stack.enter_context(opened_again(name))
-            fixed[path] = Fixed(shown(name), source, of_files[name], library, with_real)
+            fixed[path] = Fixed(shown(name), stack.enter_context(opened_again(name)), of_file, library, with_real)
         try:
             write_new(fixed)
         except FileExistsError as error:
@@ -270,20 +276,6 @@ def fix(place: str, compared: Sequence[Compared], library: ctypes.CDLL, with_rea
             raise unwritable(shown(error.filename), error) from None
     for path, copy in fixed.items():
         report(f"{shown(path)}: {copy.summary()}", DONE)
-
-
-def places_of(place: str, names: Sequence[str]) -> Dict[str, str]:
-    """Returns {path of the copy: name of the WTHOR file} for --fix. Raises Stop for several files if `place` is not a
-    folder, or if two copies would have the same path."""
-    if os.path.isdir(place):
-        places = {os.path.join(place, os.path.basename(name)): name for name in names}
-    elif len(names) == 1:
-        places = {place: names[0]}
-    else:
-        raise Stop(f"--fix takes a folder, since the list names {len(names)} WTHOR files")
-    if len(places) < len(names):
-        raise Stop("two WTHOR files of the list have one name, so --fix can't write them into one folder")
-    return places
 
 
 def opened_again(name: str) -> io.BufferedReader:

@@ -7,7 +7,7 @@ MARKS = (b"\xef\xbb\xbf", b"\xff\xfe", b"\xfe\xff")  # byte-order marks of UTF-8
 
 
 class NotText(ValueError):
-    """A file is not a text that can be read. The message names the file."""
+    """A file is not a text that can be read, or also not a WTHOR file of games. The message names the file."""
 
 
 def text_lines(file: BinaryIO, name: str, may_have_nul: bool = False) -> Iterator[bytes]:
