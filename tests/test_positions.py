@@ -12,7 +12,7 @@ import xml.etree.ElementTree
 from bench import player
 
 from .support import ROOT, built, need, run
-from .games import NAMES, can_move, passed, positions_of, random_game, squares_of
+from .games import NAMES, positions_of, random_game, squares_of, transcript
 from .positions import PIL, need_modules, numpy, random_positions
 import ffosolve
 from ffosolve import NoMove, Position, Scoring, Solver
@@ -30,38 +30,34 @@ def position_of(own, opp, is_black):
 class Rules(unittest.TestCase):
     def test_moves_passes_and_ends_are_those_of_the_plain_player(self):
         ends = 0
-        for at in itertools.chain(*(player.random_game(random.Random(seed)) for seed in range(60))):
-            *plain, _ = at
-            position, own_moves = position_of(*plain), player.moves(*plain[:2])
-            names = [NAMES[square.bit_length() - 1] for square in player.squares_in(own_moves)]
-            other = can_move(passed(plain))
+        for own, opp, is_black, _ in itertools.chain(*(player.random_game(random.Random(seed)) for seed in range(60))):
+            position, other = position_of(own, opp, is_black), player.moves(opp, own) != 0
+            numbers = [square.bit_length() - 1 for square in player.squares_in(player.moves(own, opp))]
+            names = [NAMES[number] for number in numbers]
             self.assertEqual((position.legal_moves, position.must_pass, position.is_over),
                              (names, not names and other, not names and not other))
-            for square, name in zip(player.squares_in(own_moves), names):
-                after = position_of(*player.after(*plain[:2], square), not plain[2])
-                for move in (name, name.lower(), square.bit_length() - 1):
+            for number, name in zip(numbers, names):
+                after = position_of(*player.after(own, opp, 1 << number), not is_black)
+                for move in (name, name.lower(), number):
                     self.assertEqual(position.play(move).to_obf(), after.to_obf())
             if position.is_over:
                 ends += 1
-                scores = player.values(*plain[:2])
+                scores = player.values(own, opp)
                 self.assertEqual([position.score(scoring) for scoring in Scoring], list(scores))
-                self.assertEqual([position.score(), position.score("discs")], [*scores[:2]])
+                self.assertEqual((position.score(), position.score("discs")), scores[:2])
         self.assertEqual(ends, 60)
 
     def test_a_transcript_plays_on_from_any_position(self):
-        rng = random.Random(77)
+        rng, start = random.Random(77), Position.start()
         for number in range(100):
             game = random_game(rng)
-            squares = squares_of(game)
+            squares, text = squares_of(game), transcript(game).upper()
             cut, positions = number % len(squares), positions_of(squares)
-            texts = ["".join(NAMES[square] for square in part) for part in (squares[:cut], squares[cut:])]
-            middle = Position.start().play_all(texts[0])
-            end = position_of(*positions[min(positions)])
+            middle, end = start.play_all(text[:2 * cut]), position_of(*positions[min(positions)])
             self.assertEqual(middle.to_obf(), position_of(*positions[60 - cut]).to_obf())
             with_passes = [NAMES[move] if move is not None else "--" for move in game]
             noted = " ".join(with_passes) + " pass pass 33-31 % f5"
-            start = Position.start()
-            for at, moves in ((middle, texts[1]), (middle, squares[cut:]), (start, with_passes), (start, noted)):
+            for at, moves in ((middle, text[2 * cut:]), (middle, squares[cut:]), (start, with_passes), (start, noted)):
                 found = at.play_all(moves)
                 self.assertIn(end, (found, found.passed()))
                 self.assertTrue(found.is_over)
