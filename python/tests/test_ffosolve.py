@@ -300,3 +300,4 @@ class Obf(unittest.TestCase):
     def test_table_entries_are_those_of_the_header(self):
         sizes = [ffosolve.table_entries(empties) for empties in range(ffosolve.MOST_EMPTIES + 1)]
         self.assertEqual(sizes, [0] * 11 + [4096] * 4 + [65536] * 8 + [1000000] * 38)
+        self.assertLessEqual(max(sizes), ffosolve.MOST_ENTRIES)
