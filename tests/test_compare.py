@@ -1,5 +1,6 @@
 """ffosolve-games compare: prints the wrong theoretical scores of a list; --fix writes corrected WTHOR files."""
 import contextlib
+import itertools
 import os
 import random
 import re
@@ -42,9 +43,6 @@ class Compare(Case):
     def unfit(self, report, why):
         self.compare(self.LISTED, report, status=3, err=f"report is not a report of list: {why}")
 
-    def bad(self, listed, why):
-        self.compare(listed, self.REPORT, status=3, err=f"cannot compare list: {why}")
-
     def test_scores_are_discs_of_black(self):
         out = ("a, b.wtb, game 8: published 34, exact 1, difference +33\n"
                "a, b.wtb, game 9: published 0, exact 64, difference -64\n"
@@ -65,24 +63,27 @@ class Compare(Case):
 
     def test_a_changed_list_is_refused(self):
         lines = self.LISTED.splitlines(True)
-        wrong = "its line {} is not the digest of the lines before it, so they were changed"
-        self.bad(self.LISTED.replace(self.PASS, self.PASS[1:]), "its line 4 is refused: bad square at column 64")
-        for listed, at in (
-            (self.LISTED.replace("theoretical score 34", "theoretical score 33"), 8),
-            (self.LISTED.replace("game 9", "game 8"), 8),
-            (self.LISTED.replace("X; % c", "O; % c"), 8),
-            ("".join(lines[:1] + lines[2:]), 7),
-            ("".join(lines[:1] + lines[2:3] + lines[1:2] + lines[3:]), 8),
-            ("".join(lines[:8] + lines[9:]), 9),
-            (self.LISTED.replace("line 3 of 4", "line 4 of 4"), 10),
-            ("".join(lines[:9] + lines[1:2] + lines[9:]), 10),
+        changed = "its line {} is not the digest of the lines before it, so they were changed"
+        undigested = "it has no digest after line {}; print it again"
+        for listed, why in (
+            (self.LISTED.replace(self.PASS, self.PASS[1:]), "its line 4 is refused: bad square at column 64"),
+            (self.LISTED.replace("theoretical score 34", "theoretical score 33"), changed.format(8)),
+            (self.LISTED.replace("game 9", "game 8"), changed.format(8)),
+            (self.LISTED.replace("X; % c", "O; % c"), changed.format(8)),
+            ("".join(lines[:1] + lines[2:]), changed.format(7)),
+            ("".join(lines[:1] + lines[2:3] + lines[1:2] + lines[3:]), changed.format(8)),
+            ("".join(lines[:8] + lines[9:]), changed.format(9)),
+            (self.LISTED.replace("line 3 of 4", "line 4 of 4"), changed.format(10)),
+            ("".join(lines[:9] + lines[1:2] + lines[9:]), changed.format(10)),
+            (self.GAMES, undigested.format(7)),
+            ("".join(lines[:-1]), undigested.format(7)),
+            (self.LISTED + lines[1], undigested.format(12)),
+            (self.REPORT, "it is a report; LIST comes first"),
+            (re.sub(", theo.*", "", self.GAMES), "it has no theoretical score"),
+            ("", "it has no theoretical score"),
+            ("% games\n", "it has no theoretical score"),
         ):
-            self.bad(listed, wrong.format(at))
-        for listed, at in ((self.GAMES, 7), ("".join(lines[:-1]), 7), (self.LISTED + lines[1], 12)):
-            self.bad(listed, f"it has no digest after line {at}; print it again")
-        self.bad(self.REPORT, "it is a report; LIST comes first")
-        for listed in (re.sub(", theo.*", "", self.GAMES), "", "% games\n"):
-            self.bad(listed, "it has no theoretical score")
+            self.compare(listed, self.REPORT, status=3, err=f"cannot compare list: {why}")
 
     def test_comments_and_other_lists_may_be_added_to_a_list(self):
         listed = with_digest(self.EXACT)
@@ -100,11 +101,10 @@ class Compare(Case):
             if 4 in positions:
                 lists.append(with_digest(line_of(positions[4], f"it.wtb, game {len(lists) + 1}, theoretical score 30")))
         reports = [report_of(listed).encode().splitlines(True) for listed in lists]
-        for at, listed in enumerate(lists):
-            for other, report in enumerate(reports):
-                with contextlib.suppress(Unfit):
-                    Comparison(listed.encode().splitlines(True), report)
-                    accepted.append((at, other))
+        for (at, listed), (other, report) in itertools.product(enumerate(lists), enumerate(reports)):
+            with contextlib.suppress(Unfit):
+                Comparison(listed.encode().splitlines(True), report)
+                accepted.append((at, other))
         self.assertEqual(accepted, [(at, at) for at in range(100)])
 
     def test_what_is_not_a_report_is_refused(self):
@@ -322,10 +322,9 @@ class Fix(Case):
 
     def test_one_of_several_runs_writes_the_file(self):
         before, runs = contents(), [self.start(*self.FIX) for _ in range(6)]
-        err = sorted(it.communicate(timeout=SECONDS)[1].decode() for it in runs)
-        lost = "ffosolve-games: new.wtb already exists and would be overwritten\n"
-        self.assertEqual(err, sorted([f"ffosolve-games: {self.err}\n"] + 5 * [lost]))
-        self.assertEqual(sorted(it.returncode for it in runs), [1] + 5 * [3])
+        ends = sorted((it.communicate(timeout=SECONDS)[1].decode(), it.returncode) for it in runs)
+        lost = "ffosolve-games: new.wtb already exists and would be overwritten\n", 3
+        self.assertEqual(ends, sorted([(f"ffosolve-games: {self.err}\n", 1), *[lost] * 5]))
         self.assertEqual(contents(), {**before, "new.wtb": self.wanted})
 
     def test_an_interrupted_run_leaves_no_file_under_the_name(self):
