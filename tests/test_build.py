@@ -35,7 +35,7 @@ cat
 exit 3
 END
 """
-# Values of ACTS: rt waits up to 45 seconds for the file starts.go; reports an error; reports that it can't use its work.
+# Values of ACTS: rt waits up to 45 seconds for the file starts.go; reports an error; or reports work that it can't use.
 WAIT = 'for left in $(seq 450); do [ ! -e "$STARTS.go" ] || break; sleep 0.1; done\n'
 FAIL = "echo 'src/main.rt:1:2: error: a goal is open'; echo 'one more line'; exit 1\n"
 SPOIL = "echo 'rt: the kept work of ffosolve cannot be used: remove it'; exit 1\n"
