@@ -1,4 +1,4 @@
-# Proves and builds the programs and the library for C with rt; tests, installs and packs them. `make help` lists the targets.
+# Proves, builds, tests, installs and packs the programs and the library for C. `make help` lists the targets.
 MAKEFLAGS += -rR --no-print-directory
 .SHELLFLAGS = -euc
 .ONESHELL:

@@ -40,6 +40,9 @@ dist: levels ## makes out/ffosolve-VERSION-linux-x86-64.tar.gz, which runs where
 	(cd out && sha256sum $(archive).tar.gz >$(archive).tar.gz.sha256)
 	echo "made: $$PWD/out/$(archive).tar.gz"
 
+build_wheel = FFOSOLVE_WHEEL_VERSION='$(package)' \
+    python3 -Bc 'import sys, ffosolve_wheel; print(ffosolve_wheel.build_wheel(sys.argv[1]))'
+
 # The package for Python is where Debian's Python looks for it, as if pip had installed it; but pip can't remove it.
 deb: levels ## makes out/ffosolve_VERSION_amd64.deb, a package for Debian
 	$(clean)
@@ -47,7 +50,7 @@ deb: levels ## makes out/ffosolve_VERSION_amd64.deb, a package for Debian
 	usr="$$room/usr" doc="$$room/usr/share/doc/ffosolve" python="$$room/usr/lib/python3/dist-packages"
 	$(call stage,LIBDIR=/usr/lib/x86_64-linux-gnu,/usr)
 	$(call texts,deb,archive,,/usr/share/doc/ffosolve,$$doc)
-	wheel=$$(cd python/backend && FFOSOLVE_WHEEL_VERSION='$(package)' python3 -Bc 'import sys, ffosolve_wheel; print(ffosolve_wheel.build_wheel(sys.argv[1]))' "$$room")
+	wheel=$$(cd python/backend && $(build_wheel) "$$room")
 	python3 -m zipfile -e "$$room/$$wheel" "$$python"
 	rm -r "$$room/$$wheel" "$$python"/*.dist-info/RECORD "$$doc/python"
 	echo debian >"$$python/ffosolve-$(package).dist-info/INSTALLER"
@@ -69,7 +72,7 @@ deb: levels ## makes out/ffosolve_VERSION_amd64.deb, a package for Debian
 wheel: levels ## makes out/ffosolve-VERSION-py3-none-manylinux_2_34_x86_64.whl, the package for Python with the library
 	$(clean)
 	cd python/backend
-	name=$$(FFOSOLVE_WHEEL_VERSION='$(package)' FFOSOLVE_WHEEL_LIBRARIES=../../out python3 -Bc 'import ffosolve_wheel; print(ffosolve_wheel.build_wheel("../../out"))')
+	name=$$(FFOSOLVE_WHEEL_LIBRARIES=../../out $(build_wheel) ../../out)
 	echo "made: $${PWD%/python/backend}/out/$$name"
 
 .PHONY: dist deb wheel

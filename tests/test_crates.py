@@ -23,5 +23,4 @@ class Crates(unittest.TestCase):
         self.assertIn(run(ROOT / "bench/run", "counts", text=True, check=True).stdout, expected.read_text())
 
     def test_the_checkout_has_no_link_which_rt_ci_would_refuse(self):
-        links = [path for path in ROOT.rglob("*") if path.is_symlink() and ".git" not in path.parts]
-        self.assertEqual(links, [])
+        self.assertEqual([path for path in ROOT.rglob("*") if path.is_symlink() and ".git" not in path.parts], [])

@@ -11,10 +11,8 @@ from unittest import mock
 from tests.prefix import FIRST, FIRST_OBF, LEVELS, VERSION, WITHOUT_GIT, copied_checkout, files_below, path_without
 from tests.support import ROOT, InFolder, is_v3, lack, module_folder, need, run, stored, write
 
-# The environment of all tests, in which every commit has the same author and time.
-PLACES = {**WITHOUT_GIT, **{f"GIT_{who}_{what}": text for who in ("AUTHOR", "COMMITTER") for what, text in (
-    ("NAME", "a"), ("EMAIL", "a@b"), ("DATE", "1700000000 +0000"))}}
-COMMIT_ALL = "git init -q; git add -A; git commit -q -m all"
+COMMIT = "GIT_COMMITTER_DATE='1700000000 +0000' git -c user.name=a -c user.email=a@b commit -q -m one"
+COMMIT_ALL = f"git init -q; git add -A; {COMMIT}"
 # A Python program: solves the position in its argument, and prints versions, best moves, and the files that it loaded.
 SOLVE = """
 import importlib.metadata, re, sys, ffosolve
@@ -42,16 +40,15 @@ def made(target, folder, name, **how):
 def setUpModule():
     """Makes the archive in two checkouts that differ in path, times, umask, locale and time zone, and unpacks the first
     archive."""
-    global CHECKOUTS, ARCHIVES, COMMIT, PACKAGE, NAME, UNPACKED, WITHOUT_RT
+    global CHECKOUTS, ARCHIVES, HEAD, PACKAGE, NAME, UNPACKED, WITHOUT_RT
     need("make", "git", "rt")
-    unittest.enterModuleContext(mock.patch.dict(os.environ, PLACES, clear=True))
+    unittest.enterModuleContext(mock.patch.dict(os.environ, WITHOUT_GIT, clear=True))
     work = module_folder()
-    CHECKOUTS = [copied_checkout(work / name) for name in ("a", "another place")]
-    for checkout in CHECKOUTS:
-        commit = f"git init -q; git add VERSION; git commit -q -m one; {COMMIT_ALL}"
-        run("sh", "-euc", commit, cwd=checkout, check=True)
-    COMMIT = run("git", "rev-parse", "HEAD", cwd=CHECKOUTS[0], text=True).stdout.strip()
-    PACKAGE = f"{VERSION}+1.g{COMMIT[:7]}"
+    first = copied_checkout(work / "a")
+    run("sh", "-euc", f"git init -q; git add VERSION; {COMMIT}; {COMMIT_ALL}", cwd=first, check=True)
+    CHECKOUTS = [first, shutil.copytree(first, work / "another place")]
+    HEAD = run("git", "rev-parse", "HEAD", cwd=first, text=True).stdout.strip()
+    PACKAGE = f"{VERSION}+1.g{HEAD[:7]}"
     NAME = f"ffosolve-{PACKAGE}-linux-x86-64"
     os.utime(CHECKOUTS[1] / "README.md", (0, 0))
     other = {"umask": 0o077, "env": {**os.environ, "LC_ALL": "C", "TZ": "UTC+9"}}
@@ -59,8 +56,7 @@ def setUpModule():
     UNPACKED = work / "a folder with blanks" / NAME
     UNPACKED.parent.mkdir()
     run("tar", "-xzf", ARCHIVES[0], "-C", UNPACKED.parent, check=True)
-    WITHOUT_RT = {"PATH": path_without("rt", work), "HOME": str(work), "TMPDIR": str(work),
-                  "PYTHONDONTWRITEBYTECODE": "1"}
+    WITHOUT_RT = {"PATH": path_without("rt", work), "TMPDIR": str(work), "PYTHONDONTWRITEBYTECODE": "1"}
 
 
 class Case(InFolder):
@@ -116,7 +112,7 @@ class Packages(Case):
     def test_the_file_proved_names_commit_kit_and_the_crates_of_each_program_lowest_first(self):
         text = (UNPACKED / "PROVED").read_text()
         kit = run("rt", "version", text=True).stdout.strip()
-        self.assertIn(f"ffosolve {PACKAGE}, commit {COMMIT}, {kit}\n", text)
+        self.assertIn(f"ffosolve {PACKAGE}, commit {HEAD}, {kit}\n", text)
         uses = dict(re.findall(r"^(\w+)[^:#\n]*:(.*)$", stored("crates.txt").decode(), re.M))
         crates = {place: line.split() for place, line in re.findall(r"^(\S+/\S+): (.*)$", text, re.M)}
         self.assertEqual({place: names[-1] for place, names in crates.items()}, {
