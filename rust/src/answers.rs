@@ -37,13 +37,4 @@ impl Answer {
         };
         Answer { score: answer.score as i8, best }
     }
-
-    pub(crate) fn raw(self) -> raw::Answer {
-        let (kind, best) = match self.best {
-            Best::Moves(squares) => (0, squares.mask()),
-            Best::Pass => (1, 0),
-            Best::Over => (2, 0),
-        };
-        raw::Answer { score: self.score.into(), kind, best }
-    }
 }

@@ -51,11 +51,17 @@ impl Line {
     /// # Errors
     /// `NoPosition` if the line is blank or a comment, otherwise the first fault from the left; `NoMemory`.
     pub fn from_obf<T: AsRef<[u8]> + ?Sized>(text: &T) -> Result<Line, ObfError> {
-        let text = without_end(text.as_ref());
+        let text = text.as_ref();
+        let text = text.strip_suffix(b"\n").unwrap_or(text);
+        let text = text.strip_suffix(b"\r").unwrap_or(text);
         let mut listed = vec![raw::Listed::default(); text.len() / 4]; // a move has at least four bytes, as in `A1:0`
-        let line = read_line(text, &mut listed)?;
-        let listed = listed.iter().take(line.listed).map(listed_of).collect();
+        let (room, mut line, mut at) = (listed.len(), raw::Line::default(), 0);
+        let (from, to) = (text.as_ptr(), listed.as_mut_ptr());
+        // SAFETY: the text has this length, and `listed` this room; what is written is this call's own.
+        let status = unsafe { raw::ffosolve_read_line(from, text.len(), &mut line, to, room, &mut at) };
+        ObfError::of_status(status, at)?;
         let side = if line.side == 0 { Side::Black } else { Side::White };
+        let listed = listed.iter().take(line.listed).map(listed_of).collect();
         Ok(Line { position: Position::of_raw(line.position), side, listed })
     }
 }
@@ -75,20 +81,4 @@ fn listed_of(listed: &raw::Listed) -> (Listed, i8) {
         _ => Listed::Over,
     };
     (what, listed.score as i8)
-}
-
-/// Removes the end of a line: an LF, and a CR before it.
-pub(crate) fn without_end(line: &[u8]) -> &[u8] {
-    let line = line.strip_suffix(b"\n").unwrap_or(line);
-    line.strip_suffix(b"\r").unwrap_or(line)
-}
-
-/// Reads a line, and writes the moves that it lists to `listed`, as many as there is room for.
-pub(crate) fn read_line(text: &[u8], listed: &mut [raw::Listed]) -> Result<raw::Line, ObfError> {
-    let (mut line, mut at) = (raw::Line::default(), 0);
-    let (to, room) = (listed.as_mut_ptr(), listed.len());
-    // SAFETY: the text has this length, and `listed` this room; what is written is this call's own.
-    let status = unsafe { raw::ffosolve_read_line(text.as_ptr(), text.len(), &mut line, to, room, &mut at) };
-    ObfError::of_status(status, at)?;
-    Ok(line)
 }

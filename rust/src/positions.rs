@@ -1,7 +1,6 @@
 //! A position, and the rules of the game.
-use crate::lines::{read_line, without_end};
 use crate::raw;
-use crate::{Error, ObfError, Square, Squares};
+use crate::{Error, Line, ObfError, Square, Squares};
 
 /// The discs of the mover, which is the side to move, and those of the other side. No square has both.
 #[derive(Clone, Copy, PartialEq, Eq, Hash, Debug)]
@@ -28,8 +27,7 @@ impl Position {
     /// # Errors
     /// Those of `Line::from_obf`.
     pub fn from_obf<T: AsRef<[u8]> + ?Sized>(text: &T) -> Result<Position, ObfError> {
-        let line = read_line(without_end(text.as_ref()), &mut [])?;
-        Ok(Position::of_raw(line.position))
+        Ok(Line::from_obf(text)?.position)
     }
 
     /// The position as an OBF line in which the mover has X: 64 squares, and ` X;`.

@@ -23,8 +23,7 @@ impl TryFrom<u32> for Scoring {
     type Error = Error;
 
     fn try_from(number: u32) -> Result<Scoring, Error> {
-        let known = [Scoring::Winner, Scoring::Discs, Scoring::Sign];
-        known.into_iter().find(|scoring| *scoring as u32 == number).ok_or(Error::UnknownScoring)
+        [Scoring::Winner, Scoring::Discs, Scoring::Sign].get(number as usize).copied().ok_or(Error::UnknownScoring)
     }
 }
 
@@ -88,8 +87,9 @@ impl Solver {
     /// Those of `solve`.
     pub fn confirm(&self, position: Position, claim: Answer) -> Result<Answer, Error> {
         let (mut answer, scoring, entries) = (raw::Answer::default(), self.scoring as u32, self.table(&[position]));
+        let claim = raw::Answer { score: claim.score.into(), ..answer }; // nothing but the score matters
         // SAFETY: the pointer is to an answer of this call's own.
-        let status = unsafe { raw::ffosolve_confirm(position.raw(), scoring, entries, claim.raw(), &mut answer) };
+        let status = unsafe { raw::ffosolve_confirm(position.raw(), scoring, entries, claim, &mut answer) };
         Error::of_status(status, 0).map(|()| Answer::of_raw(answer))
     }
 

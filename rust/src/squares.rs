@@ -105,10 +105,8 @@ impl ExactSizeIterator for Squares {}
 
 impl fmt::Display for Squares {
     fn fmt(&self, f: &mut fmt::Formatter<'_>) -> fmt::Result {
-        for (at, square) in self.enumerate() {
-            write!(f, "{}{square}", if at == 0 { "" } else { "," })?;
-        }
-        Ok(())
+        let names: Vec<String> = self.map(|square| square.to_string()).collect();
+        f.write_str(&names.join(","))
     }
 }
 
