@@ -12,7 +12,7 @@ START = (1 << 28 | 1 << 35, 1 << 27 | 1 << 36)
 
 
 def shifted(mask, step, reached):
-    return (mask << step if step > 0 else mask >> -step) & reached & FULL
+    return (mask << step if step > 0 else mask >> -step) & reached
 
 
 def moves(own, opp):
@@ -60,7 +60,7 @@ def random_lines(number, least, most, seed=1):
     while found < number:
         empties = least + found % (most - least + 1)
         for own, opp, is_black, _ in random_game(rng):
-            if count(own | opp) == 64 - empties:
+            if (own | opp).bit_count() == 64 - empties:
                 if moves(own, opp) or moves(opp, own):
                     yield line(own, opp, is_black)
                     found += 1
@@ -71,10 +71,6 @@ def squares_in(mask):
     while mask:
         yield mask & -mask
         mask &= mask - 1
-
-
-def count(mask):
-    return bin(mask).count("1")
 
 
 def line(own, opp, is_black):
@@ -91,6 +87,6 @@ def values(own, opp):
         return tuple(-min(of) for of in zip(*(values(*after(own, opp, square)) for square in squares_in(can))))
     if moves(opp, own):
         return tuple(-value for value in values(opp, own))
-    more = count(own) - count(opp)
+    more = own.bit_count() - opp.bit_count()
     sign = (more > 0) - (more < 0)
-    return more + sign * (64 - count(own | opp)), more, sign
+    return more + sign * (64 - (own | opp).bit_count()), more, sign

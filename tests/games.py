@@ -40,7 +40,7 @@ def positions_of(squares):
         if not player.moves(own, opp) >> square & 1:
             break
         at = (*player.after(own, opp, 1 << square), not is_black)
-        found[64 - player.count(at[0] | at[1])] = at
+        found[64 - (at[0] | at[1]).bit_count()] = at
     return found
 
 

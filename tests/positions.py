@@ -26,6 +26,6 @@ def random_positions(count, empties):
     rng, found = random.Random(1), []
     while len(found) < count:
         discs = 64 - empties[len(found) % len(empties)]
-        at = [(own, opp) for own, opp, *_ in player.random_game(rng) if player.count(own | opp) == discs]
+        at = [(own, opp) for own, opp, *_ in player.random_game(rng) if (own | opp).bit_count() == discs]
         found += [Position(*masks) for masks in at[:1]]
     return found
