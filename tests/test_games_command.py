@@ -1,9 +1,8 @@
 """ffosolve-games: its command line, what it reads, and how it reports what it can't read or write."""
 import os
-import random
 import sys
 
-from .games import PROGRAM, Case, line_of, positions_of, random_game, record, report_of, transcript, with_digest, wthor
+from .games import PROGRAM, Case, line_of, report_of, transcript, with_digest, wthor
 from .support import MOST_BYTES, limited, run, stored, write
 
 

@@ -7,7 +7,7 @@ from typing import BinaryIO, Dict, Iterable, Iterator, List, Mapping
 from ._games import EMPTIES_BYTE, HEADER, REAL, RECORD, SCORE
 from ._games import GameRefused, final_discs, game_of, positions_of, read_header
 from ._positions import Position
-from ._published import Compared, Unfit
+from ._published import Listed, Unfit
 from ._text import NotText
 
 
@@ -16,9 +16,9 @@ class Fixed:
     `with_real`, with the real scores that follow from the moves. A header without the number of empty squares gets that
     of the compared positions. No other byte changes. Raises Unfit, on iterating, if another file was compared."""
 
-    def __init__(self, name: str, file: BinaryIO, compared: List[Compared], library: ctypes.CDLL, with_real: bool) -> None:
+    def __init__(self, name: str, file: BinaryIO, compared: List[Listed], library: ctypes.CDLL, with_real: bool) -> None:
         self._name, self._file, self._library, self._with_real = name, file, library, with_real
-        self._compared: Dict[int, Compared] = {it.game: it for it in compared}
+        self._compared: Dict[int, Listed] = {it.game: it for it in compared}
         self._games = self._real_changed = self._real_unknown = 0
 
     def summary(self) -> str:

@@ -9,14 +9,14 @@ import re
 import signal
 import stat
 import sys
-from typing import Callable, Dict, Iterator, List, Optional, Sequence
+from typing import Callable, Dict, Iterator, List, Optional, Tuple
 
 from . import __version__
 from ._fix_wthor import Fixed, write_new
 from ._games import MOST_DISCS, Game, GameRefused, final_discs, games_in, position_with, positions_of
 from ._library import MOST_EMPTIES, LibraryNotFound, load
 from ._positions import Position
-from ._published import BadList, Compared, Comparison, Unfit, digest_of
+from ._published import BadList, Comparison, Listed, Unfit, digest_of
 from ._text import NotText, shown, text_lines
 
 NAME = "ffosolve-games"
@@ -82,44 +82,19 @@ class Stop(Exception):
 
 
 class FileRefused(Stop):
-    """A file is refused. `print_games` reports it and goes on with the next file; with `compare`, the program ends."""
+    """A file is refused. `list_games` reports it and goes on with the next file; with `compare`, the program ends."""
 
 
-class Output:
-    """Standard output, and a digest of the games that were printed. Raises Stop if writing to it fails."""
+class Messages:
+    """Prints messages on standard error, each with an exit status. `status` is the highest of them so far."""
 
-    def __enter__(self) -> "Output":
-        if sys.stdout is None:
-            raise Stop("cannot write standard output: it is closed")
-        sys.stdout = open(1, "w", closefd=False)  # Python's own, if unbuffered, loses the rest of a partial write
-        self._games, self._has_scores = hashlib.sha256(), False
-        return self
+    status = DONE
 
-    def line(self, text: bytes) -> None:
-        try:
-            sys.stdout.buffer.write(text + b"\n")
-        except OSError as error:
-            raise unwritable("standard output", error) from None
-
-    def game(self, name: str, game: Game, position: Position) -> None:
-        name = shown(name) if any(letter < " " for letter in name) else name  # otherwise `--fix` can open it
-        score = "" if game.score is None else f", theoretical score {game.score}"
-        line = os.fsencode(f"{position.to_obf()} % {name}, game {game.number}{score}")
-        self.line(line)
-        self._games.update(line + b"\n")
-        self._has_scores |= game.score is not None
-
-    def end(self) -> None:
-        """Prints the digest, if a printed game has a theoretical score."""
-        for line in digest_of(self._games) if self._has_scores else ():
-            self.line(line)
-
-    def __exit__(self, *_: object) -> None:
-        try:
-            sys.stdout.flush()
-        except OSError as error:
-            os.dup2(os.open(os.devnull, os.O_WRONLY), 1)  # takes the rest, which Python tries to write when it ends
-            raise unwritable("standard output", error) from None
+    def report(self, reason: object, status: int) -> None:
+        """Prints `reason`, if standard error can be written to."""
+        self.status = max(self.status, status)
+        with contextlib.suppress(OSError):
+            print(f"{NAME}: {reason}", file=sys.stderr or io.StringIO(), flush=True)
 
 
 def number_of_empties(word: str) -> int:
@@ -164,34 +139,53 @@ def main(find: Callable[[], Optional[str]] = lambda: None) -> int:
     """Runs the program with the arguments in sys.argv, and returns its exit status. `find` returns the path of the
     library, or None if `load` is to look for it."""
     signal.signal(signal.SIGPIPE, signal.SIG_DFL)  # if nothing reads the output any more, the program ends silently
+    messages = Messages()
     try:
-        with Output() as output:
+        if sys.stdout is None:
+            raise Stop("cannot write standard output: it is closed")
+        sys.stdout = open(1, "w", closefd=False)  # Python's own, if unbuffered, loses the rest of a partial write
+        try:
             options = options_of(sys.argv[1:])
-            return (compare if options.compares else print_games)(options, find, output)
+            lines = (compare if options.compares else list_games)(options, find, messages)
+            sys.stdout.buffer.writelines(line + b"\n" for line in lines)
+        finally:
+            sys.stdout.flush()
     except LibraryNotFound as why:
-        return report(why, NO_LIBRARY)
+        messages.report(why, NO_LIBRARY)
     except Stop as why:
-        return report(why, why.status)
+        messages.report(why, why.status)
+    except OSError as error:
+        os.dup2(os.open(os.devnull, os.O_WRONLY), 1)  # takes the rest, which Python tries to write when it ends
+        messages.report(f"cannot write standard output: {error.strerror}", UNREADABLE)
     except KeyboardInterrupt:
         return INTERRUPTED
+    return messages.status
 
 
-def print_games(options: argparse.Namespace, find: Callable[[], Optional[str]], output: Output) -> int:
-    library, status = load(find()), DONE
+def list_games(options: argparse.Namespace, find: Callable[[], Optional[str]], messages: Messages) -> Iterator[bytes]:
+    """Yields the lines of a list: one for each game of the files and, if a game has a theoretical score, the digest."""
+    library, covered, has_scores = load(find()), hashlib.sha256(), False
     for name in options.files or ["-"]:
+        listed = shown(name) if any(letter < " " for letter in name) else name  # otherwise `--fix` can open it
         try:
             with opened(name) as file:
-                status = max(status, print_file(name, file, options.empties, library, output))
+                for game, position in with_positions(file, name, options.empties, library, messages):
+                    score = "" if game.score is None else f", theoretical score {game.score}"
+                    line = os.fsencode(f"{position.to_obf()} % {listed}, game {game.number}{score}")
+                    covered.update(line + b"\n")
+                    has_scores |= game.score is not None
+                    yield line
         except FileRefused as why:
-            status = max(status, report(why, why.status))
-    output.end()
-    return status
+            messages.report(why, why.status)
+    if has_scores:
+        yield from digest_of(covered)
 
 
-def print_file(name: str, file: io.BufferedReader, wanted: Optional[int], library: ctypes.CDLL, output: Output) -> int:
-    """Prints one position of each game of a file, or reports on standard error why there is none. Reports wrong scores,
-    too. The position has `wanted` empty squares, or if that is None, as many as the file says. Returns the status."""
-    status = DONE
+def with_positions(file: io.BufferedReader, name: str, wanted: Optional[int], library: ctypes.CDLL,
+                   messages: Messages) -> Iterator[Tuple[Game, Position]]:
+    """Yields each game of a file with one of its positions, or reports why there is none. Reports wrong scores, too. The
+    position has `wanted` empty squares, or if that is None, as many as the file says. A theoretical score for another
+    number of empty squares is left out of the game."""
     games, of_scores = games_in(file, shown(name))
     empties = of_scores if wanted is None else wanted
     if empties is None:
@@ -204,14 +198,13 @@ def print_file(name: str, file: io.BufferedReader, wanted: Optional[int], librar
             positions = positions_of(library, game)
             position = position_with(empties, game, positions)
         except GameRefused as why:
-            status = report(f"{shown(name)}, {why}", REMARKED)
+            messages.report(f"{shown(name)}, {why}", REMARKED)
             continue
         if game.empties not in (None, empties):
             game = game._replace(score=None)
-        output.game(name, game, position)
+        yield game, position
         for wrong in wrong_scores(game, final_discs(positions)):
-            status = report(f"{shown(name)}, game {game.number}: {wrong}", REMARKED)
-    return status
+            messages.report(f"{shown(name)}, game {game.number}: {wrong}", REMARKED)
 
 
 def wrong_scores(game: Game, discs: Optional[int]) -> Iterator[str]:
@@ -226,9 +219,9 @@ def wrong_scores(game: Game, discs: Optional[int]) -> Iterator[str]:
             yield f"its real score is {score}, but its moves give {discs}"
 
 
-def compare(options: argparse.Namespace, find: Callable[[], Optional[str]], output: Output) -> int:
-    """Prints the wrong theoretical scores of a list, and a line of counts. With --fix, first writes corrected WTHOR
-    files. Returns the status."""
+def compare(options: argparse.Namespace, find: Callable[[], Optional[str]], messages: Messages) -> Iterator[bytes]:
+    """Yields a line for each wrong theoretical score of a list, and one of counts. With --fix, first writes corrected
+    WTHOR files."""
     listed, solved = options.files
     try:
         found = Comparison(lines_of(listed), lines_of(solved))
@@ -237,18 +230,20 @@ def compare(options: argparse.Namespace, find: Callable[[], Optional[str]], outp
     except Unfit as why:
         raise Stop(f"{shown(solved)} is not a report of {shown(listed)}: {why}") from None
     if options.fix is not None:
-        fix(options.fix, found.compared, load(find()), options.real)
+        fix(options.fix, found.compared, load(find()), options.real, messages)
+    if found.differences or found.refused:
+        messages.status = REMARKED
     for it in found.differences:
         difference = f"published {it.published}, exact {it.exact}, difference {it.published - it.exact:+}"
-        output.line(os.fsencode(f"{it.file}, game {it.game}: {difference}"))
-    output.line(b"compared %d differ %d refused %d unscored %d"
-                % (len(found.compared), len(found.differences), found.refused, found.unscored))
-    return REMARKED if found.differences or found.refused else DONE
+        yield os.fsencode(f"{it.file}, game {it.game}: {difference}")
+    yield (b"compared %d differ %d refused %d unscored %d"
+           % (len(found.compared), len(found.differences), found.refused, found.unscored))
 
 
-def fix(place: str, compared: Sequence[Compared], library: ctypes.CDLL, with_real: bool) -> None:
-    """Writes copies of the compared WTHOR files, with exact scores: to `place`, or into it if it is a folder."""
-    of_files: Dict[str, List[Compared]] = {}
+def fix(place: str, compared: List[Listed], library: ctypes.CDLL, with_real: bool, messages: Messages) -> None:
+    """Writes copies of the compared WTHOR files, with exact scores: to `place`, or into it if it is a folder. Reports
+    how many scores were changed."""
+    of_files: Dict[str, List[Listed]] = {}
     for it in compared:
         of_files.setdefault(it.file, []).append(it)
     if not of_files:
@@ -273,9 +268,9 @@ def fix(place: str, compared: Sequence[Compared], library: ctypes.CDLL, with_rea
         except Unfit as why:
             raise Stop(str(why)) from None
         except OSError as error:
-            raise unwritable(shown(error.filename), error) from None
+            raise Stop(f"cannot write {shown(error.filename)}: {error.strerror}") from None
     for path, copy in fixed.items():
-        report(f"{shown(path)}: {copy.summary()}", DONE)
+        messages.report(f"{shown(path)}: {copy.summary()}", DONE)
 
 
 def opened_again(name: str) -> io.BufferedReader:
@@ -308,14 +303,3 @@ def opened(name: str) -> Iterator[io.BufferedReader]:
 
 def would_be_lost(name: str) -> Stop:
     return Stop(f"{shown(name)} already exists and would be overwritten")
-
-
-def unwritable(name: str, error: OSError) -> Stop:
-    return Stop(f"cannot write {name}: {error.strerror}")
-
-
-def report(reason: object, status: int) -> int:
-    """Prints `reason` on standard error, if that can be written to, and returns `status`."""
-    with contextlib.suppress(OSError):
-        print(f"{NAME}: {reason}", file=sys.stderr or io.StringIO(), flush=True)
-    return status

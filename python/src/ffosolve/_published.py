@@ -11,6 +11,7 @@ from ._refusals import LineRefused, NoPosition
 COMMENT = re.compile(r"[^%]*% (.+), game ([0-9]{1,10})(?:, theoretical score ([0-9]{1,3}))?")
 ROW = re.compile(r"([0-9]{1,18}) (?:([+-][0-9]{2}) (?:[A-H][1-8](?:,[A-H][1-8])*|PS|--) unlisted|refused: .+)")
 LAST = re.compile("solved ([0-9]{1,18}) refused ([0-9]{1,18})")
+NO_SCORE = -1
 DIGEST = re.compile(rb"[XO-]{64} X; % digest, line [1-4] of 4")
 
 
@@ -23,31 +24,24 @@ class Unfit(Exception):
 
 
 class Listed(NamedTuple):
-    """A line of a list: its position and what its comment says. A line of the digest names no file and no game."""
+    """A line of a list: its position and what its comment says. A line of the digest names no file and no game. Scores
+    are theoretical ones in Black's discs, where the winner gets the empty squares, or NO_SCORE."""
 
     position: Line
     file: str = ""
     game: int = 0
-    score: Optional[int] = None  # the theoretical one: Black's discs, where the winner gets the empty squares
-
-
-class Compared(NamedTuple):
-    """A position of a game, with its theoretical score as it was published and the exact one, in Black's discs."""
-
-    position: Line
-    file: str
-    game: int
-    published: int
-    exact: int
+    published: int = NO_SCORE
+    exact: int = NO_SCORE  # the score in the report, if that is compared
 
 
 class Comparison:
-    """The theoretical scores of a list, and the exact ones of its report. `unscored` counts the positions without a
-    theoretical score, and `refused` those that have one, but are refused in the report. Raises BadList and Unfit."""
+    """The theoretical scores of a list, and the exact ones of its report. `compared` are the lines that have both, and
+    `differences` those whose scores differ. `unscored` counts the positions without a theoretical score, and `refused`
+    those that have one, but are refused in the report. Raises BadList and Unfit."""
 
     def __init__(self, listed: Iterable[bytes], report: Iterable[bytes]) -> None:
         lines, rows = read_list(listed), read_report(report)
-        self.compared: List[Compared] = []
+        self.compared: List[Listed] = []
         self.refused = self.unscored = 0
         for number in sorted(lines.keys() | rows.keys()):
             if number not in rows:
@@ -61,13 +55,12 @@ class Comparison:
                     said = "is refused" if score is None else f"has {score:+03}"
                     raise Unfit(f"line {number} of the list is part of its digest, {exact:+03}, but {said} in the report, "
                                 "which is of another list or scoring")
-            elif line.score is None:
+            elif line.published == NO_SCORE:
                 self.unscored += 1
             elif score is None:
                 self.refused += 1
             else:
-                exact = discs_of_black(score, line.position.side)
-                self.compared.append(Compared(line.position, line.file, line.game, line.score, exact))
+                self.compared.append(line._replace(exact=discs_of_black(score, line.position.side)))
         self.differences = [it for it in self.compared if it.published != it.exact]
 
 
@@ -103,7 +96,7 @@ def read_list(lines: Iterable[bytes]) -> Dict[int, Listed]:
             raise BadList(f"its line {number} is not the digest of the lines before it, so they were changed")
         if not awaited:
             covered, uncovered = hashlib.sha256(), 0
-    if all(it.score is None for it in found.values()):
+    if all(it.published == NO_SCORE for it in found.values()):
         raise BadList("it has no theoretical score")
     if uncovered:
         raise BadList(f"it has no digest after line {uncovered}; print it again")
@@ -117,7 +110,7 @@ def read_listed(text: bytes) -> Listed:
     if match is None:
         return Listed(position)
     file, game, score = match.groups()
-    return Listed(position, file, int(game), int(score) if score else None)
+    return Listed(position, file, int(game), int(score) if score else NO_SCORE)
 
 
 def read_report(lines: Iterable[bytes]) -> Dict[int, Optional[int]]:
