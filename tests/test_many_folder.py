@@ -106,10 +106,11 @@ class Resuming(Case):
     def test_damaged_files_of_the_run_are_written_again(self):
         words = (*self.WORDS, "--book-in=one.book")
         self.many(*words)
-        before = self.files()
-        run("truncate", "--size=-5", "list", "program-0", "book-in", "solve.py", "task.json", cwd="work", check=True)
-        self.many(*words, message="in 3 parts, 3 of them solved before;")
-        self.assertEqual(self.files(), before)
+        before, names = self.files(), ("list", "program-0", "book-in", "solve.py", "task.json")
+        for damaged in (names, *zip(names)):  # all of them, then each
+            run("truncate", "--size=-5", *damaged, cwd="work", check=True)
+            self.many(*words, message="in 3 parts, 3 of them solved before;")
+            self.assertEqual(self.files(), before)
 
     def test_other_options_are_refused_by_name(self):
         words = ("--lines=20", "--scoring=discs", "--max-empties=07", "--complete", "--book-in=one.book", "work",
