@@ -9,9 +9,9 @@ from unittest import mock
 from tests.support import InFolder, built, copy_many, module_folder, positions, run, write
 
 BOARD = b"-OXXXXX-XXXXXXXOXXXXXXXXXXXXXXXXXXXOXXXXXXXXXXXXXXXXXXXXXXXXXXXX"  # two empty squares
-# Takes the place of the program @real@ and runs it. Appends its arguments to the file $WORDS. Dies or fails if its
-# input has DIE or FAIL. With a part of a list, first sleeps $PAUSE seconds, or 45 once $LAST parts are solved, and lets
-# the function $SPOIL change the output; with a line that only tests the program, lets $SPOIL_KNOWN change it.
+# A script that takes the place of the program @real@ and runs it. It appends its arguments to the file $WORDS. It dies
+# or fails if its input has DIE or FAIL. For a part of a list, it first sleeps $PAUSE seconds, or 45 once $LAST parts
+# are solved, and the Python function $SPOIL changes the output. For the known line, $SPOIL_KNOWN changes the output.
 ACTING = """\
 #!@python@ -IS
 import glob, os, signal, subprocess, sys, time
@@ -53,8 +53,8 @@ def install(name, *changes, script=None):
 
 
 def setUpModule():
-    """Installs ffosolve-many with the programs themselves (MANY) and with the script ACTING in their place (ACTS), and
-    makes a list (SMALL)."""
+    """Installs ffosolve-many with the programs (MANY), and with the script ACTING in their place (ACTS). Makes a list
+    (SMALL) of 60 positions, in lines of 68 bytes."""
     global BASE, MANY, ACTS, SMALL
     BASE = module_folder()
     (BASE / "tmp").mkdir()
@@ -76,17 +76,17 @@ class Case(InFolder):
         self.write_list(SMALL)
 
     def write_list(self, text, *options):
-        """Writes `text` to list.obf. Sets `self.one`, and writes one.book, by one run of ffosolve with `options`."""
+        """Writes `text` to list.obf, and runs ffosolve with `options`: it prints `self.one` and writes one.book."""
         write("list.obf", text)
         ran = run(MANY.with_name("ffosolve"), "--book-out", "one.book", *options, "list.obf")
         self.assertEqual((ran.returncode, ran.stderr), (0, b""))
         self.one = ran.stdout
 
     def many(self, *words, status=0, output=None, message="", by=None, places={}, **how):
-        """Runs ffosolve-many, by default MANY and otherwise the one at `by`, with the variables `places` added to the
-        environment. Asserts its status, its output, and that `message` is in its errors; returns the errors. The output
-        is by default `self.one` if the status is 0, and otherwise empty. If the status is 0 and joined.book is one of
-        `words`, asserts that this book equals one.book, and removes it."""
+        """Runs MANY, or the command `by` if it is given, with the variables `places` added to the environment. Asserts
+        its status, its output, and that `message` is in its errors; returns the errors. The output is by default
+        `self.one` if the status is 0, and otherwise empty. If the status is 0 and joined.book is one of `words`,
+        asserts that this book equals one.book, and removes it."""
         ran = run(by or MANY, *words, env={**os.environ, **places}, **how)
         errors = ran.stderr.decode()
         if output is None:

@@ -20,7 +20,7 @@ class Results(Case):
         self.assertEqual(self.many(*words), line.format(0))
         self.assertEqual(self.many(*words), line.format(9))
         self.assertEqual(self.many(*words, "--quiet"), "")
-        self.write_list(many.SMALL.splitlines(keepends=True)[0])
+        self.write_list(many.SMALL[:68])
         self.many("work", "list.obf", message=": 1 line in 1 part, 0 of them")
 
     def test_a_checkout_has_the_program_that_its_wrapper_runs(self):
@@ -334,7 +334,7 @@ class Progress(unittest.TestCase):
         self.enterContext(mock.patch("time.monotonic", lambda: self.now))
 
     def progress(self, texts, lines=1):
-        """Returns the Progress of a run whose parts have `lines` lines each, and the weights of `texts`."""
+        """Returns the Progress of a run with a part for each of `texts`; each part counts as `lines` lines."""
         a_run = folder.Run.__new__(folder.Run)
         a_run.lines, a_run.all_lines, a_run.parts, a_run.text = lines, len(texts) * lines, len(texts), texts.__getitem__
         return engine.Progress(a_run, range(len(texts)), 20)

@@ -29,7 +29,7 @@ def setUpModule():
 
 class Interfaces(unittest.TestCase):
     def test_the_calls_of_later_versions_of_dask_are_used(self):
-        """Dask is a mock. Its cluster has two workers, one of which is ready; later, no worker can take a part."""
+        """Dask is a mock. Its cluster has two workers, one of which is ready; later, no worker can take the part."""
         dask, workers = mock.Mock(WorkerPlugin=object), {"h1": (None, 2, "h1", 2, []), "h2": (None, None, "h2", 7, [])}
         client, pool = dask.Client.return_value, dask.Client.return_value.get_executor.return_value
         client.status = "running"
@@ -209,7 +209,7 @@ class Cluster(Case):
         self.start_workers("worker1", "worker2")
         words = (many.MANY, "--scheduler=scheduler.json", *self.WORDS)
         run(many.MANY, "--cut", *self.WORDS)
-        full = limited("RLIMIT_FSIZE", len(self.one) // 15 + 400)  # some records are shorter
+        full = limited("RLIMIT_FSIZE", len(self.one) // 15 + 400)  # some records are longer
         self.many(*words, by=PYTHON, preexec_fn=full, status=3,
                   message="ffosolve-many: cannot write work: File too large\n")
         wait_until(lambda: not self.programs())

@@ -69,7 +69,7 @@ class Resuming(Case):
         self.many(*self.WORDS)
         self.many(*self.WORDS, message="in 3 parts, 3 of them solved before;")
         path, task = Path("work/results/0000001"), json.loads(Path("work/task.json").read_text())
-        whole, text = path.read_bytes(), b"".join(many.SMALL.splitlines(keepends=True)[20:40])
+        whole, text = path.read_bytes(), many.SMALL[68 * 20:68 * 40]
         head, _, results = whole.partition(b"\n")
         _, size, _, seconds, _ = head.split()
         report, book = results[:int(size)], results[int(size):]
@@ -113,8 +113,7 @@ class Resuming(Case):
             self.assertEqual(self.files(), before)
 
     def test_other_options_are_refused_by_name(self):
-        words = ("--lines=20", "--scoring=discs", "--max-empties=07", "--complete", "--book-in=one.book", "work",
-                 "list.obf")
+        words = (*self.WORDS[:3], "--scoring=discs", "--max-empties=07", "--complete", "--book-in=one.book")
         write("other.book", b"% ffobook 2 winner\n")
         self.write_list(many.SMALL, "--scoring=discs")
         digest = hashlib.sha256(Path("one.book").read_bytes()).hexdigest()
@@ -144,8 +143,7 @@ class Resuming(Case):
 
     def test_a_list_that_changed_is_refused_by_its_first_line_that_differs(self):
         self.many(*self.WORDS)
-        lines = many.SMALL.splitlines(keepends=True)
-        for text, line in ((b"".join(lines[:29] + [b"\n"] + lines[30:]), 30), (b"".join(lines[:-1]), 60),
+        for text, line in ((many.SMALL[:68 * 29] + b"\n" + many.SMALL[68 * 30:], 30), (many.SMALL[:-68], 60),
                            (b"%\n" + many.SMALL, 1), (b"", 1)):
             write("list.obf", text)
             self.refused(2, f"from line {line} on: use another folder, or the same list", *self.WORDS)
@@ -264,7 +262,7 @@ class Signals(Case):
     WORDS = ("--jobs=2", "--lines=5", *Case.WORDS[1:])
 
     def open(self, *program, last=99):
-        """Starts `program` in its own session. `many.ACTS` takes 45 seconds for a part once `last` parts are solved."""
+        """Starts `program` in a session of its own. many.ACTS takes 45 seconds for a part once `last` are solved."""
         places = {**os.environ, "PAUSE": "0.15", "LAST": str(last)}
         return self.start(*program, *self.WORDS, start_new_session=True, preexec_fn=as_at_a_login, env=places)
 
@@ -276,8 +274,8 @@ class Signals(Case):
         return ran
 
     def end(self, ran, *signals):
-        """Sends signals to a run and waits for its end. Asserts that then all processes end within a second, or within
-        more if the machine is busy. Returns the run's output, and its errors as text."""
+        """Sends signals to a run, and waits until it ends. Asserts that a second later, or some seconds later on a busy
+        machine, all its processes have ended. Returns the run's output as bytes, and its errors as text."""
         for number in signals:
             ran.send_signal(number)
         output, errors = ran.communicate(timeout=SECONDS)
@@ -325,7 +323,7 @@ class Signals(Case):
             ran = self.open(many.ACTS)
             time.sleep(rng.uniform(0, 2))
             one = rng.choice([*processes_in(self.folder)] or [ran.pid])
-            run("kill", "-KILL", "--", rng.choice((-ran.pid, ran.pid, one)))  # a negative number names the group
+            run("kill", "-KILL", "--", rng.choice((-ran.pid, ran.pid, one)))  # -N is process group N
             output, _ = self.end(ran)
             self.assertIn(ran.returncode, (0, -9) if output else (1, 3, 4, -9))
             self.assertIn(output, (self.one, b""))

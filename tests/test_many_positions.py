@@ -48,16 +48,15 @@ class Lists(unittest.TestCase):
                 self.assertEqual(list(call([], threads=threads)), [])
 
     def test_results_come_before_an_endless_or_slow_iterable_ends(self):
-        """The iterable is slow for 50 positions, and never ends."""
-        def slow():
+        def endless():
             for position in itertools.cycle(self.positions):
-                time.sleep(0.02 if len(taken) < 50 else 0)
+                time.sleep(0.02 if len(taken) < 50 else 0)  # slow at first
                 taken.append(position)
                 yield position
 
         for threads in (1, 4):
             taken = []
-            answers = self.solver.solve_iter(slow(), threads=threads)
+            answers = self.solver.solve_iter(endless(), threads=threads)
             self.assertIs(iter(answers), answers)
             self.assertEqual(next(answers), self.answers[0])
             self.assertLess(len(taken), 50)
