@@ -188,7 +188,8 @@ class Cluster(Case):
         self.ended(ran)
 
     def test_signals_end_the_programs_of_the_workers_and_kills_at_random_moments_lose_nothing(self):
-        self.start_workers("worker1", "worker2", PAUSE="0.7")
+        self.start_workers("worker1", PAUSE="0.7")
+        self.start_workers("worker2", LAST="0")  # takes 45 seconds for a part
         rng = random.Random(1)
         for number in (signal.SIGINT, signal.SIGTERM, signal.SIGHUP, signal.SIGKILL, *[signal.SIGKILL] * 3):
             ran = self.begin()
@@ -198,11 +199,11 @@ class Cluster(Case):
             ran.send_signal(number)
             output, _ = ran.communicate(timeout=SECONDS)
             wait_until(lambda: not self.programs(), 2 + 2 * os.getloadavg()[0] / os.cpu_count())
+            self.assertIn(ran.returncode, (0, -number) if output else (-number,))
+            self.assertNotIn("Traceback", self.messages())
             if output:
                 shutil.rmtree("work")
-                continue
-            self.assertEqual(ran.returncode, -number)
-            self.assertNotIn("Traceback", self.messages())
+        self.signal(signal.SIGKILL, "worker2")
         self.ended(self.begin())
 
     def test_a_full_disk_ends_the_run_and_it_goes_on_when_there_is_room(self):
