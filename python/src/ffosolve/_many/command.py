@@ -22,7 +22,8 @@ def begin(command, programs):
     complete(command)
     if is_same(path_of(command.list), 1):
         raise misused(f"standard output is the list {shown(command.list)}: name another file")
-    source, book_in = regular(command.list), regular(command.book_in) if command.book_in else None
+    source = regular(command.list)
+    book_in = regular(command.book_in) if command.book_in else None
     read = [f"--book-in={book_in}"] if book_in else []
     program = Program(programs, "ffoscores" if command.scores else "ffosolve")
     command.max_empties = program.check(run_options(command) + read)

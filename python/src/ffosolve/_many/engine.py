@@ -14,7 +14,6 @@ HERE = "this machine"
 FILES = 8  # that a job has open while it starts its program; three while that runs
 LONG_SECONDS = 600  # after which a part that is still being solved is named
 GROWTH = 2.5  # factor of the work for each further empty square
-POWERS = [GROWTH ** count for count in range(65)]
 
 
 def weight_of(text, most):
@@ -22,7 +21,7 @@ def weight_of(text, most):
     empty squares, which is refused."""
     fronts = [line.lstrip()[:64] for line in asked_lines(text).values()]
     empties = [front.count(b"-") + front.count(b".") for front in fronts]
-    return sum(POWERS[count] if count <= most else 1 for count in empties)
+    return sum(GROWTH ** count if count <= most else 1 for count in empties)
 
 
 def span_of(seconds):

@@ -70,11 +70,11 @@ def is_report(text, numbers):
     return text == b"".join(report_lines(rows)) and [number for number, _ in rows] == [*numbers]
 
 
-def copy(source, path, mode=None):
+def copy(source, path):
     """Copies a file to `path`, unless the same content is there."""
     if not path.is_file() or not filecmp.cmp(source, path, shallow=False):
         with source.open("rb") as file:
-            write_whole(path, file, mode)
+            write_whole(path, file)
 
 
 def lock_folder(folder):
@@ -147,7 +147,7 @@ class Run:
             copy(book_in, self.folder / "book-in")
         if not before["programs"] or programs_in(self.folder) != before["programs"]:
             for number, path in enumerate(program.files()):
-                copy(path, self.folder / f"program-{number}", 0o755)
+                write_whole(self.folder / f"program-{number}", [path.read_bytes()], 0o755)
         self.starts, self.all_lines = cut_list(self.folder / "list", self.lines, name)
         self.parts, self.list = len(self.starts) - 1, (self.folder / "list").open("rb")
         self.task = {"options": self.options, "programs": programs_in(self.folder), "parts": self.parts,

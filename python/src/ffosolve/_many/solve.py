@@ -34,9 +34,10 @@ def digest_of(task, part, head, text, results):
 
 
 def solve(task, folder, program, part, text, is_wanted=lambda: True):
-    """Solves the lines `text` with a program. Returns (the record of their results, an empty text) or, if the program
-    fails, (None, the reason). A record is a line with the program's status, the sizes of its output and book, the
-    seconds that it took, and the digest; then the output and the book.
+    """Solves the lines `text` with a program. Returns (a record, "") or, if the program fails, (None, the reason).
+
+    The record is a line with the program's status, the sizes of its output and book, the seconds that it took, and the
+    digest; then the output and the book.
 
     `task` has the program's arguments as `words`, and the `options` of the list. The program runs in `folder`, which
     has the book that it reads. It is killed once `is_wanted` returns false.
