@@ -1,9 +1,8 @@
 """The arguments of the command line, and what --help prints about them."""
 import argparse
 import re
-from pathlib import Path
 
-from .files import NAME, misused, path_of, shown
+from .files import NAME, misused, shown
 
 GONE = {
     "--hosts": "start a cluster with `dask ssh --hostfile FILE`, and use --scheduler (nor is PARALLEL_SSH read)",
@@ -104,20 +103,3 @@ def parse(words):
     if "" in command.words:
         raise misused("'' is not the name of a file")
     return command
-
-
-def complete(command):
-    """Sets a command's `folder` and `list` from its `words`. Gives `lines` and `scoring` their defaults if not set."""
-    if not command.words:
-        raise misused("no list is named; for standard input use `-`, with a FOLDER before it")
-    if len(command.words) > 2:
-        raise misused(f"'{shown(command.words[2])}' is one word too many: name one FOLDER and one LIST")
-    *named, command.list = command.words
-    command.folder, path = Path(named[0] if named else f"{command.list}.parts"), path_of(command.list)
-    if command.folder.exists() and not command.folder.is_dir():
-        raise misused(f"'{shown(command.folder)}' is not a folder: name one FOLDER and one LIST")
-    if not named and path.exists() and not path.is_dir() and (
-            not path.is_file() or path.parts[1:2] in (("dev",), ("proc",))):
-        raise misused(f"'{shown(command.list)}' has no folder of its own: name a FOLDER before it")
-    command.lines = command.lines or 1000
-    command.scoring = command.scoring or "winner"

@@ -4,9 +4,10 @@ import os
 import signal
 import sys
 import tempfile
+from pathlib import Path
 
 from .. import __version__
-from .arguments import complete, parse
+from .arguments import parse
 from .books import book_of, check_place, merge_books
 from .engine import Threads, solve_parts
 from .files import (DONE, NAME, UNREADABLE, UNSOLVED, Refusal, counted, is_same, misused, path_of, print_all, refusing,
@@ -18,17 +19,29 @@ SIGNALS = (signal.SIGINT, signal.SIGTERM, signal.SIGHUP)
 
 
 def begin(command, programs):
-    """Checks the options and files of a command, and begins or continues its run. Returns the run."""
-    complete(command)
-    if is_same(path_of(command.list), 1):
+    """Checks the words, options and files of a command, and begins or continues its run. Returns the run."""
+    if not command.words:
+        raise misused("no list is named; for standard input use `-`, with a FOLDER before it")
+    if len(command.words) > 2:
+        raise misused(f"'{shown(command.words[2])}' is one word too many: name one FOLDER and one LIST")
+    *named, command.list = command.words
+    command.folder, path = Path(named[0] if named else f"{command.list}.parts"), path_of(command.list)
+    if command.folder.exists() and not command.folder.is_dir():
+        raise misused(f"'{shown(command.folder)}' is not a folder: name one FOLDER and one LIST")
+    is_special = not path.is_file() or path.parts[1:2] in (("dev",), ("proc",))
+    if is_special and path.exists() and not path.is_dir() and not named:
+        raise misused(f"'{shown(command.list)}' has no folder of its own: name a FOLDER before it")
+    if is_same(path, 1):
         raise misused(f"standard output is the list {shown(command.list)}: name another file")
+    command.lines = command.lines or 1000
+    command.scoring = command.scoring or "winner"
     source = regular(command.list)
     book_in = regular(command.book_in) if command.book_in else None
     read = [f"--book-in={book_in}"] if book_in else []
     program = Program(programs, "ffoscores" if command.scores else "ffosolve")
     command.max_empties = program.check(run_options(command) + read)
     if command.book_out:
-        check_place(command.book_out, path_of(command.list), program, *read)
+        check_place(command.book_out, path, program, *read)
     with refusing("write", command.folder):
         return Run(command, source, program, book_in)
 

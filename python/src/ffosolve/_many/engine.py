@@ -109,8 +109,9 @@ class Threads:
 
 def solve_parts(run, engine, quiet):
     """Solves the unsolved parts of a run on an engine. Those that fail stay unsolved."""
-    waiting, flying, failures, done = run.unsolved()[::-1], {}, {}, queue.SimpleQueue()
-    progress = Progress(run, run.unsolved(), int(run.options["--max-empties"]))
+    waiting, flying, failures, done = run.unsolved(), {}, {}, queue.SimpleQueue()
+    progress = Progress(run, waiting, int(run.options["--max-empties"]))
+    waiting.reverse()  # since the next part is taken from its end
     is_terminal, due, shown = sys.stderr.isatty(), 0, time.monotonic()
     while waiting or flying:
         while waiting and len(flying) < engine.room:
