@@ -46,8 +46,8 @@ def entries_of(lines, name):
 
 
 def merged(names, books):
-    """Yields the lines of a book with all entries of `books`, iterables of lines that messages call by `names`. Refuses
-    different scorings and entries that disagree about a position. Raises ValueError if a book has a position twice."""
+    """Yields the lines of a book with all entries of `books`, which are iterables of lines; messages call them `names`.
+    Refuses different scorings, and entries that disagree. Raises ValueError if one book has a position twice."""
     books = list(map(iter, books))
     firsts = [next(book, b"") for book in books]
     scorings = [first.decode("latin-1").removeprefix("% ffobook 2 ").rstrip() if first.startswith(b"% ffobook ")

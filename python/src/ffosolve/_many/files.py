@@ -24,7 +24,7 @@ def misused(text):
 
 @contextlib.contextmanager
 def refusing(verb, name, passed=()):
-    """Turns an OSError of its block into a Refusal: "cannot {verb} {name}", and why. An exception `passed` goes on."""
+    """Turns an OSError of its block, unless its type is `passed`, into a Refusal: "cannot {verb} {name}: {reason}"."""
     try:
         yield
     except passed:
@@ -78,7 +78,8 @@ def regular(name):
         with refusing(f"copy {shown(name)} to", tempfile.gettempdir()), tempfile.TemporaryFile() as copy:
             shutil.copyfileobj(source, copy)
             copy.flush()
-            return Path(f"/proc/{os.getpid()}/fd/{os.dup(copy.fileno())}")
+            kept = os.dup(copy.fileno())  # which stays open, since the copy has no other name
+            return Path(f"/proc/{os.getpid()}/fd/{kept}")
 
 
 def replace(name, pieces):

@@ -98,11 +98,11 @@ def begun(folder, options):
     options other than those that the folder was begun with."""
     try:
         task = json.loads((folder / "task.json").read_bytes())
-        before, _ = task["options"], task["programs"]
+        before, _ = {**task["options"]}, task["programs"]
     except (OSError, ValueError, TypeError, KeyError):
         return {"programs": []}
     differing = [f"with {name} {kept}".strip() if kept is not None else f"without {name}"
-                 for name, kept in before.items() if kept != options[name]]
+                 for name, kept in before.items() if kept != options.get(name)]
     if differing:
         raise Refusal(REFUSED, f"{shown(folder)} was begun {' and '.join(differing)}: use another folder, or the same "
                                "options")
@@ -128,8 +128,8 @@ class Run:
     """A list that is solved in a folder, in parts that are numbered from 0. The folder `results` has their records."""
 
     def __init__(self, command, source, program, book_in):
-        """Begins a run in the folder of a command, or continues the one there. `source` and `book_in` are the paths of
-        the list and of the book to read, or None."""
+        """Begins a run in the folder of a command, or continues the one there. `source` is the path of the list, and
+        `book_in` that of the book to read, or None."""
         self.folder, self.lines, name = command.folder, command.lines, shown(command.list)
         cut_list(source, self.lines, name)  # refuses what is not a list
         lock_folder(self.folder)
