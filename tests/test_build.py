@@ -173,7 +173,7 @@ class Build(InFolder):
             self.after(f"rm -r ../../{lost}", 1, builds)
 
     def test_a_second_run_says_that_it_waits_and_builds_if_the_first_fails(self):
-        for number, act, wanted in ((1, FAIL, (4, "")), (2, "", (3, "made of 2\n<w>/\n"))):
+        for number, act, first_ends in ((1, FAIL, (4, "")), (2, "", (3, "made of 2\n<w>/\n"))):
             write(self.source, f"{number}\n")
             begun = self.builds()
             first = self.begin(ACTS=WAIT + act)
@@ -181,9 +181,9 @@ class Build(InFolder):
             second = self.begin()
             self.assertIn(f"waiting for another build; its log is in {self.root}/out\n", second.stderr.readline())
             Path("starts.go").touch()
-            self.assertEqual((first.communicate(timeout=SECONDS)[0], first.returncode), wanted[::-1])
-            output = second.communicate(timeout=SECONDS)
-            self.assertEqual((second.returncode, output[0]), (3, f"made of {number}\n<w>/\n"), output)
+            for ran, wanted in ((first, first_ends), (second, (3, f"made of {number}\n<w>/\n"))):
+                output, errors = ran.communicate(timeout=SECONDS)
+                self.assertEqual((ran.returncode, output), wanted, errors)
             self.assertEqual(self.builds(), number + 1)
             Path("starts.go").unlink()
 

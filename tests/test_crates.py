@@ -11,8 +11,8 @@ class Crates(unittest.TestCase):
         sources = {path: path.read_text().count("#[test]") for path in ROOT.glob("crates/*/src/**/*.rt")}
         crate = ROOT / "crates/crate_tests"
         self.assertEqual([path for path, count in sources.items() if count and crate not in path.parents], [])
-        how = {"text": True, "timeout": 2700}  # it takes 400 seconds on a busy machine
-        ran = run("rt", "try", "--test", "--seconds", 900, cwd=crate, **how)
+        # This takes 400 seconds on a busy machine.
+        ran = run("rt", "try", "--test", "--seconds", 900, cwd=crate, text=True, timeout=2700)
         printed = ran.stdout + ran.stderr
         self.assertIn("run=ended status=0 ", printed)
         self.assertEqual(len(re.findall(r"^test \S+ \.\.\. ok$", printed, re.M)), sum(sources.values()), printed)

@@ -1,5 +1,4 @@
 """bench/ffo solves positions of the FFO endgame test, keeps the results and prints them as in docs/ffo.md."""
-import os
 import re
 from pathlib import Path
 
@@ -15,8 +14,8 @@ class Results(InFolder):
         """Runs bench/ffo with a file of results that contains `kept`; returns the run, and what the file contains
         afterwards."""
         Path("kept.tsv").write_text(kept)
-        places = {**os.environ, "RESULTS": "kept.tsv", "PROGRAMS": str(programs or built().parent)}
-        ran = run(ROOT / "bench/ffo", *words, env=places, text=True, timeout=LONGEST)
+        places = ("RESULTS=kept.tsv", f"PROGRAMS={programs or built().parent}")
+        ran = run("env", *places, ROOT / "bench/ffo", *words, text=True, timeout=LONGEST)
         return ran, Path("kept.tsv").read_text()
 
     def test_position_40_is_solved_as_published_and_only_once(self):
