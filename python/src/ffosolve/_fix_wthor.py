@@ -1,6 +1,5 @@
 """Writes copies of WTHOR files, with exact scores."""
 import contextlib
-import ctypes
 import os
 from typing import BinaryIO, Dict, Iterable, Iterator, List, Mapping
 
@@ -16,8 +15,8 @@ class Fixed:
     `with_real`, with the real scores that follow from the moves. A header without the number of empty squares gets that
     of the compared positions. No other byte changes. Raises Unfit, on iterating, if another file was compared."""
 
-    def __init__(self, name: str, file: BinaryIO, compared: List[Listed], library: ctypes.CDLL, with_real: bool) -> None:
-        self._name, self._file, self._library, self._with_real = name, file, library, with_real
+    def __init__(self, name: str, file: BinaryIO, compared: List[Listed], with_real: bool) -> None:
+        self._name, self._file, self._with_real = name, file, with_real
         self._compared: Dict[int, Listed] = {it.game: it for it in compared}
         self._games = self._real_changed = self._real_unknown = 0
 
@@ -60,7 +59,7 @@ class Fixed:
         game, it = game_of(self._games, bytes(record)), self._compared.get(self._games)
         positions: List[Position] = []
         with contextlib.suppress(GameRefused):
-            positions = positions_of(self._library, game)
+            positions = positions_of(game)
         if it is not None:
             if it.position.to_obf() not in map(Position.to_obf, positions) or game.score != it.published:
                 raise self._unfit(f"its game {it.game} has another position or theoretical score")

@@ -1,13 +1,12 @@
 """Reads games from transcripts and WTHOR files, and plays them by the library's rules."""
 import contextlib
-import ctypes
 import io
 import os
 import struct
 from typing import Any, BinaryIO, Callable, Iterator, List, NamedTuple, Optional, Sequence, Tuple, Type, Union
 
 from ._boards import OTHER
-from ._library import CPosition
+from ._library import CPosition, loaded
 from ._positions import START, Position
 from ._rules import NO_SQUARE, illegal_move, moves, size_of
 from ._squares import NAMES, square_name
@@ -169,12 +168,14 @@ def game_of(number: int, record: bytes) -> Game:
     return Game(number, written.translate(SQUARES), written, record[SCORE], record[REAL])
 
 
-def positions_of(library: ctypes.CDLL, game: Game) -> List[Position]:
+def positions_of(game: Game) -> List[Position]:
     """The positions of a game: the start, and the one after each move. Raises GameRefused."""
     if game.fault is not None:
         raise GameRefused(game.fault, game.number)
-    at, found, after = START, [START], CPosition()
+    library, at, found, after = loaded(), START, [START], CPosition()
     for index, square in enumerate(game.moves):
+        if square == NO_SQUARE:
+            raise GameRefused(f"{game.words[index]!r} is not a square", game.number, len(found))
         is_illegal = library.ffosolve_play(CPosition(*at), square, after)
         if is_illegal and not moves(library, at) and (square == PASS or moves(library, at.passed())):
             at = at.passed()
@@ -182,17 +183,11 @@ def positions_of(library: ctypes.CDLL, game: Game) -> List[Position]:
                 continue
             is_illegal = library.ffosolve_play(CPosition(*at), square, after)
         if is_illegal:
-            raise GameRefused(why_illegal(library, at, game, index), game.number, len(found))
+            refusal = illegal_move(library, at, "a pass" if square == PASS else square_name(square))
+            raise GameRefused(refusal.reason, game.number, len(found))
         at = Position(after.own, after.opp, OTHER[at.side])
         found.append(at)
     return found
-
-
-def why_illegal(library: ctypes.CDLL, position: Position, game: Game, index: int) -> str:
-    square = game.moves[index]
-    if square == NO_SQUARE:
-        return f"{game.words[index]!r} is not a square"
-    return illegal_move(library, position, "a pass" if square == PASS else square_name(square)).reason
 
 
 def position_with(empties: int, game: Game, positions: List[Position]) -> Position:

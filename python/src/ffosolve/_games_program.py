@@ -1,7 +1,6 @@
 """The program ffosolve-games, and its command line."""
 import argparse
 import contextlib
-import ctypes
 import hashlib
 import io
 import os
@@ -164,12 +163,13 @@ def main(find: Callable[[], Optional[str]] = lambda: None) -> int:
 
 def list_games(options: argparse.Namespace, find: Callable[[], Optional[str]], messages: Messages) -> Iterator[bytes]:
     """Yields the lines of a list: one for each game of the files and, if a game has a theoretical score, the digest."""
-    library, covered, has_scores = load(find()), hashlib.sha256(), False
+    load(find())  # for `positions_of`
+    covered, has_scores = hashlib.sha256(), False
     for name in options.files or ["-"]:
         listed = shown(name) if any(letter < " " for letter in name) else name  # otherwise `--fix` can open it
         try:
             with opened(name) as file:
-                for game, position in with_positions(file, name, options.empties, library, messages):
+                for game, position in with_positions(file, name, options.empties, messages):
                     score = "" if game.score is None else f", theoretical score {game.score}"
                     line = os.fsencode(f"{position.to_obf()} % {listed}, game {game.number}{score}")
                     covered.update(line + b"\n")
@@ -181,11 +181,11 @@ def list_games(options: argparse.Namespace, find: Callable[[], Optional[str]], m
         yield from digest_of(covered)
 
 
-def with_positions(file: io.BufferedReader, name: str, wanted: Optional[int], library: ctypes.CDLL,
+def with_positions(file: io.BufferedReader, name: str, wanted: Optional[int],
                    messages: Messages) -> Iterator[Tuple[Game, Position]]:
-    """Yields each game of a file with one of its positions, or reports why there is none. Reports wrong scores, too. The
-    position has `wanted` empty squares, or if that is None, as many as the file says. A theoretical score for another
-    number of empty squares is left out of the game."""
+    """Yields each game of a file with one of its positions, or reports why there is none. Reports wrong scores, too.
+    The position has `wanted` empty squares, or if that is None, as many as the file says. A theoretical score for
+    another number of empty squares is left out of the game."""
     games, of_scores = games_in(file, shown(name))
     empties = of_scores if wanted is None else wanted
     if empties is None:
@@ -195,7 +195,7 @@ def with_positions(file: io.BufferedReader, name: str, wanted: Optional[int], li
                           "try --empties 22 or 24, the usual numbers", MISUSED)
     for game in games:
         try:
-            positions = positions_of(library, game)
+            positions = positions_of(game)
             position = position_with(empties, game, positions)
         except GameRefused as why:
             messages.report(f"{shown(name)}, {why}", REMARKED)
@@ -230,7 +230,8 @@ def compare(options: argparse.Namespace, find: Callable[[], Optional[str]], mess
     except Unfit as why:
         raise Stop(f"{shown(solved)} is not a report of {shown(listed)}: {why}") from None
     if options.fix is not None:
-        fix(options.fix, found.compared, load(find()), options.real, messages)
+        load(find())  # for `positions_of`
+        fix(options.fix, found.compared, options.real, messages)
     if found.differences or found.refused:
         messages.status = REMARKED
     for it in found.differences:
@@ -240,7 +241,7 @@ def compare(options: argparse.Namespace, find: Callable[[], Optional[str]], mess
            % (len(found.compared), len(found.differences), found.refused, found.unscored))
 
 
-def fix(place: str, compared: List[Listed], library: ctypes.CDLL, with_real: bool, messages: Messages) -> None:
+def fix(place: str, compared: List[Listed], with_real: bool, messages: Messages) -> None:
     """Writes copies of the compared WTHOR files, with exact scores: to `place`, or into it if it is a folder. Reports
     how many scores were changed."""
     of_files: Dict[str, List[Listed]] = {}
@@ -260,7 +261,7 @@ def fix(place: str, compared: List[Listed], library: ctypes.CDLL, with_real: boo
         for path, (name, of_file) in zip(paths, of_files.items()):
             if os.path.lexists(path):
                 raise would_be_lost(path)
-            fixed[path] = Fixed(shown(name), stack.enter_context(opened_again(name)), of_file, library, with_real)
+            fixed[path] = Fixed(shown(name), stack.enter_context(opened_again(name)), of_file, with_real)
         try:
             write_new(fixed)
         except FileExistsError as error:

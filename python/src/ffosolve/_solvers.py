@@ -145,7 +145,7 @@ class Solver:
         game = Game.of_text(game) if isinstance(game, str) else game
         if not isinstance(game, Game):
             raise TypeError(f"a game is a Game or the text of a transcript, not {reprlib.repr(game)}")
-        return positions_of(self._library, game)
+        return positions_of(game)
 
     def _entries_for(self, empties: int) -> int:
         return table_entries(empties) if self._entries is None else self._entries
