@@ -30,6 +30,11 @@ def random_game(rng):
     return [move.bit_length() - 1 if move else None for *_, move in player.random_game(rng)][1:]
 
 
+def random_games(count, seed):
+    rng = random.Random(seed)
+    return [random_game(rng) for _ in range(count)]
+
+
 def positions_of(squares):
     """Plays moves up to the first illegal one; a pass may be None or left out. Returns {number of empty squares:
     position} for the start and after each move."""
@@ -112,7 +117,7 @@ class Case(InFolder):
     """Has the squares of a random game up to its end, its positions as `positions_of` returns them, and its record."""
 
     maxDiff = 2000
-    GAME = squares_of(random_game(random.Random(3)))
+    GAME = squares_of(*random_games(1, seed=3))
     AT = positions_of(GAME)
     RECORD = record(GAME)
 

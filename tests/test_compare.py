@@ -2,7 +2,6 @@
 import contextlib
 import itertools
 import os
-import random
 import re
 import signal
 import stat
@@ -10,7 +9,7 @@ import sys
 import unittest.mock
 from pathlib import Path
 
-from .games import (PROGRAM, Case, discs_of_black, line_of, positions_of, random_game, record, report_of, with_digest,
+from .games import (PROGRAM, Case, discs_of_black, line_of, positions_of, random_games, record, report_of, with_digest,
                     wthor)
 from .support import ROOT, SECONDS, as_at_a_login, built, limited, run, stored, wait_until, write
 
@@ -95,12 +94,10 @@ class Compare(Case):
         own report is accepted."""
         from ffosolve._published import Comparison, Unfit
 
-        rng, lists, accepted = random.Random(8), [], []
-        while len(lists) < 100:
-            positions = positions_of(random_game(rng))
-            if 4 in positions:
-                lists.append(with_digest(line_of(positions[4], f"it.wtb, game {len(lists) + 1}, theoretical score 30")))
-        reports = [report_of(listed).encode().splitlines(True) for listed in lists]
+        played = [positions for positions in map(positions_of, random_games(120, seed=8)) if 4 in positions]
+        lists = [with_digest(line_of(positions[4], f"it.wtb, game {number}, theoretical score 30"))
+                 for number, positions in enumerate(played[:100], 1)]
+        reports, accepted = [report_of(listed).encode().splitlines(True) for listed in lists], []
         for (at, listed), (other, report) in itertools.product(enumerate(lists), enumerate(reports)):
             with contextlib.suppress(Unfit):
                 Comparison(listed.encode().splitlines(True), report)
@@ -160,9 +157,7 @@ class Fix(Case):
 
     def setUp(self):
         super().setUp()
-        rng = random.Random(7)
-        games = [random_game(rng) for _ in range(12)]
-        self.played = [game for game in games if 5 in positions_of(game)]
+        self.played = [game for game in random_games(12, seed=7) if 5 in positions_of(game)]
         self.exact = [discs_of_black(positions_of(game)[5]) for game in self.played]
         self.published = [it + {2: -2, 5: 7}.get(number, 0) for number, it in enumerate(self.exact)]
         self.records = list(map(record, self.played, self.published))

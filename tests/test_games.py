@@ -12,7 +12,7 @@ import textwrap
 from bench import player
 
 from . import positions  # noqa: F401 - sets FFOSOLVE_LIBRARY
-from .games import (NAMES, PROGRAM, SQUARE_BYTES, Case, discs_of_black, line_of, positions_of, random_game, real_score,
+from .games import (NAMES, PROGRAM, SQUARE_BYTES, Case, discs_of_black, line_of, positions_of, random_games, real_score,
                     record, squares_of, transcript, wthor)
 from .support import InFolder, run, write
 import ffosolve
@@ -24,8 +24,7 @@ class RandomGames(Case):
 
     @classmethod
     def setUpClass(cls):
-        rng = random.Random(53)
-        cls.played = [random_game(rng) for _ in range(1000)]
+        cls.played = random_games(1000, seed=53)
         cls.known = list(map(positions_of, cls.played))
 
     def prints(self, name, empties, known, more):
@@ -93,8 +92,7 @@ class Faults(Case):
         self.reads("passes", transcript(self.GAME) + "--pass", "--empties=30", out=out)
 
     def test_a_game_that_ends_before_the_position_is_reported(self):
-        rng = random.Random(1)
-        game = next(game for game in iter(lambda: random_game(rng), None) if len(squares_of(game)) == 59)
+        game = next(game for game in random_games(200, seed=1) if len(squares_of(game)) == 59)
         err = "text, game 1, move 59: it ends here, with 1 empty square; 0 are asked for"
         self.reads("text", transcript(game), "--empties=0", err=err)
 
@@ -118,8 +116,7 @@ class Faults(Case):
             self.reads("it.wtb", wthor(records, count=count), out=self.LINE, err=f"it.wtb, {why}")
 
     def test_wrong_scores_of_records_are_reported_and_the_line_is_printed(self):
-        rng = random.Random(3)
-        with_pass = next(it for it in iter(lambda: random_game(rng), None) if None in it[38:])
+        with_pass = next(game for game in random_games(200, seed=3) if None in game[38:])
         game, before = squares_of(with_pass), with_pass[:with_pass.index(None, 38)]
         at, real = positions_of(game), real_score(game)
         wrong = f"its real score is {real + 1}, but its moves give {real}"
@@ -168,7 +165,7 @@ class Faults(Case):
 
     def test_each_changed_byte_leads_to_a_position_of_the_changed_game(self):
         rng = random.Random(5)
-        whole = wthor([record(random_game(rng)) for _ in range(2)])
+        whole = wthor(list(map(record, random_games(2, seed=5))))
         files = {}
         for place in range(16 + 68):
             for byte in {whole[place] ^ 255, whole[place] + 1 & 255, 0, rng.choice(SQUARE_BYTES)} - {whole[place]}:
@@ -189,20 +186,16 @@ class Faults(Case):
 
 
 class ReadByPython(InFolder):
-    @classmethod
-    def setUpClass(cls):
-        rng = random.Random(66)
-        cls.played = [random_game(rng) for _ in range(60)]
-        cls.solver = Solver()
+    PLAYED = random_games(60, seed=66)
 
     def has_positions(self, read, game):
         """Asserts that a Game or transcript, `read`, has the positions that bench/player.py finds for the moves `game`."""
         wanted = [player.line(*position) for position in positions_of(game).values()]
-        self.assertEqual([position.to_obf() for position in self.solver.positions(read)], wanted, read)
+        self.assertEqual([position.to_obf() for position in Solver().positions(read)], wanted, read)
 
     def test_transcripts_are_read_in_each_form(self):
         rng = random.Random(5)
-        for game in self.played:
+        for game in self.PLAYED:
             names = [ffosolve.square_name(square) for square in squares_of(game)]
             names = [rng.choice((str.lower, str.upper))(name) for name in names]
             with_passes = [name if name is None else ffosolve.square_name(name) for name in game]
@@ -226,15 +219,15 @@ class ReadByPython(InFolder):
             ("f5 d6 100-3", 3, "'10' is not a square"),
         ):
             with self.assertRaisesRegex(ffosolve.GameRefused, f"^game 7, move {move}: {why}$") as refused:
-                self.solver.positions(ffosolve.Game.of_text(text, 7))
+                Solver().positions(ffosolve.Game.of_text(text, 7))
             for it in (refused.exception, pickle.loads(pickle.dumps(refused.exception))):
                 self.assertEqual((it.game, it.move, it.reason, isinstance(it, ValueError)), (7, move, why, True))
         with self.assertRaisesRegex(TypeError, "^a game is a Game or the text of a transcript, not "):
-            self.solver.positions(5)
+            Solver().positions(5)
 
     def test_texts_and_wthor_files_are_read_by_path_and_from_files_of_each_kind(self):
-        records = wthor([record(game, 20 + at, 40) for at, game in enumerate(self.played[:30])], empties=22)
-        text = "".join(f"{transcript(game)}\n\n" for game in self.played[:30]).encode()
+        records = wthor([record(game, 20 + at, 40) for at, game in enumerate(self.PLAYED[:30])], empties=22)
+        text = "".join(f"{transcript(game)}\n\n" for game in self.PLAYED[:30]).encode()
         for content, name, wanted in (
             (records, "it.wtb", [(at + 1, 20 + at, 40, 22) for at in range(30)]),
             (text, "it.txt", [(2 * at + 1, None, None, None) for at in range(30)]),
@@ -246,14 +239,14 @@ class ReadByPython(InFolder):
                 for source in (name, self.folder / name, file, raw, packed, inside):
                     games = list(ffosolve.read_games(source))
                     self.assertEqual([(it.number, it.score, it.real, it.empties) for it in games], wanted)
-                    for it, game in zip(games, self.played):
+                    for it, game in zip(games, self.PLAYED):
                         self.has_positions(it, game)
                 self.assertEqual((inside.read(), file.closed, raw.closed), (b"", False, False))
-        write("it.wtb", wthor([record(self.played[0])], empties=0))
+        write("it.wtb", wthor([record(self.PLAYED[0])], empties=0))
         self.assertEqual([it.empties for it in ffosolve.read_games("it.wtb")], [None])
 
     def test_the_example_of_read_games_finds_wrong_theoretical_scores(self):
-        games = [game for game in self.played if 6 in positions_of(game)][:20]
+        games = [game for game in self.PLAYED if 6 in positions_of(game)][:20]
         exact = [discs_of_black(positions_of(game)[6]) for game in games]
         published = [it ^ (at in (3, 11)) for at, it in enumerate(exact)]
         write("WTH_2001.wtb", wthor(list(map(record, games, published)), empties=6))
@@ -264,7 +257,7 @@ class ReadByPython(InFolder):
         self.assertEqual(printed.getvalue(), f"4 {published[3]}\n12 {published[11]}\n")
 
     def test_a_game_is_refused_after_those_before_it_and_a_wrong_file_at_once(self):
-        whole = record(self.played[0])
+        whole = record(self.PLAYED[0])
         for count, why in ((2, "the file ends"), (0, "the file goes on")):
             write("it.wtb", wthor([whole], count=count))
             wrong = []
