@@ -63,7 +63,8 @@ class OddLines(unittest.TestCase):
     def test_the_report_of_odd_lines_is_what_python_finds(self):
         report = run(built(), "--max-empties=20", input=self.text, check=True).stdout.decode().splitlines()[1:-1]
         solver = ffosolve.Solver(str(PREFIX.shared))
-        self.assertEqual(report, [f"{number} {self.reported(solver, row)}" for number, row in sorted(self.rows.items())])
+        rows = [f"{number} {self.reported(solver, row)}" for number, row in sorted(self.rows.items())]
+        self.assertEqual(report, rows)
         kinds = {re.sub(r"\d+", "N", row.partition(" ")[2]) if "refused" in row else row.split()[-1] for row in report}
         refused = ("N empties, limit N", "board has N of N squares", "bad square at column N", "bad side at column N")
         self.assertLessEqual({RIGHT, WRONG, NONE, *(f"refused: {why}" for why in refused)}, kinds)
