@@ -1,6 +1,6 @@
 // For LD_PRELOAD: makes calls fail as on a bad machine. Refuses request REFUSED for memory, counted from 1, and then
-// creates the file REFUSED_FILE. If WATCHED is set, each sync or rename writes `sync ` or `rename ` to standard error. If
-// NO_SYNC is set, each sync fails.
+// creates the file REFUSED_FILE. If WATCHED is set, each sync or rename writes `sync ` or `rename ` to standard error.
+// If NO_SYNC is set, each sync fails.
 #define _GNU_SOURCE
 #include <dlfcn.h>
 #include <errno.h>

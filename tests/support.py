@@ -76,8 +76,8 @@ def positions(*words):
 
 
 def module_folder(enter=unittest.enterModuleContext):
-    """Returns a new folder that everybody may read. It is removed after the module's tests, so this is for setUpModule;
-    or after a test, if `enter` is its method enterContext."""
+    """Returns a new folder that everybody may read. It is removed after the tests of the module or, if `enter` is the
+    method `enterContext` of a test, after that test."""
     folder = Path(enter(tempfile.TemporaryDirectory(prefix="ffosolve-test-")))
     folder.chmod(0o755)
     return folder
@@ -184,8 +184,8 @@ def processes_in(place):
 
 
 def preload(folder, **variables):
-    """Returns an environment in which programs run with tests/preload.c, and with the variables that it reads. It is
-    compiled into `folder`, unless it is there already."""
+    """Returns an environment in which a program makes the calls that are in tests/preload.c. `variables` are those that
+    the C code reads. The first call of this function compiles it into `folder`."""
     library = folder / "preload.so"
     if not library.exists():
         need("cc")

@@ -18,7 +18,7 @@ DENIED, IN_THE_WAY = "permission denied", "another file is in the way"
 
 def unwritten(cause, name="it.book", report=b""):
     """Returns (status, output, error) of a run that can't write its book. The cause, if not empty, is the second line
-    of the error. The output is empty if the book's place is refused before anything is solved."""
+    of the error. `report`, the output, is empty if the book's place is refused before anything is solved."""
     return 3, report, "".join(f"ffosolve: {line}\n" for line in (f"cannot write {name}", cause) if line).encode()
 
 
@@ -49,8 +49,8 @@ class Books(InFolder):
             os.remove(name)
 
     def solves_over(self, old, wanted, place="it.book", mode=0o644, folder_mode=0o755, **how):
-        """Asserts that a run for the book it.book ends as `wanted`, and replaces the file `old` only if it is DONE. The
-        file has the name `place`; if that is another one, it.book is a link to it."""
+        """Writes `old` to the file `place`; if that is not it.book, makes it.book a link to it. Asserts that a run with
+        `--book-out it.book` ends as `wanted`, and writes its book to the file only if `wanted` is DONE."""
         write(place, old, mode)
         if place != "it.book":
             os.symlink(place, "it.book")

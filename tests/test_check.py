@@ -9,7 +9,6 @@ MODULE = "import os, time, unittest\nfrom tests.support import *\n\n\nclass Some
 PASSES = "    def test_a(self):\n        pass\n"
 FAILS = "    def test_b(self):\n        self.ends((0, 'b', ''), 'true')\n        self.ends((0, 'b', ''), 'true')\n"
 NEEDS = '    need("make", "no-such")\n'
-LACKS = f"    def test_b(self):\n    {NEEDS}"
 MAKE = ("make", "-f", "tests/check.mk")
 
 
@@ -53,7 +52,7 @@ class Check(InFolder):
 
     def test_a_missing_tool_skips_a_test_and_fails_it_if_ci_is_true(self):
         write("tests/test_check.py", MODULE + PASSES)
-        write("tests/test_one.py", MODULE + PASSES + LACKS)
+        write("tests/test_one.py", MODULE + PASSES + "    def test_b(self):\n    " + NEEDS)
         self.prints(0, "2 passed, 0 failed, 1 skipped")
         self.prints(2, "2 passed, 1 failed", "no-such is missing", CI="true")
         write("tests/test_one.py", MODULE + PASSES + "\n\ndef setUpModule():\n" + NEEDS)

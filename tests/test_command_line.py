@@ -79,7 +79,7 @@ class CommandLines(InFolder):
             self.ends((2, "", f"{name}: cannot read the command line\n"), name, b"\xff.obf")
 
     def test_help_is_printed_whatever_follows_and_names_the_limits(self):
-        """That these limits hold is shown by the next test, by rows of REFUSED and, for files, by test_rows.py."""
+        """Other tests show that these limits hold: the next one, rows of REFUSED and, for files, test_rows.py."""
         for name in PROGRAMS:
             text = run(built(name), "--help", text=True).stdout
             self.assertIn(f"\n\nUsage: {name} [OPTIONS] [FILES]...\n", text)

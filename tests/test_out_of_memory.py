@@ -11,8 +11,7 @@ TEXT, PRINTED = stored("crates", "ffosolve", "stdin"), stored("crates", "ffosolv
 KINDS, SCORES = stored("examples", "kinds.obf"), stored("examples", "kinds.scores")
 EXAMPLES = ROOT / "examples"
 FILES = ("--book-in", EXAMPLES / "first.book", "--book-out", "it.book", EXAMPLES / "first.obf", EXAMPLES / "kinds.obf")
-CRATE = ROOT / "crates/crate_tests"
-CRATE_TESTS = CRATE / "out/crate_tests_tests"  # the program that runs the tests of the crates
+CRATE_TESTS = ROOT / "crates/crate_tests/out/crate_tests_tests"  # the program that runs the tests of the crates
 # Parts of the names of tests that a refused request ends or does not change. Others handle it, or need two threads.
 TESTS = (
     "written_lines::", "fault_texts::", "tables::", "searches::", "books::find::", "boards::limits::",
@@ -85,7 +84,8 @@ class Crates(InFolder):
         newest = max(path.stat().st_mtime for path in ROOT.glob("crates/*/src/**/*.rt"))
         if not CRATE_TESTS.exists() or CRATE_TESTS.stat().st_mtime < newest:
             need("rt")
-            run("rt", "test", "--", TESTS[0], cwd=CRATE, stdout=None, stderr=None, timeout=2700, check=True)
+            how = {"stdout": None, "stderr": None, "timeout": 2700, "check": True}
+            run("rt", "test", "--", TESTS[0], cwd=ROOT / "crates/crate_tests", **how)
 
     def test_each_refused_request_ends_a_test_or_changes_nothing(self):
         """A run of a test passes, or reports only that it is out of memory."""

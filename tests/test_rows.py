@@ -13,21 +13,20 @@ from ffosolve import MOST_ENTRIES
 
 LINES = worked("ffosolve/positions")[0]
 LIST = b"\n".join(LINES)
-PROGRAMS = {"ffosolve": 1, "ffoscores": 3}  # with the status of a run that refuses a file as too large
+PROGRAMS = {"ffosolve": 1, "ffoscores": 3}  # each with its status if files are too many or too large
 NOTHING = b"[1]\nsolved 0 refused 0\n"
-HEADER = b"% ffobook 2 winner\n"
 SEVEN = b"X" * 56
 LEFT, LAST = SEVEN + b"XOOOOO-- X; G8:+64;\n", SEVEN + b"XOOOOOO- X; H8:+64;\n"
 EQUAL = SEVEN + b"-OOXXOO- X; A8:+64; H8:+64;\n"
 # Texts of books by the error that ffosolve reports. Those under "" are read without one.
 BOOKS = {
-    "": (b"", HEADER, b"% ffobook 2 discs\r\n", b"% ffobook 2 sign", b" % ffobook 2 sign", b"% ffobook",
-         b"%ffobook 2 sign", b"\n% ffobook 2 sign\n", b"% ffobook 2 sign\n% ffobook 3 x\n", LEFT + LAST + EQUAL,
-         *(LEFT[:size] for size in range(73, 77)), *((LEFT + LAST + EQUAL)[:size] for size in (233, 236))),
+    "": (b"", b"% ffobook 2 winner\n", b"% ffobook 2 discs\r\n", b"% ffobook 2 sign", b" % ffobook 2 sign",
+         b"% ffobook", b"%ffobook 2 sign", b"\n% ffobook 2 sign\n", b"% ffobook 2 sign\n% ffobook 3 x\n",
+         *(LEFT[:size] for size in range(73, 77)), *((LEFT + LAST + EQUAL)[:size] for size in (233, 236, 999))),
     "1: unknown header": (b"% ffobook 3 winner\n", b"% ffobook 2 winner \n?", b"% ffobook 2 win", b"% ffobook "),
     "1: bad square at column 1": (b"\xef", b"\0", b"?\n" + SEVEN + b"XOOOOO-- X;\n?"),
     "2: not in order": (LAST + LEFT + EQUAL, LAST + LAST),
-    "3: not in order": (HEADER + LAST + LEFT + EQUAL,),
+    "3: not in order": (b"% ffobook 2 winner\n" + LAST + LEFT + EQUAL,),
     "1: not canonical": (b"-OXXXXX-XXXXXXXO" + b"X" * 19 + b"O" + b"X" * 28 + b" X; H1:+62;",
                          SEVEN + b"XOOOOO-- O; G8:+64;\n"),
     "1: no moves": (SEVEN + b"XOOOOO-- X;\n?", *(LEFT[:size] for size in range(66, 73))),
@@ -42,7 +41,6 @@ KINDS, SCORES = stored("examples", "kinds.obf"), stored("examples", "kinds.score
 TWO = KINDS.split(b"\n")[1] + b"\n"  # a position of two empty squares, with both moves listed right
 SOLVED = SCORES.split(b"\n")[1] + b"\n"
 BOARD = TWO[:66]
-RIGHT = stored("examples", "first.report").split()[4]  # the verdict on a line whose scores are right
 
 
 def whole_lines(lines):
@@ -150,7 +148,7 @@ class Scores(InFolder):
         super().ends(wanted, built("ffoscores"), *words, **how)
 
     def test_a_file_and_standard_input_give_the_stored_scores(self):
-        Path("kinds.obf").write_bytes(KINDS)
+        write("kinds.obf", KINDS)
         self.ends((1, SCORES, b""), "kinds.obf")
         self.ends((1, SCORES, b""), "./kinds.obf", "--table=65536", "--scoring", "winner")
         self.ends((1, SCORES, b""), input=KINDS)
@@ -166,18 +164,18 @@ class Scores(InFolder):
             for end in (b"\n", b"\r\n", b""):
                 wanted = (int(is_wrong), printed + b"\n" if line + end else b"", b"")
                 self.ends(wanted, *words.split(), input=line + end)
-        Path("rows.obf").write_bytes(b"\n".join(unlisted))
-        Path("kinds.obf").write_bytes(KINDS)
-        rows = b"\n".join(columns["--scoring winner --complete"]) + b"\n"
+        names = "rows.obf", ROOT / "examples/kinds.obf", "rows.obf"
+        write("rows.obf", b"\n".join(unlisted))
+        rows = whole_lines(columns["--scoring winner --complete"])
         for words in ("--workers 0", "--workers=3", "--table 0"):
-            self.ends((1, rows + SCORES + rows, b""), "--complete", *words.split(), "rows.obf", "kinds.obf", "rows.obf")
+            self.ends((1, rows + SCORES + rows, b""), "--complete", *words.split(), *names)
 
     def test_its_own_output_is_unchanged_and_right_for_ffosolve(self):
         tables = [worked(f"ffoscores/{name}")[1]["--scoring winner"] for name in ("unlisted", "remarks")]
         for text in (SCORES, *(whole_lines(cells).replace(b"\r\n", b"\n") for cells in tables)):
             self.ends((0, text, b""), input=text)
         rows = run(built(), input=SCORES, check=True).stdout.splitlines()[1:-1]
-        self.assertEqual([row.split()[-1] for row in rows], [RIGHT] * 8)
+        self.assertEqual([row.split()[-1] for row in rows], [b"agree"] * 8)
 
     def test_odd_texts_are_printed_again_and_options_set_the_limit_the_table_and_the_scoring(self):
         over, scored = (text.split(b"\n")[6] for text in (KINDS, SCORES))
@@ -209,8 +207,8 @@ class Scores(InFolder):
         self.assertTrue(found and int(found[1]) < 38, ran.stdout)
 
     def test_all_files_are_read_then_measured_and_counted_before_anything_is_printed(self):
-        Path("two.obf").write_bytes(TWO)
-        Path("large.obf").write_bytes(b" " * (MOST_BYTES + 1))
+        write("two.obf", TWO)
+        write("large.obf", b" " * (MOST_BYTES + 1))
         folder = os.open(".", os.O_RDONLY)
         self.addCleanup(os.close, folder)
         for words, why in (

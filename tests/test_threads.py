@@ -66,7 +66,7 @@ class Files(InFolder):
 class Lines(InFolder):
     def same(self, *lists, **how):
         """Asserts that the output and the status of ffoscores for some lists do not depend on the number of workers.
-        `how` are keyword arguments of `run`, for all runs except the first, which finds what has to be printed."""
+        `how` are keyword arguments of `run`. The first run is made without these, and shows what has to be printed."""
         names = [write(f"{number}.obf", text) for number, text in enumerate(lists)]
         words = built("ffoscores"), *names, "--workers"
         printed = run(*words, 0).stdout
@@ -112,6 +112,7 @@ class Lines(InFolder):
                 self.assertEqual(program.returncode, 0)
 
     def test_n_workers_score_n_plus_one_lines_at_once_and_each_is_printed_as_soon_as_those_before_are_scored(self):
+        """The lines before HOURS are printed, and EASY[0] after it is not. 0 workers start no thread."""
         known = [*positions(24, 10, 13).splitlines(True), b"% next\n"]
         for workers in WORKERS:
             with self.subTest(workers=workers):
