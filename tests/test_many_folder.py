@@ -1,5 +1,4 @@
 """bin/ffosolve-many continues after any interruption, and uses only complete results."""
-import hashlib
 import json
 import os
 import random
@@ -116,7 +115,7 @@ class Resuming(Case):
         words = (*self.WORDS[:3], "--scoring=discs", "--max-empties=07", "--complete", "--book-in=one.book")
         write("other.book", b"% ffobook 2 winner\n")
         self.write_list(many.SMALL, "--scoring=discs")
-        digest = hashlib.sha256(Path("one.book").read_bytes()).hexdigest()
+        digest = run("sha256sum", "one.book").stdout[:64].decode()
         self.many(*words)
         for old, new, how in (("--lines=20", "--lines=21", "with --lines 20"),
                               ("--scoring=discs", "--scoring=sign", "with --scoring discs"),
@@ -237,14 +236,15 @@ class Files(Case):
         self.many("--lines=7", "work", "list.obf", by=by, message=" 50 lines in 8 parts")
 
     def test_a_folder_with_other_files_or_of_an_earlier_version_is_refused_and_untouched(self):
-        message = ("has files that are not ffosolve-many's, or those of an earlier version, such as {}: name a new or "
-                   "an empty folder\n")
-        for names, first in (("copy", "copy"), ("lock copy", "copy"), ("results/0000000 task.json list", "list"),
-                             ("a.new", "a.new"), ("lock asked.json run-0123456789ab/list", "asked.json")):
+        message = ("{} has files that are not ffosolve-many's, or those of an earlier version, such as {}: name a new "
+                   "or an empty folder\n")
+        for place, names, first in (("one", "copy", "copy"), ("two", "lock copy", "copy"), ("a.new", "a.new", "a.new"),
+                                    ("three", "results/0000000 task.json list", "list"),
+                                    ("work", "lock asked.json run-0123456789ab/list", "asked.json")):
             for name in names.split():
-                write(Path(names, name), "the work of ffosolve-many, form 1")
-            self.refused(2, message.format(first), names, "list.obf")
-        self.refused(2, message.format("a.new"), ".", "list.obf")
+                write(Path(place, name), "the work of ffosolve-many, form 1")
+            self.refused(2, message.format(place, first), place, "list.obf")
+        self.refused(2, message.format(".", "a.new"), ".", "list.obf")
 
     def test_a_folder_that_is_empty_or_was_just_begun_is_used(self):
         Path("empty").mkdir()
