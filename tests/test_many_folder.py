@@ -323,7 +323,7 @@ class Signals(Case):
             ran = self.open(many.ACTS)
             time.sleep(rng.uniform(0, 2))
             one = rng.choice([*processes_in(self.folder)] or [ran.pid])
-            run("kill", "-KILL", "--", rng.choice((-ran.pid, ran.pid, one)))  # -N is process group N
+            run("sh", "-c", 'kill -s KILL -- "$0"', rng.choice((-ran.pid, ran.pid, one)))  # -N is process group N
             output, _ = self.end(ran)
             self.assertIn(ran.returncode, (0, -9) if output else (1, 3, 4, -9))
             self.assertIn(output, (self.one, b""))
