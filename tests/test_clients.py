@@ -1,4 +1,4 @@
-"""Programs that use the library, built as their authors would build them, and the packages for Python and Rust."""
+"""Programs that use the library, built and run as documented, and the packages for Python and Rust."""
 import email
 import inspect
 import os
@@ -14,7 +14,7 @@ from .prefix import CXX, PIP, PREFIX, VERSION, C, setUpModule
 from .support import ROOT, built, lack, need, run, stored
 import ffosolve
 
-SMALL, LARGE = 9, 10  # positions of examples/masks.txt, without the last, of 20 empty squares, and with it
+SMALL, LARGE = 9, 10  # how many positions of examples/masks.txt an example solves; only the last has 20 empty squares
 CMAKE = """cmake_minimum_required(VERSION 3.16)
 project(clients C CXX)
 add_executable(program answers.c)
@@ -35,8 +35,8 @@ def shown(language, *names):
 
 class Examples(unittest.TestCase):
     def answers(self, *command, count=LARGE):
-        """Asserts what an example prints in three runs: for the first `count` positions of masks.txt; for two
-        positions, of which one has two best moves; and for a list with a refused one."""
+        """Runs an example program three times and asserts what it prints: for the first `count` positions of masks.txt;
+        for two positions, the first with two best moves; and for two positions, the second of which is refused."""
         masks, answers = (stored("examples", f"{name}.txt").decode().splitlines(True) for name in ("masks", "answers"))
         ran = PREFIX.run(*command, text="".join(masks[:count]))
         self.assertEqual((ran.returncode, ran.stdout), (0, "".join(answers[:count] + answers[LARGE:])), ran.stderr)
@@ -57,8 +57,8 @@ class Examples(unittest.TestCase):
                 self.answers(program, count=count)
 
     def test_examples_in_c_and_cxx_are_built_by_cmake(self):
-        """Uses the CMake code of docs/library.md, with the static and the shared library. If that code asks for a newer
-        version than the installed one, CMake fails."""
+        """The CMake code of docs/library.md links the static library, and CMAKE also the shared one. If that code asks
+        for a newer version of ffosolve than the installed one, CMake fails."""
         need("cmake")
         (first, second, _), (block, _) = VERSION.split("."), shown("cmake")
         for name in ("answers.c", "answers.cpp"):
@@ -86,7 +86,7 @@ class Examples(unittest.TestCase):
         self.answers(PREFIX.work / "target/debug/answers")
 
     def command(self, language, block):
-        """Returns the words of the command that runs a block of code."""
+        """Returns the words of a command that runs a block of code, after building it unless it is in Python."""
         if language == "python":
             return PREFIX.site and sys.executable, "-c", block
         if language == "rust":
@@ -132,8 +132,8 @@ class PythonPackage(unittest.TestCase):
             self.assertTrue(is_refused if why else ran.returncode == 0, ran)
 
     def built(self, source, *kinds):
-        """Builds archives of these kinds, such as "sdist", with the build hooks of the package in the folder `source`,
-        and returns their paths."""
+        """Builds an archive of each kind, such as "sdist", with the build backend in the folder `source`, which has the
+        package for Python. Returns the paths of the archives."""
         hooks = "import sys, ffosolve_wheel as made\n"
         hooks += "for kind in sys.argv[2:]: print(getattr(made, f'build_{kind}')(sys.argv[1]))"
         names = PREFIX.make(sys.executable, "-Bc", hooks, PREFIX.work, *kinds, cwd=source / "backend").stdout.split()

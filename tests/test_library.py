@@ -114,7 +114,7 @@ class Header(unittest.TestCase):
                 self.assertEqual(len(re.findall(r"\[-Werror[=,](?:-W)?unused-result\]", errors)), len(names), errors)
 
     def test_a_status_has_one_name_number_and_text_in_each_language(self):
-        """Links the Rust program with a library whose functions return 1 at first, then 2, 3 and so on."""
+        """The program STATUSES_IN_RUST is linked with a library whose functions return 1, then 2, 3 and so on."""
         listed = re.findall(r"FFOSOLVE_(\w+) = (\d+)", PREFIX.text.split("enum ffosolve_status {")[1].split("}")[0])
         self.assertEqual(listed, [(it.name, str(it.value)) for it in ffosolve.Status])
         source = "".join(f"int {name}(void) {{ static int status; return ++status; }}\n" for name in PREFIX.calls)
@@ -134,8 +134,7 @@ class Header(unittest.TestCase):
 class Calls(unittest.TestCase):
     def setUp(self):
         """Reads tests/library_calls.txt. A row is a call, ` = `, and what library_calls.c has to print for the call
-        according to the header. A word of a call may be alternatives with `|` between them; each combination is a call
-        of its own."""
+        according to the header. Words with `|` between them are alternatives: each combination is a call."""
         self.calls, self.wanted = [], ""
         for row in (TESTS / "library_calls.txt").read_text().splitlines():
             call, wanted = row.rsplit(" = ", 1)

@@ -1,7 +1,7 @@
 """The build backend (PEP 517): builds a wheel or a source archive with nothing but Python's standard library.
 
-pyproject.toml names this module, so `pip install ./python` needs no network. The package is described by the file
-METADATA, followed by the docstring of ffosolve.
+pyproject.toml names this module, so `pip install ./python` needs no network. The package's metadata are the file
+METADATA and the docstring of ffosolve.
 """
 import ast
 import base64

@@ -1,4 +1,4 @@
-"""Tests of the package. The library is found as for a user: through FFOSOLVE_LIBRARY, or where it is installed.
+"""Tests of the package, with the library that `Solver()` loads: that of FFOSOLVE_LIBRARY, or an installed one.
 
     python3 -m unittest discover python/tests
 """
@@ -31,7 +31,7 @@ MANY = (Solver.solve_all, Solver.move_scores_all, lambda solver, positions: list
 
 
 def library_that_returns(status):
-    """Returns a stand-in for the library, whose calls return `status`. It keeps the arguments of the calls."""
+    """Returns a stand-in for the library. Its functions return `status` and record their arguments."""
     names = ("solve", "confirm", "solve_all", "move_scores_all", "moves", "play")
     return mock.Mock(**{f"ffosolve_{name}.return_value": status for name in names})
 
@@ -97,7 +97,7 @@ class Calls(unittest.TestCase):
         self.assertEqual(self.solver.library_version, ffosolve.__version__)
 
     def test_the_library_gets_the_scoring_the_size_of_the_table_and_the_claim(self):
-        """Unless a size is given, the table has the size for the position with the most empty squares."""
+        """By default, the size of the table is the one for the position with the most empty squares."""
         for settings, scoring, entries in (({}, 0, ffosolve.table_entries(52)), ({"scoring": 2, "entries": 7}, 2, 7)):
             solver = Solver(max_empties=60, **settings)
             library = solver._library = library_that_returns(0)
@@ -138,7 +138,7 @@ class Refusals(unittest.TestCase):
                     call(Solver(), given)
                 self.assertEqual((type(refused.exception), refused.exception.index), (error, index))
 
-    def test_settings_are_refused_by_their_names(self):
+    def test_wrong_settings_are_refused_by_their_names(self):
         for name, error, why, *values in (
             ("scoring", ffosolve.UnknownScoring, "a scoring is 'winner', 'discs' or 'sign', not ",
              3, -1, "loser", None, 0.5),
@@ -154,7 +154,7 @@ class Refusals(unittest.TestCase):
         self.assertEqual([Solver(max_empties=most).max_empties for most in (0, 60)], [0, 60])
 
     def test_a_refusal_has_the_index_of_its_position_and_is_a_value_error(self):
-        """Only NoMemory is a MemoryError instead."""
+        """Only NoMemory is not a ValueError, but a MemoryError."""
         for refusal in ffosolve.Refused.__subclasses__():
             if refusal not in (ffosolve.OtherRefusal, ffosolve.LineRefused):
                 self.assertEqual((str(refusal()), refusal().index), (refusal.reason, None))

@@ -23,15 +23,15 @@ By default, a Solver takes positions with up to 20 empty squares; `Solver(max_em
 with two more empty squares takes some 3 to 16 times as long.
 
 `read_lines("list.obf")` reads positions from a file of OBF lines, and `read_games("WTH_2001.wtb")` reads games; the
-positions of a game are `solver.positions(game)`. `compare_scores` says how far scores are from those of `ffoscores`.
+positions of a game are `solver.positions(game)`. `compare_scores` reports how far listed scores are from exact ones.
 
 A notebook shows a position as a picture. `position.show(solver.move_scores(position))` adds the scores of its moves.
 
 On the main thread, Ctrl-C interrupts every call, and so does an exception that the handler of another signal raises.
-The library goes on with an interrupted call until that is done or the program ends. Several threads may call at once.
+An interrupted call goes on in the library until it is done or the program ends. Several threads may call at once.
 
-The wheel that `make wheel` builds has the shared library libffosolve.so.1. Otherwise install it, or give its path:
-`Solver("FOLDER/libffosolve.so")`. Reading, writing and showing positions needs no library.
+The wheel that `make wheel` builds has the shared library libffosolve.so.1. Without that wheel, install the library, or
+pass its path: `Solver("FOLDER/libffosolve.so")`. Reading, writing and showing positions needs no library.
 """
 import os
 

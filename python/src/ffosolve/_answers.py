@@ -7,7 +7,7 @@ from ._squares import square_names
 
 
 class Scoring(enum.IntEnum):
-    """What a score counts when the game is over, for the side to move. `Scoring("winner")` is Scoring.WINNER."""
+    """How the end of a game is scored for the side to move. `Scoring("winner")` is Scoring.WINNER."""
 
     WINNER = 0  # its discs minus the other side's; the winner gets the empty squares
     DISCS = 1  # its discs minus the other side's
@@ -19,7 +19,7 @@ class Scoring(enum.IntEnum):
 
 
 def scoring_of(value: Union[Scoring, int, str]) -> Scoring:
-    """Returns the Scoring for `value`: a Scoring, or the number or name of one. Raises UnknownScoring otherwise."""
+    """Returns the Scoring for `value`: a Scoring, its number or its name. Raises UnknownScoring for any other value."""
     try:
         return Scoring(value)  # type: ignore[arg-type]
     except ValueError:
@@ -38,9 +38,8 @@ ENDS = {Kind.PASS: "PS", Kind.OVER: "--"}
 
 
 class Answer(NamedTuple):
-    """The score of a position for the side to move, -64 to 64; how it is reached; and the mask of all the best moves,
-    or 0 if `kind` is PASS or OVER. An Answer prints as `+62 A1,H1`, as `-04 PS` for a pass, or as `+32 --` for a
-    finished game."""
+    """The score of a position for the side to move, -64 to 64; its Kind; and the mask of all best moves, which is 0 if
+    `kind` is PASS or OVER. An Answer prints as `+62 A1,H1`, for a pass as `-04 PS`, for a finished game as `+32 --`."""
 
     score: int
     kind: Kind

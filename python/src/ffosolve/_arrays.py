@@ -1,4 +1,4 @@
-"""Solves positions in NumPy arrays. Only this module needs NumPy, so it is imported by the methods that need it."""
+"""Solves positions in NumPy arrays. Only the methods for arrays import this module, so the others need no NumPy."""
 from typing import Any, List, NamedTuple, Tuple
 
 import numpy
@@ -20,8 +20,9 @@ class Answers(NamedTuple):
 
 
 def runs_of(solver: Solver, masks: Any, threads: int) -> List[Tuple[slice, int]]:
-    """Cuts positions into parts for threads. Returns a pair for each part: its slice of `masks`, and the greatest
-    number of empty squares in a position. Raises the refusal of the first refused position."""
+    """Cuts positions into parts; if `threads` is 1, into one. A row of `masks` is (own, opp). Returns a pair for each
+    part: a slice of the rows, and the greatest number of empty squares in a position of the part. Raises the refusal of
+    the first refused position."""
     own, opp = masks[:, 0], masks[:, 1]
     empties = 64 - SIZES[(own | opp).view(numpy.uint8)].reshape(-1, 8).sum(axis=1, dtype=numpy.int64)
     for index in numpy.flatnonzero((own & opp != 0) | (empties > solver.max_empties)).tolist():
@@ -34,9 +35,9 @@ def runs_of(solver: Solver, masks: Any, threads: int) -> List[Tuple[slice, int]]
 
 
 def found_by(solver: Solver, call: Any, record: Any, own: Any, opp: Any, threads: int) -> List[Any]:
-    """Calls the library's function `call` for each part of the positions, on up to `threads` threads. The calls write a
-    `record` for each position. Returns a list with an array for each field of `record`. Raises TypeError unless both
-    arrays of masks are of uint64, and ValueError unless they have one dimension and equal lengths."""
+    """Solves positions by `call`, a function of the library that writes a `record` (a C structure) for each position.
+    Returns a list with an array for each member of `record`. Raises TypeError unless `own` and `opp` are arrays of
+    uint64, and ValueError unless they have one dimension and equal lengths."""
     own, opp = numpy.asarray(own), numpy.asarray(opp)
     if own.dtype != numpy.uint64 or opp.dtype != numpy.uint64:
         raise TypeError("the masks are arrays of uint64")

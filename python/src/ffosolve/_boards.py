@@ -23,9 +23,9 @@ class Board:
     """A board that a notebook shows as a picture, and that prints as text.
 
     `own` and `opp` are the masks of the discs of the side to move and of the other side. `side` is the colour of the
-    side to move, "X" for Black or "O" for White; it is named below the board, followed by `state`. `scores` maps the
-    names of empty squares to scores, which are written into them; the highest are marked. Raises ValueError for another
-    side, a wrong name or a score whose square is not empty, and TypeError for a score that is not a number."""
+    side to move, "X" (Black) or "O" (White). Below the board, the side and the text `state` are shown. `scores` is
+    {name of an empty square: score}: each score is shown in its square, and the highest are marked. Raises ValueError
+    for another side, a wrong name or a score whose square is not empty, and TypeError unless scores are numbers."""
 
     def __init__(self, own: int, opp: int, side: str, scores: Optional[Mapping[str, float]] = None,
                  state: str = "is to move") -> None:

@@ -13,10 +13,10 @@ A = TypeVar("A")
 B = TypeVar("B")
 
 # Positions of this weight together are solved in some hundredths of a second. A position with up to 8 empty squares
-# weighs 1, and each further empty square doubles that, so one with 16 is heavy enough for a part of its own.
+# weighs 1, and each further empty square doubles the weight, so one with 16 is heavy enough for a part of its own.
 MOST_WEIGHT, LIGHTEST = 256, 8
 MOST_SECONDS = 0.01  # a part ends with the first position that comes later than this after the start of the part
-AHEAD = 32  # parts that are read ahead for each thread, so that a long one does not hold up the other threads
+AHEAD = 32  # parts that are read ahead for each thread, so that a slow part does not hold up the other threads
 # A call is brief if it solves one position with 14 empty squares, which takes at most 0.15 s, or 4 times as many
 # positions for each empty square less, down to 8.
 BRIEF = 4096
@@ -31,9 +31,8 @@ PartOrRefusal = Union[Part, Refused]
 
 
 def parts_of(positions: Iterable[Sequence[int]], max_empties: int, whole: bool = False) -> Iterator[PartOrRefusal]:
-    """Yields positions in parts; if `whole`, in one. If a position is refused, the last part has the positions before
-    it, maybe none, that are in no earlier part; then comes the refusal. Raises TypeError for an object that is not a
-    position."""
+    """Yields Parts of `positions`; if `whole`, only one. If a position is refused, yields a Part that ends before that
+    position, maybe an empty Part, and last the refusal. Raises TypeError for an object that is not a position."""
     clock = time.monotonic
     before, most, weight, part, end = 0, 0, 0, [], clock() + MOST_SECONDS  # type: ignore[var-annotated]
     for position in positions:
@@ -63,8 +62,8 @@ def checked_threads(threads: int) -> int:
 
 
 def in_order(call: Callable[[A], Iterable[B]], parts: Iterable[A], threads: int) -> Iterator[B]:
-    """Calls `call` with each part, on up to `threads` threads. Yields the results of each call, in the order of the
-    parts."""
+    """Calls `call` with each of `parts`, on up to `threads` threads. Yields all results of the calls, in the order of
+    `parts`."""
     if threads == 1:
         for part in parts:
             yield from call(part)
@@ -92,21 +91,21 @@ def in_order(call: Callable[[A], Iterable[B]], parts: Iterable[A], threads: int)
 
 def interruptible(call: Callable[..., A], count: int, empties: int, *arguments: Any) -> A:
     """Makes a call of the library for `count` positions with at most `empties` empty squares, and returns its result.
-    Longer calls of the main thread are made on another thread, so that Ctrl-C can raise an exception meanwhile."""
+    The main thread leaves calls that are not brief to another thread, so that Ctrl-C can raise an exception."""
     is_brief = count << 2 * max(0, empties - LIGHTEST) <= BRIEF
     if is_brief or threading.current_thread() is not threading.main_thread():
         return call(*arguments)
     future: "Future[A]" = Future()
     try:
         start_worker([(future, call, *arguments)])
-    except RuntimeError:  # no further thread can be started
+    except RuntimeError:  # no thread can be started
         return call(*arguments)
     return future.result()
 
 
 def start_worker(tasks: Iterable[Any]) -> None:
-    """Starts a daemon thread that takes each (Future, function, arguments..) of `tasks`, calls the function with the
-    arguments, and gives the result or the exception to the Future."""
+    """Starts a daemon thread. For each (Future, function, arguments..) of `tasks`, it calls the function with the
+    arguments, and stores the result or the exception in the Future."""
 
     def work() -> None:
         for future, call, *arguments in tasks:

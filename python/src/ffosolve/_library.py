@@ -53,7 +53,7 @@ def load(path: Union[str, "os.PathLike[str]", None] = None) -> ctypes.CDLL:
 
 
 def loaded() -> ctypes.CDLL:
-    """Returns the library that was loaded first; if there is none, loads one. All play by the same rules."""
+    """Returns the library that was loaded first; if there is none, loads one. Any library has the rules of the game."""
     return _loaded[0] if _loaded else load()
 
 

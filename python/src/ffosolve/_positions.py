@@ -48,8 +48,8 @@ class Position(NamedTuple("Masks", [("own", int), ("opp", int)])):
 
     @classmethod
     def from_obf(cls, text: Union[str, bytes]) -> "Line":
-        """The position of a line of OBF text, with the moves that the line lists. The line has 64 squares from A1 on,
-        the side to move, and fields such as `H1:+62;`.
+        """The position of a line of OBF text, with the moves that the line lists. The line has 64 squares in the order
+        A1, B1, .. H8, the side to move, and maybe moves with their scores such as `H1:+62;`.
 
         Any of `X x * B b` stands for Black, any of `O o W w` for White, and `-` or `.` for an empty square. Blanks
         before the squares and before the side are skipped. Raises NoPosition, ShortBoard, BadSquare and BadSide, which
@@ -58,8 +58,8 @@ class Position(NamedTuple("Masks", [("own", int), ("opp", int)])):
         return read_line(text, None)
 
     def to_obf(self, side: Optional[str] = None) -> str:
-        """The position as an OBF line: 64 squares, and ` X;` or ` O;`. The side to move has its own colour, or the one
-        that `side` names."""
+        """The position as an OBF line: 64 squares, and ` X;` or ` O;`. `side`, "X" or "O", may name another colour for
+        the side to move."""
         return self.show(side=side).to_obf()
 
     @property
@@ -84,13 +84,13 @@ class Position(NamedTuple("Masks", [("own", int), ("opp", int)])):
 
     def play(self, square: Union[int, str]) -> "Position":
         """The position after a move, in which the other side is to move. `square` is a name such as "F5" or a number
-        from 0 to 63. Raises NoMove, which is a ValueError, and ValueError for any other name."""
+        from 0 to 63. Raises NoMove, a ValueError, for an illegal move, and ValueError for a name that no square has."""
         return Position(*play(loaded(), self, square), OTHER[self.side])
 
     def play_all(self, squares: Union[str, Iterable[Union[int, str]]]) -> "Position":
         """The position after the moves of a transcript such as "f5d6c3", in any form that `Game.of_text` reads, or of a
         list of squares. A pass may be written or left out. Raises NoMove for an illegal move and for a word that is
-        not a square; its text has the number of that move, from 1 and without passes."""
+        not a square; the message has the number of the move, from 1 and without passes."""
         if not hasattr(squares, "__iter__"):
             raise TypeError(f"moves are a transcript or a list of squares, not {reprlib.repr(squares)}")
         position = self
@@ -118,9 +118,9 @@ class Position(NamedTuple("Masks", [("own", int), ("opp", int)])):
 
     def show(self, scores: Union[Mapping[str, float], Answer, None] = None, side: Optional[str] = None) -> Board:
         """The board, which a notebook shows as a picture and print() as text. `scores` from `Solver.move_scores` are
-        written into their squares, and the best are marked. An Answer's score is written into each best move's square,
-        or below the board for a pass or a finished game. The side to move has its own colour, or that of `side`. Raises
-        ValueError for another side and for a score in a square that is not empty, and TypeError for other scores."""
+        written into the moves' squares, and the best are marked. An Answer's score is written into each best move's
+        square, or below the board for a pass or a finished game. `side` may name another colour for the side to move.
+        Raises ValueError for another side or for scores of squares that are not empty, TypeError for other scores."""
         state = "is to move"
         if isinstance(scores, Answer):
             state = STATES.get(scores.kind, state).format(scores.score)
@@ -166,8 +166,8 @@ class Line(Position):
 
 
 def read_line(text: Union[str, bytes], number: Optional[int]) -> Line:
-    """Reads a line of OBF text. Raises LineRefused for a line without a position. `number`, which may be None, becomes
-    the number of the Line or the `line` of the LineRefused."""
+    """Reads a line of OBF text. Raises LineRefused for a line without a position, and NoMemory. `number`, which may be
+    None, becomes the `number` of the Line or the `line` of the LineRefused."""
     try:
         found: Any = LINE.match(without_end(text))
         _, letters, _, side, rest = found.groups()
@@ -185,7 +185,7 @@ def read_line(text: Union[str, bytes], number: Optional[int]) -> Line:
 
 
 def fault_of(found: "re.Match[bytes]", number: Optional[int]) -> LineRefused:
-    """The refusal of a line that holds no position, for the first fault from the left. `found` is the match of LINE."""
+    """The refusal of a line without a position, for the first fault from the left. `found` is a match of LINE."""
     content, squares = found.string[found.end(1):], len(found[2])
     if not content or content.startswith(b"%"):
         return NoPosition(0, number)
@@ -211,7 +211,7 @@ def without_end(text: Union[str, bytes]) -> bytes:
 def read_lines(source: Source, refused: Optional[Callable[[LineRefused], object]] = None) -> Iterator[Line]:
     """Yields the positions of lines of OBF text, in their order. `source` is a path, or an iterable of lines such as an
     open file. Blank lines and comments are skipped. Any other line without a position raises ShortBoard, BadSquare or
-    BadSide, whose `line` is its number. If `refused` is given, it is called with the error, and reading goes on:
+    BadSide, whose `line` is the line's number. If `refused` is given, it is called with the error, and reading goes on:
 
         wrong = []
         positions = list(read_lines("a.obf", refused=wrong.append))
@@ -239,8 +239,8 @@ def positions_in(lines: Lines, refused: Optional[Callable[[LineRefused], object]
 
 
 def lines_of(source: Source) -> Lines:
-    """The lines of `source`, a path or an iterable. A path's file is opened at once, and closed after its last line.
-    Raises TypeError for another source."""
+    """The lines of `source`, a path or an iterable of lines. The file of a path is opened at once, and closed after its
+    last line. Raises TypeError for another source."""
     is_text = isinstance(source, (bytes, bytearray)) or isinstance(source, str) and "\n" in source
     if is_text or not isinstance(source, (str, os.PathLike)) and not hasattr(source, "__iter__"):
         what = "a text, which parse_lines reads" if is_text else reprlib.repr(source)

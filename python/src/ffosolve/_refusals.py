@@ -64,7 +64,7 @@ class TooManyEntries(Refused, ValueError, status=Status.TOO_MANY_ENTRIES,
 
 
 class UnequalLengths(Refused, ValueError, status=Status.UNEQUAL_LENGTHS, reason="not as many answers as positions"):
-    """The numbers of positions and answers differ. No Solver raises this, since it makes room for as many answers."""
+    """The numbers of positions and answers differ. A Solver never raises this, since it makes room for all answers."""
 
 
 class SharedSquare(Refused, ValueError, status=Status.SHARED_SQUARE, reason="the masks share a square"):
@@ -77,8 +77,8 @@ class TooManyEmpties(Refused, ValueError, status=Status.TOO_MANY_EMPTIES,
 
 
 class NoMove(Refused, ValueError, status=Status.NO_MOVE, reason="illegal move"):
-    """The move is not legal, or for `play_all` not even a square. The text names the move; for a square or a pass, it
-    also has the board and the side to move, as an OBF line."""
+    """The move is illegal or, for `play_all`, a word that names no square. The message of an illegal move ends with the
+    board and the side to move, as an OBF line."""
 
 
 class NoMemory(Refused, MemoryError, status=Status.NO_MEMORY, reason="out of memory"):
@@ -86,7 +86,7 @@ class NoMemory(Refused, MemoryError, status=Status.NO_MEMORY, reason="out of mem
 
 
 class OtherRefusal(Refused):
-    """The library returned a status that this package does not know, so the library is newer."""
+    """The library returned a status that this package does not know, since the library is newer than the package."""
 
     def __init__(self, status: int) -> None:
         self.status, self.reason = status, f"refused with status {status}"
@@ -95,7 +95,7 @@ class OtherRefusal(Refused):
 
 class LineRefused(Refused, ValueError):
     """A line of OBF text was refused. `line` is its number, from 1, or None if the line was read alone. For BadSquare
-    and BadSide, `at` is the column, counted in bytes from 1; for ShortBoard, it is the number of squares."""
+    and BadSide, `at` is the column, counted in bytes from 1; for ShortBoard, `at` is the number of squares."""
 
     def __init__(self, at: int = 0, line: Optional[int] = None) -> None:
         self.at, self.line, self.reason = at, line, self.reason.format(at)
@@ -126,7 +126,7 @@ class BadSide(LineRefused, status=Status.BAD_SIDE, reason="bad side at column {}
 
 
 def refusal_of(status: int, *arguments: Any) -> Refused:
-    """The refusal for a status. This is an OtherRefusal for an unknown status; the other classes get `arguments`."""
+    """Returns the refusal for a status, made with `arguments`; for an unknown status, an OtherRefusal without them."""
     return REFUSALS[status](*arguments) if status in REFUSALS else OtherRefusal(status)
 
 

@@ -35,14 +35,14 @@ def table_entries(empties: int) -> int:
 class Solver:
     """Solves positions under a scoring. Each call searches with a new table.
 
-    `library` is the path of the shared library. Without it, the environment variable FFOSOLVE_LIBRARY has the path; if
-    that is not set either, the first library is loaded that is found in this package, in the system's places, or in
-    `lib` of this Python or of /usr/local. `scoring` is a Scoring, its number, or its name such as "winner". `entries`
-    is the size of the table, 0 to MOST_ENTRIES; without it, `table_entries` chooses one by the empty squares. Positions
-    with more empty squares than `max_empties`, 0 to MOST_EMPTIES, are refused, since they may take hopelessly long; the
-    default is that of the programs. Raises LibraryNotFound, UnknownScoring, TooManyEntries, ValueError and TypeError.
+    `library` is the path of the shared library. Its default is the environment variable FFOSOLVE_LIBRARY or, if that is
+    not set, the first library that loads: one in this package, in the system's library folders, or in `lib` of this
+    Python or of /usr/local. `scoring` is a Scoring, its number, or its name such as "winner". `entries` is the size of
+    the table, 0 to MOST_ENTRIES; by default, `table_entries` chooses it by the empty squares. Positions with more empty
+    squares than `max_empties`, 0 to MOST_EMPTIES, are refused, since they may take hopelessly long; 20 is also the
+    default of the programs. Raises LibraryNotFound, UnknownScoring, TooManyEntries, ValueError and TypeError.
 
-    A solver keeps nothing between calls. Several threads may use one at the same time.
+    A solver keeps nothing between calls. Several threads may use the same solver at the same time.
     """
 
     def __init__(self, library: Union[str, "os.PathLike[str]", None] = None, *,
@@ -79,22 +79,22 @@ class Solver:
         return self._answer(self._library.ffosolve_solve, position)
 
     def confirm(self, position: Position, claim: Answer) -> Answer:
-        """The answer for a position, found by testing the claimed score first. The claim may be wrong: it is right if
-        the result equals it. From 6 empty squares on, this is faster than `solve` if most claimed scores are right.
-        Raises the same as `solve`, and TypeError for a claim that is not an Answer."""
+        """The answer for a position, found by testing the claimed score first; the answer is exact even if the claim is
+        wrong. From 6 empty squares on, this is faster than `solve` if most claimed scores are right. Raises the same as
+        `solve`, and TypeError for a claim that is not an Answer."""
         if not isinstance(claim, Answer):
             raise TypeError(f"a claim is an Answer(score, kind, best), not {reprlib.repr(claim)}")
         return self._answer(self._library.ffosolve_confirm, position, CAnswer(*claim))
 
     def move_scores(self, position: Position) -> Dict[str, int]:
-        """Returns a dict with the score of each legal move for the side to move, by the square's name, in the order A1,
-        B1, .. H8. It is empty if there is no legal move. One table serves all moves. Raises the same as `solve`."""
+        """Returns {square's name: score for the side to move} for all legal moves, in the order A1, B1, .. H8. The dict
+        is empty if there is no legal move. One table serves all moves. Raises the same as `solve`."""
         return self._score_part(Part([position], self._checked_empties(position)))[0]
 
     def solve_all(self, positions: Iterable[Position], *, threads: int = 1) -> List[Answer]:
-        """The answers for positions, in their order. One thread uses one table; several use one for each part of the
-        list. Raises the same as `solve`; all positions are checked before any is solved, and `index` of SharedSquare
-        and TooManyEmpties is that of the first refused position."""
+        """The answers for positions, in their order. One thread uses one table for all positions; several threads use a
+        table for each part of the list. Raises the same as `solve`; all positions are checked before any is solved,
+        and `index` of SharedSquare and TooManyEmpties is that of the first refused position."""
         parts = self._all_parts(positions, whole=checked_threads(threads) == 1)
         return list(in_order(self._solve_part, parts, threads))
 
@@ -131,7 +131,7 @@ class Solver:
         return found_by(self, call, CMoveScores, own, opp, checked_threads(threads))[0]
 
     def moves(self, position: Position) -> int:
-        """The mask of the legal moves, 0 for none. `Position.legal_moves` has their names. Raises SharedSquare."""
+        """The mask of the legal moves, 0 if there are none. `Position.legal_moves` has names. Raises SharedSquare."""
         return moves(self._library, position)
 
     def play(self, position: Position, square: Union[int, str]) -> Position:
@@ -139,9 +139,9 @@ class Solver:
         return Position(*play(self._library, position, square), OTHER[getattr(position, "side", "X")])
 
     def positions(self, game: Union[Game, str]) -> List[Position]:
-        """The positions of a game or of a transcript: the start, and the one after each move. So the one at index n has
-        60 - n empty squares. A pass adds no position. Raises GameRefused for a game that can't be read, for an illegal
-        move and for a word that is not a square, and TypeError for another object."""
+        """The positions of a game or of a transcript: the start, then the position after each move. The position at
+        index n has 60 - n empty squares; a pass adds none. Raises GameRefused for a game that can't be read, for an
+        illegal move and for a word that is not a square, and TypeError for another object."""
         game = Game.of_text(game) if isinstance(game, str) else game
         if not isinstance(game, Game):
             raise TypeError(f"a game is a Game or the text of a transcript, not {reprlib.repr(game)}")
@@ -179,8 +179,8 @@ class Solver:
         return [{name: score for name, score in zip(NAMES, row) if score != NO_SCORE} for row in rows]
 
     def _found_for(self, part: PartOrRefusal, call: Any, record: Any) -> Any:
-        """Makes a call that writes a `record` for each position of a part. Returns an array of these records. Raises
-        `part` if `part` is a refusal."""
+        """Calls `call`, a function of the library, and returns the array that it writes: a `record` (a C structure) for
+        each position of `part`. Raises `part` if that is a refusal."""
         if isinstance(part, Refused):
             raise part
         found = (record * len(part.positions))()
@@ -188,8 +188,8 @@ class Solver:
         return found
 
     def _fill(self, found: Any, call: Any, asked: Any, empties: int) -> None:
-        """Makes a call that writes a record to `found` for each position in `asked`. No position has more than
-        `empties` empty squares."""
+        """Calls `call`, a function of the library, which writes a record to `found` for each position in `asked`. No
+        position has more than `empties` empty squares."""
         count = len(asked)
         more = asked, count, self._scoring, self._entries_for(empties), found, count, ctypes.c_size_t()
         accept(interruptible(call, count, empties, *more))

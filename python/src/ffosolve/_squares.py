@@ -22,8 +22,8 @@ def square_number(name: str) -> int:
 
 
 def number_of(square: Union[int, str]) -> int:
-    """The number of the square with a name; a number is returned as it is, even if no square has it. Raises ValueError
-    for another name, and TypeError for another object."""
+    """The number of the square that has the name `square`. If `square` is a number, returns that, even if no square has
+    it. Raises ValueError for another name, and TypeError for another object."""
     if not isinstance(square, str) and not hasattr(square, "__index__"):
         raise TypeError(f"a square is a name such as 'F5' or a number from 0 to 63, not {reprlib.repr(square)}")
     return square_number(square) if isinstance(square, str) else operator.index(square)
