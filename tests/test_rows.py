@@ -22,7 +22,8 @@ EQUAL = SEVEN + b"-OOXXOO- X; A8:+64; H8:+64;\n"
 BOOKS = {
     "": (b"", b"% ffobook 2 winner\n", b"% ffobook 2 discs\r\n", b"% ffobook 2 sign", b" % ffobook 2 sign",
          b"% ffobook", b"%ffobook 2 sign", b"\n% ffobook 2 sign\n", b"% ffobook 2 sign\n% ffobook 3 x\n",
-         *(LEFT[:size] for size in range(73, 77)), *((LEFT + LAST + EQUAL)[:size] for size in (233, 236, 999))),
+         LEFT + LAST + EQUAL, *((LEFT + LAST + EQUAL)[:size] for size in (233, 236)),
+         *(LEFT[:size] for size in range(73, 77))),
     "1: unknown header": (b"% ffobook 3 winner\n", b"% ffobook 2 winner \n?", b"% ffobook 2 win", b"% ffobook "),
     "1: bad square at column 1": (b"\xef", b"\0", b"?\n" + SEVEN + b"XOOOOO-- X;\n?"),
     "2: not in order": (LAST + LEFT + EQUAL, LAST + LAST),
