@@ -32,10 +32,10 @@ def options(entries, scoring="winner"):
 
 
 def published():
-    """Returns {number: (board and side, [[move, score], ..])}, all but the number texts, for positions 40 to 51 of the
-    FFO endgame test. The moves are those published as best."""
-    lines = [line for line in open(ROOT / "examples/ffo-40-51.obf") if line[0] != "%"]
-    positions = ((line[:66], [claim.strip().split(":") for claim in line.split("%")[0].split(";")[1:-1]]) for line in lines)
+    """Returns {number: (board and side, [[move, score], ..])} for positions 40 to 51 of the FFO endgame test. All but
+    the numbers are texts. The moves are those published as best."""
+    lines = [line.split("%")[0] for line in open(ROOT / "examples/ffo-40-51.obf") if line[0] != "%"]
+    positions = [(line[:66], [claim.strip().split(":") for claim in line.split(";")[1:-1]]) for line in lines]
     return dict(enumerate(positions, 40))
 
 
@@ -46,18 +46,18 @@ def agrees(score, moves, claims):
 
 
 def write(lines):
-    """Writes a new file, which is removed when the program ends, and returns its path."""
+    """Writes lines to a new file, which is removed when the program ends, and returns its path."""
     with tempfile.NamedTemporaryFile("w", dir=FOLDER.name, delete=False) as file:
         file.writelines(f"{line}\n" for line in lines)
     return file.name
 
 
 def race(*commands, cores=(CORE,)):
-    """Runs commands at the same time, all on the processors with the numbers `cores`, by default one. Returns (output,
-    processor seconds, seconds by the clock) for each. Exits if one fails."""
+    """Runs commands at the same time on the processors `cores`, by default all on one. Returns (output, processor
+    seconds, seconds by the clock until this command and those before it ended) for each. Exits if a command fails."""
     outputs, begun = [tempfile.TemporaryFile("w+") for _ in commands], time.monotonic()
     how = {"stdin": subprocess.DEVNULL, "preexec_fn": lambda: os.sched_setaffinity(0, cores)}
-    started = [subprocess.Popen([*map(str, command)], stdout=output, **how) for command, output in zip(commands, outputs)]
+    started = [subprocess.Popen([*map(str, words)], stdout=output, **how) for words, output in zip(commands, outputs)]
     results = []
     for ran, output in zip(started, outputs):
         _, status, usage = os.wait4(ran.pid, 0)
@@ -70,7 +70,7 @@ def race(*commands, cores=(CORE,)):
 
 
 def least(rounds, *commands):
-    """Runs `race` with the commands `rounds` times. Returns (set of its outputs, least processor seconds) for each."""
+    """Runs commands by `race`, `rounds` times. Returns (set of outputs, least processor seconds) for each command."""
     columns = [zip(*column) for column in zip(*(race(*commands) for _ in range(rounds)))]
     return [(set(outputs), min(seconds)) for outputs, seconds, _ in columns]
 

@@ -54,8 +54,8 @@ def random_game(rng):
 
 
 def random_lines(number, least, most, seed=1):
-    """Yields OBF lines of `number` positions, each from a random game of its own that is not over yet. The positions have
-    `least` to `most` empty squares in turn."""
+    """Yields OBF lines of `number` positions, each from a random game of its own that is not over yet. The positions
+    have `least` to `most` empty squares in turn."""
     rng, found = random.Random(seed), 0
     while found < number:
         empties = least + found % (most - least + 1)
