@@ -12,44 +12,61 @@ use obf_text::LineFault;
 use program_parts::{ProgramError, read_error};
 use solved_book::{Book, BookFault, Claims};
 use std::alloc::{AllocError, Global};
-use std::io::Read;
+use std::io::{BufRead, BufReader, Read};
 use std::os::unix::fs::FileTypeExt;
 use std::rt::Files;
 use std::{fs, io};
 use suite_runs::SolvedFiles;
 
-// How many bytes of a book are looked at before the rest is read.
+// How many bytes of a line are looked at before its rest is read.
 const FRONT: usize = 65_536;
 
-// Whether no further bytes can change the result of a book's first bytes: a fault is final, unless
-// it is that of a last line that may go on.
-fn is_final(read: &Result<Claims, BookFault>, front: &[u8]) -> bool {
-    let ended = front.iter().filter(|byte| **byte == b'\n').count();
-    match read {
-        Ok(_) => false,
-        Err(BookFault::Memory | BookFault::Header | BookFault::Line(_, LineFault::BadCell(_))) => {
-            true
-        }
-        Err(
-            BookFault::Line(number, _)
-            | BookFault::NoMoves(number)
-            | BookFault::Unsorted(number)
-            | BookFault::NotCanonical(number),
-        ) => *number <= ended,
+// Whether the first bytes of line `number` of a book are faulty, whatever follows them.
+fn is_final(alloc: Global, number: usize, front: &[u8]) -> bool {
+    match Claims::read(alloc, front) {
+        Err(BookFault::Header) => number == 1,
+        Err(BookFault::Line(_, LineFault::BadCell(_))) => true,
+        _ => false,
     }
 }
 
-// The claims of the book in a reader, or the fault of the book, which may be known before
-// the rest is read. The error is that of the reader.
-fn claims_in<R: Read>(alloc: Global, reader: &mut R) -> io::Result<Result<Claims, BookFault>> {
-    let mut text = Vec::new(alloc);
-    reader.take(FRONT as u64).read_to_end(&mut text)?;
-    let read = Claims::read(alloc, &text);
-    if text.len() < FRONT || is_final(&read, &text) {
-        return Ok(read);
+// Reads line `number` of a book with its end; no byte if no line is left. A line whose first bytes
+// are faulty, whatever follows them, is read no further, since it may have no end.
+fn next_line<R: BufRead>(
+    alloc: Global,
+    reader: &mut R,
+    number: usize,
+    line: &mut Vec<u8>,
+) -> io::Result<()> {
+    line.clear();
+    reader.take(FRONT as u64).read_until(b'\n', line)?;
+    if line.len() == FRONT && !line.ends_with(b"\n") && !is_final(alloc, number, line) {
+        reader.read_until(b'\n', line)?;
     }
-    reader.read_to_end(&mut text)?;
-    Ok(Claims::read(alloc, &text))
+    Ok(())
+}
+
+// The claims of the book in a reader, or the first fault of the book, whose line is the last one
+// that is read. The error is that of the reader.
+fn claims_in<R: Read + Drop>(alloc: Global, reader: R) -> io::Result<Result<Claims, BookFault>> {
+    let mut reader = BufReader::new(alloc, reader)?;
+    let mut line = Vec::new(alloc);
+    next_line(alloc, &mut reader, 1, &mut line)?;
+    let mut claims = match Claims::read(alloc, &line) {
+        Ok(claims) => claims,
+        Err(fault) => return Ok(Err(fault)),
+    };
+    for number in 2..isize::MAX as usize {
+        next_line(alloc, &mut reader, number, &mut line)?;
+        if line.is_empty() {
+            break;
+        }
+        claims = match claims.read_more(alloc, number, &line) {
+            Ok(claims) => claims,
+            Err(fault) => return Ok(Err(fault)),
+        };
+    }
+    Ok(Ok(claims))
 }
 
 // Opens the file of a book, which has to be a regular file or a pipe, since a device may have no
@@ -68,8 +85,8 @@ fn open_book<T: Files>(rt: &T, name: &str) -> io::Result<T::File> {
 // The claims of the book in the file of this name, or the fault of the book. The error is that of a
 // file that can't be read.
 fn claims_of<T: Files>(rt: &T, alloc: Global, name: &str) -> io::Result<Result<Claims, BookFault>> {
-    let mut file = open_book(rt, name)?;
-    claims_in(alloc, &mut file)
+    let file = open_book(rt, name)?;
+    claims_in(alloc, file)
 }
 
 /// Reads the claims of the book in the file of this name; None if there is no name. The errors

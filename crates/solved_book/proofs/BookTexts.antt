@@ -159,7 +159,7 @@ no_fault n before (line ∷ lines) pass follow = by (item_of line) refl (λ b h.
         from_some n before line lines c given
         ∙ (ap (claims_after (c ∷ [])) (more (Some c.0) (follow_rest before c.0 (claimed_positions (entry_claims lines)) all)) ∙ ap Ok (sym held))
 
-scoring_under : (o : Option Scoring) (lines : List (List ℕ)) (a : ClaimsView) → advice_under o lines ≡ Ok a → o ≡ Some a.scoring
+pub scoring_under : (o : Option Scoring) (lines : List (List ℕ)) (a : ClaimsView) → advice_under o lines ≡ Ok a → o ≡ Some a.scoring
 scoring_under None lines a h = cc
 scoring_under (Some g) lines a h = by (claims_from 1 None lines) h
   where

@@ -1,5 +1,5 @@
 -- Claims that are kept under the masks of their positions, and the steps of the loop that reads them.
-use Rattle.std.proofs.Common.{◌≡◌, ℕ, ◌+◌, ◌≤◌, List, [], ◌∷◌, ◌++◌, map, refl, ap, sym, ◌∙◌, true, false, Bool, cond, Option, Some, None, arith}
+use Rattle.std.proofs.Common.{◌≡◌, ℕ, ◌+◌, ◌-◌, ◌≤◌, List, [], ◌∷◌, ◌++◌, map, length, suc, refl, ap, sym, ◌∙◌, true, false, Bool, cond, Option, Some, None, arith}
 use Rattle.std.specs.Prelude.{option_map, Result, Ok, Err}
 use Rattle.std.specs.BTreeMap.{insert_entry}
 use Rattle.std.specs.Map.{lookup}
@@ -7,7 +7,8 @@ use Rattle.std.specs.Ordering.{is_eq, is_gt, match_ordering, ordering_reverse}
 use Rattle.std.specs.declared.cmp.Ordering.{Ordering}
 use Rattle.std.specs.declared.cmp.Ordering.TheVariants.{Less, Equal, Greater}
 use Rattle.std.proofs.lemmas.List.{append_assoc, append-nil}
-use Rattle.std.specs.List.{AllByRecursion}
+use Rattle.std.specs.List.{AllByRecursion, slice_get}
+use Rattle.std.specs.List.Sorted.{IsStrictlySortedBy}
 use Rattle.std.proofs.lemmas.Bool.{false≢true}
 use Rattle.othello_rules.specs.declared.discs.Side.TheVariants.{Black}
 use Rattle.othello_rules.specs.declared.scoring.Scoring.{Scoring}
@@ -17,8 +18,8 @@ use Rattle.othello_bits.specs.declared.sym.Sym.{Sym}
 use Rattle.obf_text.specs.LineText.{room_of}
 use Rattle.obf_text.specs.Obf.{Meaning, Skipped, Holds, Faulty, item_of}
 use Rattle.endgame_search.specs.declared.solved.Claim.{Claim}
-use Rattle.solved_book.specs.Claims.{ClaimsView, PositionClaim, GivesAdvice, advice, claim_or_fault, claim_at, claims_from, claim_for, image_claim, is_canonical_entry, claim_in_line, lists_nothing, claims_after, claims_with}
-use Rattle.solved_book.specs.Order.{is_behind, Masks, position_at, positions_in}
+use Rattle.solved_book.specs.Claims.{ClaimsView, PositionClaim, GivesAdvice, advice, claim_or_fault, claim_at, claims_from, claim_for, image_claim, is_canonical_entry, claim_in_line, last_position, lists_nothing, claims_after, claims_with}
+use Rattle.solved_book.specs.Order.{AreRising, is_behind, Masks, position_at, positions_in}
 use Rattle.solved_book.specs.Listing.{claim_of}
 use Rattle.solved_book.specs.Reading.{GivesLine, GivesMap, position_claim, claimed_positions}
 use Rattle.solved_book.specs.declared.book_fault.BookFault.{BookFault}
@@ -42,6 +43,15 @@ pub found_claim : (a : ClaimsView) (g : Scoring) (p : PosView) (k : Masks) (s : 
 found_claim a g p k s es found ea ek same e =
     ap (option_map (image_claim (inverse s))) (e ∙ sym (claim_kept (canonical_of p) k es ek))
     ∙ (λ i. option_map (image_claim (inverse (same i))) (claim_at (canonical_of p) (ea i).claims))
+
+-- ---- the last claim
+
+pub last_is : (before : Option PosView) (es : List (Masks × Claim)) (e : Masks × Claim) → slice_get es (length es - 1) ≡ Some e → last_position before (map position_claim es) ≡ Some (position_at e.0)
+last_is before [] e h = cc
+last_is before (d ∷ []) e h = ap (option_map (λ (x : Masks × Claim). position_at x.0)) h
+last_is before (d ∷ f ∷ more) e h =
+    let less : length (d ∷ f ∷ more) - 1 ≡ suc (length (f ∷ more) - 1) = omega arith in
+    last_is (Some (position_at d.0)) (f ∷ more) e (sym (ap (slice_get (d ∷ f ∷ more)) less) ∙ h)
 
 -- ---- the loop that reads
 
@@ -73,8 +83,20 @@ gt_is Greater e = refl
 pub record IsAhead (before : Option Masks) (es : List (Masks × Claim)) : Type 0 where
   pub each : (k : Masks) → is_behind (option_map position_at before) (position_at k) ≡ true → AreBelow k es
 
-pub ahead_none : IsAhead None []
-ahead_none = record { each = λ k h. tt }
+-- what is greater than the last of rising positions is greater than all of them
+below_last : (k : Masks) (es : List (Masks × Claim)) → AreRising (positions_in es) → is_behind (last_position None (map position_claim es)) (position_at k) ≡ true → AreBelow k es
+unfolding IsStrictlySortedBy
+below_last k [] rising h = tt
+below_last k (e ∷ []) rising h = (gt_is (masks_cmp k e.0) h, tt)
+below_last k (e ∷ f ∷ more) rising h =
+    let rest = below_last k (f ∷ more) rising.1 h in
+    let next : masks_cmp f.0 e.0 ≡ Greater = masks_total.antisymm f.0 e.0 ∙ ap ordering_reverse rising.0.0 in
+    (above k f.0 e.0 rest.0 next, rest)
+
+pub ahead_start : (before : Option Masks) (es : List (Masks × Claim)) → AreRising (positions_in es) → option_map position_at before ≡ last_position None (map position_claim es) → IsAhead before es
+ahead_start before es rising last = record {
+  each = λ k h. below_last k es rising (ap (λ b. is_behind b (position_at k)) (sym last) ∙ h);
+}
 
 pub ahead_more : (before : Option Masks) (m : Masks) (v : Claim) (es new : List (Masks × Claim)) → is_behind (option_map position_at before) (position_at m) ≡ true → new ≡ insert_entry masks_cmp es m v
     → IsAhead before es → IsAhead (Some m) new
@@ -114,11 +136,11 @@ pub from_end : (n : ℕ) (before : Option PosView) → claims_from n before [] �
 unfolding claims_from
 from_end n before = refl
 
-onto_onto : (xs ys : List PositionClaim) (r : Result (List PositionClaim) BookFault) → claims_after xs (claims_after ys r) ≡ claims_after (xs ++ ys) r
+pub onto_onto : (xs ys : List PositionClaim) (r : Result (List PositionClaim) BookFault) → claims_after xs (claims_after ys r) ≡ claims_after (xs ++ ys) r
 onto_onto xs ys (Ok zs) = ap Ok (sym (append_assoc xs ys zs))
 onto_onto xs ys (Err f) = refl
 
-onto_nil : (r : Result (List PositionClaim) BookFault) → claims_after [] r ≡ r
+pub onto_nil : (r : Result (List PositionClaim) BookFault) → claims_after [] r ≡ r
 onto_nil (Ok zs) = refl
 onto_nil (Err f) = refl
 
@@ -130,8 +152,11 @@ map_last (e ∷ es) m v = ap (λ cs. position_claim e ∷ cs) (map_last es m v)
 pub record ReadsOn (n : ℕ) (before : Option Masks) (es : List (Masks × Claim)) (left : List (List ℕ)) (all : Result (List PositionClaim) BookFault) : Type 0 where
   pub whole : claims_after (map position_claim es) (claims_from n (option_map position_at before) left) ≡ all
 
-pub reads_start : (left : List (List ℕ)) → ReadsOn 1 None [] left (claims_from 1 None left)
-reads_start left = record { whole = onto_nil (claims_from 1 None left) }
+pub reads_start : (n : ℕ) (before : Option Masks) (es : List (Masks × Claim)) (cs : List PositionClaim) (left : List (List ℕ)) → map position_claim es ≡ cs
+    → option_map position_at before ≡ last_position None (map position_claim es) → ReadsOn n before es left (claims_after cs (claims_from n (last_position None cs) left))
+reads_start n before es cs left same last = record {
+  whole = ap (λ b. claims_after (map position_claim es) (claims_from n b left)) last ∙ ap (λ xs. claims_after xs (claims_from n (last_position None xs) left)) same;
+}
 
 pub reads_none : (n : ℕ) (before : Option Masks) (es : List (Masks × Claim)) (line : List ℕ) (left lines : List (List ℕ)) (all : Result (List PositionClaim) BookFault)
     → left ≡ line ∷ lines → claim_in_line n (option_map position_at before) (item_of line) ≡ Ok None → ReadsOn n before es left all → ReadsOn (n + 1) before es lines all
@@ -197,7 +222,7 @@ line_known n before (Faulty f) h = cc
 line_known n before (Holds entry) h =
     checked_known n (lists_nothing entry) (is_behind before (discs_of entry.position)) (is_canonical_entry entry.position) (discs_of entry.position, claim_of entry.listed) h
 
-onto_err : (xs : List PositionClaim) (r : Result (List PositionClaim) BookFault) (f : BookFault) → claims_after xs r ≡ Err f → r ≡ Err f
+pub onto_err : (xs : List PositionClaim) (r : Result (List PositionClaim) BookFault) (f : BookFault) → claims_after xs r ≡ Err f → r ≡ Err f
 onto_err xs (Ok ys) f h = cc
 onto_err xs (Err g) f h = h
 
@@ -220,10 +245,12 @@ lines_known n before (line ∷ lines) h = by (claim_in_line n before (item_of li
     by (Ok None) e more = more before (sym (from_none n before line lines e) ∙ h)
     by (Ok (Some c)) e more = more (Some c.0) (onto_err (c ∷ []) (claims_from (n + 1) (Some c.0) lines) fault.Header (sym (from_some n before line lines c e) ∙ h))
 
-pub gives_fault : (g : Scoring) (f : BookFault) (lines : List (List ℕ)) → GivesMap (Err f) (claims_from 1 None lines) → GivesAdvice (Err f) (advice g (claims_from 1 None lines))
-gives_fault g fault.Memory lines e = λ h. lines_known 1 None lines (advice_err g (claims_from 1 None lines) fault.Header h)
-gives_fault g (fault.Line k l) lines e = ap (advice g) e
-gives_fault g (fault.NoMoves k) lines e = ap (advice g) e
-gives_fault g (fault.Unsorted k) lines e = ap (advice g) e
-gives_fault g (fault.NotCanonical k) lines e = ap (advice g) e
-gives_fault g fault.Header lines e = ap (advice g) e
+pub gives_fault : (g : Scoring) (f : BookFault) (cs : List PositionClaim) (n : ℕ) (before : Option PosView) (lines : List (List ℕ)) → GivesMap (Err f) (claims_after cs (claims_from n before lines))
+    → GivesAdvice (Err f) (advice g (claims_after cs (claims_from n before lines)))
+gives_fault g fault.Memory cs n before lines e =
+    λ h. lines_known n before lines (onto_err cs (claims_from n before lines) fault.Header (advice_err g (claims_after cs (claims_from n before lines)) fault.Header h))
+gives_fault g (fault.Line k l) cs n before lines e = ap (advice g) e
+gives_fault g (fault.NoMoves k) cs n before lines e = ap (advice g) e
+gives_fault g (fault.Unsorted k) cs n before lines e = ap (advice g) e
+gives_fault g (fault.NotCanonical k) cs n before lines e = ap (advice g) e
+gives_fault g fault.Header cs n before lines e = ap (advice g) e

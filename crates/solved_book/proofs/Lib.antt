@@ -9,3 +9,4 @@ pub mod RoundTrip
 pub mod OneOrder
 pub mod LineLaws
 pub mod BookTexts
+pub mod Parts

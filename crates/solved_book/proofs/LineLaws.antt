@@ -10,7 +10,7 @@ use Rattle.solved_book.specs.Claims.{ClaimsView, PositionClaim, advice, advice_u
 use Rattle.solved_book.specs.Order.{is_behind}
 use Rattle.solved_book.specs.Listing.{claim_of}
 use Rattle.solved_book.specs.declared.book_fault.BookFault.{BookFault}
-use Rattle.solved_book.proofs.ClaimSteps.{from_end, from_err, from_none, from_some}
+use Rattle.solved_book.proofs.ClaimSteps.{from_end, from_err, from_none, from_some, onto_err, onto_nil, onto_onto}
 
 abbrev Given : Type 0
 Given = Result (List PositionClaim) BookFault
@@ -21,31 +21,51 @@ pub onto_ok : (c : PositionClaim) (r : Given) (cs : List PositionClaim) → clai
 onto_ok c (Ok more) cs h = (more, refl, cc)
 onto_ok c (Err f) cs h = cc
 
--- where the lines before a faulty line have no fault, its fault is that of all lines
-pub fault_after : (front rest : List (List ℕ)) (line : List ℕ) (n : ℕ) (before : Option PosView) (cs : List PositionClaim) (f : BookFault)
-    → claims_from n before front ≡ Ok cs → claim_in_line (n + length front) (last_position before cs) (item_of line) ≡ Err f → claims_from n before (front ++ line ∷ rest) ≡ Err f
-fault_after [] rest line n before cs f h e =
+-- lines without a fault, and then further lines
+pub lines_after : (front rest : List (List ℕ)) (n : ℕ) (before : Option PosView) (cs : List PositionClaim) → claims_from n before front ≡ Ok cs
+    → claims_from n before (front ++ rest) ≡ claims_after cs (claims_from (n + length front) (last_position before cs) rest)
+lines_after [] rest n before cs h =
     let none : [] ≡ cs = let same = sym (from_end n before) ∙ h in cc in
-    let here : n + 0 ≡ n = omega arith in
-    from_err n before line rest f (ap₂ (λ k b. claim_in_line k b (item_of line)) (sym here) (ap (last_position before) none) ∙ e)
-fault_after (l ∷ front) rest line n before cs f h e =
-    by (claim_in_line n before (item_of l)) refl (λ b ds k i. fault_after front rest line (n + 1) b ds f k i)
+    let here : n ≡ n + 0 = omega arith in
+    sym (onto_nil (claims_from n before rest)) ∙ ap₂ (λ ds k. claims_after ds (claims_from k (last_position before ds) rest)) none here
+lines_after (l ∷ front) rest n before cs h = by (claim_in_line n before (item_of l)) refl (λ b ds k. lines_after front rest (n + 1) b ds k)
   where
-    further : n + length (l ∷ front) ≡ n + 1 + length front
+    further : n + 1 + length front ≡ n + length (l ∷ front)
     further = omega arith
 
     by : (r : Result (Option PositionClaim) BookFault) → claim_in_line n before (item_of l) ≡ r
-        → ((b : Option PosView) (ds : List PositionClaim) → claims_from (n + 1) b front ≡ Ok ds → claim_in_line (n + 1 + length front) (last_position b ds) (item_of line) ≡ Err f
-        → claims_from (n + 1) b (front ++ line ∷ rest) ≡ Err f)
-        → claims_from n before (l ∷ (front ++ line ∷ rest)) ≡ Err f
+        → ((b : Option PosView) (ds : List PositionClaim) → claims_from (n + 1) b front ≡ Ok ds
+        → claims_from (n + 1) b (front ++ rest) ≡ claims_after ds (claims_from (n + 1 + length front) (last_position b ds) rest))
+        → claims_from n before (l ∷ (front ++ rest)) ≡ claims_after cs (claims_from (n + length (l ∷ front)) (last_position before cs) rest)
     by (Err k) i more = let no = sym (from_err n before l front k i) ∙ h in cc
     by (Ok None) i more =
-        from_none n before l (front ++ line ∷ rest) i
-        ∙ more before cs (sym (from_none n before l front i) ∙ h) (ap (λ k. claim_in_line k (last_position before cs) (item_of line)) (sym further) ∙ e)
+        from_none n before l (front ++ rest) i
+        ∙ (more before cs (sym (from_none n before l front i) ∙ h) ∙ ap (λ k. claims_after cs (claims_from k (last_position before cs) rest)) further)
     by (Ok (Some c)) i more =
         let split = onto_ok c (claims_from (n + 1) (Some c.0) front) cs (sym (from_some n before l front c i) ∙ h) in
-        from_some n before l (front ++ line ∷ rest) c i
-        ∙ ap (claims_after (c ∷ [])) (more (Some c.0) split.0 split.1 (ap₂ (λ k ds. claim_in_line k (last_position before ds) (item_of line)) (sym further) (sym split.2) ∙ e))
+        from_some n before l (front ++ rest) c i
+        ∙ (ap (claims_after (c ∷ [])) (more (Some c.0) split.0 split.1)
+        ∙ (onto_onto (c ∷ []) split.0 (claims_from (n + 1 + length front) (last_position (Some c.0) split.0) rest)
+        ∙ ap₂ (λ ds k. claims_after ds (claims_from k (last_position before ds) rest)) (sym split.2) further))
+
+-- the fault of lines is that of these and further lines
+pub fault_before : (front rest : List (List ℕ)) (n : ℕ) (before : Option PosView) (f : BookFault) → claims_from n before front ≡ Err f → claims_from n before (front ++ rest) ≡ Err f
+fault_before [] rest n before f h = let no = sym (from_end n before) ∙ h in cc
+fault_before (l ∷ front) rest n before f h = by (claim_in_line n before (item_of l)) refl (λ b k. fault_before front rest (n + 1) b f k)
+  where
+    by : (r : Result (Option PositionClaim) BookFault) → claim_in_line n before (item_of l) ≡ r
+        → ((b : Option PosView) → claims_from (n + 1) b front ≡ Err f → claims_from (n + 1) b (front ++ rest) ≡ Err f) → claims_from n before (l ∷ (front ++ rest)) ≡ Err f
+    by (Err k) i more = from_err n before l (front ++ rest) k i ∙ (sym (from_err n before l front k i) ∙ h)
+    by (Ok None) i more = from_none n before l (front ++ rest) i ∙ more before (sym (from_none n before l front i) ∙ h)
+    by (Ok (Some c)) i more =
+        from_some n before l (front ++ rest) c i
+        ∙ ap (claims_after (c ∷ [])) (more (Some c.0) (onto_err (c ∷ []) (claims_from (n + 1) (Some c.0) front) f (sym (from_some n before l front c i) ∙ h)))
+
+-- where the lines before a faulty line have no fault, its fault is that of all lines
+pub fault_after : (front rest : List (List ℕ)) (line : List ℕ) (n : ℕ) (before : Option PosView) (cs : List PositionClaim) (f : BookFault)
+    → claims_from n before front ≡ Ok cs → claim_in_line (n + length front) (last_position before cs) (item_of line) ≡ Err f → claims_from n before (front ++ line ∷ rest) ≡ Err f
+fault_after front rest line n before cs f h e =
+    lines_after front (line ∷ rest) n before cs h ∙ ap (claims_after cs) (from_err (n + length front) (last_position before cs) line rest f e)
 
 -- ---- the entries
 

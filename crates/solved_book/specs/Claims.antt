@@ -135,6 +135,12 @@ advice_under (Some g) lines = advice g (claims_from 1 None lines)
 abbrev pub claims_of : List ℕ → Result ClaimsView BookFault
 claims_of text = advice_under (scoring_of_lines (lines_of text)) (lines_of text)
 
+-- the claims, and then those of a further text, whose first line is line n; or its first fault
+abbrev pub more_claims : ClaimsView → ℕ → List ℕ → Result ClaimsView BookFault
+more_claims a n text =
+    advice a.scoring
+    (claims_after a.claims (claims_from n (last_position None a.claims) (lines_of text)))
+
 -- ---- what calls return
 
 -- a call returns the claims or the fault of a text, or `Memory`, but never `Memory` for `Header`

@@ -1,11 +1,10 @@
 //! Claims of positions, read from the text of a book.
 
-ghost use Rattle.std.specs.Prelude.{◌≡◌, ◌↔◌, [], IfOk, IsTrue, None, length};
-ghost use Rattle.obf_text.specs.LineText.{lines_of};
-ghost use Rattle.solved_book.specs.Claims.{GivesAdvice, claims_from, claims_of, claim_for};
-ghost use Rattle.solved_book.specs.Order.{positions_in};
-ghost use Rattle.solved_book.specs.Order.{AreRising};
-ghost use Rattle.solved_book.specs.Reading.{GivesMap, claimed_positions};
+ghost use Rattle.std.specs.Prelude.{◌≡◌, ◌<◌, ◌^◌, [], None, length, map, option_map};
+ghost use Rattle.solved_book.specs.Claims.{GivesAdvice, claims_of, claim_for, last_position};
+ghost use Rattle.solved_book.specs.Claims.{more_claims};
+ghost use Rattle.solved_book.specs.Order.{AreRising, position_at};
+ghost use Rattle.solved_book.specs.Reading.{claimed_positions, position_claim};
 
 use crate::book_fault::BookFault;
 use crate::entries::claim_in_line;
@@ -44,22 +43,13 @@ impl Model for Claims {
     ghost invariant = { λ c. AreRising (positions_in c.claims.entries) };
 }
 
-// The claims of the lines of a text.
-fn claims_in(alloc: Global, text: &[u8]) -> Result<BTreeMap<Masks, Claim>, BookFault>
-    ensures gives { GivesMap result (claims_from 1 None (lines_of text.now)) }
-    ensures rising { IfOk result (λ claims. AreRising (positions_in claims.entries)) }
+// The masks of the last position.
+fn last_masks(claims: &BTreeMap<Masks, Claim>) -> Option<Masks>
+    ensures { option_map position_at result
+        ≡ last_position None (map position_claim claims.now.entries) }
 {
-    let mut claims = BTreeMap::new(alloc);
-    let mut before = None;
-    let mut number: usize = 1;
-    for line in split_lines(text) {
-        if let Some((masks, claim)) = claim_in_line(alloc, number, before, line)? {
-            claims.insert(masks, claim)?;
-            before = Some(masks);
-        }
-        number += 1;
-    }
-    Ok(claims)
+    let (masks, _) = claims.last_key_value()?;
+    Some(*masks)
 }
 
 impl Claims {
@@ -89,10 +79,30 @@ impl Claims {
     pub fn read(alloc: Global, text: &[u8]) -> Result<Claims, BookFault>
         ensures { GivesAdvice result (claims_of text.now) }
     {
-        let Some(scoring) = read_first_line(text) else {
-            return Err(BookFault::Header);
-        };
-        let claims = claims_in(alloc, text)?;
+        match read_first_line(text) {
+            Some(scoring) => Claims::new(alloc, scoring).read_more(alloc, 1, text),
+            None => Err(BookFault::Header),
+        }
+    }
+
+    /// Reads a further part of a book, which begins with line `number`. The part that these claims
+    /// were read from has to end with a line feed. Returns the claims of both parts, or the fault
+    /// of the first faulty line of the further part, as `read` does.
+    pub fn read_more(self, alloc: Global, number: usize, text: &[u8]) -> Result<Claims, BookFault>
+        requires { number < 2 ^ 63 }
+        ensures { GivesAdvice result (more_claims self number text.now) }
+    {
+        let scoring = self.scoring;
+        let mut claims = self.claims;
+        let mut before = last_masks(&claims);
+        let mut number = number;
+        for line in split_lines(text) {
+            if let Some((masks, claim)) = claim_in_line(alloc, number, before, line)? {
+                claims.insert(masks, claim)?;
+                before = Some(masks);
+            }
+            number += 1;
+        }
         Ok(Claims { scoring, claims })
     }
 

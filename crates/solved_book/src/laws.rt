@@ -1,7 +1,7 @@
 //! What holds of books and of the claims that are read from them. Each function's body is empty:
 //! its contract is the law.
 
-ghost use Rattle.std.specs.Prelude.{◌≡◌, ◌↔◌, ℕ, ◌+◌, List, ◌∷◌, ◌++◌, length, Contains, map, Ok};
+ghost use Rattle.std.specs.Prelude.{◌≡◌, ◌↔◌, ℕ, ◌+◌, List, ◌∷◌, ◌++◌, [], length, Contains, map, Ok};
 ghost use Rattle.std.specs.Prelude.{Err, Some, None};
 ghost use Rattle.othello_rules.specs.declared.scoring.Scoring.{Scoring};
 ghost use Rattle.othello_bits.specs.Pos.{PosView, answer_of};
@@ -12,7 +12,7 @@ ghost use Rattle.obf_text.specs.Obf.{item_of};
 ghost use Rattle.solved_book.specs.declared.book_fault.BookFault.{BookFault};
 ghost use Rattle.solved_book.specs.Claims.{ClaimsView, PositionClaim, answer_claim, claim_by};
 ghost use Rattle.solved_book.specs.Claims.{claims_from, claims_of, entry_claim, claim_for};
-ghost use Rattle.solved_book.specs.Claims.{last_position, claim_in_line};
+ghost use Rattle.solved_book.specs.Claims.{last_position, claim_in_line, more_claims};
 ghost use Rattle.solved_book.specs.Books.{book_text};
 ghost use Rattle.solved_book.specs.Order.{AreRising, AreBookPositions};
 ghost use Rattle.solved_book.specs.Texts.{IsBookText};
@@ -56,6 +56,18 @@ pub fn first_fault_decides()
         → claims_from 1 None front ≡ Ok claims
         → claim_in_line (1 + length front) (last_position None claims) (item_of line) ≡ Err f
         → claims_from 1 None (front ++ line ∷ rest) ≡ Err f }
+{}
+
+/// A text that is cut after a line feed can be read in two parts. The fault of the first part is
+/// that of the text. If the first part has no fault, what `read_more` then returns for the second
+/// part is what `read` returns for the text.
+pub fn parts_are_read_as_one()
+    ensures fault { (front rest : List ℕ) (f : BookFault)
+        → claims_of (front ++ 10 ∷ []) ≡ Err f → claims_of (front ++ 10 ∷ rest) ≡ Err f }
+    ensures claims { (front rest : List ℕ) (a : ClaimsView)
+        → claims_of (front ++ 10 ∷ []) ≡ Ok a
+        → claims_of (front ++ 10 ∷ rest)
+        ≡ more_claims a (1 + length (lines_of (front ++ 10 ∷ []))) rest }
 {}
 
 /// Two rising lists of equal sets of positions are equal. So the scoring and the positions of a

@@ -8,7 +8,7 @@ use bound_table::NoTable;
 use endgame_search::{Claim, confirm};
 use othello_bits::{Pos, Sym};
 use othello_rules::{Answer, Best, Scoring, Side};
-use solved_book::{Book, Claims};
+use solved_book::{Book, BookFault, Claims};
 use std::alloc::Global;
 use std::process::Abort;
 use std::test::Fail;
@@ -126,6 +126,16 @@ const CUT: [(usize, usize, Discs, Scored, Scored); 2] = [
     (73, 1, CORNER_LEFT_OVER, (6, B1), (64, B1)),
     (233, 3, EQUAL_CORNERS, (64, A1), (64, A1 | H1)),
 ];
+
+#[test]
+fn a_book_can_be_read_in_parts(rt: HostRuntime) -> Result<(), Fail> {
+    let (header, lines) = BOOK.split_at(HEADER_LEN);
+    let claims = Claims::read(rt.alloc(), header)?.read_more(rt.alloc(), 2, lines)?;
+    assert!(rt; claims.len() == 4);
+    let again = claims.read_more(rt.alloc(), 6, lines);
+    assert!(rt; matches!(again, Err(BookFault::Unsorted(6))));
+    Ok(())
+}
 
 #[test]
 fn a_book_that_was_cut_off_changes_no_answer(rt: HostRuntime) -> Result<(), Fail> {

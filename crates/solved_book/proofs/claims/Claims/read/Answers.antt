@@ -1,13 +1,15 @@
-use Rattle.std.proofs.Common.{sym, ◌∙◌, subst}
-use Rattle.std.specs.Prelude.{Err}
-use Rattle.std.proofs.lemmas.Result.{err_from_is_err_and}
+use Rattle.std.proofs.Common.{◌≡◌, ◌∙◌, sym, ap, subst, None, Some}
 use Rattle.obf_text.specs.LineText.{lines_of}
-use Rattle.solved_book.specs.Claims.{GivesAdvice, advice_under}
-use Rattle.solved_book.proofs.ClaimSteps.{gives_fault}
+use Rattle.solved_book.specs.Claims.{ClaimsView, GivesAdvice, advice, advice_under, claims_from, claims_of, more_claims, scoring_of_lines}
+use Rattle.solved_book.proofs.ClaimSteps.{onto_nil}
 use Rattle.solved_book.proofs.claims.Claims.read.Goals as goal
 
-pub returns-in_err-claims : goal.returns-in_err-claims
-returns-in_err-claims c =
-    let p = err_from_is_err_and c.from_residual.result c.from_residual.ensures.1 in
-    let named = sym c.read_first_line.ensures ∙ c.in-Some.is in
-    rw (p.1, p.2) (subst (λ o. GivesAdvice (Err c.in_err-claims.field-0.0) (advice_under o (lines_of c.args.text.now))) (sym named) (gives_fault c.in-Some.scoring c.in_err-claims.field-0.0 (lines_of c.args.text.now) c.in_err-claims.ensures.gives))
+pub returns-in-Some : goal.returns-in-Some
+returns-in-Some c =
+    let text = c.args.text.now in
+    let g = c.in-Some.scoring in
+    let named : scoring_of_lines (lines_of text) ≡ Some g = sym c.read_first_line.ensures ∙ c.in-Some.is in
+    let whole : more_claims c.new.result 1 text ≡ claims_of text =
+    ap (λ (a : ClaimsView). more_claims a 1 text) c.new.ensures
+    ∙ (ap (advice g) (onto_nil (claims_from 1 None (lines_of text))) ∙ ap (λ o. advice_under o (lines_of text)) (sym named)) in
+    subst (GivesAdvice c.read_more.result) whole c.read_more.ensures

@@ -1,24 +1,26 @@
-use Rattle.std.proofs.Common.{◌≡◌, [], ◌∷◌, rules, ap, ◌∙◌, arith, None, Some}
+use Rattle.std.proofs.Common.{◌≡◌, [], ◌∷◌, map, rules, ap, sym, ◌∙◌, arith, None, Some}
 use Rattle.std.specs.Prelude.{Ok, option_map}
 use Rattle.std.proofs.lemmas.Result.{err_from_is_err_and}
 use Rattle.obf_text.specs.LineText.{lines_of}
 use Rattle.obf_text.specs.Obf.{item_of}
 use Rattle.solved_book.specs.Order.{position_at}
-use Rattle.solved_book.specs.Claims.{claims_from, claim_in_line}
+use Rattle.solved_book.specs.Claims.{ClaimsView, advice, claim_in_line, claims_after, claims_from, last_position}
 use Rattle.solved_book.specs.Reading.{position_claim}
-use Rattle.solved_book.proofs.ClaimSteps.{ahead_more, ahead_none, reads_end, reads_err, reads_none, reads_some, reads_start, room_more, stands_behind}
-use Rattle.solved_book.proofs.KeptEntries.{rising_empty, rising_insert}
-use Rattle.solved_book.proofs.claims.claims_in.Goals as goal
-use Rattle.solved_book.proofs.claims.claims_in.Goals.{in-Some-2+in_ok-insert, in_default}
+use Rattle.solved_book.specs.declared.book_fault.BookFault.TheVariants.{Memory}
+use Rattle.solved_book.proofs.ClaimSteps.{ahead_more, ahead_start, gives_fault, reads_end, reads_err, reads_none, reads_some, reads_start, room_more, stands_behind}
+use Rattle.solved_book.proofs.KeptEntries.{rising_insert}
+use Rattle.solved_book.proofs.claims.Claims.read_more.Goals as goal
+use Rattle.solved_book.proofs.claims.Claims.read_more.Goals.{in-Some-2+in_ok-insert, in_default}
 
 pub loop-line-init : goal.loop-line-init
 loop-line-init c =
     let same = c.into_iter-line-iterator.ensures.into_iter_gives ∙ c.split_lines-line-items.ensures.lines in
     let room = c.split_lines-line-items.ensures.room in
+    let kept = c.self.inside.claims.entries in
     record {
-      reads = rw (c.new-claims.ensures.empty, same) (reads_start (lines_of c.args.text.now));
-      ahead = rw c.new-claims.ensures.empty ahead_none;
-      rising = rw c.new-claims.ensures.empty rising_empty;
+      reads = rw same (reads_start c.args.number c.last_masks-before.result kept c.args.self.claims (lines_of c.args.text.now) (ap (λ (a : ClaimsView). a.claims) c.self.view_is) c.last_masks-before.ensures);
+      ahead = ahead_start c.last_masks-before.result kept c.self.invariant c.last_masks-before.ensures;
+      rising = c.self.invariant;
       room = rw same (omega arith);
     }
 
@@ -30,7 +32,7 @@ loop-line-preserved c =
     let left = c.loop-line.line-iterator in
     let lines = c.next.new.self in
     let kept = c.loop-line.claims.entries in
-    let all = claims_from 1 None (lines_of c.args.text.now) in
+    let all = claims_after c.args.self.claims (claims_from c.args.number (last_position None c.args.self.claims) (lines_of c.args.text.now)) in
     let cut : left ≡ line ∷ lines = search rules in
     let room = room_more number _ line left lines cut c.loop-line.invariant.room in
     let held = c.loop-line.invariant in
@@ -58,14 +60,28 @@ loop-line-preserved c =
           }
     ]
 
-pub returns-in_err-masks-clause-gives : goal.returns-in_err-masks-clause-gives
-returns-in_err-masks-clause-gives c =
+pub returns-in_err-masks : goal.returns-in_err-masks
+returns-in_err-masks c =
     let p = err_from_is_err_and c.from_residual.result c.from_residual.ensures.1 in
+    let a = c.args.self in
+    let last = last_position None a.claims in
+    let lines = lines_of c.args.text.now in
     let cut : c.loop-line.line-iterator ≡ c.in-Some.line.now ∷ c.next.new.self = search rules in
-    rw (p.1, p.2) (reads_err c.loop-line.number c.loop-line.before c.loop-line.claims.entries c.in-Some.line.now c.loop-line.line-iterator c.next.new.self _
-    (claims_from 1 None (lines_of c.args.text.now)) cut c.in_err-masks.ensures c.loop-line.invariant.reads)
+    let fault = reads_err c.loop-line.number c.loop-line.before c.loop-line.claims.entries c.in-Some.line.now c.loop-line.line-iterator c.next.new.self c.in_err-masks.field-0.0
+    (claims_after a.claims (claims_from c.args.number last lines)) cut c.in_err-masks.ensures c.loop-line.invariant.reads in
+    rw (p.1, p.2) (gives_fault a.scoring c.in_err-masks.field-0.0 a.claims c.args.number last lines fault)
 
-pub returns-clause-gives : goal.returns-clause-gives
-returns-clause-gives c =
+pub returns-in_err-insert : goal.returns-in_err-insert
+returns-in_err-insert c =
+    let p = err_from_is_err_and c.from_residual-in_err-insert.result c.from_residual-in_err-insert.ensures.1 in
+    let a = c.args.self in
+    rw (p.1, p.2) (gives_fault a.scoring Memory a.claims c.args.number (last_position None a.claims) (lines_of c.args.text.now) tt)
+
+pub returns : goal.returns
+returns c =
+    let a = c.args.self in
+    let kept = c.loop-line.claims.entries in
+    let all = claims_after a.claims (claims_from c.args.number (last_position None a.claims) (lines_of c.args.text.now)) in
     let none : c.loop-line.line-iterator ≡ [] = search rules in
-    reads_end c.loop-line.number c.loop-line.before c.loop-line.claims.entries c.loop-line.line-iterator (claims_from 1 None (lines_of c.args.text.now)) none c.loop-line.invariant.reads
+    let read = reads_end c.loop-line.number c.loop-line.before kept c.loop-line.line-iterator all none c.loop-line.invariant.reads in
+    ap (advice a.scoring) read ∙ ap (λ (b : ClaimsView). advice b.scoring (Ok (map position_claim kept))) (sym c.self.view_is)
