@@ -6,7 +6,7 @@ use Rattle.std.specs.Map.{lookup}
 use Rattle.std.specs.Ordering.{is_eq, is_gt, match_ordering, ordering_reverse}
 use Rattle.std.specs.declared.cmp.Ordering.{Ordering}
 use Rattle.std.specs.declared.cmp.Ordering.TheVariants.{Less, Equal, Greater}
-use Rattle.std.proofs.lemmas.List.{append_assoc, append-nil}
+use Rattle.std.proofs.lemmas.List.{append_assoc, append-nil, map-append}
 use Rattle.std.specs.List.{AllByRecursion, slice_get}
 use Rattle.std.specs.List.Sorted.{IsStrictlySortedBy}
 use Rattle.std.proofs.lemmas.Bool.{false≢true}
@@ -21,7 +21,7 @@ use Rattle.endgame_search.specs.declared.solved.Claim.{Claim}
 use Rattle.solved_book.specs.Claims.{ClaimsView, PositionClaim, GivesAdvice, advice, claim_or_fault, claim_at, claims_from, claim_for, image_claim, is_canonical_entry, claim_in_line, last_position, lists_nothing, claims_after, claims_with}
 use Rattle.solved_book.specs.Order.{AreRising, is_behind, Masks, position_at, positions_in}
 use Rattle.solved_book.specs.Listing.{claim_of}
-use Rattle.solved_book.specs.Reading.{GivesLine, GivesMap, position_claim, claimed_positions}
+use Rattle.solved_book.specs.Reading.{GivesLine, position_claim, claimed_positions}
 use Rattle.solved_book.specs.declared.book_fault.BookFault.{BookFault}
 use Rattle.solved_book.specs.declared.book_fault.BookFault.TheVariants as fault
 use Rattle.solved_book.proofs.KeptEntries.{masks_cmp, masks_total}
@@ -70,18 +70,10 @@ above x y z a b =
     let low : masks_cmp z y ≡ Less = masks_total.antisymm z y ∙ ap ordering_reverse b in
     masks_total.antisymm x z ∙ ap ordering_reverse (masks_total.trans z y x low lower)
 
-below_more : (k m : Masks) (v : Claim) (es : List (Masks × Claim)) → masks_cmp k m ≡ Greater → AreBelow m es → AreBelow k (es ++ (m, v) ∷ [])
-below_more k m v [] a h = (a, tt)
-below_more k m v (e ∷ es) a h = (above k m e.0 a h.0, below_more k m v es a h.1)
-
 pub gt_is : (o : Ordering) → is_gt o ≡ true → o ≡ Greater
 gt_is Less e = absurd (false≢true e)
 gt_is Equal e = absurd (false≢true e)
 gt_is Greater e = refl
-
--- a position that is greater than the last one is greater than all that are stored
-pub record IsAhead (before : Option Masks) (es : List (Masks × Claim)) : Type 0 where
-  pub each : (k : Masks) → is_behind (option_map position_at before) (position_at k) ≡ true → AreBelow k es
 
 -- what is greater than the last of rising positions is greater than all of them
 below_last : (k : Masks) (es : List (Masks × Claim)) → AreRising (positions_in es) → is_behind (last_position None (map position_claim es)) (position_at k) ≡ true → AreBelow k es
@@ -93,16 +85,16 @@ below_last k (e ∷ f ∷ more) rising h =
     let next : masks_cmp f.0 e.0 ≡ Greater = masks_total.antisymm f.0 e.0 ∙ ap ordering_reverse rising.0.0 in
     (above k f.0 e.0 rest.0 next, rest)
 
-pub ahead_start : (before : Option Masks) (es : List (Masks × Claim)) → AreRising (positions_in es) → option_map position_at before ≡ last_position None (map position_claim es) → IsAhead before es
-ahead_start before es rising last = record {
-  each = λ k h. below_last k es rising (ap (λ b. is_behind b (position_at k)) (sym last) ∙ h);
-}
+-- a claim whose position is greater than the last one is stored last
+pub claims_more : (before : Option Masks) (es new : List (Masks × Claim)) (m : Masks) (v : Claim) → AreRising (positions_in es) → option_map position_at before ≡ last_position None (map position_claim es)
+    → is_behind (option_map position_at before) (position_at m) ≡ true → new ≡ insert_entry masks_cmp es m v → map position_claim new ≡ map position_claim es ++ (position_at m, v) ∷ []
+claims_more before es new m v rising last behind is =
+    let below = below_last m es rising (ap (λ b. is_behind b (position_at m)) (sym last) ∙ behind) in
+    ap (map position_claim) (is ∙ insert_last m v es below) ∙ map-append position_claim es ((m, v) ∷ [])
 
-pub ahead_more : (before : Option Masks) (m : Masks) (v : Claim) (es new : List (Masks × Claim)) → is_behind (option_map position_at before) (position_at m) ≡ true → new ≡ insert_entry masks_cmp es m v
-    → IsAhead before es → IsAhead (Some m) new
-ahead_more before m v es new h e a = record {
-  each = λ k t. rw (e, insert_last m v es (a.each m h)) (below_more k m v es (gt_is (masks_cmp k m) t) (a.each m h));
-}
+pub last_more : (before : Option PosView) (cs : List PositionClaim) (c : PositionClaim) → last_position before (cs ++ c ∷ []) ≡ Some c.0
+last_more before [] c = refl
+last_more before (d ∷ cs) c = last_more (Some d.0) cs c
 
 -- the position of a line's claim is greater than the one before it
 checked_behind : (n : ℕ) (nothing behind canonical : Bool) (claim c : PositionClaim) → claim_or_fault n nothing behind canonical claim ≡ Ok (Some c) → (behind ≡ true) × (claim ≡ c)
@@ -144,10 +136,6 @@ pub onto_nil : (r : Result (List PositionClaim) BookFault) → claims_after [] r
 onto_nil (Ok zs) = refl
 onto_nil (Err f) = refl
 
-map_last : (es : List (Masks × Claim)) (m : Masks) (v : Claim) → map position_claim (es ++ (m, v) ∷ []) ≡ map position_claim es ++ (position_at m, v) ∷ []
-map_last [] m v = refl
-map_last (e ∷ es) m v = ap (λ cs. position_claim e ∷ cs) (map_last es m v)
-
 -- the claims so far, and then those of the lines that are left, are those of all lines
 pub record ReadsOn (n : ℕ) (before : Option Masks) (es : List (Masks × Claim)) (left : List (List ℕ)) (all : Result (List PositionClaim) BookFault) : Type 0 where
   pub whole : claims_after (map position_claim es) (claims_from n (option_map position_at before) left) ≡ all
@@ -165,22 +153,21 @@ reads_none n before es line left lines all cut e h = record {
 }
 
 pub reads_some : (n : ℕ) (before : Option Masks) (es new : List (Masks × Claim)) (m : Masks) (v : Claim) (line : List ℕ) (left lines : List (List ℕ)) (all : Result (List PositionClaim) BookFault)
-    → left ≡ line ∷ lines → claim_in_line n (option_map position_at before) (item_of line) ≡ Ok (Some (position_at m, v)) → new ≡ insert_entry masks_cmp es m v → IsAhead before es
+    → left ≡ line ∷ lines → claim_in_line n (option_map position_at before) (item_of line) ≡ Ok (Some (position_at m, v)) → map position_claim new ≡ map position_claim es ++ (position_at m, v) ∷ []
     → ReadsOn n before es left all → ReadsOn (n + 1) (Some m) new lines all
-reads_some n before es new m v line left lines all cut e is a h =
-    let behind = line_behind n (option_map position_at before) (item_of line) (position_at m, v) e in
-    let more : map position_claim new ≡ map position_claim es ++ (position_at m, v) ∷ [] = ap (map position_claim) (is ∙ insert_last m v es (a.each m behind)) ∙ map_last es m v in
+reads_some n before es new m v line left lines all cut e more h =
     let rest = claims_from (n + 1) (Some (position_at m)) lines in
     let step : claims_from n (option_map position_at before) left ≡ claims_after ((position_at m, v) ∷ []) rest =
     ap (claims_from n (option_map position_at before)) cut ∙ from_some n (option_map position_at before) line lines (position_at m, v) e in
     record { whole = ap (λ cs. claims_after cs rest) more ∙ sym (onto_onto (map position_claim es) ((position_at m, v) ∷ []) rest) ∙ ap (claims_after (map position_claim es)) (sym step) ∙ h.whole }
 
-pub stands_behind : (n : ℕ) (before : Option Masks) (line : List ℕ) (m : Masks) (v : Claim) → claim_in_line n (option_map position_at before) (item_of line) ≡ Ok (Some (position_at m, v))
-    → is_behind (option_map position_at before) (position_at m) ≡ true
-stands_behind n before line m v e = line_behind n (option_map position_at before) (item_of line) (position_at m, v) e
+-- the fault that is returned is that of the lines, or `Memory`
+abbrev pub GivesFault : BookFault → Result (List PositionClaim) BookFault → Type 0
+GivesFault fault.Memory all = Unit {0}
+GivesFault f all = all ≡ Err f
 
 pub reads_err : (n : ℕ) (before : Option Masks) (es : List (Masks × Claim)) (line : List ℕ) (left lines : List (List ℕ)) (f : BookFault) (all : Result (List PositionClaim) BookFault)
-    → left ≡ line ∷ lines → GivesLine (Err f) (claim_in_line n (option_map position_at before) (item_of line)) → ReadsOn n before es left all → GivesMap (Err f) all
+    → left ≡ line ∷ lines → GivesLine (Err f) (claim_in_line n (option_map position_at before) (item_of line)) → ReadsOn n before es left all → GivesFault f all
 reads_err n before es line left lines f all cut e h = by f e
   where
     fails : (f : BookFault) → claim_in_line n (option_map position_at before) (item_of line) ≡ Err f → all ≡ Err f
@@ -188,7 +175,7 @@ reads_err n before es line left lines f all cut e h = by f e
         sym h.whole
         ∙ ap (claims_after (map position_claim es)) (ap (claims_from n (option_map position_at before)) cut ∙ from_err n (option_map position_at before) line lines f e)
 
-    by : (f : BookFault) → GivesLine (Err f) (claim_in_line n (option_map position_at before) (item_of line)) → GivesMap (Err f) all
+    by : (f : BookFault) → GivesLine (Err f) (claim_in_line n (option_map position_at before) (item_of line)) → GivesFault f all
     by fault.Memory e = tt
     by (fault.Line k l) e = fails (fault.Line k l) e
     by (fault.NoMoves k) e = fails (fault.NoMoves k) e
@@ -245,7 +232,7 @@ lines_known n before (line ∷ lines) h = by (claim_in_line n before (item_of li
     by (Ok None) e more = more before (sym (from_none n before line lines e) ∙ h)
     by (Ok (Some c)) e more = more (Some c.0) (onto_err (c ∷ []) (claims_from (n + 1) (Some c.0) lines) fault.Header (sym (from_some n before line lines c e) ∙ h))
 
-pub gives_fault : (g : Scoring) (f : BookFault) (cs : List PositionClaim) (n : ℕ) (before : Option PosView) (lines : List (List ℕ)) → GivesMap (Err f) (claims_after cs (claims_from n before lines))
+pub gives_fault : (g : Scoring) (f : BookFault) (cs : List PositionClaim) (n : ℕ) (before : Option PosView) (lines : List (List ℕ)) → GivesFault f (claims_after cs (claims_from n before lines))
     → GivesAdvice (Err f) (advice g (claims_after cs (claims_from n before lines)))
 gives_fault g fault.Memory cs n before lines e =
     λ h. lines_known n before lines (onto_err cs (claims_from n before lines) fault.Header (advice_err g (claims_after cs (claims_from n before lines)) fault.Header h))

@@ -1,6 +1,5 @@
 -- What the calls that read the lines of a book return.
 use Rattle.std.specs.Prelude.{◌≡◌, List, map, Option, option_map, Result, Ok, Err}
-use Rattle.std.specs.BTreeMap.{BTreeMap}
 use Rattle.othello_bits.specs.Pos.{PosView}
 use Rattle.endgame_search.specs.declared.solved.Claim.{Claim}
 use Rattle.solved_book.specs.Order.{Masks, position_at}
@@ -17,12 +16,6 @@ abbrev pub GivesLine : Result (Option (Masks × Claim)) BookFault
 GivesLine (Ok given) meaning = meaning ≡ Ok (option_map position_claim given)
 GivesLine (Err Memory) meaning = Unit {0}
 GivesLine (Err f) meaning = meaning ≡ Err f
-
-abbrev pub GivesMap : Result (BTreeMap Masks Claim) BookFault
-    → Result (List PositionClaim) BookFault → Type 0
-GivesMap (Ok kept) meaning = meaning ≡ Ok (map position_claim kept.entries)
-GivesMap (Err Memory) meaning = Unit {0}
-GivesMap (Err f) meaning = meaning ≡ Err f
 
 abbrev pub claimed_positions : List PositionClaim → List PosView
 claimed_positions claims = map (λ (c : PositionClaim). c.0) claims

@@ -7,7 +7,7 @@ use Rattle.solved_book.specs.Order.{position_at}
 use Rattle.solved_book.specs.Claims.{ClaimsView, advice, claim_in_line, claims_after, claims_from, last_position}
 use Rattle.solved_book.specs.Reading.{position_claim}
 use Rattle.solved_book.specs.declared.book_fault.BookFault.TheVariants.{Memory}
-use Rattle.solved_book.proofs.ClaimSteps.{ahead_more, ahead_start, gives_fault, reads_end, reads_err, reads_none, reads_some, reads_start, room_more, stands_behind}
+use Rattle.solved_book.proofs.ClaimSteps.{claims_more, gives_fault, last_more, line_behind, reads_end, reads_err, reads_none, reads_some, reads_start, room_more}
 use Rattle.solved_book.proofs.KeptEntries.{rising_insert}
 use Rattle.solved_book.proofs.claims.Claims.read_more.Goals as goal
 use Rattle.solved_book.proofs.claims.Claims.read_more.Goals.{in-Some-2+in_ok-insert, in_default}
@@ -19,7 +19,7 @@ loop-line-init c =
     let kept = c.self.inside.claims.entries in
     record {
       reads = rw same (reads_start c.args.number c.last_masks-before.result kept c.args.self.claims (lines_of c.args.text.now) (ap (λ (a : ClaimsView). a.claims) c.self.view_is) c.last_masks-before.ensures);
-      ahead = ahead_start c.last_masks-before.result kept c.self.invariant c.last_masks-before.ensures;
+      last = c.last_masks-before.ensures;
       rising = c.self.invariant;
       room = rw same (omega arith);
     }
@@ -43,9 +43,11 @@ loop-line-preserved c =
           let given : claim_in_line number (option_map position_at before) (item_of line) ≡ Ok (Some (position_at m, v)) =
           c.in_ok-masks.ensures ∙ ap (λ o. Ok (option_map position_claim o)) w.in-Some-2.is in
           let entries = ap (λ t. t.entries) w.claims-is ∙ w.in_ok-insert.ensures.entries in
+          let behind = line_behind number (option_map position_at before) (item_of line) (position_at m, v) given in
+          let more = claims_more before kept _ m v held.rising held.last behind entries in
           record {
-            reads = rw w.before-is (reads_some number before kept _ m v line left lines all cut given entries held.ahead held.reads);
-            ahead = rw w.before-is (ahead_more before m v kept _ (stands_behind number before line m v given) entries held.ahead);
+            reads = rw w.before-is (reads_some number before kept _ m v line left lines all cut given more held.reads);
+            last = rw w.before-is (sym (ap (last_position None) more ∙ last_more None (map position_claim kept) (position_at m, v)));
             rising = rw entries (rising_insert m v kept held.rising);
             room = room.1;
           }
@@ -54,7 +56,7 @@ loop-line-preserved c =
           c.in_ok-masks.ensures ∙ ap (λ o. Ok (option_map position_claim o)) w.in_default.is in
           record {
             reads = rw (w.before-is, w.claims-is) (reads_none number before kept line left lines all cut given held.reads);
-            ahead = rw (w.before-is, w.claims-is) held.ahead;
+            last = rw (w.before-is, w.claims-is) held.last;
             rising = rw w.claims-is held.rising;
             room = room.1;
           }
