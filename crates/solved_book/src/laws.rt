@@ -1,8 +1,8 @@
 //! What holds of books and of the claims that are read from them. Each function's body is empty:
 //! its contract is the law.
 
-ghost use Rattle.std.specs.Prelude.{◌≡◌, ◌↔◌, ℕ, ◌+◌, List, ◌∷◌, ◌++◌, [], length, Contains, map, Ok};
-ghost use Rattle.std.specs.Prelude.{Err, Some, None};
+ghost use Rattle.std.specs.Prelude.{◌≡◌, ◌↔◌, ℕ, ◌+◌, List, ◌∷◌, ◌++◌, length, Contains, map, Ok};
+ghost use Rattle.std.specs.Prelude.{[], Err, Some, None};
 ghost use Rattle.othello_rules.specs.declared.scoring.Scoring.{Scoring};
 ghost use Rattle.othello_bits.specs.Pos.{PosView, answer_of};
 ghost use Rattle.othello_bits.specs.Symmetries.{canonical_of, image_of};
