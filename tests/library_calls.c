@@ -1,11 +1,11 @@
-/* Makes the call of ffosolve.h that each line of standard input names. Prints its status, and then what it wrote:
-   memory is filled with bytes 99, and what still has them was not written. Printed masks and TEXT are hexadecimal.
-   Compiled as C and as C++. Each line, and what is printed after the status:
+/* Makes the call of ffosolve.h that each line of standard input names. Prints the call's status, then the results that
+   the call wrote: before the call, all results are filled with bytes 99, and those that keep them are not printed.
+   Printed masks and TEXT are hexadecimal. Compiled as C and as C++. Each line, and what is printed after the status:
        solve OWN OPP SCORING ENTRIES, confirm .. SCORE KIND BEST    SCORE/KIND/BEST
        move_scores OWN OPP SCORING ENTRIES     the mask of moves, SQUARE:SCORE of each, + how many squares have no score
-       solve_all SCORING ENTRIES ROOM OWN OPP .., move_scores_all ..    at INDEX, then INDEX: and the same for each
+       solve_all SCORING ENTRIES ROOM OWN OPP .., move_scores_all ..    at INDEX if refused, INDEX: and the same of each
        moves OWN OPP, play OWN OPP SQUARE      masks
-       read_line ROOM TEXT                     at INDEX, OWN OPP SIDE LISTED, and KIND/SQUARE/SCORE of each listed move
+       read_line ROOM TEXT                     at INDEX, or OWN OPP SIDE LISTED, then each KIND/SQUARE/SCORE listed
        long_line                               what read_line prints for a line of 8,000,000 listed moves
        names                                   the values of the header's constants, and the text of each status */
 #include "ffosolve.h"
@@ -82,13 +82,10 @@ static void make(const char *call, const char *text, size_t length) {
 }
 
 static void make_read_line(const char *hexadecimal) {
-    static char text[LONGEST];
+    static unsigned char text[LONGEST];
     const size_t length = strlen(hexadecimal) / 2;
-    for (size_t i = 0; i < length; i++) {
-        const char byte[] = {hexadecimal[2 * i], hexadecimal[2 * i + 1], '\0'};
-        text[i] = (char)strtol(byte, NULL, 16);
-    }
-    make("read_line", text, length);
+    for (size_t i = 0; i < length; i++) sscanf(hexadecimal + 2 * i, "%2hhx", &text[i]);
+    make("read_line", (const char *)text, length);
 }
 
 static void make_long_line(void) {

@@ -21,12 +21,12 @@ static size_t at;
 
 int main(void) {
     for (size_t i = 0; i < sizeof ways / sizeof *ways; i++) {
-        const size_t count = ways[i].count, room = ways[i].room;
+        const size_t count = ways[i].count, has_to = ways[i].has_to, room = ways[i].room;
         const ffosolve_position *const from = ways[i].has_from ? &position : NULL;
         size_t *const where = ways[i].has_at ? &at : NULL;
-        printf(" %d\n", ffosolve_solve_all(from, count, 2, 65, ways[i].has_to ? &answer : NULL, room, where));
-        printf(" %d\n", ffosolve_move_scores_all(from, count, 2, 65, ways[i].has_to ? &found : NULL, room, where));
-        printf(" %d\n", ffosolve_read_line(from ? text : NULL, count, &line, ways[i].has_to ? &listed : NULL, room, where));
+        printf(" %d\n", ffosolve_solve_all(from, count, 2, 65, has_to ? &answer : NULL, room, where));
+        printf(" %d\n", ffosolve_move_scores_all(from, count, 2, 65, has_to ? &found : NULL, room, where));
+        printf(" %d\n", ffosolve_read_line(from ? text : NULL, count, &line, has_to ? &listed : NULL, room, where));
     }
     return 0;
 }

@@ -13,7 +13,7 @@ CALLS = [
     *(f"{name}_{call}, threads={threads})" for name in ("solve", "move_scores") for threads in (1, 2)
       for call in ("all([start] * 2", "iter([start] * 2", "arrays(own, opp")),
 ]
-# Makes the calls that the command line names. A signal interrupts each, but its thread works on during the next.
+# Makes the calls that the command line names. A signal interrupts each call, but the call's thread goes on solving.
 PROGRAM = """if True:
     import os, signal, sys, threading, numpy
     from ffosolve import Answer, Kind, Position, Solver
@@ -35,7 +35,7 @@ PROGRAM = """if True:
 
 
 class Interrupted(unittest.TestCase):
-    def test_each_call_is_interrupted_and_the_program_ends_though_their_threads_work_on(self):
+    def test_each_call_is_interrupted_and_the_program_ends_though_threads_go_on_solving(self):
         need_modules()
         words = (sys.executable, "-c", PROGRAM, BOARD, *CALLS)
         ran = run(*words, cwd=ROOT / "python/src", preexec_fn=as_at_a_login, text=True)

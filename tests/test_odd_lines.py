@@ -6,7 +6,7 @@ import unittest
 from .prefix import PREFIX, setUpModule
 from .support import built, run, stored, worked
 import ffosolve
-from ffosolve._refusals import refusal_of
+from ffosolve._refusals import REFUSALS
 
 LINES = 10_000
 PIECES = b"| w|ps:-4;|--:0;|I1:+1|h8:64 ;|B2:+65;| |\t|%|;|:|?|-|X|O|b|\r|\0|\x80|\xff".split(b"|")
@@ -42,7 +42,7 @@ def read_in_c(text):
             for kind, square, score in (map(int, it.split("/")) for it in listed):
                 rows[number] += f" {('PS', '--')[kind - 1] if kind else ffosolve.square_name(square)}:{score}"
         elif status != "8":
-            rows[number] = f"refused: {refusal_of(int(status), int(words[1]))}"
+            rows[number] = f"refused: {REFUSALS[int(status)](int(words[1]))}"
     return rows
 
 

@@ -96,7 +96,7 @@ class Rules(unittest.TestCase):
                      lambda: shared.play(9), lambda: shared.play_all("f5")):
             self.assertRaises(ffosolve.SharedSquare, call)
 
-    def test_only_the_rules_need_a_library_and_take_the_one_that_a_solver_named(self):
+    def test_only_rules_and_solvers_need_a_library_and_rules_take_that_of_a_solver(self):
         code = """if True:
             import sys
             from ffosolve import START, LibraryNotFound, Solver, read_lines

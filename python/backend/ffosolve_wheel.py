@@ -24,7 +24,7 @@ def stored(*places):
 
 
 VERSION, LICENSE = (stored(*places) for places in (("src/ffosolve/VERSION", "../VERSION"), ("LICENSE", "../LICENSE")))
-PACKAGE_VERSION = os.environ.get("FFOSOLVE_WHEEL_VERSION", VERSION.decode().strip())  # or one with a commit
+PACKAGE_VERSION = os.environ.get("FFOSOLVE_WHEEL_VERSION", VERSION.decode().strip())  # `make wheel` may add a commit
 HEAD = f"ffosolve-{PACKAGE_VERSION}"
 PROGRAMS = b"[console_scripts]\nffosolve-games = ffosolve._games_program:main\n"
 

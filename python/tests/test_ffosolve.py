@@ -153,8 +153,7 @@ class Refusals(unittest.TestCase):
         self.assertEqual(Solver(entries=ffosolve.MOST_ENTRIES).solve(POSITION), ANSWER)
         self.assertEqual([Solver(max_empties=most).max_empties for most in (0, 60)], [0, 60])
 
-    def test_a_refusal_has_the_index_of_its_position_and_is_a_value_error(self):
-        """Only NoMemory is not a ValueError, but a MemoryError."""
+    def test_a_refusal_has_the_index_of_its_position_and_is_a_value_error_or_memory_error(self):
         for refusal in ffosolve.Refused.__subclasses__():
             if refusal not in (ffosolve.OtherRefusal, ffosolve.LineRefused):
                 self.assertEqual((str(refusal()), refusal().index), (refusal.reason, None))
@@ -164,7 +163,6 @@ class Refusals(unittest.TestCase):
                     self.assertEqual((type(it), str(it), it.index), wanted)
 
     def test_a_refused_line_has_the_status_of_the_header_and_the_text_of_a_report(self):
-        """The line may be of the type str or bytes, and have a line end or none."""
         for refusal, number, text, reason, at, column in (
             (ffosolve.NoPosition, 8, " % X", "no position: the line is blank or a comment", 0, None),
             (ffosolve.ShortBoard, 9, CORNERS[:63], "board has 63 of 64 squares", 63, None),

@@ -9,8 +9,8 @@ from ._squares import square_names
 class Scoring(enum.IntEnum):
     """How the end of a game is scored for the side to move. `Scoring("winner")` is Scoring.WINNER."""
 
-    WINNER = 0  # its discs minus the other side's; the winner gets the empty squares
-    DISCS = 1  # its discs minus the other side's
+    WINNER = 0  # own discs minus the other side's; the winner gets the empty squares
+    DISCS = 1  # own discs minus the other side's
     SIGN = 2  # 1, 0 or -1 for a win, a draw or a loss
 
     @classmethod

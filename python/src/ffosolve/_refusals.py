@@ -125,9 +125,9 @@ class BadSide(LineRefused, status=Status.BAD_SIDE, reason="bad side at column {}
     """The side to move is missing: another byte is in its place, or the line ends."""
 
 
-def refusal_of(status: int, *arguments: Any) -> Refused:
-    """Returns the refusal for a status, made with `arguments`; for an unknown status, an OtherRefusal without them."""
-    return REFUSALS[status](*arguments) if status in REFUSALS else OtherRefusal(status)
+def refusal_of(status: int) -> Refused:
+    """Returns the refusal for a status; for a status that is not in Status, an OtherRefusal."""
+    return REFUSALS[status]() if status in REFUSALS else OtherRefusal(status)
 
 
 def checked_number(name: str, value: int, least: int) -> int:
