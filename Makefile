@@ -40,11 +40,9 @@ $(objects) $(levels:%=out/%/libffosolve_c.a): $$(call changed,$$@)
 # What is linked from that. It gets another name at first, since another make may be running.
 kit = $$(dirname "$$(rt doc)")
 new = $@.$$$$
-needs.x86-64-v2 = 2
-needs.x86-64-v3 = 4
 
 $(objects:.o=): %: %.o packaging/level.s
-	"$(kit)/toolchain/bin/clang" -Wa,-defsym,LEVEL=$(needs.$(level)) -c -o $(new).o packaging/level.s
+	"$(kit)/toolchain/bin/clang" -Wa,-defsym,LEVEL=$(level:x86-64-v%=%) -c -o $(new).o packaging/level.s
 	said=$$("$(kit)/bin/rattle-link" --target x86_64-unknown-linux-gnu --toolchain "$(kit)/toolchain" -o $(new) \
 	    $< $(new).o "$(kit)/c/libos_c.a" "$(kit)/c/liblibc_c.a" 2>&1) || { echo "$$said" >&2; exit 1; }
 	rm $(new).o
@@ -66,9 +64,11 @@ $(levels:%=out/%/libffosolve.so): %.so: %.o VERSION
 	    -Wl,-soname,libffosolve.so.$(major),-z,defs,-z,relro,-z,now,-z,$(level)
 	mv -f $(new) $@
 
-# The programs that bin/ runs.
-$(programs:%=out/%): out/%: out/$(CPU)/% always
-	cmp -s $< $@ || { cp $< $(new) && mv -f $(new) $@; }
+# Copies for CPU: the programs that bin/ runs, and the library for programs under development. The shared library is
+# there twice, since rt refuses a checkout with a link.
+library = $(addprefix out/library/libffosolve.,a so so.$(major))
+$(programs:%=out/%) $(library): out/$(CPU)/$$(patsubst %.$(major),%,$$(@F)) always
+	cmp -s $< $@ || { mkdir -p $(@D) && cp $< $(new) && mv -f $(new) $@; }
 
 # $(call fill,FILE,TO) copies FILE to TO and fills in the version, the size of the largest table, and folders.
 number = $(shell echo $(version) | awk -F . '{ print 10000 * $$1 + 100 * $$2 + $$3 }')
@@ -77,14 +77,16 @@ entries = $(call constant,MOST_ENTRIES,crates/bound_table/src/bound_table.rt)
 fill = sed -e 's/@VERSION@/$(version)/g; s/@NUMBER@/$(number)/g; s/@MAJOR@/$(major)/g; s/@ENTRIES@/$(subst _,,$(entries))/g' \
     -e "s|@BINDIR@|$(BINDIR)|g; s|@INCLUDE@|$$(realpath -ms --relative-to='$(LIBDIR)' '$(INCLUDEDIR)')|g" $1 | install -D -m 644 /dev/stdin $2
 
-# The library for programs under development. The shared one is there twice, since rt refuses a checkout with a link.
-library: out/$(CPU)/libffosolve.a out/$(CPU)/libffosolve.so ## builds libffosolve.a, libffosolve.so and ffosolve.h in out/library
-	install -C -D -m 644 -t out/library $^
-	install -C -m 644 out/$(CPU)/libffosolve.so out/library/libffosolve.so.$(major)
-	$(call fill,include/ffosolve.h.in,out/library/ffosolve.h)
+# A new VERSION or largest table makes libffosolve.so newer, too.
+out/library/ffosolve.h: include/ffosolve.h.in out/$(CPU)/libffosolve.so
+	$(call fill,$<,$(new))
+	mv -f $(new) $@
+
+library: $(library) out/library/ffosolve.h ## builds libffosolve.a, libffosolve.so and ffosolve.h in out/library
 
 # Both levels of everything, for tests and packages.
-levels: $(programs:%=out/%) library $(objects:.o=) $(foreach level,$(levels),out/$(level)/libffosolve.so out/$(level)/libffosolve.a)
+libraries = $(foreach level,$(levels),out/$(level)/libffosolve.a out/$(level)/libffosolve.so)
+levels: $(programs:%=out/%) library $(objects:.o=) $(libraries)
 
 comma = ,
 settings = crates/program_settings/src/*.rt
@@ -117,68 +119,66 @@ look: ## solves three positions in about a minute, with nothing proved; LIST=FIL
 check: levels ## tests everything; the last line counts what passed
 	$(MAKE) -f tests/check.mk
 
-# The command `install` makes a new file in place of an old one, so a running program keeps its own.
-lib = "$(DESTDIR)$(LIBDIR)
-share = "$(DESTDIR)$(PREFIX)/share
-doc = $(share)/doc/ffosolve
+# Sets shell variables for install and uninstall. The command `install` makes a new file in place of an old one, so a
+# running program keeps its own.
+places = case "$(PREFIX)" in /*) ;; *) echo "PREFIX is $(PREFIX), but has to begin with a slash" >&2; exit 1 ;; esac; \
+    bin="$(DESTDIR)$(BINDIR)" lib="$(DESTDIR)$(LIBDIR)" include="$(DESTDIR)$(INCLUDEDIR)" man="$(DESTDIR)$(MANDIR)" \
+    share="$(DESTDIR)$(PREFIX)/share"
 documents = README.md LICENSE CHANGELOG.md VERSION \
     $(shell find docs examples python rust crates/*/specs \( -name __pycache__ -o -name '.*' -o -name target -o -name Cargo.lock \) -prune -o -type f -print)
 # The package for Python that the scripts use. It is among the documents, too, but some systems leave these out.
 modules = VERSION $(shell find python/src \( -name __pycache__ -o -name '.*' \) -prune -o -type f -print)
-absolute = case "$(PREFIX)" in /*) ;; *) echo "PREFIX is $(PREFIX), but has to begin with a slash" >&2; exit 1 ;; esac
 
 # Completions call the installed program for its --help, so TAB after bin/ffosolve in a checkout builds nothing.
-install: $(programs:%=out/$(CPU)/%) $(foreach level,$(levels),out/$(level)/libffosolve.a out/$(level)/libffosolve.so) ## installs programs, library, manual pages, completions and documents under PREFIX (/usr/local), in DESTDIR
-	$(absolute)
-	install -D -t "$(DESTDIR)$(BINDIR)" $(programs:%=out/$(CPU)/%)
+install: $(programs:%=out/$(CPU)/%) $(libraries) ## installs programs, library, manual pages, completions and documents under PREFIX (/usr/local), in DESTDIR
+	$(places)
+	install -D -t "$$bin" $(programs:%=out/$(CPU)/%)
 	package=$$(realpath -ms --relative-to='$(BINDIR)/..' '$(PREFIX)/share/ffosolve')
 	library=$$(realpath -ms --relative-to='$(BINDIR)/..' '$(LIBDIR)/libffosolve.so')
 	for name in $(scripts); do
-	    sed "s|share/ffosolve|$$package|; s|lib/libffosolve.so|$$library|" bin/$$name | install -m 755 /dev/stdin "$(DESTDIR)$(BINDIR)/$$name"
+	    sed "s|share/ffosolve|$$package|; s|lib/libffosolve.so|$$library|" bin/$$name | install -m 755 /dev/stdin "$$bin/$$name"
 	done
 	for program in $(programs:%=out/$(CPU)/%) $(scripts:%=bin/%); do
 	    name=$${program##*/}
 	    said=$$(COLUMNS=80 "$$program" --help) || echo "$$name: its manual page has no options, since --help can't be run" >&2
-	    echo "$$said" | awk -v program=$$name -f share/man/page.awk |
-	        $(call fill,/dev/stdin,"$(DESTDIR)$(MANDIR)/man1/$$name.1")
-	    $(call fill,share/completions/bash,$(share)/bash-completion/completions/$$name")
-	    $(call fill,share/completions/zsh,$(share)/zsh/site-functions/_$$name")
-	    $(call fill,share/completions/fish,$(share)/fish/vendor_completions.d/$$name.fish")
+	    echo "$$said" | awk -v program=$$name -f share/man/page.awk | $(call fill,/dev/stdin,"$$man/man1/$$name.1")
+	    $(call fill,share/completions/bash,"$$share/bash-completion/completions/$$name")
+	    $(call fill,share/completions/zsh,"$$share/zsh/site-functions/_$$name")
+	    $(call fill,share/completions/fish,"$$share/fish/vendor_completions.d/$$name.fish")
 	done
-	rm -rf $(doc)" $(share)/ffosolve"
-	for file in $(modules); do install -D -m 644 "$$file" $(share)/ffosolve/$$file"; done
-	for file in $(documents); do install -D -m 644 "$$file" $(doc)/$$file"; done
-	rm -f $(lib)/"libffosolve.so* $(lib)/glibc-hwcaps/x86-64-v3/"libffosolve.so*
-	install -D -m 644 out/x86-64-v2/libffosolve.a $(lib)/libffosolve.a"
-	install -D -m 644 out/x86-64-v3/libffosolve.a $(lib)/libffosolve-x86-64-v3.a"
-	install -D -m 644 out/x86-64-v2/libffosolve.so $(lib)/libffosolve.so.$(version)"
-	install -D -m 644 out/x86-64-v3/libffosolve.so $(lib)/glibc-hwcaps/x86-64-v3/libffosolve.so.$(version)"
-	for folder in $(lib)" $(lib)/glibc-hwcaps/x86-64-v3"; do
+	rm -rf "$$share/doc/ffosolve" "$$share/ffosolve"
+	for file in $(modules); do install -D -m 644 "$$file" "$$share/ffosolve/$$file"; done
+	for file in $(documents); do install -D -m 644 "$$file" "$$share/doc/ffosolve/$$file"; done
+	rm -f "$$lib"/libffosolve.so* "$$lib"/glibc-hwcaps/x86-64-v3/libffosolve.so*
+	install -D -m 644 out/x86-64-v2/libffosolve.a "$$lib/libffosolve.a"
+	install -D -m 644 out/x86-64-v3/libffosolve.a "$$lib/libffosolve-x86-64-v3.a"
+	install -D -m 644 out/x86-64-v2/libffosolve.so "$$lib/libffosolve.so.$(version)"
+	install -D -m 644 out/x86-64-v3/libffosolve.so "$$lib/glibc-hwcaps/x86-64-v3/libffosolve.so.$(version)"
+	for folder in "$$lib" "$$lib/glibc-hwcaps/x86-64-v3"; do
 	    ln -s libffosolve.so.$(version) "$$folder/libffosolve.so.$(major)"
 	    ln -s libffosolve.so.$(major) "$$folder/libffosolve.so"
 	done
-	$(call fill,include/ffosolve.h.in,"$(DESTDIR)$(INCLUDEDIR)/ffosolve.h")
-	$(call fill,packaging/ffosolve.pc.in,$(lib)/pkgconfig/ffosolve.pc")
-	for file in ffosolve-config.cmake ffosolve-config-version.cmake; do
-	    $(call fill,packaging/$$file.in,$(lib)/cmake/ffosolve/$$file")
+	$(call fill,include/ffosolve.h.in,"$$include/ffosolve.h")
+	for file in pkgconfig/ffosolve.pc cmake/ffosolve/ffosolve-config.cmake cmake/ffosolve/ffosolve-config-version.cmake; do
+	    $(call fill,packaging/$${file##*/}.in,"$$lib/$$file")
 	done
 	echo "installed under $(DESTDIR)$(PREFIX)"
 
 uninstall: ## removes what make install installed, and folders that are then empty
-	$(absolute)
+	$(places)
 	for name in $(programs) $(scripts); do
-	    rm -f "$(DESTDIR)$(BINDIR)/$$name" "$(DESTDIR)$(MANDIR)/man1/$$name.1" $(share)/bash-completion/completions/$$name" \
-	        $(share)/zsh/site-functions/_$$name" $(share)/fish/vendor_completions.d/$$name.fish"
+	    rm -f "$$bin/$$name" "$$man/man1/$$name.1" "$$share/bash-completion/completions/$$name" \
+	        "$$share/zsh/site-functions/_$$name" "$$share/fish/vendor_completions.d/$$name.fish"
 	done
-	rm -f $(lib)/"libffosolve.* $(lib)/libffosolve-x86-64-v3.a" $(lib)/glibc-hwcaps/x86-64-v3/"libffosolve.* $(lib)/pkgconfig/ffosolve.pc" "$(DESTDIR)$(INCLUDEDIR)/ffosolve.h"
-	rm -rf $(doc)" $(share)/ffosolve" $(lib)/cmake/ffosolve"
+	rm -f "$$lib"/libffosolve.* "$$lib/libffosolve-x86-64-v3.a" "$$lib"/glibc-hwcaps/x86-64-v3/libffosolve.* \
+	    "$$lib/pkgconfig/ffosolve.pc" "$$include/ffosolve.h"
+	rm -rf "$$share/doc/ffosolve" "$$share/ffosolve" "$$lib/cmake/ffosolve"
 	# System folders stay, even if they are empty.
 	case '$(PREFIX)' in /usr | /usr/local) exit 0 ;; esac
-	rmdir --ignore-fail-on-non-empty 2>/dev/null \
-	    "$(DESTDIR)$(BINDIR)" $(lib)/glibc-hwcaps/x86-64-v3" $(lib)/glibc-hwcaps" $(lib)/pkgconfig" $(lib)/cmake" $(lib)" \
-	    "$(DESTDIR)$(INCLUDEDIR)" "$(DESTDIR)$(MANDIR)/man1" "$(DESTDIR)$(MANDIR)" $(share)/bash-completion/completions" \
-	    $(share)/bash-completion" $(share)/zsh/site-functions" $(share)/zsh" $(share)/fish/vendor_completions.d" $(share)/fish" \
-	    $(share)/doc" $(share)" "$(DESTDIR)$(PREFIX)" || :
+	rmdir --ignore-fail-on-non-empty 2>/dev/null "$$bin" "$$lib/glibc-hwcaps/x86-64-v3" "$$lib/glibc-hwcaps" \
+	    "$$lib/pkgconfig" "$$lib/cmake" "$$lib" "$$include" "$$man/man1" "$$man" "$$share/bash-completion/completions" \
+	    "$$share/bash-completion" "$$share/zsh/site-functions" "$$share/zsh" "$$share/fish/vendor_completions.d" \
+	    "$$share/fish" "$$share/doc" "$$share" "$(DESTDIR)$(PREFIX)" || :
 	echo "uninstalled from $(DESTDIR)$(PREFIX)"
 
 include packaging/packages.mk
@@ -186,5 +186,4 @@ include packaging/packages.mk
 help: ## lists the targets
 	sed -n 's/^\([a-z-]*\):.*## /make \1	/p' $(MAKEFILE_LIST) | expand -t 20
 
-always:
 .PHONY: all levels library constants look check install uninstall help always

@@ -71,8 +71,7 @@ deb: levels ## makes out/ffosolve_VERSION_amd64.deb, a package for Debian
 
 wheel: levels ## makes out/ffosolve-VERSION-py3-none-manylinux_2_34_x86_64.whl, the package for Python with the library
 	$(clean)
-	cd python/backend
-	name=$$(FFOSOLVE_WHEEL_LIBRARIES=../../out $(build_wheel) ../../out)
-	echo "made: $${PWD%/python/backend}/out/$$name"
+	name=$$(cd python/backend && FFOSOLVE_WHEEL_LIBRARIES=../../out $(build_wheel) ../../out)
+	echo "made: $$PWD/out/$$name"
 
 .PHONY: dist deb wheel

@@ -40,7 +40,7 @@ def names_of_files():
 def copied_checkout(folder):
     """Builds all programs, copies the checkout and what was built into `folder`, and returns `folder`. The copies keep
     the times of the files, and everybody may read them."""
-    run("flock", ROOT, "make", "-s", "-C", ROOT, "levels", stderr=None, timeout=None, check=True)  # one at a time
+    run("make", "-s", "-C", ROOT, "levels", stderr=None, timeout=None, check=True)
     shutil.copytree(ROOT / "out", folder / "out", ignore=shutil.ignore_patterns("tests", "*.log", "*.tar.gz*", "*.new"))
     run("cp", "--parents", "--preserve=mode,timestamps", *names_of_files(), folder, cwd=ROOT, check=True)
     run("chmod", "-R", "a+rX,u+w", folder, check=True)
