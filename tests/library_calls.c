@@ -39,10 +39,7 @@ static int32_t status_of(const char *call, const char *text, size_t length) {
     const uint32_t scoring = (uint32_t)number[2], of_all = (uint32_t)number[0];
     const size_t count = numbers > 3 ? (numbers - 3) / 2 : 0;
     ffosolve_position positions[WORDS];
-    for (size_t i = 0; i < count; i++) {
-        positions[i].own = number[3 + 2 * i];
-        positions[i].opp = number[4 + 2 * i];
-    }
+    memcpy(positions, number + 3, count * sizeof *positions);
     CALL(solve, position, scoring, number[3], &now.answers[0]);
     CALL(confirm, position, scoring, number[3], claim, &now.answers[0]);
     CALL(solve_all, positions, count, of_all, number[1], now.answers, number[2], &now.at);

@@ -19,7 +19,7 @@ class Answers(NamedTuple):
     best: Any
 
 
-def runs_of(solver: Solver, masks: Any, threads: int) -> List[Tuple[slice, int]]:
+def slices_of(solver: Solver, masks: Any, threads: int) -> List[Tuple[slice, int]]:
     """Cuts positions into parts; if `threads` is 1, into one. A row of `masks` is (own, opp). Returns a pair for each
     part: a slice of the rows, and the greatest number of empty squares in a position of the part. Raises the refusal of
     the first refused position."""
@@ -46,11 +46,11 @@ def found_by(solver: Solver, call: Any, record: Any, own: Any, opp: Any, threads
     masks = numpy.stack((own, opp), axis=1)  # each row is laid out as a CPosition
     found: Any = numpy.empty(len(masks), record)
 
-    def call_for(run: Tuple[slice, int]) -> Tuple[()]:
-        part, empties = run
-        asked = (CPosition * len(masks[part])).from_buffer(masks[part])
-        solver._fill((record * len(asked)).from_buffer(found[part]), call, asked, empties)
+    def call_for(part: Tuple[slice, int]) -> Tuple[()]:
+        rows, empties = part
+        asked = (CPosition * len(masks[rows])).from_buffer(masks[rows])
+        solver._fill((record * len(asked)).from_buffer(found[rows]), call, asked, empties)
         return ()  # the results are in `found`
 
-    list(in_order(call_for, runs_of(solver, masks, threads), threads))
+    list(in_order(call_for, slices_of(solver, masks, threads), threads))
     return [numpy.ascontiguousarray(found[name]) for name, _ in record._fields_]
