@@ -101,19 +101,19 @@ class Faults(Case):
         side, whole = "Black" if is_black else "White", self.RECORD
         illegal = f"{NAMES[self.GAME[9]]} is not a legal move for {side} in {player.line(own, opp, is_black)}"
         gap, no_square, twice = (whole[:18] + bytes([byte]) + whole[19:] for byte in (0, 99, whole[17]))
-        for records, count, why in (
-            ([whole, whole[:67]], 2, "game 2: the file ends after 67 of the 68 bytes of this game, but its header counts 2 games"),
-            ([whole, whole[:1]], 7, "game 2: the file ends after 1 of the 68 bytes of this game, but its header counts 7 games"),
-            ([whole], 301, "game 2: the file ends before this game, but its header counts 301 games"),
-            ([whole, whole], 1, "game 2: the file goes on, but its header counts 1 game"),
-            ([whole, b"\n"], 1, "game 2: the file goes on, but its header counts 1 game"),
-            ([whole, gap], 2, "game 2, move 11: 0 is not a square"),
-            ([whole, no_square], 2, "game 2, move 11: 99 is not a square"),
-            ([whole, twice], 2, f"game 2, move 11: {illegal}"),
-            ([whole, record([])], 2, "game 2: it has no moves"),
-            ([whole, record(self.GAME[:37])], 2, "game 2, move 37: it ends here, with 23 empty squares; 22 are asked for"),
+        for more, count, why in (
+            ([whole[:67]], 2, ": the file ends after 67 of the 68 bytes of this game, but its header counts 2 games"),
+            ([whole[:1]], 7, ": the file ends after 1 of the 68 bytes of this game, but its header counts 7 games"),
+            ([], 301, ": the file ends before this game, but its header counts 301 games"),
+            ([whole], 1, ": the file goes on, but its header counts 1 game"),
+            ([b"\n"], 1, ": the file goes on, but its header counts 1 game"),
+            ([gap], 2, ", move 11: 0 is not a square"),
+            ([no_square], 2, ", move 11: 99 is not a square"),
+            ([twice], 2, f", move 11: {illegal}"),
+            ([record([])], 2, ": it has no moves"),
+            ([record(self.GAME[:37])], 2, ", move 37: it ends here, with 23 empty squares; 22 are asked for"),
         ):
-            self.reads("it.wtb", wthor(records, count=count), out=self.LINE, err=f"it.wtb, {why}")
+            self.reads("it.wtb", wthor([whole, *more], count=count), out=self.LINE, err=f"it.wtb, game 2{why}")
 
     def test_wrong_scores_of_records_are_reported_and_the_line_is_printed(self):
         with_pass = next(game for game in random_games(200, seed=3) if None in game[38:])
@@ -125,7 +125,8 @@ class Faults(Case):
             (game, 65, real, 22, ["its theoretical score is 65, more than 64 discs"]),
             (game, 33, real + 1, 22, [wrong]),
             (game, 255, real + 1, 20, [wrong]),
-            (game, 255, 65, 22, ["its theoretical score is 255, more than 64 discs", "its real score is 65, more than 64 discs"]),
+            (game, 255, 65, 22,
+             ["its theoretical score is 255, more than 64 discs", "its real score is 65, more than 64 discs"]),
             (game[:-1], 33, 0, 22, ["its moves stop before the end of the game, so its real score 0 is not checked"]),
             (game[:-1], 33, 200, 22, ["its real score is 200, more than 64 discs"]),
             (before, 33, 20, 22, ["its moves stop before the end of the game, so its real score 20 is not checked"]),
@@ -136,16 +137,17 @@ class Faults(Case):
             self.reads("it.wtb", content, f"--empties={empties}", out=out, err=err)
 
     def test_a_file_of_another_kind_is_refused(self):
+        whole = self.RECORD
         for board, kind in ((0, 0), (8, 0), (8, 1)):
-            self.reads("it.wtb", wthor([self.RECORD], board=board, kind=kind), out=self.LINE)
+            self.reads("it.wtb", wthor([whole], board=board, kind=kind), out=self.LINE)
         for content, why in (
             (b"", "it is empty"),
             (wthor([])[:15], "it ends within its header of 16 bytes"),
-            (wthor([self.RECORD], board=10), "its board has 10 by 10 squares"),
-            (wthor([self.RECORD], another=9),
+            (wthor([whole], board=10), "its board has 10 by 10 squares"),
+            (wthor([whole], another=9),
              "its header counts 9 records of another kind, like a file of players or tournaments"),
-            (wthor([self.RECORD], kind=2), "byte 14 of its header is 2, and has to be 0 or 1"),
-            (wthor([self.RECORD], empties=61), "its theoretical scores are for 61 empty squares, but a game has only 60"),
+            (wthor([whole], kind=2), "byte 14 of its header is 2, and has to be 0 or 1"),
+            (wthor([whole], empties=61), "its theoretical scores are for 61 empty squares, but a game has only 60"),
             (b"f5d6c3d3c4f4c5b3c2\n", "it begins like a text"),
         ):
             for name in ("NONE.WTB", "none.wtb"):
@@ -175,7 +177,8 @@ class Faults(Case):
         ran = run(sys.executable, PROGRAM, *files)
         self.assertEqual(ran.returncode, 3)
         for message in ran.stderr.decode().splitlines():
-            self.assertRegex(message, r"^ffosolve-games: \d+-\d+\.wtb(, game \d+(, move \d+)?: | is not a WTHOR file| does not say )")
+            why = r"(, game \d+(, move \d+)?: | is not a WTHOR file| does not say )"
+            self.assertRegex(message, rf"^ffosolve-games: \d+-\d+\.wtb{why}")
         lines = [line for line in ran.stdout.decode().splitlines() if "% digest" not in line]
         for line in lines:
             squares, side, name, number = re.fullmatch(r"(\S{64}) ([XO]); % (\S+), game (\d+)(?:, .*)?", line).groups()
@@ -189,7 +192,7 @@ class ReadByPython(InFolder):
     PLAYED = random_games(60, seed=66)
 
     def has_positions(self, read, game):
-        """Asserts that a Game or transcript, `read`, has the positions that bench/player.py finds for the moves `game`."""
+        """Asserts that a Game or transcript, `read`, has the positions that bench/player.py finds in `game`."""
         wanted = [player.line(*position) for position in positions_of(game).values()]
         self.assertEqual([position.to_obf() for position in Solver().positions(read)], wanted, read)
 
@@ -207,9 +210,10 @@ class ReadByPython(InFolder):
             for word in ("--", "pass", "PS", "pa"):
                 texts.append(rng.choice((" ", "-", "", ", ")).join(name or word for name in with_passes))
             for text in texts:
-                end = rng.choice(("", " 33-31", " (40:24)", ", 1-0", " 1/2-1/2", " +2", " -12", " [+4]", " 0", "\r\n", "  % f5"))
-                self.assertEqual(ffosolve.Game.of_text(text + end).squares, [name.upper() for name in names], text + end)
-                self.has_positions(text + end, game)
+                text += rng.choice(("", " 33-31", " (40:24)", ", 1-0", " 1/2-1/2", " +2", " -12", " [+4]", " 0", "\r\n",
+                                    "  % f5"))
+                self.assertEqual(ffosolve.Game.of_text(text).squares, [name.upper() for name in names], text)
+                self.has_positions(text, game)
 
     def test_a_wrong_transcript_is_refused_with_the_move_and_the_reason(self):
         for text, move, why in (

@@ -56,13 +56,11 @@ class Command(Case):
             (b"PK\3\4\24\0\r\0", "its line 1 has a NUL byte, so it is not a text"),  # an archive
         ):
             write("bad", content)
-            for words, out, how in (
-                (["--empties=20", "bad", "text"], self.LINE.format("text"), {}),
-                (["compare", "listed", "bad"], "", {}),
-                (["--empties=20"], "", {"input": content}),
-                (["compare", "-", "text"], "", {"input": content}),
-            ):
-                self.games(*words, status=3, out=out, err=f"cannot read {'-' if how else 'bad'}: {why}", **how)
+            err = f"cannot read bad: {why}"
+            self.games("--empties=20", "bad", "text", status=3, out=self.LINE.format("text"), err=err)
+            self.games("compare", "listed", "bad", status=3, err=err)
+            for words in (["--empties=20"], ["compare", "-", "text"]):
+                self.games(*words, input=content, status=3, err=f"cannot read -: {why}")
 
     def test_a_long_line_is_refused_without_reading_it_all(self):
         err = f"cannot read -: its line 2 has more than {MOST_BYTES} bytes"
@@ -80,11 +78,13 @@ class Command(Case):
         self.reads("longest", longest, "--empties=20", out=self.LINE.format("longest"))
 
     def test_refused_words_print_the_usage(self):
-        for words in (("--empties", "61"), ("--empties", "-1"), ("--empties", "x"), ("--empties",), ("--emp", "3"), ("--no",),
-                      ("compare",), ("compare", "text"), ("compare", "text", "text", "text"), ("compare", "-", "-"),
-                      ("compare", "text", "text", "--fix"), ("--fix", "new.wtb", "compare", "text", "text"),
-                      ("compare", "text", "text", "--fix=-"), ("compare", "text", "text", "--real"), ("--real", "text"),
-                      ("compare", "text", "text", "--empties=20")):
+        for words in (
+            ("--empties", "61"), ("--empties", "-1"), ("--empties", "x"), ("--empties",), ("--emp", "3"), ("--no",),
+            ("compare",), ("compare", "text"), ("compare", "text", "text", "text"), ("compare", "-", "-"),
+            ("compare", "text", "text", "--fix"), ("--fix", "new.wtb", "compare", "text", "text"),
+            ("compare", "text", "text", "--fix=-"), ("compare", "text", "text", "--real"), ("--real", "text"),
+            ("compare", "text", "text", "--empties=20"),
+        ):
             ran = run(sys.executable, PROGRAM, *words)
             self.assertEqual((ran.returncode, ran.stdout), (2, b""))
             self.assertRegex(ran.stderr.decode(), "usage: ffosolve-games .*\n       ffosolve-games compare ")
@@ -100,7 +100,8 @@ class Command(Case):
 
     def test_standard_output_that_cannot_be_written_ends_with_status_3(self):
         write("many", (self.TEXT + "\n") * 1000)
-        for words in (("--empties=20", "text"), ("--empties=20", "many"), ("--help",), ("--version",), ("compare", "--help")):
+        for words in (["--empties=20", "text"], ["--empties=20", "many"], ["--help"], ["--version"],
+                      ["compare", "--help"]):
             self.cannot_write(PROGRAM, *words)
             for unbuffered in ("", "1"):
                 self.ends((3, "", "ffosolve-games: cannot write standard output: File too large\n"),

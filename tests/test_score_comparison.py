@@ -33,7 +33,8 @@ class Comparison(InFolder):
         found = compare_scores("list.obf", "list.scores")
         self.assertEqual(found, (6, 8, wrong, sum(errors) / 8, 61.5, 1, 2, 3))
         self.assertEqual([it.error for it in found.wrong], errors)
-        self.assertEqual(str(found), "lines 6 moves 8 wrong 5 mean error 11.53 greatest 61.5 refused 1 illegal 2 unread 3")
+        self.assertEqual(
+            str(found), "lines 6 moves 8 wrong 5 mean error 11.53 greatest 61.5 refused 1 illegal 2 unread 3")
 
     def test_paths_files_and_lines_are_read_alike(self):
         wanted = compare_scores("list.obf", "list.scores")
@@ -48,7 +49,8 @@ class Comparison(InFolder):
         kinds, scores = (stored("examples", f"kinds.{end}").splitlines() for end in ("obf", "scores"))
         found = compare_scores(kinds, scores)
         self.assertEqual(found[:2] + found[3:], (8, 11, 27 / 11, 12, 5, 0, 3))
-        self.assertEqual([it[:3] for it in found.wrong], [(3, "H1", 60), (4, "A1", 62), (12, "A1", 64.0), (12, "H1", 65)])
+        wrong = [(3, "H1", 60), (4, "A1", 62), (12, "A1", 64.0), (12, "H1", 65)]
+        self.assertEqual([it[:3] for it in found.wrong], wrong)
         self.assertEqual(compare_scores(scores, scores)[:6], (8, 13, [], 0, 0, 0))
 
     def test_an_empty_list_has_no_errors(self):
@@ -62,5 +64,5 @@ class Comparison(InFolder):
             (2, listed, [scored[0], other, *scored[2:]]), (5, listed, scored[:4]), (10, listed, scored + scored[1:2]),
             (9, listed, scored[:8] + scored[1:2]), (1, listed[1:], scored), (3, listed, listed[:1] + listed[3:]),
         ):
-            with self.assertRaisesRegex(ValueError, f"^line {number} of the scores is not what ffoscores prints for line {number} of "):
-                compare_scores(lines, output)
+            why = f"^line {number} of the scores is not what ffoscores prints for line {number} of "
+            self.assertRaisesRegex(ValueError, why, compare_scores, lines, output)

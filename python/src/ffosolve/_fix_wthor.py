@@ -24,8 +24,10 @@ class Fixed:
         """Returns text: how many scores were changed and how many were not compared. Call this after iterating."""
         changed = sum(it.published != it.exact for it in self._compared.values())
         others = self._games - len(self._compared)
-        real = f"; real scores changed {self._real_changed}, not checked {self._real_unknown}" if self._with_real else ""
-        return f"theoretical scores changed {changed} of {self._games}, not compared {others}{real}"
+        text = f"theoretical scores changed {changed} of {self._games}, not compared {others}"
+        if self._with_real:
+            text += f"; real scores changed {self._real_changed}, not checked {self._real_unknown}"
+        return text
 
     def __iter__(self) -> Iterator[bytes]:
         try:

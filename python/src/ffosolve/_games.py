@@ -96,7 +96,8 @@ def read_games(
             file = io.BufferedReader(source)  # type: ignore[arg-type]
             stack.callback(file.detach)  # the caller's file stays open
         elif not hasattr(source, "peek"):
-            raise TypeError(f"games are read from a path or from a file opened for bytes, not from {type(source).__name__}")
+            wanted = "games are read from a path or from a file opened for bytes"
+            raise TypeError(f"{wanted}, not from {type(source).__name__}")
         name = getattr(file, "name", None)
         for game in games_in(file, name if isinstance(name, str) else "the file")[0]:
             if game.fault is None:

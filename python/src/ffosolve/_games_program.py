@@ -108,15 +108,19 @@ def options_of(words: List[str]) -> argparse.Namespace:
     parser = argparse.ArgumentParser(
         NAME, usage=USAGE, description=WHAT, epilog=MORE, formatter_class=argparse.RawDescriptionHelpFormatter,
         allow_abbrev=False)
-    parser.add_argument("files", metavar="FILE", nargs="*",
-                        help="WTHOR files or texts, or LIST and REPORT; `-` is standard input [default: standard input]")
-    parser.add_argument("--empties", metavar="N", type=number_of_empties,
-                        help=f"how many squares are empty in the positions, 0 to {MOST_EMPTIES} [default: as many as for "
-                             "the theoretical scores of the WTHOR file]")
-    parser.add_argument("--fix", metavar="PLACE",
-                        help="with compare: write the WTHOR file of LIST with the exact theoretical scores to PLACE, which "
-                             "must not exist yet; or, if PLACE is a folder, all WTHOR files of LIST into it")
-    parser.add_argument("--real", action="store_true", help="with --fix: also write the real scores that the moves have")
+    parser.add_argument(
+        "files", metavar="FILE", nargs="*",
+        help="WTHOR files or texts, or LIST and REPORT; `-` is standard input [default: standard input]")
+    parser.add_argument(
+        "--empties", metavar="N", type=number_of_empties,
+        help=f"how many squares are empty in the positions, 0 to {MOST_EMPTIES} [default: as many as for the "
+             "theoretical scores of the WTHOR file]")
+    parser.add_argument(
+        "--fix", metavar="PLACE",
+        help="with compare: write the WTHOR file of LIST with the exact theoretical scores to PLACE, which must not "
+             "exist yet; or, if PLACE is a folder, all WTHOR files of LIST into it")
+    parser.add_argument(
+        "--real", action="store_true", help="with --fix: also write the real scores that the moves have")
     parser.add_argument("--version", "-V", action="version", version=f"{NAME} {__version__}")
     compares = words[:1] == ["compare"]
     options = parser.parse_intermixed_args(words[compares:], argparse.Namespace(compares=compares))

@@ -53,8 +53,8 @@ class Comparison:
                 exact = final_score(*line.position)
                 if score != exact:
                     said = "is refused" if score is None else f"has {score:+03}"
-                    raise Unfit(f"line {number} of the list is part of its digest, {exact:+03}, but {said} in the report, "
-                                "which is of another list or scoring")
+                    raise Unfit(f"line {number} of the list is part of its digest, {exact:+03}, but {said} in the "
+                                "report, which is of another list or scoring")
             elif line.published == NO_SCORE:
                 self.unscored += 1
             elif score is None:
@@ -85,8 +85,9 @@ def read_list(lines: Iterable[bytes]) -> Dict[int, Listed]:
         except NoPosition:
             continue
         except LineRefused as why:
-            is_report = number == 1 and text == b"[1]"
-            raise BadList("it is a report; LIST comes first" if is_report else f"its line {number} is refused: {why}") from None
+            if number == 1 and text == b"[1]":
+                raise BadList("it is a report; LIST comes first") from None
+            raise BadList(f"its line {number} is refused: {why}") from None
         if not awaited and not DIGEST.fullmatch(text):
             covered.update(text + b"\n")
             uncovered = number
@@ -124,9 +125,10 @@ def read_report(lines: Iterable[bytes]) -> Dict[int, Optional[int]]:
     found: Dict[int, Optional[int]] = {}
     for place, text in enumerate(texts[1:-1], 2):
         match = ROW.fullmatch(text)
+        if LAST.fullmatch(text):
+            raise Unfit("the report is of several lists")
         if match is None:
-            is_last = LAST.fullmatch(text) is not None
-            raise Unfit("the report is of several lists" if is_last else f"line {place} of the report is not a row of this list")
+            raise Unfit(f"line {place} of the report is not a row of this list")
         number, score = int(match[1]), match[2]
         if number in found:
             raise Unfit(f"line {place} of the report is a second row of line {number} of the list")

@@ -36,7 +36,8 @@ def refusal_for(position: Sequence[int], max_empties: int, index: Optional[int] 
     own, opp = position
     if own & opp:
         return SharedSquare(index)
-    return TooManyEmpties(index, f"{empties_of(position)} empty squares are more than max_empties={max_empties} of the Solver")
+    why = f"{empties_of(position)} empty squares are more than max_empties={max_empties} of the Solver"
+    return TooManyEmpties(index, why)
 
 
 def c_position(position: Sequence[int]) -> CPosition:

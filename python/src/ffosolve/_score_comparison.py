@@ -36,8 +36,8 @@ class ScoreComparison(NamedTuple):
     unread: int  # other pieces between semicolons
 
     def __str__(self) -> str:
-        return (f"lines {self.lines} moves {self.moves} wrong {len(self.wrong)} mean error {self.mean_error:.2f} greatest "
-                f"{self.greatest_error:g} refused {self.refused} illegal {self.illegal} unread {self.unread}")
+        return (f"lines {self.lines} moves {self.moves} wrong {len(self.wrong)} mean error {self.mean_error:.2f} "
+                f"greatest {self.greatest_error:g} refused {self.refused} illegal {self.illegal} unread {self.unread}")
 
 
 def compare_scores(listed: Source, scored: Source) -> ScoreComparison:
