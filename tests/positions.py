@@ -1,28 +1,17 @@
-"""Helpers for the tests of the Python package: the library that it loads, required modules, and random positions."""
+"""Random positions for tests of the Python package. Sets the library that the package loads, if none is set."""
 import os
 import random
 
-try:
-    import numpy
-    import PIL.Image
-except ImportError:
-    numpy = PIL = None
-
 from bench import player
 
-from .support import ROOT, lack
+from .support import ROOT
 from ffosolve import Position
 
 os.environ.setdefault("FFOSOLVE_LIBRARY", str(ROOT / "out/library/libffosolve.so"))
 
 
-def need_modules():
-    if numpy is None:
-        lack("numpy or PIL (Debian: python3-numpy, python3-pil)")
-
-
 def random_positions(count, empties):
-    """Returns `count` positions from random games. Their numbers of empty squares are those in `empties`, in turn."""
+    """Returns a list of `count` Positions from random games; `empties` are their numbers of empty squares, in turn."""
     rng, found = random.Random(1), []
     while len(found) < count:
         discs = 64 - empties[len(found) % len(empties)]

@@ -3,14 +3,13 @@
 TEST_PREFIX in the environment names the prefix; if it is not set, `make install` installs under a temporary one.
 """
 import functools
-import importlib.util
 import os
 import re
 import shutil
 import sys
 from pathlib import Path
 
-from .support import ROOT, lack, module_folder, need, run, stored, write
+from .support import ROOT, module_folder, need, need_module, run, stored, write
 
 TESTS = ROOT / "tests"
 VERSION = stored("VERSION").decode().strip()
@@ -23,11 +22,6 @@ CXX = ["c++", "-std=c++11", *STRICT, "-O1", "-x", "c++"]
 PIP = [sys.executable, "-m", "pip", "--disable-pip-version-check", "install", "--quiet", "--no-index"]
 LONGEST = 300  # seconds that a command may take, since compilers and solvers are slow on a busy machine
 WITHOUT_GIT = {name: text for name, text in os.environ.items() if not name.startswith("GIT_")}  # a git hook sets those
-
-
-def need_module(name):
-    if importlib.util.find_spec(name) is None:
-        lack(f"the module {name}")
 
 
 def names_of_files():

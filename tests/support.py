@@ -1,6 +1,7 @@
 """Helpers for all tests: files of the checkout, the built programs, commands with a time limit, and processes."""
 import contextlib
 import functools
+import importlib
 import os
 import resource
 import shutil
@@ -20,18 +21,24 @@ sys.path.insert(0, str(ROOT / "python/src"))  # for `import ffosolve`
 
 
 def lack(what):
-    """Skips the test, or in setUpModule all tests of the module, since `what` is missing. If the environment has
-    CI=true, fails instead."""
-    if os.environ.get("CI") == "true":
-        raise AssertionError(f"{what} is missing")
-    raise unittest.SkipTest(f"{what} is missing")
+    """Skips the test, or in setUpModule all tests of the module, since `what` is missing; fails instead if CI=true."""
+    kind = AssertionError if os.environ.get("CI") == "true" else unittest.SkipTest
+    raise kind(f"{what} is missing")
 
 
 def need(*tools):
-    """Calls `lack` for the first of `tools` that is not installed, if there is one."""
+    """Calls `lack` for the first of `tools`, which are names of commands, that is not installed."""
     for tool in tools:
         if shutil.which(tool) is None:
             lack(tool)
+
+
+def need_module(name):
+    """Returns a Python module; calls `lack` if it is not installed."""
+    try:
+        return importlib.import_module(name)
+    except ImportError:
+        lack(f"the Python module {name}")
 
 
 def stored(*path):
@@ -88,14 +95,19 @@ def is_v3():
     return b"x86-64-v3 (supported" in run("/lib64/ld-linux-x86-64.so.2", "--help").stdout
 
 
-def limited(what, size):
-    """Returns a `preexec_fn` that sets the limit `what`, such as "RLIMIT_AS", to `size`. With "RLIMIT_FSIZE", a write
-    that would take a file past `size` bytes fails, as on a full disk."""
+def limited(**limits):
+    """Returns a function for `preexec_fn` that sets limits of a process by their names in the module `resource`. Past a
+    limit RLIMIT_FSIZE, which is in bytes, writing to a file fails as on a full disk."""
     def prepare():
         signal.signal(signal.SIGXFSZ, signal.SIG_IGN)  # by default, the signal for such a write ends the program
-        resource.setrlimit(getattr(resource, what), (size, size))
+        for name, size in limits.items():
+            resource.setrlimit(getattr(resource, name), (size, size))
 
     return prepare
+
+
+# With it as `preexec_fn`, no thread starts: a thread's stack would take more memory than the process may have.
+refuse_threads = limited(RLIMIT_STACK=1_000_000_000 << 10, RLIMIT_AS=500_000_000 << 10)
 
 
 @functools.cache
@@ -164,12 +176,6 @@ def as_at_a_login():
     """Gives the signals that end a program their default action, even if the tests ignore some; for `preexec_fn`."""
     for number in (signal.SIGINT, signal.SIGTERM, signal.SIGHUP, signal.SIGQUIT):
         signal.signal(number, signal.SIG_DFL)
-
-
-def refuse_threads():
-    """Makes every start of a thread fail, since its stack would take more memory than is allowed; for `preexec_fn`."""
-    limited("RLIMIT_STACK", 1_000_000_000 << 10)()
-    limited("RLIMIT_AS", 500_000_000 << 10)()
 
 
 def processes_in(place):

@@ -97,7 +97,7 @@ class Books(InFolder):
                 self.solves_over(OLD, wanted, place, mode, folder_mode, **NOBODY)
 
     def test_a_full_or_broken_disk_keeps_the_old_book(self):
-        for how, cause in (({"preexec_fn": limited("RLIMIT_FSIZE", 100)}, "the file would be too large"),
+        for how, cause in (({"preexec_fn": limited(RLIMIT_FSIZE=100)}, "the file would be too large"),
                            ({"env": preload(WORK, NO_SYNC="yes")}, "")):
             wanted = unwritten(cause, report=REPORT)
             self.solves_over(OLD, wanted, **how)

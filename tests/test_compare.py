@@ -243,7 +243,7 @@ class Fix(Case):
         self.fix(3, "other/two.wtb is not the WTHOR file of the list: it has no game 4", place="new")
         write("other/two.wtb", self.whole + b"more")
         self.fix(3, "cannot write new/two.wtb: File too large", place="new",
-                 preexec_fn=limited("RLIMIT_FSIZE", len(self.whole)))
+                 preexec_fn=limited(RLIMIT_FSIZE=len(self.whole)))
 
     def test_one_place_for_two_files_is_refused(self):
         write("other.wtb", self.whole)
@@ -266,7 +266,7 @@ class Fix(Case):
 
     def test_a_full_disk_leaves_no_file(self):
         for size in (0, 1, 16, len(self.whole) - 1):
-            self.fix(3, "cannot write new.wtb: File too large", preexec_fn=limited("RLIMIT_FSIZE", size))
+            self.fix(3, "cannot write new.wtb: File too large", preexec_fn=limited(RLIMIT_FSIZE=size))
 
     def test_a_place_in_a_missing_folder_is_refused(self):
         self.fix(3, "cannot write none/new.wtb: No such file or directory", place="none/new.wtb")

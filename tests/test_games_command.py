@@ -72,7 +72,7 @@ class Command(Case):
             write("long", before + "f5")
             os.truncate("long", 300_000_000)
             with open("long", "rb") as file:
-                self.games(*words, stdin=file, status=3, out=out, err=err, preexec_fn=limited("RLIMIT_AS", 500_000_000))
+                self.games(*words, stdin=file, status=3, out=out, err=err, preexec_fn=limited(RLIMIT_AS=500_000_000))
                 self.assertLess(os.lseek(file.fileno(), 0, os.SEEK_CUR), 2 * MOST_BYTES)
         longest = (self.TEXT + "%").ljust(MOST_BYTES - 1, "x") + "\n"
         self.reads("longest", longest, "--empties=20", out=self.LINE.format("longest"))
@@ -105,7 +105,7 @@ class Command(Case):
             self.cannot_write(PROGRAM, *words)
             for unbuffered in ("", "1"):
                 self.ends((3, "", "ffosolve-games: cannot write standard output: File too large\n"),
-                          "sh", "-c", 'exec "$0" "$@" >out', PROGRAM, *words, preexec_fn=limited("RLIMIT_FSIZE", 1),
+                          "sh", "-c", 'exec "$0" "$@" >out', PROGRAM, *words, preexec_fn=limited(RLIMIT_FSIZE=1),
                           env={**os.environ, "PYTHONUNBUFFERED": unbuffered})
 
     def test_standard_error_that_cannot_be_written_changes_no_output_and_no_status(self):
@@ -115,7 +115,7 @@ class Command(Case):
         for words, status, out in ((("wrong", "text"), 1, wrong + text), (("none", "text"), 3, text)):
             for errors in ("2>errors", "2>&-"):
                 self.ends((status, out, ""), "sh", "-c", f'exec "$0" "$@" {errors}', PROGRAM, "--empties=20", *words,
-                          preexec_fn=limited("RLIMIT_FSIZE", 1))
+                          preexec_fn=limited(RLIMIT_FSIZE=1))
 
     def test_a_missing_library_ends_with_status_4(self):
         write("report", report_of(self.LISTED))

@@ -3,8 +3,8 @@ import signal
 import sys
 import unittest
 
-from .support import ROOT, as_at_a_login, refuse_threads, run
-from .positions import need_modules
+from .support import ROOT, as_at_a_login, need_module, refuse_threads, run
+from . import positions  # noqa: F401 - sets FFOSOLVE_LIBRARY
 
 BOARD = "-OXXXXX-XXXXXXXOXXXXXXXXXXXXXXXXXXXOXXXXXXXXXXXXXXXXXXXXXXXXXXXX X;"
 # Calls of a solver's methods, each of which would take years.
@@ -36,7 +36,7 @@ PROGRAM = """if True:
 
 class Interrupted(unittest.TestCase):
     def test_each_call_is_interrupted_and_the_program_ends_though_threads_go_on_solving(self):
-        need_modules()
+        need_module("numpy")
         words = (sys.executable, "-c", PROGRAM, BOARD, *CALLS)
         ran = run(*words, cwd=ROOT / "python/src", preexec_fn=as_at_a_login, text=True)
         stopped = ["solve(start) TimeoutError", *(f"{call} KeyboardInterrupt" for call in CALLS), "+62 H1"]

@@ -6,8 +6,8 @@ import subprocess
 import unittest
 from concurrent.futures import ThreadPoolExecutor
 
-from .prefix import CXX, NUMBER, PREFIX, STRICT, TESTS, VERSION, C, need_module, setUpModule
-from .support import limited, need
+from .prefix import CXX, NUMBER, PREFIX, STRICT, TESTS, VERSION, C, setUpModule
+from .support import limited, need, need_module
 from .positions import random_positions
 import ffosolve
 from ffosolve._refusals import refusal_of
@@ -85,9 +85,7 @@ class Header(unittest.TestCase):
             self.assertIn(name, made)
 
     def test_cffi_reads_its_declarations(self):
-        need_module("cffi")
-        import cffi
-
+        cffi = need_module("cffi")
         head, end = 'extern "C" {\n#endif\n', "/* end of the declarations */"
         declarations = PREFIX.text.split(head)[1].split(end)[0].replace("FFOSOLVE_MUST_USE", "")
         reader = cffi.FFI()
@@ -189,7 +187,7 @@ class Calls(unittest.TestCase):
                  "move_scores {CORNERS} 0 {ENTRIES}", "solve_all 0 {ENTRIES} 1 {CORNERS}",
                  "move_scores_all 0 {ENTRIES} 1 {CORNERS}", "long_line", "solve {CORNERS} 0 0")
         calls = [call.format_map(NAMES) for call in calls]
-        printed = PREFIX.called(calls, preexec_fn=limited("RLIMIT_AS", 60_000_000))
+        printed = PREFIX.called(calls, preexec_fn=limited(RLIMIT_AS=60_000_000))
         self.assertEqual(printed, ["7"] * 6 + ["0 62/0/80"])
 
     def test_the_stack_that_the_header_names_is_enough(self):
@@ -198,8 +196,8 @@ class Calls(unittest.TestCase):
         self.assertTrue("32 KiB are enough for 14 empty squares and 128 KiB for 60" in re.sub(r"\s+", " ", PREFIX.text))
         calls = "solve {} {} 0 1024", "confirm {} {} 1 0 0 0 1", "move_scores {} {} 2 1024", "solve_all 0 1024 1 {} {}"
         calls = [call.format(*position) for position in random_positions(20, [14]) for call in calls]
-        printed = PREFIX.called(calls, env={}, preexec_fn=limited("RLIMIT_STACK", 32 << 10))
+        printed = PREFIX.called(calls, env={}, preexec_fn=limited(RLIMIT_STACK=32 << 10))
         self.assertEqual([line[:2] for line in printed], ["0 "] * len(calls))
         with self.assertRaises(subprocess.TimeoutExpired):
             call = "solve {START} 0 1024".format_map(NAMES)
-            PREFIX.called([call], env={}, preexec_fn=limited("RLIMIT_STACK", 128 << 10), timeout=2)
+            PREFIX.called([call], env={}, preexec_fn=limited(RLIMIT_STACK=128 << 10), timeout=2)

@@ -107,7 +107,7 @@ class Results(Case):
     def test_a_book_that_cannot_be_written_keeps_its_old_content(self):
         self.many(*self.WORDS)
         write("joined.book", "% ffobook 2 winner\n")
-        self.many(*self.WORDS, status=3, output=self.one, preexec_fn=limited("RLIMIT_FSIZE", 1000),
+        self.many(*self.WORDS, status=3, output=self.one, preexec_fn=limited(RLIMIT_FSIZE=1000),
                   message="ffosolve-many: cannot write joined.book: File too large\n")
         self.assertEqual(Path("joined.book").read_text(), "% ffobook 2 winner\n")
 
@@ -147,7 +147,7 @@ class Results(Case):
 
     def test_jobs_are_limited_by_the_files_that_may_be_open(self):
         message = "28 of 300 jobs work at a time, since no more than 256 files may be open (ulimit -n)"
-        self.many("--jobs=300", "--lines=1", *self.WORDS[1:], message=message, preexec_fn=limited("RLIMIT_NOFILE", 256))
+        self.many("--jobs=300", "--lines=1", *self.WORDS[1:], message=message, preexec_fn=limited(RLIMIT_NOFILE=256))
 
 
 class Words(Case):
@@ -269,7 +269,7 @@ class Merging(Case):
 
     def test_more_books_than_may_be_open_are_merged_and_the_program_runs_once(self):
         header, *entries = Path("one.book").read_bytes().splitlines(keepends=True)
-        names, few = [f"{number}.book" for number in range(80)], {"preexec_fn": limited("RLIMIT_NOFILE", 40)}
+        names, few = [f"{number}.book" for number in range(80)], {"preexec_fn": limited(RLIMIT_NOFILE=40)}
         for number, name in enumerate(names):
             write(name, header + entries[number % len(entries)])
         whole = b"".join([header, *entries])

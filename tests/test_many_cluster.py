@@ -210,7 +210,7 @@ class Cluster(Case):
         self.start_workers("worker1", "worker2")
         words = (many.MANY, "--scheduler=scheduler.json", *self.WORDS)
         run(many.MANY, "--cut", *self.WORDS)
-        full = limited("RLIMIT_FSIZE", len(self.one) // 15 + 400)  # some records are longer
+        full = limited(RLIMIT_FSIZE=len(self.one) // 15 + 400)  # some records are longer
         self.many(*words, by=PYTHON, preexec_fn=full, status=3,
                   message="ffosolve-many: cannot write work: File too large\n")
         wait_until(lambda: not self.programs())

@@ -216,7 +216,7 @@ class Files(Case):
 
     def test_a_pipe_is_refused_if_there_is_no_room_for_its_copy(self):
         self.refused(3, f"cannot copy - to {many.BASE}/tmp: File too large", "work", "-", input=many.SMALL,
-                     preexec_fn=limited("RLIMIT_FSIZE", 1000))
+                     preexec_fn=limited(RLIMIT_FSIZE=1000))
 
     def test_a_part_has_at_most_the_bytes_of_a_file(self):
         half, most = b"%" * (MOST_BYTES // 2 - 1) + b"\n", "has more than 1048576 bytes"

@@ -6,8 +6,8 @@ import time
 import unittest
 from unittest import mock
 
-from .positions import need_modules, numpy, random_positions
-from .support import ROOT, SECONDS, run, wait_until
+from .positions import random_positions
+from .support import ROOT, SECONDS, need_module, run, wait_until
 import ffosolve
 from ffosolve import Answer, Position, Solver
 
@@ -136,14 +136,14 @@ class Lists(unittest.TestCase):
 
 class Arrays(unittest.TestCase):
     def setUp(self):
-        need_modules()
+        self.numpy = need_module("numpy")
         self.solver, self.positions = Solver(), random_positions(400, range(11))
-        self.own, self.opp = numpy.array(self.positions, numpy.uint64).T
+        self.own, self.opp = self.numpy.array(self.positions, "uint64").T
 
     def check(self, solver, positions, threads):
         """Asserts that arrays hold what lists hold: `solve_arrays` and `solve_all` find the same, and so do
         `move_scores_arrays` and `move_scores_all`."""
-        own, opp = numpy.array(positions, numpy.uint64).reshape(-1, 2).T
+        own, opp = self.numpy.array(positions, "uint64").reshape(-1, 2).T
         answers, scores = (call(own, opp, threads=threads) for call in (solver.solve_arrays, solver.move_scores_arrays))
         self.assertEqual([str(array.dtype) for array in (*answers, scores)], ["int32", "int32", "uint64", "int8"])
         self.assertEqual(scores.shape, (len(positions), 64))
@@ -163,7 +163,7 @@ class Arrays(unittest.TestCase):
         solver._library = library = mock.Mock()
         library.ffosolve_solve_all.return_value = library.ffosolve_move_scores_all.return_value = 0
         for call, some in itertools.product((solver.solve_arrays, solver.move_scores_arrays), empties):
-            call(*numpy.array(random_positions(len(some), some), numpy.uint64).T)
+            call(*self.numpy.array(random_positions(len(some), some), "uint64").T)
         self.assertEqual([call.args[3] for call in library.method_calls], [ffosolve.table_entries(16)] * 6)
 
     def test_threads_call_at_once(self):
@@ -181,7 +181,7 @@ class Arrays(unittest.TestCase):
                 with self.assertRaises(error) as refused:
                     call(own, opp, threads=2)
                 self.assertEqual(refused.exception.index, 57)
-            self.assertRaises(TypeError, call, self.own.astype(numpy.int64), self.opp)
+            self.assertRaises(TypeError, call, self.own.astype("int64"), self.opp)
             for own in (self.own[:-1], self.own.reshape(20, 20)):
                 self.assertRaises(ValueError, call, own, self.opp)
             self.assertRaisesRegex(ValueError, "^threads is at least 1, not 0$", call, self.own, self.opp, threads=0)

@@ -11,9 +11,9 @@ import xml.etree.ElementTree
 
 from bench import player
 
-from .support import ROOT, built, need, run
+from .support import ROOT, built, need, need_module, run
 from .games import NAMES, positions_of, random_game, squares_of, transcript
-from .positions import PIL, need_modules, numpy, random_positions
+from .positions import random_positions
 import ffosolve
 from ffosolve import NoMove, Position, Scoring, Solver
 
@@ -161,11 +161,10 @@ class Shown(unittest.TestCase):
 
     def picture(self, svg):
         """Returns a function of x and y, in pixels from the left and the top, that returns a picture's colour there."""
-        need_modules()
         need("rsvg-convert")
         xml.etree.ElementTree.fromstring(svg)
         png = run("rsvg-convert", input=svg.encode(), check=True).stdout
-        picture = PIL.Image.open(io.BytesIO(png)).convert("RGB")
+        picture = need_module("PIL.Image").open(io.BytesIO(png)).convert("RGB")
         return lambda x, y: "".join(f"{part:02x}" for part in picture.getpixel((x, y)))
 
     def test_a_picture_has_discs_scores_and_marks_in_their_squares(self):
@@ -195,10 +194,9 @@ class MostEmpties(unittest.TestCase):
 
     def test_more_empty_squares_are_refused_before_anything_is_solved(self):
         """The first position of a list would take hours if it were solved."""
-        need_modules()
         solver, positions = Solver(max_empties=33), random_positions(2, [33, 34])
         wide = positions[1]
-        arrays = numpy.array(positions, numpy.uint64).T
+        arrays = need_module("numpy").array(positions, "uint64").T
         why = "34 empty squares are more than max_empties=33 of the Solver"
         for index, call, *given in (
             (None, solver.solve, wide),

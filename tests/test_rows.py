@@ -120,7 +120,7 @@ class Rows(InFolder):
             large.truncate(256 << 20)
         for name, status in PROGRAMS.items():
             wanted = (status, "", f"{name}: file 1 is larger than {MOST_BYTES} bytes\n")
-            self.ends(wanted, built(name), "large.obf", preexec_fn=limited("RLIMIT_AS", 64 << 20))
+            self.ends(wanted, built(name), "large.obf", preexec_fn=limited(RLIMIT_AS=64 << 20))
             self.ends(wanted, built(name), input=" " * (MOST_BYTES + 1))
             with open("large.obf", "rb") as large:
                 self.ends(wanted, built(name), stdin=large)
@@ -138,7 +138,7 @@ class Rows(InFolder):
             for size in [*range(0, len(whole), 7), len(whole) - 1]:
                 with open("out", "wb") as out:
                     wanted = (3, None, f"{name}: cannot write standard output\n".encode())
-                    how = {"stdout": out, "preexec_fn": limited("RLIMIT_FSIZE", size)}
+                    how = {"stdout": out, "preexec_fn": limited(RLIMIT_FSIZE=size)}
                     self.ends(wanted, built(name), *words, input=LIST, **how)
                 self.assertEqual(Path("out").read_bytes(), whole[:size])
                 self.assertFalse(Path("it.book").exists())

@@ -83,7 +83,7 @@ class Lines(InFolder):
         self.same(positions(1, 16, 16) + EASY[0] * 9000 + positions(8, 10, 12))
 
     def test_the_output_is_the_same_if_threads_or_their_memory_run_out(self):
-        for prepare in (refuse_threads, limited("RLIMIT_AS", 30_000 * 1024)):
+        for prepare in (refuse_threads, limited(RLIMIT_AS=30_000 * 1024)):
             self.same(positions(40, 7, 13), preexec_fn=prepare)
 
     def test_each_of_many_short_runs_ends(self):

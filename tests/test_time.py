@@ -30,7 +30,7 @@ def seconds(call):
 class Runs(InFolder):
     def test_the_greatest_table_takes_more_memory(self):
         for name, refused in OUT_OF_MEMORY.items():
-            words, little = (built(name), "--workers", "0"), limited("RLIMIT_AS", LIMIT)
+            words, little = (built(name), "--workers", "0"), limited(RLIMIT_AS=LIMIT)
             usual = run(*words, input=KINDS, text=True)
             self.ends((usual.returncode, usual.stdout, ""), *words, input=KINDS, preexec_fn=little)
             self.ends(refused, *words, "--table", MOST_ENTRIES, input=KINDS, preexec_fn=little)
