@@ -1,11 +1,11 @@
 """Writes copies of WTHOR files, with exact scores."""
 import contextlib
 import os
-from typing import BinaryIO, Dict, Iterable, Iterator, List, Mapping
+from typing import BinaryIO, Dict, Iterable, Iterator, List, Mapping, Tuple
 
 from ._games import EMPTIES_BYTE, HEADER, REAL, RECORD, SCORE
-from ._games import GameRefused, final_discs, game_of, positions_of, read_header
-from ._positions import Position
+from ._games import GameRefused, final_discs, game_of, played, read_header
+from ._library import CPosition
 from ._published import Listed, Unfit
 from ._text import NotText
 
@@ -59,15 +59,17 @@ class Fixed:
         """Returns a game's record, with the exact scores that are known. Raises Unfit if the position or the published
         score that was compared under the game's number is not this game's."""
         game, it = game_of(self._games, bytes(record)), self._compared.get(self._games)
-        positions: List[Position] = []
+        found: List[Tuple[CPosition, str]] = []
         with contextlib.suppress(GameRefused):
-            positions = positions_of(game)
+            found = played(game)
         if it is not None:
-            if it.position.to_obf() not in map(Position.to_obf, positions) or game.score != it.published:
+            position = it.position
+            has_it = any((at.own, at.opp, side) == (*position, position.side) for at, side in found)
+            if not has_it or game.score != it.published:
                 raise self._unfit(f"its game {it.game} has another position or theoretical score")
             record[SCORE] = it.exact
         if self._with_real:
-            discs = final_discs(positions) if positions else None
+            discs = final_discs(found) if found else None
             if discs is None:
                 self._real_unknown += 1
             else:

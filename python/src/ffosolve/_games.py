@@ -171,40 +171,54 @@ def game_of(number: int, record: bytes) -> Game:
 
 def positions_of(game: Game) -> List[Position]:
     """The positions of a game: the start, and the one after each move. Raises GameRefused."""
+    return [position_of(*it) for it in played(game)]
+
+
+def position_of(masks: CPosition, side: str) -> Position:
+    return Position(masks.own, masks.opp, side)
+
+
+def played(game: Game) -> List[Tuple[CPosition, str]]:
+    """The masks and the side of each position that `positions_of` returns, which takes longer. Raises GameRefused."""
     if game.fault is not None:
         raise GameRefused(game.fault, game.number)
-    library, at, found, after = loaded(), START, [START], CPosition()
+    library, at, side = loaded(), CPosition(*START), START.side
+    found = [(at, side)]
     for index, square in enumerate(game.moves):
         if square == NO_SQUARE:
             raise GameRefused(f"{game.words[index]!r} is not a square", game.number, len(found))
-        is_illegal = library.ffosolve_play(CPosition(*at), square, after)
-        if is_illegal and not moves(library, at) and (square == PASS or moves(library, at.passed())):
-            at = at.passed()
-            if square == PASS:
-                continue
-            is_illegal = library.ffosolve_play(CPosition(*at), square, after)
-        if is_illegal:
-            refusal = illegal_move(library, at, "a pass" if square == PASS else square_name(square))
-            raise GameRefused(refusal.reason, game.number, len(found))
-        at = Position(after.own, after.opp, OTHER[at.side])
-        found.append(at)
+        after = CPosition()
+        if library.ffosolve_play(at, square, after):
+            position = position_of(at, side)
+            if not moves(library, position) and (square == PASS or moves(library, position.passed())):
+                position = position.passed()
+                at, side = CPosition(*position), position.side
+                if square == PASS:
+                    continue
+            if library.ffosolve_play(at, square, after):
+                refusal = illegal_move(library, position, "a pass" if square == PASS else square_name(square))
+                raise GameRefused(refusal.reason, game.number, len(found))
+        at, side = after, OTHER[side]
+        found.append((at, side))
     return found
 
 
-def position_with(empties: int, game: Game, positions: List[Position]) -> Position:
-    """The first of a game's positions that has `empties` empty squares. Raises GameRefused if there is none."""
-    left = positions[-1].empties
+def position_with(empties: int, game: Game, found: List[Tuple[CPosition, str]]) -> Position:
+    """The first position of a game that has `empties` empty squares; `found` is what `played` returned for the game.
+    Raises GameRefused if there is none."""
+    left = position_of(*found[-1]).empties
     if left <= empties:
-        return positions[START.empties - empties]
+        return position_of(*found[START.empties - empties])
     if not game.moves:
         raise GameRefused("it has no moves", game.number)
     why = f"it ends here, with {left} empty square{'s' * (left > 1)}; {empties} are asked for"
-    raise GameRefused(why, game.number, len(positions) - 1)
+    raise GameRefused(why, game.number, len(found) - 1)
 
 
-def final_discs(positions: List[Position]) -> Optional[int]:
-    """Black's discs at the end of a game, where the winner gets the empty squares; None if the game is not over."""
-    last = positions[-1]
+def final_discs(found: List[Tuple[CPosition, str]]) -> Optional[int]:
+    """Black's discs at the end of a game, where the winner gets the empty squares; None if the game is not over.
+    `found` is what `played` returned for the game."""
+    last = position_of(*found[-1])
     return discs_of_black(final_score(*last), last.side) if last.is_over else None
 
 

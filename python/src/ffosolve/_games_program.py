@@ -12,7 +12,7 @@ from typing import Callable, Dict, Iterator, List, Optional, Tuple
 
 from . import __version__
 from ._fix_wthor import Fixed, write_new
-from ._games import MOST_DISCS, Game, GameRefused, final_discs, games_in, position_with, positions_of
+from ._games import MOST_DISCS, Game, GameRefused, final_discs, games_in, played, position_with
 from ._library import MOST_EMPTIES, LibraryNotFound, load
 from ._positions import Position
 from ._published import BadList, Comparison, Listed, Unfit, digest_of
@@ -167,7 +167,7 @@ def main(find: Callable[[], Optional[str]] = lambda: None) -> int:
 
 def list_games(options: argparse.Namespace, find: Callable[[], Optional[str]], messages: Messages) -> Iterator[bytes]:
     """Yields the lines of a list: one for each game of the files and, if a game has a theoretical score, the digest."""
-    load(find())  # for `positions_of`
+    load(find())  # for `played`
     covered, has_scores = hashlib.sha256(), False
     for name in options.files or ["-"]:
         listed = shown(name) if any(letter < " " for letter in name) else name  # otherwise `--fix` can open it
@@ -199,15 +199,15 @@ def with_positions(file: io.BufferedReader, name: str, wanted: Optional[int],
                           "try --empties 22 or 24, the usual numbers", MISUSED)
     for game in games:
         try:
-            positions = positions_of(game)
-            position = position_with(empties, game, positions)
+            found = played(game)
+            position = position_with(empties, game, found)
         except GameRefused as why:
             messages.report(f"{shown(name)}, {why}", REMARKED)
             continue
         if game.empties not in (None, empties):
             game = game._replace(score=None)
         yield game, position
-        for wrong in wrong_scores(game, final_discs(positions)):
+        for wrong in wrong_scores(game, final_discs(found)):
             messages.report(f"{shown(name)}, game {game.number}: {wrong}", REMARKED)
 
 
@@ -234,7 +234,7 @@ def compare(options: argparse.Namespace, find: Callable[[], Optional[str]], mess
     except Unfit as why:
         raise Stop(f"{shown(solved)} is not a report of {shown(listed)}: {why}") from None
     if options.fix is not None:
-        load(find())  # for `positions_of`
+        load(find())  # for `played`
         fix(options.fix, found.compared, options.real, messages)
     if found.differences or found.refused:
         messages.status = REMARKED
