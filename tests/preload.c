@@ -1,6 +1,6 @@
-// For LD_PRELOAD: makes calls fail as on a bad machine. Refuses request REFUSED for memory, counted from 1, and then
-// creates the file REFUSED_FILE. If WATCHED is set, each sync or rename writes `sync ` or `rename ` to standard error.
-// If NO_SYNC is set, each sync fails.
+// For LD_PRELOAD, with variables of the environment. REFUSED is a number n: the nth request for memory fails, and the
+// file `refused` appears in the current folder. WATCHED: each fsync or rename writes `sync ` or `rename ` to standard
+// error. NO_SYNC: each fsync fails.
 #define _GNU_SOURCE
 #include <dlfcn.h>
 #include <errno.h>
@@ -16,7 +16,7 @@ static int refused(void) {
     static atomic_long count;
     const char *number = getenv("REFUSED");
     if (!number || atomic_fetch_add(&count, 1) + 1 != atol(number)) return 0;
-    close(open(getenv("REFUSED_FILE"), O_CREAT | O_WRONLY, 0600));
+    close(open("refused", O_CREAT | O_WRONLY, 0600));
     errno = ENOMEM;
     return 1;
 }

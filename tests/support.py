@@ -42,24 +42,23 @@ def need_module(name):
 
 
 def stored(*path):
-    """Returns the bytes of a file of the checkout; `path` is its path there, in one or more parts."""
+    """Returns the bytes of a file of the checkout; `path` is its relative path, in one or more parts."""
     return ROOT.joinpath(*path).read_bytes()
 
 
 def worked(name):
-    """Reads tests/rows/NAME.tsv. Returns its last column, which has a line of OBF text in each row, and its other
-    columns as {heading: cells}. In these cells, `~` is replaced by the board and the side of the row's line."""
+    """Reads the table tests/rows/NAME.tsv. Returns the cells of its last column, each a line of OBF text as bytes, and
+    {heading: cells} for the other columns. `~` in these is replaced by the board and the side of the row's line."""
     heads, *rows = stored("tests/rows", f"{name}.tsv").removesuffix(b"\n").split(b"\n")
     *heads, _ = heads.decode().split("\t")
-    *columns, lines = zip(*(row.split(b"\t", len(heads)) for row in rows))
-    boards = [line.removesuffix(b"\r")[:66] for line in lines]
-    filled = ([cell.replace(b"~", board) for cell, board in zip(column, boards)] for column in columns)
-    return lines, dict(zip(heads, filled))
+    rows = [row.split(b"\t", len(heads)) for row in rows]
+    columns = zip(*([cell.replace(b"~", line.removesuffix(b"\r")[:66]) for cell in cells] for *cells, line in rows))
+    return [row[-1] for row in rows], dict(zip(heads, columns))
 
 
 def run(*words, **how):
-    """Runs a command and returns the ended run. By default, it gets no input, its output is captured, and it may take
-    SECONDS; `how` are other keyword arguments of subprocess.run."""
+    """Runs a command and returns its CompletedProcess. By default, its input is empty, its output is captured as bytes,
+    and it is killed after SECONDS. `how` are keyword arguments of subprocess.run, which change this or add to it."""
     if how.get("input") is None:
         how.setdefault("stdin", subprocess.DEVNULL)
     how = {"stdout": subprocess.PIPE, "stderr": subprocess.PIPE, "timeout": SECONDS, **how}
@@ -67,8 +66,8 @@ def run(*words, **how):
 
 
 def write(path, text, mode=None):
-    """Writes a file, makes its folder if needed, and returns its path. By default, a text that begins with `#!` becomes
-    executable, and no other."""
+    """Writes str or bytes to a file, makes its folder if needed, and returns its Path. By default, `mode` is 0o755 for
+    a text that begins with `#!`, and otherwise 0o644."""
     path, text = Path(path), text if isinstance(text, bytes) else text.encode()
     path.parent.mkdir(parents=True, exist_ok=True)
     path.write_bytes(text)
@@ -78,13 +77,13 @@ def write(path, text, mode=None):
 
 @functools.cache
 def positions(*words):
-    """Returns what bench/positions prints for these arguments: lines of random positions."""
+    """Returns what `bench/positions COUNT LEAST MOST [SEED]` prints for these arguments: OBF lines, as bytes."""
     return run(sys.executable, ROOT / "bench/positions", *words, check=True).stdout
 
 
 def module_folder(enter=unittest.enterModuleContext):
-    """Returns a new folder that everybody may read. It is removed after the tests of the module or, if `enter` is the
-    method `enterContext` of a test, after that test."""
+    """Returns a new folder that everybody may read. It is removed after the module's tests or, if `enter` is the method
+    `enterContext` of a test, after this test."""
     folder = Path(enter(tempfile.TemporaryDirectory(prefix="ffosolve-test-")))
     folder.chmod(0o755)
     return folder
@@ -112,8 +111,8 @@ refuse_threads = limited(RLIMIT_STACK=1_000_000_000 << 10, RLIMIT_AS=500_000_000
 
 @functools.cache
 def built(name="ffosolve"):
-    """Returns a program's path: in the folder TEST_PROGRAMS if the environment has that, otherwise in out/, after the
-    script of that name in bin/ has built it."""
+    """Returns a program's path: in the folder that the environment names as TEST_PROGRAMS or, without this variable, in
+    out/, after bin/NAME has built the program."""
     if "TEST_PROGRAMS" in os.environ:
         return Path(os.environ["TEST_PROGRAMS"], name)
     run(ROOT / "bin" / name, "/dev/null", stderr=None, timeout=None, check=True)
@@ -121,14 +120,14 @@ def built(name="ffosolve"):
 
 
 def copy_many(root):
-    """Copies ffosolve-many and its package into a folder, as they are in a checkout; returns the program's path."""
+    """Copies ffosolve-many and its package to the same relative paths in a folder; returns the program's path there."""
     shutil.copytree(ROOT / "python/src", Path(root, "python/src"), ignore=shutil.ignore_patterns("__pycache__"))
     run("cp", "--parents", "VERSION", "bin/ffosolve-many", Path(root).absolute(), cwd=ROOT, check=True)
     return Path(root, "bin/ffosolve-many")
 
 
 class InFolder(unittest.TestCase):
-    """A test that runs in a new folder of its own, which everybody may read."""
+    """A test whose current folder, `self.folder`, is a new one for each test; everybody may read it."""
 
     def setUp(self):
         self.folder = module_folder(self.enterContext)
@@ -136,22 +135,22 @@ class InFolder(unittest.TestCase):
         self.enterContext(contextlib.chdir(self.folder))
 
     def ends(self, wanted, *words, **how):
-        """Runs a command and asserts that its (status, standard output, standard error) is `wanted`. This is a subtest,
-        so the test goes on if it fails."""
+        """Runs a command and asserts that its (status, standard output, standard error) is `wanted`, in str if the
+        output is a str, and otherwise in bytes. The test goes on if this fails."""
         with self.subTest(words=words, input=(how.get("input") or "")[-99:]):
             ran = run(*words, **{"text": isinstance(wanted[1], str), **how})
             self.assertEqual((ran.returncode, ran.stdout, ran.stderr), wanted)
 
     def start(self, *words, **how):
-        """Starts a command with its output captured, and returns its process, which is killed when the test ends."""
+        """Starts a command with its output captured, and returns its Popen. It is killed at the end of the test."""
         how = {"stdin": subprocess.DEVNULL, "stdout": subprocess.PIPE, "stderr": subprocess.PIPE, **how}
         ran = subprocess.Popen(list(map(str, words)), **how)
         self.addCleanup(lambda: (ran.poll() is None and ran.kill(), ran.communicate()))
         return ran
 
     def cannot_write(self, *words):
-        """Asserts that a command reports a full or closed standard output, and that SIGPIPE ends it if no one reads the
-        output."""
+        """Asserts that a program reports a full or closed standard output, and that SIGPIPE ends it if its output is a
+        pipe that is not read any more. `words` are the program's path and its arguments."""
         for output, why in ((">/dev/full", "No space left on device"), (">&-", "it is closed")):
             ran = run("sh", "-c", f'exec "$0" "$@" {output}', *words)
             error = f"{Path(words[0]).name}: cannot write standard output: {why}\n"
@@ -164,7 +163,7 @@ class InFolder(unittest.TestCase):
 
 
 def wait_until(holds, seconds=SECONDS):
-    """Calls `holds` again and again until it returns something true; fails if that takes longer than `seconds`."""
+    """Calls `holds` again and again until it returns a true value; fails if this takes longer than `seconds`."""
     end = time.monotonic() + seconds
     while not holds():
         if time.monotonic() > end:
@@ -173,13 +172,13 @@ def wait_until(holds, seconds=SECONDS):
 
 
 def as_at_a_login():
-    """Gives the signals that end a program their default action, even if the tests ignore some; for `preexec_fn`."""
+    """For `preexec_fn`: sets the signals that end a program to their default action, even if the tests ignore some."""
     for number in (signal.SIGINT, signal.SIGTERM, signal.SIGHUP, signal.SIGQUIT):
         signal.signal(number, signal.SIG_DFL)
 
 
 def processes_in(place):
-    """Returns {process number: command line} for the other processes whose current folder is `place` or below it."""
+    """Returns {process ID: command line} for all other processes whose current folder is `place` or below it."""
     found = {}
     for number in set(filter(str.isdigit, os.listdir("/proc"))) - {str(os.getpid())}:
         with contextlib.suppress(OSError):  # the process has ended, or is another user's
@@ -190,8 +189,8 @@ def processes_in(place):
 
 
 def preload(folder, **variables):
-    """Returns an environment in which a program makes the calls that are in tests/preload.c. `variables` are those that
-    the C code reads. The first call of this function compiles it into `folder`."""
+    """Returns an environment in which a program calls the functions of tests/preload.c instead of the system's. They
+    read `variables`. The first call compiles that file into `folder`."""
     library = folder / "preload.so"
     if not library.exists():
         need("cc")

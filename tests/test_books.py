@@ -1,7 +1,4 @@
-"""ffosolve --book-out: where it writes, that a book is written whole or not at all, and that no other file is lost.
-
-If root runs the tests, those of permissions start ffosolve without root's rights.
-"""
+"""ffosolve --book-out: where it writes, that a book is written whole or not at all, and that no other file is lost."""
 import os
 import shutil
 import stat
@@ -17,8 +14,8 @@ DENIED, IN_THE_WAY = "permission denied", "another file is in the way"
 
 
 def unwritten(cause, name="it.book", report=b""):
-    """Returns (status, output, error) of a run that can't write its book. The cause, if not empty, is the second line
-    of the error. `report`, the output, is empty if the book's place is refused before anything is solved."""
+    """Returns the (status, output, error) of a run that can't write the book `name`. The error has one line and, if
+    `cause` is not empty, a second one with it. The output is `report`, by default empty: nothing was solved."""
     return 3, report, "".join(f"ffosolve: {line}\n" for line in (f"cannot write {name}", cause) if line).encode()
 
 
@@ -33,32 +30,33 @@ def setUpModule():
 
 
 def content(path):
-    """Returns the bytes of a file, or the target of a symbolic link."""
+    """Returns the bytes of a file or, for a symbolic link, the path in it."""
     return os.readlink(path) if os.path.islink(path) else Path(path).read_bytes()
 
 
 class Books(InFolder):
     def solves(self, wanted, name="it.book", *words, **how):
-        """Runs ffosolve for TEXT with `--book-out NAME`, and asserts that (status, output, error) is `wanted`."""
+        """Runs ffosolve with `--book-out NAME` and the list TEXT; asserts that (status, output, error) is `wanted`."""
         self.ends(wanted, PROGRAM, "--book-out", name, *words, input=TEXT, **how)
 
     def left(self, files):
-        """Asserts that the folder has exactly `files`, which is {name: content}, and removes them."""
+        """Asserts that the test's folder has only `files`, which is {name: content}, and removes them."""
         self.assertEqual({name: content(name) for name in os.listdir()}, files)
         for name in files:
             os.remove(name)
 
     def solves_over(self, old, wanted, place="it.book", mode=0o644, folder_mode=0o755, **how):
-        """Writes `old` to the file `place`; if that is not it.book, makes it.book a link to it. Asserts that a run with
-        `--book-out it.book` ends as `wanted`, and writes its book to the file only if `wanted` is DONE."""
+        """Runs ffosolve with `--book-out it.book` over a file that holds `old`: it.book or, if `place` is another, the
+        target of the link it.book. Asserts that the file has the new book if the run's end, `wanted`, is DONE."""
         write(place, old, mode)
         if place != "it.book":
             os.symlink(place, "it.book")
         os.chmod(".", folder_mode)
-        self.solves(wanted, **how)
-        os.chmod(".", 0o755)
-        os.chmod(place, 0o644)
-        self.left({"it.book": place, place: BOOK if wanted == DONE else old})
+        with self.subTest(old=old[:40], place=place, mode=oct(mode), folder_mode=oct(folder_mode)):
+            self.solves(wanted, **how)
+            os.chmod(".", 0o755)
+            os.chmod(place, 0o644)
+            self.left({"it.book": place, place: BOOK if wanted == DONE else old})
 
     def test_a_book_has_the_scoring_of_its_run_and_not_that_of_the_book_that_is_read(self):
         list_of_one = b"--OOOOO" + b"X" * 57 + b" X\n"
@@ -90,11 +88,10 @@ class Books(InFolder):
             ("it.book", 0o555, 0o666, unwritten(DENIED)),
             ("it.book", 0o777, 0o444, unwritten(DENIED)),
             ("there", 0o777, 0o444, unwritten(DENIED)),
-            ("it.book", 0o777, 0o222, unread),  # what can't be read might not be a book
-            ("it.book", 0o1777, 0o666, late if NOBODY else DONE),  # only its owner may replace it
+            ("it.book", 0o777, 0o222, unread),  # a file that can't be read might not be a book
+            ("it.book", 0o1777, 0o666, late if NOBODY else DONE),  # only the file's owner may replace it
         ):
-            with self.subTest(place=place, folder_mode=oct(folder_mode), mode=oct(mode)):
-                self.solves_over(OLD, wanted, place, mode, folder_mode, **NOBODY)
+            self.solves_over(OLD, wanted, place, mode, folder_mode, **NOBODY)
 
     def test_a_full_or_broken_disk_keeps_the_old_book(self):
         for how, cause in (({"preexec_fn": limited(RLIMIT_FSIZE=100)}, "the file would be too large"),
@@ -108,7 +105,7 @@ class Books(InFolder):
         for _ in range(2):
             self.solves((0, REPORT, b"sync rename "), env=preload(WORK, WATCHED="yes"))
 
-    def test_other_files_with_names_of_new_files_are_left_alone(self):
+    def test_other_files_with_the_names_of_temporary_files_are_left_alone(self):
         names = ["it.book.part", *(f"it.book.{number}.part" for number in range(100))]
         for others, wanted, book in ((names, unwritten(IN_THE_WAY), OLD), (names[:-1], DONE, BOOK)):
             for name in others:
@@ -118,8 +115,8 @@ class Books(InFolder):
             self.left({"it.book": book, **dict.fromkeys(others, b"of another")})
 
     def changed_meanwhile(self, change, cause, files):
-        """Calls `change` while a run prints its report. Asserts that the run then can't write its book, for the reason
-        `cause`, and that the folder has only its list and `files`, which is {name: content}."""
+        """Calls `change` while ffosolve prints its report. Asserts that it then can't write it.book, and reports
+        `cause`; and that the test's folder has only the list and `files`, which is {name: content}."""
         lines = TEXT * 2000  # their report is more than a pipe holds
         write("list", lines)
         os.chmod(".", 0o777)
@@ -200,23 +197,6 @@ class Books(InFolder):
             "$0" --book-out two/it.book one/list >&2; cat two/it.book"""
         self.ends((0, BOOK, REPORT), "unshare", "--mount", "sh", "-ec", script, PROGRAM)
 
-    def test_the_book_is_read_before_the_lists_and_the_lists_before_anything_is_printed(self):
-        write("list", TEXT)
-        write("bad.book", b"?\n")
-        write("large.book", b" " * (MOST_BYTES + 1) + b"\n?")
-        folder = os.open(".", os.O_RDONLY)
-        self.addCleanup(os.close, folder)
-        for words, error in (
-            ("", "cannot read standard input"),
-            ("list .", "cannot read .\nffosolve: it is a folder"),
-            ("list none.obf none", "cannot read none.obf"),
-            ("--book-in . list", "cannot read .\nffosolve: it is a folder"),
-            ("--book-in none.book none.obf", "cannot read none.book"),
-            ("--book-in bad.book none.obf", "book line 1: bad square at column 1"),
-            ("--book-in large.book none.obf", "book line 2: bad square at column 1"),
-        ):
-            self.ends((3, "", f"ffosolve: {error}\n"), PROGRAM, *words.split(), stdin=folder)
-
     def test_files_are_counted_and_measured_then_the_place_of_the_book_is_tried_then_positions_are_solved(self):
         write("list", TEXT)
         write("notes", NOTES)
@@ -239,8 +219,7 @@ class Books(InFolder):
         for wanted, mode, texts in ((DONE, 0o644, books), (NO_BOOK, 0o644, others), (NO_BOOK, 0o444, others)):
             for old in texts:
                 for place in ("it.book", "there"):
-                    with self.subTest(old=old[:40], place=place, mode=mode):
-                        self.solves_over(old, wanted, place, mode)
+                    self.solves_over(old, wanted, place, mode)
 
     def test_the_log_that_standard_output_goes_to_is_not_overwritten(self):
         os.symlink("/proc/self/fd/1", "it.book")

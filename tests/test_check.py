@@ -1,4 +1,4 @@
-"""How `make check` runs and counts tests, and how .ci/run adds the counts of `rt ci`, in a small checkout."""
+"""In a small checkout, tests/check.mk runs and counts tests; .ci/run adds the counts of `rt ci` and `make check`."""
 import os
 import signal
 from pathlib import Path
@@ -16,15 +16,14 @@ class Check(InFolder):
     def setUp(self):
         super().setUp()
         need("make", "git")
-        names = ("tests/__init__.py", "tests/support.py", "tests/check.mk", "tests/count.awk", ".ci/run")
+        names = ("tests/__init__.py", "tests/support.py", "tests/check.mk", "tests/count.awk", ".ci/run", ".gitignore")
         run("cp", "--parents", *names, self.folder, cwd=ROOT, check=True)
-        Path(".gitignore").write_text("__pycache__/\nout/\n")
         run("git", "init", "-q", check=True)
         self.environment = {name: text for name, text in os.environ.items() if name != "CI"}
 
     def prints(self, status, last, *texts, words=MAKE, **variables):
-        """Runs a command, by default MAKE, and asserts its status, the last line that it prints, and that its output
-        has all `texts`."""
+        """Runs a command, by default MAKE, with `variables` in its environment. Asserts its status, the last line that
+        it prints, and that its output has all `texts`."""
         ran = run(*words, env={**self.environment, **variables}, text=True)
         self.assertEqual((ran.returncode, ran.stdout.splitlines()[-1:]), (status, [last]), ran)
         for text in texts:
@@ -79,7 +78,7 @@ class Check(InFolder):
 """)
         self.prints(0, "1 passed, 0 failed", words=("sh", "-c", "trap '' INT; exec make --no-print-directory check"))
 
-    def test_counts_of_rt_ci_and_make_check_are_added_and_one_that_counts_nothing_fails(self):
+    def test_ci_run_adds_the_counts_of_rt_ci_and_make_check_and_fails_if_either_counts_nothing(self):
         good = ("7 passed, 0 failed", 0)
         rows = [
             (0, "14 passed, 0 failed", good, good),

@@ -1,12 +1,13 @@
-"""Command lines of ffosolve and ffoscores: --help, --version, the limits that help names, and what is refused."""
+"""Command lines of ffosolve and ffoscores: --help, its limits, --version, wrong command lines, and --progress."""
 import re
 
-from tests.support import ROOT, SECONDS, InFolder, built, run, stored
+from tests.support import ROOT, SECONDS, InFolder, built, positions, run, stored, write
 from ffosolve import MOST_ENTRIES
 
 LARGE = MOST_ENTRIES + 1
 PROGRAMS = ("ffosolve", "ffoscores")
 NAMES = "\n  [possible values: winner, discs, sign]"
+PROGRESS = re.compile(rb"ffosolve: solved (\d+) of (\d+) in (\d+) s\r?\n")
 
 
 def usage(option="[OPTIONS]"):
@@ -18,7 +19,7 @@ def unknown(word, option="[OPTIONS]", similar=None):
     return f"unexpected argument '{word}' found\n\n  tip: {tip}{usage(option)}"
 
 
-# Command lines, and for each the error, in the words of the crate clap.
+# (command line, error in the words of the crate clap)
 REFUSED = [
     ("--best", unknown("--best")),
     ("-x", unknown("-x")),
@@ -63,7 +64,7 @@ REFUSED_BY_ONE = {
 class CommandLines(InFolder):
     def setUp(self):
         super().setUp()
-        self.pipe = self.start("sleep", SECONDS).stdout  # stays empty, so a program that reads it waits
+        self.pipe = self.start("sleep", SECONDS).stdout  # stays empty: a program that reads it does not end
 
     def ends(self, wanted, name, *words):
         super().ends(wanted, built(name), *words, stdin=self.pipe)
@@ -79,7 +80,6 @@ class CommandLines(InFolder):
             self.ends((2, "", f"{name}: cannot read the command line\n"), name, b"\xff.obf")
 
     def test_help_is_printed_whatever_follows_and_names_the_limits(self):
-        """Other tests show that these limits hold: the next one, rows of REFUSED and, for files, test_rows.py."""
         for name in PROGRAMS:
             text = run(built(name), "--help", text=True).stdout
             self.assertIn(f"\n\nUsage: {name} [OPTIONS] [FILES]...\n", text)
@@ -107,3 +107,37 @@ class CommandLines(InFolder):
         for name in PROGRAMS:
             for word in ("--best", "-x", "--help"):
                 self.ends((3, "", f"{name}: cannot read {word}\n"), name, "--", word)
+
+
+class Progress(InFolder):
+    """ffosolve --progress counts solved positions on standard error every five seconds, and changes nothing else."""
+
+    def setUp(self):
+        super().setUp()
+        write("long", positions(500, 18, 18))
+        write("short", positions(20, 10, 10) + b"% comment\n-\n")  # one line is refused
+
+    def test_counts_rise_five_seconds_apart_in_a_log_and_on_a_terminal(self):
+        solver = f"exec {built()} --progress --workers 1 long >/dev/null"
+        log = self.start("sh", "-c", solver).stderr
+        terminal = self.start("script", "-qec", solver, "/dev/null").stdout
+        for stream in (log, terminal):
+            with self.subTest(is_log=stream is log):
+                text = b"".join(stream.readline() for _ in range(3))
+                self.assertRegex(text, rb"\A(%s){3}\Z" % PROGRESS.pattern)
+                (one, two, three), counts, at = zip(*(map(int, line) for line in PROGRESS.findall(text)))
+                self.assertTrue(0 < one < two < three < 500 and set(counts) == {500}, text)
+                self.assertTrue(5 <= at[0] and at[0] + 4 < at[1] and at[1] + 4 < at[2], text)
+
+    def test_the_report_is_the_same_and_the_last_line_counts_all(self):
+        for files, count in ((["short"], b"20"), (["short", "short"], b"40")):
+            plain = run(built(), *files, check=True)
+            ran = run(built(), "--progress", *files, check=True)
+            self.assertEqual((plain.stdout, plain.stderr), (ran.stdout, b""))
+            self.assertEqual([line[:2] for line in PROGRESS.findall(ran.stderr)][-1:], [(count, count)])
+            self.assertEqual(PROGRESS.sub(b"", ran.stderr), b"")
+
+    def test_a_full_or_closed_standard_error_changes_nothing(self):
+        plain = run(built(), "short", check=True).stdout
+        for errors in ("2>/dev/full", "2>&-"):
+            self.ends((0, plain, b""), "sh", "-c", f'exec "$0" --progress short {errors}', built())

@@ -1,7 +1,5 @@
-"""The calls in Python and the program ffoscores find what plain minimax finds in random positions.
-
-POSITIONS of these have at most MOST empty squares; both are environment variables. The other 40 have 7 or 8.
-"""
+"""The Python package and ffoscores find what plain minimax finds in random positions: POSITIONS with at most MOST empty
+squares (the environment may set both), and DEEP with 7 or 8."""
 import itertools
 import os
 from concurrent.futures import ProcessPoolExecutor, ThreadPoolExecutor
@@ -16,7 +14,7 @@ POSITIONS, MOST, DEEP = int(os.environ.get("POSITIONS", 2000)), int(os.environ.g
 
 
 def solved(position):
-    """Solves a position by plain minimax. Returns a list of (position, answer, [(name of a square, score), ..]), one
+    """Solves a position by plain minimax. Returns a list with (position, its Answer, [(name of a move, its score), ..])
     for each scoring."""
     own, opp = position
     children = [(square, player.values(*player.after(own, opp, square)))
@@ -38,8 +36,8 @@ class RandomPositions(InFolder):
             cls.rows = list(zip(Scoring, zip(*pool.map(solved, positions, chunksize=20))))
 
     def compare(self, scoring, row, number):
-        """Asserts that each call for one position finds what `row`, a row from `solved`, has. `number` chooses the size
-        of the table, and whether `confirm` gets a right or a wrong claim."""
+        """Asserts that each method of Solver for a single position finds what `row`, an item of `solved`, says.
+        `number` chooses the size of the table, and whether `confirm` gets a right or a wrong claim."""
         position, wanted, scores = row
         legal, solver = player.moves(*position), Solver(scoring=scoring, entries=(0, 1, 64, 1024)[number % 4])
         claims = wanted, wanted._replace(score=wanted.score + number % 5), wanted._replace(best=wanted.best ^ number)
@@ -51,7 +49,6 @@ class RandomPositions(InFolder):
                 self.assertRaises(NoMove, solver.play, position, square)
 
     def test_python_finds_what_minimax_finds(self):
-        """Calls for one position are made on eight threads at once; calls for lists follow."""
         for scoring, rows in self.rows:
             with ThreadPoolExecutor(8) as pool:
                 compared = list(pool.map(self.compare, itertools.repeat(scoring), rows, itertools.count()))
@@ -62,7 +59,6 @@ class RandomPositions(InFolder):
             self.assertEqual([list(it.items()) for it in solver.move_scores_all(positions)], list(scores))
 
     def test_ffoscores_prints_what_minimax_finds(self):
-        """Moves come in descending order of their scores, and those with the same score in the order of the squares."""
         for scoring, rows in self.rows:
             asked = wanted = ""
             for position, answer, scores in rows:

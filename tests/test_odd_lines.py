@@ -1,20 +1,18 @@
-"""Lines of OBF text, from tests/rows and with random faults: Python, C and ffosolve read them alike."""
+"""Python, C and ffosolve read the same from OBF lines: those of tests/rows, and lines with random faults."""
 import random
 import re
 import unittest
 
 from .prefix import PREFIX, setUpModule
-from .support import built, run, stored, worked
+from .support import built, run, worked
 import ffosolve
 from ffosolve._refusals import REFUSALS
 
-LINES = 10_000
 PIECES = b"| w|ps:-4;|--:0;|I1:+1|h8:64 ;|B2:+65;| |\t|%|;|:|?|-|X|O|b|\r|\0|\x80|\xff".split(b"|")
-RIGHT, WRONG, NONE = (stored("examples/kinds.report").split(b"\n")[row].split()[-1].decode() for row in (1, 2, 4))
 
 
 def odd_line(chance, lines):
-    """Returns a random one of `lines`, with up to three of PIECES inserted or put in place of some bytes."""
+    """Returns a random line of `lines` with up to three PIECES, each inserted or put in place of some bytes."""
     line = chance.choice(lines)
     for _ in range(chance.randrange(4)):
         at = chance.choice((chance.randrange(64), chance.randrange(64, 80)))
@@ -23,8 +21,8 @@ def odd_line(chance, lines):
 
 
 def read(source, reader=ffosolve.parse_lines):
-    """Reads a text or some lines in Python. Returns {number of a line: row} for the lines that are not skipped. The row
-    has the line's masks, side and moves, or why the line is refused."""
+    """Reads a text, or lines if `reader` takes these, in Python. Returns {line number: row} without the lines that are
+    skipped. A row is `OWN OPP SIDE MOVE:SCORE ..`, with masks of 16 hex digits, or `refused: ` and the reason."""
     refused = []
     rows = {line.number: f"{line.own:016x} {line.opp:016x} {line.side}" + "".join(" %s:%s" % it for it in line.listed)
             for line in reader(source, refused=refused.append)}
@@ -32,7 +30,7 @@ def read(source, reader=ffosolve.parse_lines):
 
 
 def read_in_c(text):
-    """Returns what ffosolve_read_line finds in the lines of a text, in the form of `read`."""
+    """Returns what `read` does, but for the lines as the library's function ffosolve_read_line reads them."""
     rows, lines = {}, [line.removesuffix(b"\r") for line in text.split(b"\n")]
     printed = PREFIX.called(f"read_line 8 {line.hex()}" for line in lines)
     for number, (status, *words) in enumerate(map(str.split, printed), 1):
@@ -50,7 +48,7 @@ class OddLines(unittest.TestCase):
     @classmethod
     def setUpClass(cls):
         chance, (cls.lines, cls.columns) = random.Random(5), worked("ffosolve/lines")
-        cls.text = b"\n".join(odd_line(chance, cls.lines) for _ in range(LINES))
+        cls.text = b"\n".join(odd_line(chance, cls.lines) for _ in range(10_000))
         cls.rows = read(cls.text)
 
     def test_python_and_c_read_worked_and_odd_lines_alike(self):
@@ -67,10 +65,10 @@ class OddLines(unittest.TestCase):
         self.assertEqual(report, rows)
         kinds = {re.sub(r"\d+", "N", row.partition(" ")[2]) if "refused" in row else row.split()[-1] for row in report}
         refused = ("N empties, limit N", "board has N of N squares", "bad square at column N", "bad side at column N")
-        self.assertLessEqual({RIGHT, WRONG, NONE, *(f"refused: {why}" for why in refused)}, kinds)
+        self.assertLessEqual({"agree", "differ", "unlisted", *(f"refused: {why}" for why in refused)}, kinds)
 
     def reported(self, solver, row):
-        """Returns the row that ffosolve's report must have, without its number, worked out from a row of `read`."""
+        """Returns what ffosolve's report must have, after the number, for a line that `read` finds to be `row`."""
         if "refused" in row:
             return row
         own, opp, _, *listed = row.split()
@@ -82,5 +80,5 @@ class OddLines(unittest.TestCase):
         claims = [(int(score), move) for move, score in (word.split(":") for word in listed)]
         most, _ = max(claims, default=(None, None))
         is_right = most == answer.score and all(move in best for score, move in claims if score == most)
-        check = NONE if not claims else RIGHT if is_right else WRONG
+        check = "unlisted" if not claims else "agree" if is_right else "differ"
         return f"{answer} {check}"

@@ -1,6 +1,4 @@
-"""The programs and the tests of the crates out of memory: in run n, the nth request for memory is refused, until a run
-makes fewer than n requests.
-"""
+"""The programs and the crates' tests if they lack memory: in run n, the nth request for memory is refused."""
 import re
 import tempfile
 from pathlib import Path
@@ -12,15 +10,15 @@ KINDS, SCORES = stored("examples", "kinds.obf"), stored("examples", "kinds.score
 EXAMPLES = ROOT / "examples"
 FILES = ("--book-in", EXAMPLES / "first.book", "--book-out", "it.book", EXAMPLES / "first.obf", EXAMPLES / "kinds.obf")
 CRATE_TESTS = ROOT / "crates/crate_tests/out/crate_tests_tests"  # the program that runs the tests of the crates
-# Parts of the names of tests that a refused request ends or does not change. Others handle it, or need two threads.
+# Parts of the names of the tests that are run here. Others go on after a refused request, or need two threads.
 TESTS = (
     "written_lines::", "fault_texts::", "tables::", "searches::", "books::find::", "boards::limits::",
     "boards::memory::", "boards::steps::", "prints_a_front", "a_full_writer", "a_desk_on_one_thread",
     "a_clients_memory", "gives_a_book", "clients_alone", "clients_are_refused", "gates_are_called", "a_refused_finish",
     "a_refused_submit",
 )
-# Tests that each refused request ends, and the number of their requests, or None for any number: out of memory is
-# reported before all other faults, and nothing is requested after the last step that can report it.
+# Tests that each refused request ends, and the number of their requests (None: any number). They show that a lack of
+# memory is reported before all other faults, and that nothing is requested after the last step that can report it.
 ENDED = {
     "tests::boards::desks::a_clients_memory_comes_first": 3,
     "tests::boards::memory::no_step_after_the_last_submit_takes_memory": None,
@@ -36,20 +34,18 @@ def outcome(*words, **how):
 
 
 def outcomes(*words, **how):
-    """Runs a program again and again, for n = 1, 2, .., until a run makes fewer than n requests for memory. In run n,
-    the nth request is refused. Returns a list with the outcome of each run; nothing was refused in the last one."""
-    found, mark = [], Path("refused")
-    while True:
-        places = preload(Path.cwd(), REFUSED=str(len(found) + 1), REFUSED_FILE=str(mark.absolute()))
-        found.append(outcome(*words, env=places, **how))
-        if not mark.exists():
-            return found
-        mark.unlink()
+    """Runs a program again and again; in run n, the nth request for memory is refused. Returns a list of what `outcome`
+    returns for each run, up to the first run without a refused request."""
+    found, is_refused = [], True
+    while is_refused:
+        *ran, files = outcome(*words, env=preload(Path.cwd(), REFUSED=str(len(found) + 1)), **how)
+        is_refused = files.pop("refused", None) is not None
+        found.append((*ran, files))
+    return found
 
 
 class Programs(InFolder):
     def test_each_refused_request_ends_ffosolve_unless_it_starts_a_thread(self):
-        """A run also goes on if its request for room for all words of the command line at once is refused."""
         self.assertEqual(outcome(built(), input=TEXT), (0, PRINTED, b"", {}))
         for words, threads, prepare in (
             ((), 3, refuse_threads),
@@ -64,10 +60,10 @@ class Programs(InFolder):
                 self.assertEqual([run for run in enumerate(refused, 1) if run[1] not in (done, reported)], [])
                 self.assertGreaterEqual(len(refused), 10 * threads)
                 if prepare:  # otherwise the number of the request that starts a thread varies from run to run
+                    # One more run goes on: that without room for all words of the command line at once.
                     self.assertEqual(refused.count(done), threads + 1)
 
     def test_more_than_nine_in_ten_refused_requests_end_ffoscores_and_others_change_nothing(self):
-        """A run that reports `out of memory` has printed the beginning of the output."""
         done, error = (1, SCORES, b"", {}), b"ffoscores: out of memory\n"
         *refused, last = outcomes(built("ffoscores"), "--table", "100", input=KINDS)
         self.assertEqual(last, done)
@@ -79,16 +75,15 @@ class Programs(InFolder):
 class Crates(InFolder):
     @classmethod
     def setUpClass(cls):
-        """Builds CRATE_TESTS if it is missing or older than a source of the crates. They are proved first, for minutes,
-        unless `rt ci` or `rt test` has done so."""
+        """Builds CRATE_TESTS if it is missing or older than a source of the crates. `rt test` first proves the crates,
+        which takes minutes unless `rt ci` or `rt test` has done so."""
         newest = max(path.stat().st_mtime for path in ROOT.glob("crates/*/src/**/*.rt"))
         if not CRATE_TESTS.exists() or CRATE_TESTS.stat().st_mtime < newest:
             need("rt")
             how = {"stdout": None, "stderr": None, "timeout": 2700, "check": True}
             run("rt", "test", "--", TESTS[0], cwd=ROOT / "crates/crate_tests", **how)
 
-    def test_each_refused_request_ends_a_test_or_changes_nothing(self):
-        """A run of a test passes, or reports only that it is out of memory."""
+    def test_a_crates_test_passes_or_reports_only_out_of_memory_at_each_refused_request(self):
         listed = run(CRATE_TESTS, "--list", check=True, text=True).stdout
         self.assertEqual([part for part in TESTS if part not in listed], [])
         tests = re.findall(rf"^(tests::\S*(?:{'|'.join(TESTS)})\S*): test$", listed, re.M)

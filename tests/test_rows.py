@@ -1,9 +1,7 @@
 """Output worked out from the rules, books that are read or refused, and files and streams that end or fail.
 
-Each row of a table in tests/rows/PROGRAM ends with a line of a list. The cells before it have what PROGRAM prints for
-that line, without its number, with the options at the head of the column, or are empty if it prints nothing. A column
-`read` has what is read from the line, and is not used here. No program printed the cells.
-"""
+In the tables tests/rows/PROGRAM, the last cell of a row is a line of a list. Another cell is what PROGRAM prints for
+that line, without its number, with the options at the head of the column. A column `read` is for test_odd_lines.py."""
 import os
 import re
 from pathlib import Path
@@ -13,12 +11,12 @@ from ffosolve import MOST_ENTRIES
 
 LINES = worked("ffosolve/positions")[0]
 LIST = b"\n".join(LINES)
-PROGRAMS = {"ffosolve": 1, "ffoscores": 3}  # each with its status if files are too many or too large
+PROGRAMS = {"ffosolve": 1, "ffoscores": 3}  # and the status of each if files are too many or too large
 NOTHING = b"[1]\nsolved 0 refused 0\n"
 SEVEN = b"X" * 56
 LEFT, LAST = SEVEN + b"XOOOOO-- X; G8:+64;\n", SEVEN + b"XOOOOOO- X; H8:+64;\n"
 EQUAL = SEVEN + b"-OOXXOO- X; A8:+64; H8:+64;\n"
-# Texts of books by the error that ffosolve reports. Those under "" are read without one.
+# {error that ffosolve reports: texts of books}; the texts under "" are books without an error.
 BOOKS = {
     "": (b"", b"% ffobook 2 winner\n", b"% ffobook 2 discs\r\n", b"% ffobook 2 sign", b" % ffobook 2 sign",
          b"% ffobook", b"%ffobook 2 sign", b"\n% ffobook 2 sign\n", b"% ffobook 2 sign\n% ffobook 3 x\n",
@@ -39,7 +37,7 @@ BOOKS = {
     "2: board has 1 of 64 squares": (LEFT + b"X",),
 }
 KINDS, SCORES = stored("examples", "kinds.obf"), stored("examples", "kinds.scores")
-TWO = KINDS.split(b"\n")[1] + b"\n"  # a position of two empty squares, with both moves listed right
+TWO = KINDS.split(b"\n")[1] + b"\n"  # a position with two empty squares, and the right scores of both moves
 SOLVED = SCORES.split(b"\n")[1] + b"\n"
 BOARD = TWO[:66]
 
@@ -49,7 +47,7 @@ def whole_lines(lines):
 
 
 def report(cells):
-    """Returns the report that has these cells in the rows of lines 1, 2, ..; a line with an empty cell has no row."""
+    """Returns ffosolve's report for lines 1, 2, .. whose rows have these cells; an empty cell stands for no row."""
     rows = [b"%d %s" % row for row in enumerate(cells, 1) if row[1]]
     refused = sum(b" refused: " in row for row in rows)
     return whole_lines([b"[1]", *rows, b"solved %d refused %d" % (len(rows) - refused, refused)])
@@ -68,7 +66,7 @@ class Rows(InFolder):
                         self.ends(wanted, built(name), "--max-empties", "20", *words.split(), input=text)
 
     def reads(self, text, error):
-        """Asserts that a text is read as a book or, if `error` is not empty, refused with that error."""
+        """Asserts that ffosolve reads a text as a book or, if `error` is not empty, refuses it with that error."""
         Path("it.book").write_bytes(text)
         wanted = (3, b"", f"ffosolve: book line {error}\n".encode()) if error else (0, NOTHING, b"")
         with self.subTest(text=text[-100:]):
@@ -109,13 +107,38 @@ class Rows(InFolder):
             self.ends((PROGRAMS[name], "", f"{name}: more than 64 files\n"), built(name), *["over"] * 65)
         self.ends((0, b"[1]\n1 +64 -- unlisted\nsolved 1 refused 0\n", b""), built(), input=b"X" * MOST_BYTES)
 
+    def test_the_first_unreadable_file_is_reported_before_anything_is_printed(self):
+        """ffosolve reads a book before all lists. ffoscores reads all lists before it measures and counts them."""
+        write("list", TWO)
+        write("large", b" " * (MOST_BYTES + 1))
+        write("bad.book", b"?\n")
+        write("large.book", b" " * (MOST_BYTES + 1) + b"\n?")
+        folder = os.open(".", os.O_RDONLY)
+        self.addCleanup(os.close, folder)
+        for names, words, why in (
+            ("ffosolve ffoscores", "", "cannot read standard input"),
+            ("ffosolve ffoscores", "list .", "cannot read .\n{name}: it is a folder"),
+            ("ffosolve ffoscores", "list none.obf", "cannot read none.obf"),
+            ("ffosolve ffoscores", "list none.obf none", "cannot read none.obf"),
+            ("ffosolve", "--book-in . list", "cannot read .\n{name}: it is a folder"),
+            ("ffosolve", "--book-in none.book none.obf", "cannot read none.book"),
+            ("ffosolve", "--book-in bad.book none.obf", "book line 1: bad square at column 1"),
+            ("ffosolve", "--book-in large.book none.obf", "book line 2: bad square at column 1"),
+            ("ffoscores", "list large none.obf", "cannot read none.obf"),
+            ("ffoscores", "list large list large", f"file 2 is larger than {MOST_BYTES} bytes"),
+            ("ffoscores", "list " * 65, "more than 64 files"),
+            ("ffoscores", "list " * 65 + "none.obf", "cannot read none.obf"),
+        ):
+            for name in names.split():
+                self.ends((3, "", f"{name}: {why.format(name=name)}\n"), built(name), *words.split(), stdin=folder)
+
     def test_more_empty_squares_than_the_limit_are_refused(self):
         report = b"[1]\n1 refused: 2 empties, limit 1\nsolved 0 refused 1\n"
         self.ends((0, report, b""), built(), "--max-empties", "1", input=TWO)
         line = b"% refused: 2 empties, limit 1: " + TWO
         self.ends((1, line, b""), built("ffoscores"), "--max-empties", "1", input=TWO)
 
-    def test_too_large_a_file_is_read_only_up_to_the_limit(self):
+    def test_a_too_large_file_is_read_only_to_one_byte_past_the_limit(self):
         with open("large.obf", "wb") as large:
             large.truncate(256 << 20)
         for name, status in PROGRAMS.items():
@@ -148,7 +171,7 @@ class Scores(InFolder):
     def ends(self, wanted, *words, **how):
         super().ends(wanted, built("ffoscores"), *words, **how)
 
-    def test_a_file_and_standard_input_give_the_stored_scores(self):
+    def test_scores_of_files_and_standard_input_are_the_stored_ones(self):
         write("kinds.obf", KINDS)
         self.ends((1, SCORES, b""), "kinds.obf")
         self.ends((1, SCORES, b""), "./kinds.obf", "--table=65536", "--scoring", "winner")
@@ -156,7 +179,7 @@ class Scores(InFolder):
         self.ends((1, SCORES * 2, b""), "--", "kinds.obf", "kinds.obf", input=b"X")
         self.ends((1, SCORES, b""), "/dev/stdin", input=KINDS)
 
-    def test_each_line_gives_one_line_that_ends_with_lf(self):
+    def test_each_line_is_printed_as_one_line_that_ends_with_lf(self):
         unlisted, columns = worked("ffoscores/unlisted")
         rows = [("", *row) for row in zip(KINDS.splitlines(), SCORES.splitlines(), strict=True)]
         rows += [(words, *row) for words, cells in columns.items() for row in zip(unlisted, cells)]
@@ -171,7 +194,7 @@ class Scores(InFolder):
         for words in ("--workers 0", "--workers=3", "--table 0"):
             self.ends((1, rows + SCORES + rows, b""), "--complete", *words.split(), *names)
 
-    def test_its_own_output_is_unchanged_and_right_for_ffosolve(self):
+    def test_ffoscores_does_not_change_its_own_output_and_ffosolve_agrees_with_it(self):
         tables = [worked(f"ffoscores/{name}")[1]["--scoring winner"] for name in ("unlisted", "remarks")]
         for text in (SCORES, *(whole_lines(cells).replace(b"\r\n", b"\n") for cells in tables)):
             self.ends((0, text, b""), input=text)
@@ -206,19 +229,3 @@ class Scores(InFolder):
         moves = rb"; A2:\+38; [A-H][1-8]:(...);( [A-H][1-8]:[+-]\d\d;){8,}"
         found = re.fullmatch(board + moves + comment + b"\n", ran.stdout)
         self.assertTrue(found and int(found[1]) < 38, ran.stdout)
-
-    def test_all_files_are_read_then_measured_and_counted_before_anything_is_printed(self):
-        write("two.obf", TWO)
-        write("large.obf", b" " * (MOST_BYTES + 1))
-        folder = os.open(".", os.O_RDONLY)
-        self.addCleanup(os.close, folder)
-        for words, why in (
-            ("", "cannot read standard input"),
-            ("two.obf none.obf", "cannot read none.obf"),
-            ("two.obf .", "cannot read .\nffoscores: it is a folder"),
-            ("two.obf large.obf none.obf", "cannot read none.obf"),
-            ("two.obf large.obf two.obf large.obf", f"file 2 is larger than {MOST_BYTES} bytes"),
-            ("two.obf " * 65, "more than 64 files"),
-            ("two.obf " * 65 + "none.obf", "cannot read none.obf"),
-        ):
-            self.ends((3, "", f"ffoscores: {why}\n"), *words.split(), stdin=folder)
