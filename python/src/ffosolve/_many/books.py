@@ -9,10 +9,9 @@ from pathlib import Path
 
 from .._positions import BLACK, WHITE, NoPosition, Position
 from .._squares import NAMES
-from .files import (DONE, NAME, REFUSED, UNBUILT, UNREADABLE, Refusal, is_same, misused, print_all, regular, replace,
-                    shown)
+from .files import (DONE, NAME, REFUSED, UNBUILT, UNREADABLE, Program, Refusal, is_same, misused, print_all, regular,
+                    replace, shown)
 from .folder import HEADER
-from .programs import Program
 
 READ = 4096  # bytes of a book that are read at once, and the rest of their last line
 BATCH = 256  # parts whose books are merged in memory at a time
@@ -20,7 +19,7 @@ ENTRY = re.compile(rb"[XO-]{64} X;(?: (?:[A-H][1-8]|PS|--):[+-]\d\d;)+\n")  # a 
 
 
 def lines_of(path):
-    """Yields the lines of a file. The file is closed between reads, since too many books might be open otherwise."""
+    """Yields the lines of a file. Closes the file between reads, since too many books might be open otherwise."""
     lines, at = [b""], 0
     while lines:
         with path.open("rb") as file:
@@ -30,8 +29,8 @@ def lines_of(path):
 
 
 def entries_of(lines, name):
-    """Yields (masks, (name, number of the line), line as ffosolve writes it) for each entry of a book. Raises
-    ValueError for a wrong line."""
+    """Yields (masks, (name, line number), line as ffosolve writes it) for each entry of a book. `masks` has X's and O's
+    squares as numbers, by which the entries of a book rise. Raises ValueError for a wrong line."""
     for number, text in enumerate(lines, 1):
         if not ENTRY.fullmatch(text):
             try:
@@ -47,7 +46,7 @@ def entries_of(lines, name):
 
 def merged(names, books):
     """Yields the lines of a book with all entries of `books`, which are iterables of lines; messages call them `names`.
-    Refuses different scorings, and entries that disagree. Raises ValueError if one book has a position twice."""
+    Refuses different scorings, and entries that disagree. Raises ValueError if a book is found to be wrong."""
     books = list(map(iter, books))
     firsts = [next(book, b"") for book in books]
     scorings = [first.decode("latin-1").removeprefix("% ffobook 2 ").rstrip() if first.startswith(b"% ffobook ")
@@ -69,8 +68,7 @@ def merged(names, books):
 
 
 def book_of(run, folder):
-    """Yields the lines of a book with the results of all parts. The books of the parts are merged in batches; each
-    merged batch is written to a file in `folder`."""
+    """Yields the lines of the book of a run. Merges the books of the parts in batches, each to a file in `folder`."""
     paths, books = [], (io.BytesIO(book) for _, _, book, _ in run.solved())
     while batch := list(itertools.islice(books, BATCH)):
         paths.append(Path(folder, f"{len(paths)}.book"))
@@ -81,7 +79,7 @@ def book_of(run, folder):
 
 
 def check_place(name, source, program, *options):
-    """Refuses the file of --book-out, before anything is solved, if it can't be written or must not be overwritten."""
+    """Refuses the file of --book-out if it is the list `source` or a standard stream, or if ffosolve refuses it."""
     for other, what in ((1, "standard output, where the report goes"), (2, "standard error"), (source, "the list")):
         if is_same(name, other):
             raise misused(f"--book-out {shown(name)} is {what}: name another file")
@@ -92,7 +90,7 @@ def check_place(name, source, program, *options):
 
 
 def read_books(program, names, paths):
-    """Lets ffosolve read each book. Refuses the first book that ffosolve refuses."""
+    """Lets ffosolve read each book, and refuses the first one that ffosolve refuses."""
     for name, path in zip(names, paths):
         status, errors = program.try_run(f"--book-in={path}", "/dev/null")
         if status:

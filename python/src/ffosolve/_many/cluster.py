@@ -10,7 +10,7 @@ import warnings
 from pathlib import Path
 
 from .files import UNBUILT, UNREADABLE, Refusal, say
-from .solve import Failed, fit_program, solve
+from .solve import fit_program, solve
 
 try:
     import cloudpickle
@@ -23,10 +23,9 @@ LOST_SECONDS = 30  # of silence, after which a scheduler is lost
 MOST_FAILS = 3  # parts failed in a row, after which a worker is left out
 
 
-class Program(distributed.WorkerPlugin):
-    """A plugin that copies the program of a run to each worker, including workers that join later. If the program works
-    there, the worker gets a resource with the run's name, and parts go only to workers with that resource. Otherwise
-    the worker's metrics say what is wrong."""
+class Plugin(distributed.WorkerPlugin):
+    """Copies the program of a run to each worker, also to one that joins later. If the program works there, the worker
+    gets the resource `name`, which each part needs; otherwise the worker's metric `name` says why."""
 
     def __init__(self, name, task, files):
         self.name, self.task, self.files = name, task, files
@@ -36,7 +35,7 @@ class Program(distributed.WorkerPlugin):
         try:
             self.program = await asyncio.to_thread(self.write)
             await worker.set_resources(**{self.name: worker.state.nthreads})
-        except (OSError, Failed) as fault:
+        except OSError as fault:
             why = str(fault)
             worker.metrics[self.name] = lambda worker: why
 
@@ -48,8 +47,8 @@ class Program(distributed.WorkerPlugin):
         return fit_program(self.task, self.folder)[0]
 
     def solve(self, number, text):
-        """Returns the worker's address, and what `solve.solve` returns for a part. Kills the program once the task is
-        cancelled or `teardown` has removed the program's file."""
+        """Returns the worker's address, and the two values of `solve.solve` for a part. Kills the program once Dask has
+        taken the part from this worker, or `teardown` has removed the program's file."""
         key = self.worker.get_current_task()
 
         def is_wanted():
@@ -64,8 +63,8 @@ class Program(distributed.WorkerPlugin):
 
 def look_at(name, left_out, dask_scheduler):
     """Runs on the scheduler. Takes the resource `name` from the workers `left_out`. Returns whether the scheduler has
-    the plugin `name`; {worker's address: (fault or None, resource or None, host, threads, its parts)}; and the parts
-    that no worker can take."""
+    the plugin `name`; {worker's address: (metric `name` or None, resource `name` or None, host, number of threads,
+    parts sent to the worker)}; and the parts that no worker can take."""
     def parts_of(tasks):
         keys = sorted(task.key for task in tasks if str(task.key).startswith(name))
         return [int(key.rpartition("-")[2]) for key in keys]
@@ -77,7 +76,7 @@ def look_at(name, left_out, dask_scheduler):
 
 
 class Cluster:
-    """An engine: the workers of a cluster. It can be used in place of `engine.Threads`."""
+    """An engine, with the same methods as `engine.Threads`: the workers of a Dask cluster."""
 
     tries = 3  # after which a part has failed
     room = 0  # how many parts may be submitted but unfinished at a time
@@ -89,7 +88,7 @@ class Cluster:
             cloudpickle.register_pickle_by_value(sys.modules[f"{__package__}.{module}"])
         files = {path.name: path.read_bytes() for name in ("program-?", "book-in") for path in run.folder.glob(name)}
         self.address, self.run, self.name = address, run, f"ffosolve-{os.urandom(6).hex()}"
-        self.program, self.heard = Program(self.name, run.task, files), time.monotonic()
+        self.program, self.heard = Plugin(self.name, run.task, files), time.monotonic()
         self.ready, self.left_out, self.fails = {}, set(), {}
         place = {"scheduler_file" if os.path.isfile(address) or ":" not in address else "address": address}
         try:
@@ -101,7 +100,7 @@ class Cluster:
         self.pool = self.client.get_executor(pure=False, resources={self.name: 1})
 
     def submit(self, number, failed):
-        """Submits a part, if possible to a worker that is not in `failed`; returns a future of the part's results."""
+        """Submits a part, if possible to a worker that is not in `failed`; returns a future for `result`."""
         name, key = self.name, f"{self.name}-{time.monotonic_ns():020d}-{number}"
         others = [address for address in self.ready if address not in failed] if failed else []
         return self.pool.submit(lambda *words: distributed.get_worker().plugins[name].solve(*words), number,
@@ -124,8 +123,8 @@ class Cluster:
         self.ready.pop(machine, None)
 
     def look(self, flying):
-        """Notes ready workers, and leaves out those where the program does not work. Returns {part: host} of the parts
-        being solved, or {} while the scheduler does not answer. Raises Refusal if that lasts LOST_SECONDS."""
+        """Notes which workers are ready, and leaves out those on which the program fails. Returns {part: host} of the
+        parts being solved, or {} if the scheduler does not answer; after LOST_SECONDS without an answer, refuses."""
         running, self.ready, self.room = {}, {}, 0
         try:
             if self.client.status != "running":

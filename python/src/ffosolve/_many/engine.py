@@ -17,8 +17,7 @@ GROWTH = 2.5  # factor of the work for each further empty square
 
 
 def weight_of(text, most):
-    """Returns the expected work for the lines in `text`. A full board counts 1, and so does one with more than `most`
-    empty squares, which is refused."""
+    """Returns the expected work for the lines `text`. Full boards, and boards with over `most` empties, count 1."""
     fronts = [line.lstrip()[:64] for line in asked_lines(text).values()]
     empties = [front.count(b"-") + front.count(b".") for front in fronts]
     return sum(GROWTH ** count if count <= most else 1 for count in empties)
@@ -30,11 +29,11 @@ def span_of(seconds):
 
 
 class Progress:
-    """The work that is left, the time that solved parts took, and {(part, machine): start} of parts at work."""
+    """The work that is left, the seconds that solved parts took, and {(part, machine): start} of parts being solved."""
 
     def __init__(self, run, parts, most):
         self.run, self.weights, self.running = run, array.array("d", bytes(8 * run.parts)), {}
-        self.parts, self.lines, self.seconds, self.weight = len(parts), sum(map(run.size, parts)), 0.0, 0.0
+        self.parts, self.lines, self.seconds, self.weight = len(parts), sum(map(run.line_count, parts)), 0.0, 0.0
         for number in parts:
             self.weights[number] = weight_of(run.text(number), most)
         self.left_weight = sum(self.weights)
@@ -45,10 +44,10 @@ class Progress:
         self.running = {work: self.running.get(work, now) for work in at_work.items()}
 
     def end(self, number, seconds):
-        """Notes that a part was solved, and how many seconds that took."""
+        """Notes that a part is solved, and took `seconds`."""
         self.seconds += seconds
         self.weight, self.left_weight = self.weight + self.weights[number], self.left_weight - self.weights[number]
-        self.parts, self.lines, self.weights[number] = self.parts - 1, self.lines - self.run.size(number), 0
+        self.parts, self.lines, self.weights[number] = self.parts - 1, self.lines - self.run.line_count(number), 0
 
     def left(self):
         """Returns the expected seconds until all is solved, or None before a tenth of the work is done."""
@@ -60,7 +59,7 @@ class Progress:
         return max(rests + [(waiting * rate + sum(rests)) / max(1, len(rests))])
 
     def text(self):
-        """Returns the line to show. It names the part that has been running longest, if for ten minutes or more."""
+        """Returns the line that is shown. It names the part that has run longest, if that is LONG_SECONDS or more."""
         run, machines, now = self.run, len({machine for _, machine in self.running}), time.monotonic()
         left = self.left() if machines else None
         text = f"{100 * (run.all_lines - self.lines) // max(1, run.all_lines)}%, "
@@ -74,7 +73,7 @@ class Progress:
 
 
 class Threads:
-    """An engine: threads of this machine, each of which runs one program at a time."""
+    """An engine (what solves parts for `solve_parts`): threads of this machine, each with one program at a time."""
 
     tries = 1  # after which a part has failed
 
@@ -88,7 +87,7 @@ class Threads:
         self.room = 2 * most  # how many parts may be submitted but unfinished at a time
 
     def submit(self, number, failed):
-        """Submits a part; returns a future of the part's results. `failed` is not used, since there is one machine."""
+        """Submits a part; returns a future for `result`. `failed` has the machines on which the part failed before."""
         return self.pool.submit(self.solve, number)
 
     def solve(self, number):
@@ -96,7 +95,7 @@ class Threads:
         return HERE, record and self.run.keep(number, record), why
 
     def result(self, future, number):
-        """Returns (the part's machine, the seconds that the part took or None if it failed, the reason or "")."""
+        """Returns (the part's machine, the seconds that it took or None if it failed, the reason of that or "")."""
         return future.result()
 
     def look(self, flying):
@@ -139,8 +138,7 @@ def solve_parts(run, engine, quiet):
             progress.end(number, seconds)
             continue
         say(f"{machine} failed {run.span(number)}: {why or 'its results are not complete'}")
-        machines = (*failures.pop(number, ()), machine)
-        if len(machines) < engine.tries:
-            failures[number] = machines
+        failures.setdefault(number, []).append(machine)
+        if len(failures[number]) < engine.tries:
             waiting.append(number)
     show("")

@@ -1,21 +1,26 @@
-"""Messages, the refusals that end the command, files that are read or written, and standard output."""
+"""Messages, the refusals that end the command, files, standard output, and the programs ffosolve and ffoscores."""
 import contextlib
 import os
+import re
 import shutil
 import stat
+import subprocess
 import sys
 import tempfile
 from pathlib import Path
 
 from .._text import shown
-from .solve import write_whole
+from .solve import guarded, write_whole
 
 NAME = "ffosolve-many"
 DONE, UNSOLVED, REFUSED, UNREADABLE, UNBUILT = range(5)
+NO_DISCS = b"-" * 64 + b" X;"  # refused with any options; the message has the limit of empty squares
+LIMITS = {"ffosolve": rb"\[1\]\n1 refused: 64 empties, limit (\d+)\nsolved 0 refused 1\n",
+          "ffoscores": rb"%% refused: 64 empties, limit (\d+): %b\n" % NO_DISCS}
 
 
 class Refusal(Exception):
-    """Ends the command. The arguments are the command's status and a line for standard error."""
+    """Ends the command. The arguments are the command's exit status and a message without its first word."""
 
 
 def misused(text):
@@ -24,7 +29,7 @@ def misused(text):
 
 @contextlib.contextmanager
 def refusing(verb, name, passed=()):
-    """Turns an OSError of its block, unless its type is `passed`, into a Refusal: "cannot {verb} {name}: {reason}"."""
+    """Turns OSErrors of the `with` block, except types in `passed`, into a Refusal "cannot {verb} {name}: {reason}"."""
     try:
         yield
     except passed:
@@ -45,7 +50,7 @@ def say(text):
 
 
 def show(text):
-    """Shows a line on a terminal in place of the one before. A line that is too long is cut at one of its commas."""
+    """Shows a line on a terminal in place of the line shown before. Cuts a line that is too long at a comma."""
     with contextlib.suppress(OSError):
         columns = os.get_terminal_size(sys.stderr.fileno()).columns or 80
         line = f"{NAME}: {text}" if text else ""
@@ -67,8 +72,7 @@ def path_of(name):
 
 
 def regular(name):
-    """Returns the path of a regular file to read: `name` itself or, if that is a pipe or the like, a copy that vanishes
-    with this process."""
+    """Returns the path of a regular file: `name` or, for a pipe or the like, a copy that vanishes with this process."""
     path = path_of(name)
     if str(path) == "/dev/stdin" and sys.stdin is None:
         raise Refusal(UNREADABLE, f"cannot read {name}: standard input is closed")
@@ -83,8 +87,7 @@ def regular(name):
 
 
 def replace(name, pieces):
-    """Writes a file. A regular file is replaced as a whole and keeps its permissions; anything else, such as a pipe, is
-    written into."""
+    """Writes a file. Replaces a regular file as a whole, and keeps its permissions; writes into a pipe or the like."""
     with refusing("write", name), open(name, "ab") as file:
         mode = os.fstat(file.fileno()).st_mode
         if stat.S_ISREG(mode):
@@ -94,7 +97,51 @@ def replace(name, pieces):
 
 
 def print_all(pieces):
-    """Writes pieces to standard output. Refuses if that fails, but raises BrokenPipeError if its reader has gone."""
+    """Writes to standard output. Refuses if that fails, but raises BrokenPipeError if nothing reads the output."""
     # sys.stdout may write only a part if PYTHONUNBUFFERED is set.
     with refusing("write", "standard output", BrokenPipeError), open(1, "wb", closefd=False) as output:
         output.writelines(pieces)
+
+
+class Program:
+    """ffosolve or ffoscores. `start` is its path or, in a checkout, that of a script that runs it, built if needed."""
+
+    def __init__(self, folder, name):
+        self.start = Path(folder, name)
+        if not os.access(self.start, os.X_OK):
+            raise Refusal(UNBUILT, f"{name} is missing: it has to be next to {NAME}, in {folder}")
+
+    def files(self):
+        """Returns the program's files, from the highest processor level down; if there are none, only `start`."""
+        root, files = self.start.parent.parent, f"x86-64-v?/{self.start.name}"
+        found = [*root.glob(f"out/{files}"), *root.glob(f"libexec/ffosolve/{files}")]
+        return sorted(found, reverse=True) or [self.start]
+
+    def try_run(self, *words, stdout=subprocess.DEVNULL):
+        """Runs the program; returns its status, and its messages in one line, without `ffosolve: ` before each. `words`
+        may name descriptors of this process, such as /dev/fd/63."""
+        ran = subprocess.run([self.start, *words], close_fds=False, stdin=subprocess.DEVNULL, stdout=stdout,
+                             stderr=subprocess.PIPE)
+        lines = ran.stderr.decode(errors="replace").splitlines()
+        return ran.returncode, ": ".join(line.removeprefix("ffosolve: ") for line in lines)
+
+    def check(self, options):
+        """Returns, as text, how many empty squares the program accepts with these options. If it refuses the options or
+        their book, it prints why, and this process ends with its status."""
+        if not shutil.which("setpriv"):
+            raise Refusal(UNBUILT, "setpriv is not on the path: apt-get install util-linux")
+        ran = subprocess.run(guarded([self.start, *options, "/dev/stdin"]), input=NO_DISCS, stdout=subprocess.PIPE)
+        if found := re.fullmatch(LIMITS[self.start.name], ran.stdout):
+            return found[1].decode()
+        if ran.returncode:
+            raise SystemExit(ran.returncode if ran.returncode > 0 else UNBUILT)
+        raise Refusal(UNBUILT, f"{self.start} is not the program {self.start.name}")
+
+
+def run_options(command, book_in):
+    """Returns the options with which a command runs ffosolve or ffoscores. `book_in` is the book to read, or None."""
+    # The parts keep all processors busy, so none of them needs more than one thread.
+    options = {"max-empties": command.max_empties, "scoring": command.scoring, "workers": command.workers or 0,
+               "table": command.table, "book-in": book_in}
+    words = [f"--{name}={value}" for name, value in options.items() if value is not None]
+    return words + ["--complete"] * command.complete

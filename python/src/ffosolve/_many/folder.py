@@ -14,9 +14,8 @@ from pathlib import Path
 
 from . import solve
 from .._text import MOST_BYTES, NotText, text_lines
-from .files import NAME, REFUSED, UNBUILT, UNREADABLE, UNSOLVED, Refusal, refusing, shown
-from .programs import run_options
-from .solve import HEAD, Failed, digest_of, fit_program, write_whole
+from .files import NAME, REFUSED, UNBUILT, UNREADABLE, UNSOLVED, Refusal, refusing, run_options, shown
+from .solve import HEAD, digest_of, fit_program, write_whole
 
 LOCK = "ffosolve-many.lock"
 HEADER = "% ffobook 2 {}\n"  # the first line of a book, with its scoring
@@ -26,8 +25,8 @@ ROW = re.compile(rb"(\d+) ([+-]\d\d (?:[A-H][1-8](?:,[A-H][1-8])*|PS|--) [a-z]+|
 
 
 def cut_list(path, lines, name):
-    """Cuts a list into parts of `lines` lines. Returns the offsets in bytes of the parts and of the list's end, and the
-    number of all lines. Refuses a file that is not a list, and a part with more than MOST_BYTES bytes."""
+    """Cuts a list into parts of `lines` lines. Returns the offsets in bytes at which parts begin and the last one ends,
+    and the number of all lines. Refuses a file that is not a list, and a part with more than MOST_BYTES bytes."""
     starts, count = array.array("Q", [0]), 0
     with path.open("rb") as file:
         try:
@@ -50,7 +49,7 @@ def asked_lines(part):
 
 
 def report_lines(rows):
-    """Yields the lines of a report with these rows, each a pair of a line's number and the rest of the row."""
+    """Yields the lines of a report with these rows, each a pair: a line's number, and the rest of the row as bytes."""
     count = refused = 0
     yield b"[1]\n"
     for number, rest in rows:
@@ -60,7 +59,7 @@ def report_lines(rows):
 
 
 def rows_of(report):
-    """Returns the rows of a report, each a pair of a line's number and the rest of the row."""
+    """Returns the rows of a report as `report_lines` takes them, without bytes that are not a row."""
     return [(int(number), rest) for number, rest in ROW.findall(report)]
 
 
@@ -94,13 +93,13 @@ def lock_folder(folder):
 
 
 def begun(folder, options):
-    """Returns what a Run wrote to task.json in a folder or, if it can't be read, a task without programs. Refuses
-    options other than those that the folder was begun with."""
+    """Returns what a Run wrote to task.json in a folder, or {} if that can't be read. Refuses options other than those
+    that the folder was begun with."""
     try:
         task = json.loads((folder / "task.json").read_bytes())
-        before, _ = {**task["options"]}, task["programs"]
+        before = {**task["options"]}
     except (OSError, ValueError, TypeError, KeyError):
-        return {"programs": []}
+        return {}
     differing = [f"with {name} {kept}".strip() if kept is not None else f"without {name}"
                  for name, kept in before.items() if kept != options.get(name)]
     if differing:
@@ -120,16 +119,15 @@ def check_list(kept, source, command):
 
 
 def programs_in(folder):
-    """Returns the SHA-256 of each program in a folder, in hexadecimal."""
+    """Returns the SHA-256, in hexadecimal, of each program that a folder has for its parts."""
     return [hashlib.sha256(path.read_bytes()).hexdigest() for path in sorted(folder.glob("program-?"))]
 
 
 class Run:
-    """A list that is solved in a folder, in parts that are numbered from 0. The folder `results` has their records."""
+    """A list that is solved in a folder, in parts numbered from 0. `results` there has their records (see `solve`)."""
 
     def __init__(self, command, source, program, book_in):
-        """Begins a run in the folder of a command, or continues the one there. `source` is the path of the list, and
-        `book_in` that of the book to read, or None."""
+        """Begins or continues a command's run. `source` is the list's path, and `book_in` that of a book, or None."""
         self.folder, self.lines, name = command.folder, command.lines, shown(command.list)
         cut_list(source, self.lines, name)  # refuses what is not a list
         lock_folder(self.folder)
@@ -145,42 +143,37 @@ class Run:
         copy(Path(solve.__file__), self.folder / "solve.py")
         if book_in:
             copy(book_in, self.folder / "book-in")
-        if not before["programs"] or programs_in(self.folder) != before["programs"]:
+        if programs_in(self.folder) != before.get("programs"):
             for number, path in enumerate(program.files()):
                 write_whole(self.folder / f"program-{number}", [path.read_bytes()], 0o755)
         self.starts, self.all_lines = cut_list(self.folder / "list", self.lines, name)
         self.parts, self.list = len(self.starts) - 1, (self.folder / "list").open("rb")
         self.task = {"options": self.options, "programs": programs_in(self.folder), "parts": self.parts,
-                     "words": run_options(command) + ["--book-in=book-in"] * bool(book_in)}
+                     "words": run_options(command, "book-in" if book_in else None)}
         try:
             self.program, self.task["known"] = fit_program(self.task, self.folder)
-        except Failed as why:
+        except ChildProcessError as why:
             raise Refusal(UNBUILT, f"on this machine {why}") from None
         if self.task != before:
             write_whole(self.folder / "task.json", [json.dumps(self.task, indent=1).encode()])
-        self.statuses = bytearray([UNKNOWN]) * self.parts
-        for entry in os.scandir(self.folder / "results"):
-            if re.fullmatch("[0-9]{7}", entry.name) and int(entry.name) < self.parts:
-                found = self.results(int(entry.name))
-                self.statuses[int(entry.name)] = found[0] if found else UNKNOWN
+        self.statuses = bytearray((self.results(number) or [UNKNOWN])[0] for number in range(self.parts))
 
     def text(self, number):
         """Returns the bytes of a part's lines, as they are in the list."""
         return os.pread(self.list.fileno(), self.starts[number + 1] - self.starts[number], self.starts[number])
 
-    def size(self, number):
-        """Returns the number of lines in a part."""
+    def line_count(self, number):
         return min(self.lines, self.all_lines - number * self.lines)
 
     def span(self, number):
         first = number * self.lines + 1
-        return f"part {number:07d} (lines {first} to {first + self.size(number) - 1})"
+        return f"part {number:07d} (lines {first} to {first + self.line_count(number) - 1})"
 
     def unsolved(self):
         return array.array("L", (number for number in range(self.parts) if self.statuses[number] == UNKNOWN))
 
     def read(self, number, record):
-        """Returns (status, output, book, seconds) from a record, or None if it is not a complete record of the part."""
+        """Returns (status, output, book, seconds) of a part from its record, or None if the record is not complete."""
         head, text = HEAD.match(record), self.text(number)
         results = record[head.end():] if head else b""
         if not head or digest_of(self.task, number, head[1], text, results) != head[6]:
@@ -189,7 +182,7 @@ class Run:
         return found if self.is_whole(text, *found[:3]) else None
 
     def is_whole(self, text, status, output, book):
-        """Returns whether the results of a part with the lines `text` are complete."""
+        """Returns whether these are the complete results of a part with the lines `text`."""
         if self.options["--scores"] is not None:
             return output.count(b"\n") == text.count(b"\n") + (text[-1:] != b"\n") and output.endswith(b"\n")
         has_book = book.startswith(HEADER.format(self.options["--scoring"]).encode()) and book.endswith(b"\n")
@@ -210,7 +203,7 @@ class Run:
         return found and found[3]
 
     def solved(self):
-        """Yields (status, output, book, seconds) of each part. Refuses if a part is no longer solved."""
+        """Yields (status, output, book, seconds) of each part. Refuses if the record of a part is not complete now."""
         for number in range(self.parts):
             if not (found := self.results(number)):
                 raise Refusal(UNSOLVED, f"{self.span(number)} was changed meanwhile; the same command solves it again")

@@ -1,7 +1,5 @@
 """Solves one part of a list: on a thread of ffosolve-many, on a worker of a cluster, or as `python3 solve.py PART`.
-
-This file needs only Python and util-linux, so it works on machines without the rest of the package.
-"""
+This file needs only Python and util-linux, so it works on machines without the rest of the package."""
 import hashlib
 import itertools
 import json
@@ -18,30 +16,22 @@ KNOWN_SECONDS = 30  # in which a machine has to solve that line
 HEAD = re.compile(rb"(([01]) (\d+) (\d+) (\d+\.\d+)) ([0-9a-f]{64})\n")
 
 
-class Failed(Exception):
-    """A part was not solved, or no program works. The argument says why."""
-
-
 def guarded(words):
-    """Returns a command that runs `words`. It is killed when this process ends, even if `setpriv` has not run yet."""
+    """Returns a command that runs `words`, and is killed when this process ends, even if `setpriv` has not run yet."""
     return ["setpriv", "--pdeathsig", "KILL", "sh", "-c", '[ "$PPID" = "$0" ] && exec "$@"', str(os.getpid()), *words]
 
 
 def digest_of(task, part, head, text, results):
-    """Returns the SHA-256, in hexadecimal, of a list's options with a part's number, record head, lines and results."""
+    """Returns the SHA-256, in hexadecimal, of a part's options, number, record before the digest, lines and results."""
     asked = json.dumps([task["options"], part]).encode()
     return hashlib.sha256(b"\n".join((asked, head, text, results))).hexdigest().encode()
 
 
 def solve(task, folder, program, part, text, is_wanted=lambda: True):
-    """Solves the lines `text` with a program. Returns (a record, "") or, if the program fails, (None, the reason).
-
-    The record is a line with the program's status, the sizes of its output and book, the seconds that it took, and the
-    digest; then the output and the book.
-
-    `task` has the program's arguments as `words`, and the `options` of the list. The program runs in `folder`, which
-    has the book that it reads. It is killed once `is_wanted` returns false.
-    """
+    """Solves the lines `text` of a part. `task` is what task.json has. The program runs in `folder` with the arguments
+    `task["words"]`, and is killed once `is_wanted` returns false. Returns (record, "") or, if the program fails, (None,
+    the reason). A record is a line with the program's status, the sizes of its output and its book in bytes, the
+    seconds that it took, and the digest; then the output and the book."""
     # The program writes its book to the pipe of standard error, so that it needs no room on a disk.
     has_book, most = task["options"]["--book-out"] is not None, task["options"]["--scores"] is not None
     command = guarded([program, *task["words"], *["--book-out=/dev/stderr"] * has_book])
@@ -72,8 +62,8 @@ def solve(task, folder, program, part, text, is_wanted=lambda: True):
 
 
 def fit_program(task, folder):
-    """Returns the path of the first program in a folder that solves a known line, and its results for that line, which
-    must equal `task["known"]` if that is set. Raises Failed if no program does so."""
+    """Returns the path of the first program in a folder that solves a known line, and its output and book for that line
+    as one text, which has to equal `task["known"]` if that is set. Raises ChildProcessError if no program does so."""
     why = "is missing"
     for program in sorted(folder.absolute().glob("program-?")):
         end = time.monotonic() + KNOWN_SECONDS
@@ -87,11 +77,11 @@ def fit_program(task, folder):
             why = f"can't solve a known line: {fault}"
         else:
             why = f"needs more than {KNOWN_SECONDS} seconds for a known line"
-    raise Failed(f"the program {why}")
+    raise ChildProcessError(f"the program {why}")
 
 
 def write_whole(path, pieces, mode=None):
-    """Writes `pieces` to a file next to `path`, and renames it to `path` once all of it is on the disk."""
+    """Writes `pieces` to a new file next to `path`, and renames that to `path` once all of it is on the disk."""
     beside = path.with_name(f"{path.name}.{os.urandom(4).hex()}.new")
     try:
         with beside.open("xb") as file:
@@ -106,21 +96,21 @@ def write_whole(path, pieces, mode=None):
 
 
 def main(folder, part):
-    """Solves a part of the list in a folder, and writes the part's record to `results` in that folder."""
+    """Solves a part of the list in a folder, and writes its record to `results` there. `part` is a name, as 0000000."""
     task = json.loads((folder / "task.json").read_text())
     if not re.fullmatch("[0-9]{7}", part) or int(part) >= task["parts"]:
-        raise Failed(f"the parts are 0000000 to {task['parts'] - 1:07d}")
+        raise FileNotFoundError(f"the parts are 0000000 to {task['parts'] - 1:07d}")
     first, lines = int(part) * task["options"]["--lines"], task["options"]["--lines"]
     with (folder / "list").open("rb") as file:
         text = b"".join(itertools.islice(file, first, first + lines))
     record, fault = solve(task, folder, fit_program(task, folder)[0], int(part), text)
     if not record:
-        raise Failed(fault)
+        raise ChildProcessError(fault)
     write_whole(folder / "results" / part, [record])
 
 
 if __name__ == "__main__":
     try:
         main(Path(__file__).resolve().parent, " ".join(sys.argv[1:]))
-    except (Failed, OSError) as why:
+    except OSError as why:
         sys.exit(f"part {' '.join(sys.argv[1:])}: {why}")
