@@ -9,8 +9,7 @@ from pathlib import Path
 
 from .._positions import BLACK, WHITE, NoPosition, Position
 from .._squares import NAMES
-from .files import (DONE, NAME, REFUSED, UNBUILT, UNREADABLE, Program, Refusal, is_same, misused, print_all, regular,
-                    replace, shown)
+from .files import DONE, NAME, REFUSED, UNREADABLE, Program, Refusal, misused, print_all, regular, replace, shown
 from .folder import HEADER
 
 READ = 4096  # bytes of a book that are read at once, and the rest of their last line
@@ -78,40 +77,21 @@ def book_of(run, folder):
     yield from merged(["", *(path.name for path in paths)], [[header], *map(lines_of, paths)])
 
 
-def check_place(name, source, program, *options):
-    """Refuses the file of --book-out if it is the list `source` or a standard stream, or if ffosolve refuses it."""
-    for other, what in ((1, "standard output, where the report goes"), (2, "standard error"), (source, "the list")):
-        if is_same(name, other):
-            raise misused(f"--book-out {shown(name)} is {what}: name another file")
-    with open("/dev/full", "wb") as full:  # so that the program tests the file, and writes nothing
-        _, errors = program.try_run(*options, f"--book-out={name}", "/dev/null", stdout=full)
-    if errors != "cannot write standard output":
-        raise Refusal(UNREADABLE, errors.replace(os.fsencode(name).decode(errors="replace"), shown(name)))
-
-
-def read_books(program, names, paths):
-    """Lets ffosolve read each book, and refuses the first one that ffosolve refuses."""
-    for name, path in zip(names, paths):
-        status, errors = program.try_run(f"--book-in={path}", "/dev/null")
-        if status:
-            raise Refusal(status if status > 0 else UNBUILT, f"{name}: {errors}")
-
-
 def merge_books(command, programs):
     """Merges the books that a command names, to standard output or to the file of --book-out; returns the status."""
     if not command.words:
         raise misused("--merge-books needs the name of a book")
     program, names = Program(programs, "ffosolve"), list(map(shown, command.words))
     if command.book_out:
-        check_place(command.book_out, os.devnull, program)
+        program.check_book_out(command.book_out, os.devnull)
     paths = [regular(name) for name in command.words]
     with tempfile.NamedTemporaryFile(prefix=f"{NAME}-") as whole:
         try:
             whole.writelines(merged(names, map(lines_of, paths)))
             whole.seek(0)
-            read_books(program, ["the merged book"], [whole.name])
+            program.check_books(["the merged book"], [whole.name])
         except (ValueError, Refusal) as why:
-            read_books(program, names, paths)  # refuses a book that is wrong by itself
+            program.check_books(names, paths)  # refuses a book that is wrong by itself
             raise why if isinstance(why, Refusal) else Refusal(UNREADABLE, str(why)) from None
         if command.book_out:
             replace(command.book_out, whole)

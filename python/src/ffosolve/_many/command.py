@@ -9,7 +9,7 @@ import tempfile
 from pathlib import Path
 
 from .. import __version__
-from .books import book_of, check_place, merge_books
+from .books import book_of, merge_books
 from .engine import Threads, solve_parts
 from .files import (DONE, NAME, UNREADABLE, UNSOLVED, Program, Refusal, counted, is_same, misused, path_of, print_all,
                     refusing, regular, replace, run_options, say, shown)
@@ -139,7 +139,7 @@ def begin(command, programs):
     options = run_options(command, book_in)
     command.max_empties = program.check(options)
     if command.book_out:
-        check_place(command.book_out, path, program, *options)
+        program.check_book_out(command.book_out, path, *options)
     with refusing("write", command.folder):
         return Run(command, source, program, book_in)
 

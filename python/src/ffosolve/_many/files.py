@@ -125,9 +125,26 @@ class Program:
         lines = ran.stderr.decode(errors="replace").splitlines()
         return ran.returncode, ": ".join(line.removeprefix("ffosolve: ") for line in lines)
 
+    def check_books(self, names, paths):
+        """Lets ffosolve read each book, and refuses the first one that ffosolve refuses."""
+        for name, path in zip(names, paths):
+            status, errors = self.try_run(f"--book-in={path}", "/dev/null")
+            if status:
+                raise Refusal(status if status > 0 else UNBUILT, f"{name}: {errors}")
+
+    def check_book_out(self, name, source, *options):
+        """Refuses the file of --book-out if it is the list `source` or a standard stream, or if ffosolve refuses it."""
+        for other, what in ((1, "standard output, where the report goes"), (2, "standard error"), (source, "the list")):
+            if is_same(name, other):
+                raise misused(f"--book-out {shown(name)} is {what}: name another file")
+        with open("/dev/full", "wb") as full:  # so that the program tests the file, and writes nothing
+            _, errors = self.try_run(*options, f"--book-out={name}", "/dev/null", stdout=full)
+        if errors != "cannot write standard output":
+            raise Refusal(UNREADABLE, errors.replace(os.fsencode(name).decode(errors="replace"), shown(name)))
+
     def check(self, options):
-        """Returns, as text, how many empty squares the program accepts with these options. If it refuses the options or
-        their book, it prints why, and this process ends with its status."""
+        """Returns, as text, how many empty squares a position may have for the program to solve it with these options. If
+        the program refuses the options or their book, it prints why, and this process ends with its status."""
         if not shutil.which("setpriv"):
             raise Refusal(UNBUILT, "setpriv is not on the path: apt-get install util-linux")
         ran = subprocess.run(guarded([self.start, *options, "/dev/stdin"]), input=NO_DISCS, stdout=subprocess.PIPE)
