@@ -137,7 +137,7 @@ def begin(command, programs):
     book_in = regular(command.book_in) if command.book_in else None
     program = Program(programs, "ffoscores" if command.scores else "ffosolve")
     options = run_options(command, book_in)
-    command.max_empties = program.check(options)
+    command.max_empties = program.check_options(options)
     if command.book_out:
         program.check_book_out(command.book_out, path, *options)
     with refusing("write", command.folder):

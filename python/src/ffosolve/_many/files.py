@@ -118,8 +118,7 @@ class Program:
         return sorted(found, reverse=True) or [self.start]
 
     def try_run(self, *words, stdout=subprocess.DEVNULL):
-        """Runs the program; returns its status, and its messages in one line, without `ffosolve: ` before each. `words`
-        may name descriptors of this process, such as /dev/fd/63."""
+        """Runs the program; returns (its status, its messages in one line). Words may be open files, as /dev/fd/63."""
         ran = subprocess.run([self.start, *words], close_fds=False, stdin=subprocess.DEVNULL, stdout=stdout,
                              stderr=subprocess.PIPE)
         lines = ran.stderr.decode(errors="replace").splitlines()
@@ -142,9 +141,9 @@ class Program:
         if errors != "cannot write standard output":
             raise Refusal(UNREADABLE, errors.replace(os.fsencode(name).decode(errors="replace"), shown(name)))
 
-    def check(self, options):
-        """Returns, as text, how many empty squares a position may have for the program to solve it with these options. If
-        the program refuses the options or their book, it prints why, and this process ends with its status."""
+    def check_options(self, options):
+        """Returns, as text, how many empty squares the program takes with these options. If it refuses the options or
+        their book, it prints why, and this process ends with its status."""
         if not shutil.which("setpriv"):
             raise Refusal(UNBUILT, "setpriv is not on the path: apt-get install util-linux")
         ran = subprocess.run(guarded([self.start, *options, "/dev/stdin"]), input=NO_DISCS, stdout=subprocess.PIPE)

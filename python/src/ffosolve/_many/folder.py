@@ -77,8 +77,7 @@ def copy(source, path):
 
 
 def lock_folder(folder):
-    """Makes a folder if there is none, and locks it until this process ends. Refuses a folder that has files but no
-    lock file, or that another run has locked."""
+    """Makes and locks a folder. Refuses a folder that has files but no lock file, or that another run has locked."""
     folder.mkdir(parents=True, exist_ok=True)
     found = sorted(os.listdir(folder))
     if found and LOCK not in found:
@@ -93,8 +92,7 @@ def lock_folder(folder):
 
 
 def begun(folder, options):
-    """Returns what a Run wrote to task.json in a folder, or {} if that can't be read. Refuses options other than those
-    that the folder was begun with."""
+    """Returns what a folder's task.json has, or {} if it can't be read. Refuses options other than those in it."""
     try:
         task = json.loads((folder / "task.json").read_bytes())
         before = {**task["options"]}
