@@ -147,7 +147,7 @@ class Cluster:
                 running.update(dict.fromkeys(parts[:threads], host))
         self.room = 2 * sum(self.ready.values()) + 2 if self.ready else 0
         for future, number in flying.items():
-            if number in strays:  # since workers that join later would not get it
+            if number in strays:  # which workers that join later would not get
                 future.cancel()
         return running
 

@@ -11,7 +11,7 @@ from .folder import asked_lines
 from .solve import solve
 
 HERE = "this machine"
-FILES = 8  # that a job has open while it starts its program; three while that runs
+FILES = 8  # files that a job has open while it starts its program, and then three
 LONG_SECONDS = 600  # after which a part that is still being solved is named
 GROWTH = 2.5  # factor of the work for each further empty square
 
@@ -95,7 +95,7 @@ class Threads:
         return HERE, record and self.run.keep(number, record), why
 
     def result(self, future, number):
-        """Returns (the part's machine, the seconds that it took or None if it failed, the reason of that or "")."""
+        """Returns (the part's machine, the seconds that it took or None if it failed, why it failed or "")."""
         return future.result()
 
     def look(self, flying):

@@ -20,7 +20,7 @@ LIMITS = {"ffosolve": rb"\[1\]\n1 refused: 64 empties, limit (\d+)\nsolved 0 ref
 
 
 class Refusal(Exception):
-    """Ends the command. The arguments are the command's exit status and a message without its first word."""
+    """Ends the command. The arguments are its exit status, and the message that `say` prints."""
 
 
 def misused(text):

@@ -122,7 +122,7 @@ def programs_in(folder):
 
 
 class Run:
-    """A list that is solved in a folder, in parts numbered from 0. `results` there has their records (see `solve`)."""
+    """A list that is solved in a folder, in parts numbered from 0. Its folder `results` has their records."""
 
     def __init__(self, command, source, program, book_in):
         """Begins or continues a command's run. `source` is the list's path, and `book_in` that of a book, or None."""
@@ -171,7 +171,7 @@ class Run:
         return array.array("L", (number for number in range(self.parts) if self.statuses[number] == UNKNOWN))
 
     def read(self, number, record):
-        """Returns (status, output, book, seconds) of a part from its record, or None if the record is not complete."""
+        """Returns (status, output, book, seconds) from a part's record (see `solve`), or None if it is not complete."""
         head, text = HEAD.match(record), self.text(number)
         results = record[head.end():] if head else b""
         if not head or digest_of(self.task, number, head[1], text, results) != head[6]:

@@ -36,7 +36,7 @@ def solve(task, folder, program, part, text, is_wanted=lambda: True):
     has_book, most = task["options"]["--book-out"] is not None, task["options"]["--scores"] is not None
     command = guarded([program, *task["words"], *["--book-out=/dev/stderr"] * has_book])
     begun = time.monotonic()
-    try:  # `communicate` loses what it has not written when its time ends, so the list is a file in memory
+    try:  # after a timeout, `communicate` loses the rest of the input, so the lines are a file in memory
         with open(os.memfd_create("part"), "w+b") as file:
             file.write(text)
             file.seek(0)
