@@ -97,7 +97,7 @@ def replace(name, pieces):
 
 
 def print_all(pieces):
-    """Writes to standard output. Refuses if that fails, but raises BrokenPipeError if nothing reads the output."""
+    """Writes to standard output. Refuses if that fails, but raises BrokenPipeError if the output is no longer read."""
     # sys.stdout may write only a part if PYTHONUNBUFFERED is set.
     with refusing("write", "standard output", BrokenPipeError), open(1, "wb", closefd=False) as output:
         output.writelines(pieces)
@@ -118,7 +118,7 @@ class Program:
         return sorted(found, reverse=True) or [self.start]
 
     def try_run(self, *words, stdout=subprocess.DEVNULL):
-        """Runs the program; returns (its status, its messages in one line). Words may be open files, as /dev/fd/63."""
+        """Runs the program; returns (its status, its messages in one line). Words may name open files: /dev/fd/63."""
         ran = subprocess.run([self.start, *words], close_fds=False, stdin=subprocess.DEVNULL, stdout=stdout,
                              stderr=subprocess.PIPE)
         lines = ran.stderr.decode(errors="replace").splitlines()
@@ -142,8 +142,8 @@ class Program:
             raise Refusal(UNREADABLE, errors.replace(os.fsencode(name).decode(errors="replace"), shown(name)))
 
     def check_options(self, options):
-        """Returns, as text, how many empty squares the program takes with these options. If it refuses the options or
-        their book, it prints why, and this process ends with its status."""
+        """Returns, as text, how many empty squares a position may have. If the program refuses the options or their
+        book, it prints why, and this process ends with its status."""
         if not shutil.which("setpriv"):
             raise Refusal(UNBUILT, "setpriv is not on the path: apt-get install util-linux")
         ran = subprocess.run(guarded([self.start, *options, "/dev/stdin"]), input=NO_DISCS, stdout=subprocess.PIPE)

@@ -59,7 +59,7 @@ def report_lines(rows):
 
 
 def rows_of(report):
-    """Returns the rows of a report as `report_lines` takes them, without bytes that are not a row."""
+    """Returns the rows of a report as pairs that `report_lines` takes. Leaves out lines that are not rows."""
     return [(int(number), rest) for number, rest in ROW.findall(report)]
 
 
@@ -77,7 +77,7 @@ def copy(source, path):
 
 
 def lock_folder(folder):
-    """Makes and locks a folder. Refuses a folder that has files but no lock file, or that another run has locked."""
+    """Makes a folder if needed, and locks it. Refuses one with files but no lock file, or with another run's lock."""
     folder.mkdir(parents=True, exist_ok=True)
     found = sorted(os.listdir(folder))
     if found and LOCK not in found:
