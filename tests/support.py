@@ -21,7 +21,7 @@ sys.path.insert(0, str(ROOT / "python/src"))  # for `import ffosolve`
 
 
 def lack(what):
-    """Skips the test, or in setUpModule all tests of the module, since `what` is missing; fails instead if CI=true."""
+    """Skips the test (in setUpModule, the module) since `what` is missing; fails if the environment has CI=true."""
     kind = AssertionError if os.environ.get("CI") == "true" else unittest.SkipTest
     raise kind(f"{what} is missing")
 
@@ -34,7 +34,7 @@ def need(*tools):
 
 
 def need_module(name):
-    """Returns a Python module; calls `lack` if it is not installed."""
+    """Imports and returns a Python module; calls `lack` if it is not installed."""
     try:
         return importlib.import_module(name)
     except ImportError:
@@ -127,7 +127,7 @@ def copy_many(root):
 
 
 class InFolder(unittest.TestCase):
-    """A test whose current folder, `self.folder`, is a new one for each test; everybody may read it."""
+    """A test that runs in a new folder, `self.folder`, which everybody may read."""
 
     def setUp(self):
         self.folder = module_folder(self.enterContext)
@@ -135,8 +135,8 @@ class InFolder(unittest.TestCase):
         self.enterContext(contextlib.chdir(self.folder))
 
     def ends(self, wanted, *words, **how):
-        """Runs a command and asserts that its (status, standard output, standard error) is `wanted`, in str if the
-        output is a str, and otherwise in bytes. The test goes on if this fails."""
+        """Runs a command and asserts that it ends with `wanted`: (status, standard output, standard error), both as str
+        or both as bytes. The test goes on if this fails."""
         with self.subTest(words=words, input=(how.get("input") or "")[-99:]):
             ran = run(*words, **{"text": isinstance(wanted[1], str), **how})
             self.assertEqual((ran.returncode, ran.stdout, ran.stderr), wanted)
@@ -152,14 +152,12 @@ class InFolder(unittest.TestCase):
         """Asserts that a program reports a full or closed standard output, and that SIGPIPE ends it if its output is a
         pipe that is not read any more. `words` are the program's path and its arguments."""
         for output, why in ((">/dev/full", "No space left on device"), (">&-", "it is closed")):
-            ran = run("sh", "-c", f'exec "$0" "$@" {output}', *words)
             error = f"{Path(words[0]).name}: cannot write standard output: {why}\n"
-            self.assertEqual((ran.returncode, ran.stderr.decode()), (3, error), words)
+            self.ends((3, "", error), "sh", "-c", f'exec "$0" "$@" {output}', *words)
         reading, writing = os.pipe()
         os.close(reading)
-        ran = run(*words, stdout=writing)
+        self.ends((-signal.SIGPIPE, None, b""), *words, stdout=writing)
         os.close(writing)
-        self.assertEqual((ran.returncode, ran.stderr), (-signal.SIGPIPE, b""), words)
 
 
 def wait_until(holds, seconds=SECONDS):
@@ -183,14 +181,14 @@ def processes_in(place):
     for number in set(filter(str.isdigit, os.listdir("/proc"))) - {str(os.getpid())}:
         with contextlib.suppress(OSError):  # the process has ended, or is another user's
             if os.readlink(f"/proc/{number}/cwd").startswith(str(place)):
-                words = Path(f"/proc/{number}/cmdline").read_bytes()
-                found[int(number)] = words.decode(errors="replace").replace("\0", " ")
+                words = Path(f"/proc/{number}/cmdline").read_text(errors="replace")
+                found[int(number)] = words.replace("\0", " ")
     return found
 
 
 def preload(folder, **variables):
-    """Returns an environment in which a program calls the functions of tests/preload.c instead of the system's. They
-    read `variables`. The first call compiles that file into `folder`."""
+    """Returns an environment in which a program calls the functions of tests/preload.c instead of the system's;
+    `variables`, which it also has, choose what they do. The first call compiles that file into `folder`."""
     library = folder / "preload.so"
     if not library.exists():
         need("cc")

@@ -10,6 +10,8 @@ from tests.support import (MOST_BYTES, NOBODY, SECONDS, InFolder, built, copy_ma
 TEXT, REPORT, BOOK = (stored("examples", f"first.{end}") for end in ("obf", "report", "book"))
 OLD = BOOK + b"% an old book, longer than the new one\n" * 99
 NOTES = b"notes, not a book\n"
+DONE = (0, REPORT, b"")
+NO_BOOK = (3, b"", b"ffosolve: it.book is not a book and would be overwritten\n")
 DENIED, IN_THE_WAY = "permission denied", "another file is in the way"
 
 
@@ -17,10 +19,6 @@ def unwritten(cause, name="it.book", report=b""):
     """Returns the (status, output, error) of a run that can't write the book `name`. The error has one line and, if
     `cause` is not empty, a second one with it. The output is `report`, by default empty: nothing was solved."""
     return 3, report, "".join(f"ffosolve: {line}\n" for line in (f"cannot write {name}", cause) if line).encode()
-
-
-DONE = (0, REPORT, b"")
-NO_BOOK = (3, b"", b"ffosolve: it.book is not a book and would be overwritten\n")
 
 
 def setUpModule():
@@ -46,8 +44,8 @@ class Books(InFolder):
             os.remove(name)
 
     def solves_over(self, old, wanted, place="it.book", mode=0o644, folder_mode=0o755, **how):
-        """Runs ffosolve with `--book-out it.book` over a file that holds `old`: it.book or, if `place` is another, the
-        target of the link it.book. Asserts that the file has the new book if the run's end, `wanted`, is DONE."""
+        """Runs ffosolve with `--book-out it.book`, a file that holds `old` or, with another `place`, a link to it.
+        Asserts that it ends as `wanted`, and that the file has the new book if this is DONE, and otherwise `old`."""
         write(place, old, mode)
         if place != "it.book":
             os.symlink(place, "it.book")

@@ -30,7 +30,7 @@ def read(source, reader=ffosolve.parse_lines):
 
 
 def read_in_c(text):
-    """Returns what `read` does, but for the lines as the library's function ffosolve_read_line reads them."""
+    """Returns the same as `read` for a text, but from the library's function ffosolve_read_line."""
     rows, lines = {}, [line.removesuffix(b"\r") for line in text.split(b"\n")]
     printed = PREFIX.called(f"read_line 8 {line.hex()}" for line in lines)
     for number, (status, *words) in enumerate(map(str.split, printed), 1):
@@ -68,7 +68,7 @@ class OddLines(unittest.TestCase):
         self.assertLessEqual({"agree", "differ", "unlisted", *(f"refused: {why}" for why in refused)}, kinds)
 
     def reported(self, solver, row):
-        """Returns what ffosolve's report must have, after the number, for a line that `read` finds to be `row`."""
+        """Returns what ffosolve must report, after the line number, for a line for which `read` returns `row`."""
         if "refused" in row:
             return row
         own, opp, _, *listed = row.split()

@@ -107,7 +107,7 @@ class Rows(InFolder):
             self.ends((PROGRAMS[name], "", f"{name}: more than 64 files\n"), built(name), *["over"] * 65)
         self.ends((0, b"[1]\n1 +64 -- unlisted\nsolved 1 refused 0\n", b""), built(), input=b"X" * MOST_BYTES)
 
-    def test_the_first_unreadable_file_is_reported_before_anything_is_printed(self):
+    def test_an_error_in_any_file_is_reported_before_anything_is_printed(self):
         """ffosolve reads a book before all lists. ffoscores reads all lists before it measures and counts them."""
         write("list", TWO)
         write("large", b" " * (MOST_BYTES + 1))
