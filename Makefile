@@ -103,10 +103,8 @@ constants: ## writes the version, the size of the largest table and the default 
 
 look: export list = $(LIST)
 look: ## solves three positions in about a minute, with nothing proved; LIST=FILE solves a small list of yours
-	if [ -n "$$list" ]; then
-	    list=$$(realpath -e -- "$$list")
-	    set -- --data "list.obf=$$list" -- list.obf
-	fi
+	[ -z "$$list" ] || list=$$(realpath -e -- "$$list")
+	[ -z "$$list" ] || set -- --data "list.obf=$$list" -- list.obf
 	cd crates/ffosolve
 	exec 3>&1
 	said=$$(rt try "$$@" <stdin 2>&1 >&3) && status=0 || status=$$?
@@ -126,8 +124,6 @@ places = case "$(PREFIX)" in /*) ;; *) echo "PREFIX is $(PREFIX), but has to beg
     share="$(DESTDIR)$(PREFIX)/share"
 documents = README.md LICENSE CHANGELOG.md VERSION \
     $(shell find docs examples python rust crates/*/specs \( -name __pycache__ -o -name '.*' -o -name target -o -name Cargo.lock \) -prune -o -type f -print)
-# The package for Python that the scripts use. It is among the documents, too, but some systems leave these out.
-modules = VERSION $(shell find python/src \( -name __pycache__ -o -name '.*' \) -prune -o -type f -print)
 
 # Completions call the installed program for its --help, so TAB after bin/ffosolve in a checkout builds nothing.
 install: $(programs:%=out/$(CPU)/%) $(libraries) ## installs programs, library, manual pages, completions and documents under PREFIX (/usr/local), in DESTDIR
@@ -147,7 +143,8 @@ install: $(programs:%=out/$(CPU)/%) $(libraries) ## installs programs, library, 
 	    $(call fill,share/completions/fish,"$$share/fish/vendor_completions.d/$$name.fish")
 	done
 	rm -rf "$$share/doc/ffosolve" "$$share/ffosolve"
-	for file in $(modules); do install -D -m 644 "$$file" "$$share/ffosolve/$$file"; done
+	# The package for Python that the scripts use is among the documents, too, but some systems leave these out.
+	for file in VERSION $(filter python/src/%,$(documents)); do install -D -m 644 "$$file" "$$share/ffosolve/$$file"; done
 	for file in $(documents); do install -D -m 644 "$$file" "$$share/doc/ffosolve/$$file"; done
 	rm -f "$$lib"/libffosolve.so* "$$lib"/glibc-hwcaps/x86-64-v3/libffosolve.so*
 	install -D -m 644 out/x86-64-v2/libffosolve.a "$$lib/libffosolve.a"

@@ -34,7 +34,6 @@ dist: levels ## makes out/ffosolve-VERSION-linux-x86-64.tar.gz, which runs where
 	ln -s share/doc/ffosolve/examples "$$top/examples"
 	$(call texts,archive,deb,bin/,share/doc/ffosolve,$$top)
 	(cd "$$top" && find . -type f ! -name SHA256SUMS | LC_ALL=C sort | xargs -d '\n' sha256sum >SHA256SUMS)
-	chmod -R u=rwX,go=rX "$$top"
 	tar -C "$$room" --sort=name --mtime="@$(seconds)" --owner=0 --group=0 --numeric-owner --format=ustar -c $(archive) | gzip -9n >out/$(archive).tar.gz.new
 	mv -f out/$(archive).tar.gz.new out/$(archive).tar.gz
 	(cd out && sha256sum $(archive).tar.gz >$(archive).tar.gz.sha256)

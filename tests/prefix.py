@@ -32,8 +32,8 @@ def names_of_files():
 
 
 def copied_checkout(folder):
-    """Builds all programs, copies the checkout and what was built into `folder`, and returns `folder`. The copies keep
-    the times of the files, and everybody may read them."""
+    """Builds everything, copies the checkout with all that is built to `folder`, and returns `folder`. The copies keep
+    the modification times of the files, and everybody may read them."""
     run("make", "-s", "-C", ROOT, "levels", stderr=None, timeout=None, check=True)
     shutil.copytree(ROOT / "out", folder / "out", ignore=shutil.ignore_patterns("tests", "*.log", "*.tar.gz*", "*.new"))
     run("cp", "--parents", "--preserve=mode,timestamps", *names_of_files(), folder, cwd=ROOT, check=True)
@@ -48,20 +48,19 @@ def files_below(folder):
 
 
 def path_without(tool, folder):
-    """Returns PATH with each of its folders replaced by a new one in `folder`, which has links to all files of the old
-    one except `tool`."""
-    places = {Path(folder, f"without-{tool}-{at}"): place for at, place in enumerate(os.get_exec_path())}
-    for links, place in places.items():
-        links.mkdir()
-        for command in set(Path(place).glob("*")) - {Path(place, tool)}:
-            (links / command.name).symlink_to(command)
-    return ":".join(map(str, places))
+    """Makes a folder in `folder` with links to all commands on PATH except `tool`. Returns its path as a string."""
+    links = Path(folder, f"without-{tool}")
+    links.mkdir()
+    commands = {path.name: path for place in reversed(os.get_exec_path()) for path in Path(place).glob("*")}
+    for name in commands.keys() - {tool}:
+        (links / name).symlink_to(commands[name])
+    return str(links)
 
 
 class Prefix:
-    """The files under a prefix, and the folder `work` for programs that use them. `install` runs once for each test
-    module: it makes `work` and, if TEST_PREFIX is not set, installs the files under a prefix in `work`. It also copies
-    what is installed as documents, such as the packages for Python and Rust, into `work`."""
+    """What is installed under a prefix, and the folder `work`, in which tests build programs that use it. Each test
+    module calls `install` once: it makes `work`, installs under a prefix in `work` if TEST_PREFIX is not set, and
+    copies the installed documents, which include the packages for Python and Rust, into `work`."""
 
     def install(self):
         vars(self).clear()
@@ -97,8 +96,8 @@ class Prefix:
         return ran
 
     def compile(self, compiler, name, sources, *words):
-        """Compiles a program in C or C++ and returns its path. `words` are the options that link it, by default with
-        libffosolve.a."""
+        """Compiles a program in C or C++ and returns its path. `words` are the options that link the program with the
+        library, by default with libffosolve.a."""
         need(compiler[0])
         libraries = words or ("-I", self.header.parent, "-x", "none", self.archive)
         self.make(*compiler, "-o", self.work / name, *sources, *libraries)

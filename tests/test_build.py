@@ -45,22 +45,18 @@ LEVEL = LEVELS[is_v3()]
 HOW = {"text": True, "preexec_fn": as_at_a_login, "cwd": "/"}
 
 
-def setUpModule():
-    need("make", "setpriv", "flock")
-
-
 class Build(InFolder):
     """Tests in a small checkout, in a folder whose name has a blank."""
 
     def setUp(self):
         super().setUp()
+        need("make", "setpriv", "flock")
         self.root, self.tools, self.kit = self.folder / "a checkout", self.folder / "tools", self.folder / "kit"
         for name in ("ffosolve", "ffoscores", "othello_rules", "ffosolve_c"):
             write(self.root / f"crates/{name}/src/main.rt", "1\n")
         self.source = self.root / "crates/ffosolve/src/main.rt"
-        crates = ("# low first", "othello_rules: std", "other: othello_rules", "ffosolve: othello_rules",
-                  "ffoscores: othello_rules", "ffosolve_c staticlib: othello_rules", "")
-        write(self.root / "crates.txt", "\n".join(crates))
+        users = [f"{name}: othello_rules\n" for name in ("other", "ffosolve", "ffoscores", "ffosolve_c staticlib")]
+        write(self.root / "crates.txt", "# low first\nothello_rules: std\n" + "".join(users))
         files = ("bin", "packaging", "include", "scripts", "Makefile", "VERSION")
         run("cp", "-r", *(ROOT / name for name in files), self.root, check=True)
         self.rt, self.link = write(self.tools / "rt", RT), write(self.kit / "bin/rattle-link", COPY)
@@ -71,33 +67,34 @@ class Build(InFolder):
         self.enterContext(mock.patch.dict(os.environ, places, clear=True))
 
     def use(self, *words, **environment):
-        """Runs `self.script`, which is bin/ffosolve unless a test changes it, with `words`, by default `w`, and returns
-        the ended run."""
+        """Runs `self.script`, which is bin/ffosolve unless a test changes it, with the arguments `words`, by default
+        `w`; returns the ended run."""
         return run(self.script, *(words or ("w",)), input="read\n", env={**os.environ, **environment}, **HOW)
 
     def begin(self, **environment):
-        """Starts `self.script` and returns its process."""
+        """Starts `self.script` with the argument `w` and returns its process."""
         return self.start(self.script, "w", env={**os.environ, **environment}, **HOW)
 
     def builds(self):
         return self.starts.read_text().count("start")
 
     def ran(self, ran, text, words="<w>", builds=None):
-        """Asserts that the run `ran` started a program made of `text`, which printed its arguments as `words`, and if
-        `builds` is given, that there have been so many builds in all; returns the errors of the run."""
+        """Asserts that the run `ran` ended with a program that was built from a source with the text `text`, and that
+        printed its arguments as `words`. If `builds` is given, asserts that this was the number of builds up to now.
+        Returns the run's standard error."""
         self.assertEqual((ran.returncode, ran.stdout), (3, f"made of {text}\n{words}/\nread\n"), ran.stderr)
         self.assertEqual(self.builds(), builds or self.builds())
         return ran.stderr
 
     def after(self, change, text, builds, **environment):
-        """Runs the shell command `change` in the folder of the crate ffosolve, and then `self.script`. Asserts that
-        the script ran a program made of `text`, and that there have been `builds` builds in all; returns its errors."""
+        """Runs the shell command `change` in the folder of the crate ffosolve, then `self.script`, and makes the
+        assertions of `ran` about this run. Returns the run's standard error."""
         run("sh", "-euc", change, cwd=self.root / "crates/ffosolve", check=True)
         return self.ran(self.use(**environment), text, builds=builds)
 
     def refused(self, ran, words, before="(.*\n)*"):
-        """Asserts that a run ended with status 4 and without output, and that the last line of its errors says that
-        nothing was built and has `words` in it. The lines before it have to match the pattern `before`."""
+        """Asserts that a run ended with status 4 and without output, and that the last line on standard error says that
+        ffosolve was not built and contains `words`. The lines before match `before`, by default any lines."""
         self.assertEqual((ran.returncode, ran.stdout), (4, ""), ran)
         self.assertRegex(ran.stderr, rf"\A{before}ffosolve: not built: .*{re.escape(words)}.*\n\Z")
 
@@ -159,7 +156,7 @@ class Build(InFolder):
         self.after("echo >>../../crates.txt", 1, builds=9)
 
     def test_a_change_within_the_same_second_builds_again(self):
-        """A file's modification time may be up to a second behind the clock."""
+        """Here, `date` is a second ahead, as a file's modification time may be up to a second behind the clock."""
         write(self.tools / "date", '#!/bin/sh\necho $(($(/usr/bin/date "$@") + 1))\n')
         self.use()
         self.after("echo 2 >src/main.rt", 2, builds=2)
@@ -230,7 +227,7 @@ class Build(InFolder):
         self.assertLess(self.builds(), 15)
 
     def test_a_program_that_cannot_be_written_leaves_nothing_and_runs_no_older_one(self):
-        """The command mv fails before the move and then after it, as if make were ended there."""
+        """The command mv fails, at first without moving the file, and then after moving it."""
         self.use()
         write(self.source, "2\n")
         for moves in ("", '/usr/bin/mv "$@"\n'):
@@ -254,7 +251,7 @@ class Build(InFolder):
         self.ran(self.use(), 1)
 
     def test_in_a_checkout_of_another_user_a_built_program_runs_and_no_other_is_built(self):
-        """The program also runs if a source has a new modification time, or can't be read while out/ can't be
+        """The program also runs if a source has a new modification time, and if sources can't be read nor out/ be
         written."""
         def closed(*changes):
             run("sh", "-euc", "\n".join(("chmod -R a-w .", *changes)), cwd=self.root, check=True)
@@ -286,8 +283,8 @@ class Build(InFolder):
         self.ran(self.use(), 1, builds=5)
 
     def on_a_terminal(self, keys, shown, go=False, columns=80):
-        """Runs the script on a terminal of `columns` columns while the fake rt waits, types `keys` when `shown` has
-        appeared, and returns (output, status). If `go` is true, the fake rt may end then."""
+        """Runs `self.script` on a terminal with `columns` columns while the fake rt waits. When the bytes `shown` have
+        appeared, ends the wait if `go` is true, and types `keys`. Returns (output, status)."""
         words = ["script", "-qec", f"stty cols {columns}; exec '{self.script}' w", "/dev/null"]
         ran = self.start(*words, stdin=subprocess.PIPE, env={**os.environ, "ACTS": WAIT}, **{**HOW, "text": False})
         output, end = b"", time.monotonic() + SECONDS

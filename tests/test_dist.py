@@ -61,8 +61,8 @@ def setUpModule():
 
 class Case(InFolder):
     def shows(self, readme, count, start):
-        """Asserts that a package's README has `count` commands, and that they print the reports in it. `start` runs a
-        command."""
+        """Asserts that a package's README has at most 400 words and `count` commands, and that these succeed. Those for
+        first.obf and masks.txt have to print the known results. The function `start` runs the words of a command."""
         need("cc", "pkg-config", "man")
         text = readme.read_text()
         self.assertLessEqual(len(text.split()), 400)
@@ -129,8 +129,8 @@ class Packages(Case):
                     self.assertNotIn(os.fsencode(place), (UNPACKED / name).read_bytes())
 
     def test_files_that_texts_name_are_there(self):
-        """Files in docs/ may also name tests, benchmarks and proofs that only the checkout has, but no command uses
-        those."""
+        """Texts in docs/ may also name tests, benchmarks and proofs, which only the checkout has, but not in their
+        commands."""
         named = re.compile(r"(?<![\w/<}.-])((?:[\w-]+[\w.-]*/)+[\w-]+\.(?:md|py|rs|c|h|toml|txt|obf|antt|a|so))\b")
         files = files_below(UNPACKED)
         for path in [UNPACKED / name for name in files]:
@@ -171,7 +171,7 @@ class Packages(Case):
                 self.ends((3, f"{level} 1 a b\n", ""), words, "a b")
 
     def needs_libc_alone(self, path):
-        """Asserts that a program or library needs no library but glibc, and no version of that newer than 2.34."""
+        """Asserts that a program or library needs no library but glibc, and no glibc newer than 2.34."""
         need("readelf")
         printed = run("readelf", "-d", "-V", path, text=True).stdout
         versions = re.findall(r"GLIBC_([\d.]+)", printed)
@@ -226,7 +226,7 @@ class Packages(Case):
         self.assertFalse(ARCHIVES[1].exists())
 
 
-# Mounts a layer over each folder into which packages are installed, and runs a command. The mounts end with it.
+# Mounts an overlay over each folder into which packages are installed, and runs a command. The mounts end with it.
 APART = """
 room=$1; shift
 for folder in usr etc var; do
@@ -269,8 +269,8 @@ class Debian(Case):
         self.ends((0, FIRST, ""), *(Path("root", word) for word in words), env=WITHOUT_RT)
 
     def apart(self, *words, check=True):
-        """Runs a command with a layer over each of the folders /usr, /etc and /var. The layers take what the command
-        writes, and keep it for later commands."""
+        """Runs a command with an overlay over each of the folders /usr, /etc and /var. The command writes into the
+        overlays, and later commands of the test use them again. If `check` is true, asserts that it succeeds."""
         how = {"env": {"PATH": "/usr/sbin:/usr/bin:/sbin:/bin", "DEBIAN_FRONTEND": "noninteractive"}, "timeout": None}
         ran = run("unshare", "--mount", "sh", "-euc", APART, "sh", self.folder / "layers", *words, text=True, **how)
         self.assertFalse(check and ran.returncode, ran)
@@ -290,15 +290,7 @@ class Debian(Case):
         self.shows(readme, 6, lambda *words: self.apart(*words, check=False))
         printed = f"{PACKAGE} {VERSION} {VERSION} ['H1']\n/usr/lib/python3/dist-packages/ffosolve/__init__.py "
         self.assertTrue(self.apart("/usr/bin/python3", *SOLVES).stdout.startswith(printed))
-        self.needed_by_another_package()
-        self.apart(*apt, "purge", "ffosolve")
-        left = "find /usr /etc /var/lib/dpkg/info -iname '*ffosolve*' | grep -v '^/usr/share/doc/ffosolve$' || :"
-        self.assertEqual(self.apart("sh", "-c", left).stdout, "")
-        self.assertFalse(Path("/usr/bin/ffosolve").exists())
-
-    def needed_by_another_package(self):
-        """Asserts that Debian's tools find that a program needs the library, and that a package that depends on the
-        library can be installed and removed."""
+        # Debian's tools find that a program needs the library, and a package that depends on the library is installed.
         needs = f"libffosolve1 (>= {PACKAGE})"
         write("debian/control", "Source: one\n\nPackage: one\nArchitecture: any\n")
         fields = "Package: one\nVersion: 1\nArchitecture: all\nMaintainer: A <a@b>\nDescription: a\n"
@@ -307,3 +299,7 @@ class Debian(Case):
         run("dpkg-deb", "--build", "one", check=True)
         self.apart("dpkg", "-i", self.folder / "one.deb")
         self.apart("dpkg", "-P", "one")
+        self.apart(*apt, "purge", "ffosolve")
+        left = "find /usr /etc /var/lib/dpkg/info -iname '*ffosolve*' | grep -v '^/usr/share/doc/ffosolve$' || :"
+        self.assertEqual(self.apart("sh", "-c", left).stdout, "")
+        self.assertFalse(Path("/usr/bin/ffosolve").exists())

@@ -1,9 +1,9 @@
 """The commands in the documents print what is shown there, and the files and names that the documents mention exist.
 
-In a fenced block `console`, a command begins with `$ `, and its further lines with `> `. The lines below it show what
-it prints on standard output and standard error. All commands of a document run in one folder, with links to the
-checkout's files. A block `sh` is not run, since it is for another machine or takes long. Git has to ignore all files
-that either kind of block makes.
+In a fenced block `console`, a command begins with `$ `, and its continuation lines with `> `. Below, the block shows
+what the command prints on standard output and standard error. All commands of a document run in one folder, with links
+to the checkout's files. A block `sh` is not run, since it is for another machine or takes long. Git has to ignore all
+files that either kind of block makes.
 """
 import os
 import re
@@ -16,84 +16,63 @@ DOCUMENTS = ["README.md", "CONTRIBUTING.md", *sorted(f"docs/{path.name}" for pat
 TEXTS = {name: stored(name).decode() for name in DOCUMENTS}
 END = "\x01end\x01"
 LONGEST = 600  # seconds that the commands of a document may take, since some solve hard positions
+MADE = re.compile(r"(?: -o |[^<>&\d]>|bin/ffosolve-many (?:--scheduler \S+ )?)([\w./-]+)")  # in a block `sh`
+# A line that declares NAME as a definition, field, function, constant, type or variant.
+DECLARES = (r"(?m)^ *(?:(?:[\w()]+ )*(?:NAME *:|(?:record|data|fn|const|struct|enum|trait|type) NAME\b)|NAME[,({]|"
+            r"pub use [^;]*\bNAME\b)")
 
 
 def blocks_of(text, language):
-    return re.findall(rf"^```{language}\n(.*?)^```$", text, re.M | re.S)
-
-
-def commands_in(text):
-    """Returns a list of (command, lines shown below it) for the commands in the blocks `console` of a document."""
-    found = re.findall(r"^\$ (.*\n(?:> .*\n)*)((?:(?!\$ ).*\n)*)", "".join(blocks_of(text, "console")), re.M)
-    return [(command.replace("\n> ", "\n"), stripped(shown)) for command, shown in found]
+    return "".join(re.findall(rf"^```{language}\n(.*?)^```$", text, re.M | re.S))
 
 
 def stripped(text):
-    """Returns the lines of a text without blanks and CR at their ends, since documents don't show these."""
+    """Returns a list of a text's lines without blanks and CR at their ends, since documents don't show these."""
     return [line.rstrip() for line in text.splitlines()]
 
 
-def made_by_blocks(text):
-    """Returns the relative paths that the blocks `sh` of a document would make: those after `-o`, `>` and
-    ffosolve-many."""
-    block = "\n".join(blocks_of(text, "sh"))
-    found = re.findall(r"(?: -o |[^<>&\d]>|bin/ffosolve-many (?:--scheduler \S+ )?)([\w./-]+)", block)
-    return [name for name in found if not name.startswith("/")]
-
-
 def ignored(names):
-    """Returns those of `names` that git ignores in the top folder. In a copy without `.git`, returns ["out"]."""
+    """Returns the paths among `names` that git ignores in the checkout; ["out"] if the checkout has no `.git`."""
     if not (ROOT / ".git").exists():
         return ["out"]
     return run("git", "-C", ROOT, "check-ignore", "--no-index", *names, text=True).stdout.splitlines()
 
 
-def printed_by(commands):
-    """Runs commands in one shell, without input. Returns a list of what each prints, with an empty text at its end if
-    all commands have ended."""
-    end = f"}} </dev/null; status=$?; echo; echo '{END}'; (exit $status)\n"
-    words = ("timeout", LONGEST, "bash", "-c", "".join(f"{{ {command}{end}" for command in commands))
-    ran = run(*words, timeout=LONGEST + 60, stderr=subprocess.STDOUT, text=True, errors="replace")
-    return ran.stdout.split(f"\n{END}\n")
-
-
 class Commands(InFolder):
     def test_commands_print_what_is_shown_and_leave_only_ignored_files(self):
         built()
-        for name in DOCUMENTS:
+        for name, text in TEXTS.items():
             with self.subTest(name=name):
                 os.makedirs(self.folder / name)
                 os.chdir(self.folder / name)
                 for linked in set(os.listdir(ROOT)).difference(ignored(os.listdir(ROOT))):
                     if not linked.startswith("."):
                         os.symlink(ROOT / linked, linked)
-                self.shows(TEXTS[name])
+                self.shows(text)
+                left = [made for made in os.listdir() if not os.path.islink(made)]
+                left += [made for made in MADE.findall(blocks_of(text, "sh")) if not made.startswith("/")]
+                if (ROOT / ".git").exists():
+                    self.assertEqual(set(left).difference(ignored(left)), set())
 
     def shows(self, text):
-        commands = commands_in(text)
-        printed = printed_by([command for command, _ in commands])
+        """Asserts that a document's commands print what it shows. One shell runs all of them, without input, and prints
+        END after each."""
+        found = re.findall(r"^\$ (.*\n(?:> .*\n)*)((?:(?!\$ ).*\n)*)", blocks_of(text, "console"), re.M)
+        commands = [command.replace("\n> ", "\n") for command, _ in found]
+        end = f"}} </dev/null; status=$?; echo; echo '{END}'; (exit $status)\n"
+        words = ("timeout", LONGEST, "bash", "-c", "".join(f"{{ {command}{end}" for command in commands))
+        ran = run(*words, timeout=LONGEST + 60, stderr=subprocess.STDOUT, text=True, errors="replace")
+        printed = ran.stdout.split(f"\n{END}\n")  # the last one comes after the last END
         self.assertEqual(len(printed), len(commands) + 1, f"the shell hung at: {commands[len(printed) - 1:][:1]}")
-        for (command, shown), output in zip(commands, printed):
+        for command, (_, shown), output in zip(commands, found, printed):
             with self.subTest(command=command):
-                self.assertEqual(stripped(output), shown)
-        left = [name for name in os.listdir() if not os.path.islink(name)] + made_by_blocks(text)
-        if (ROOT / ".git").exists():
-            self.assertEqual(set(left).difference(ignored(left)), set())
+                self.assertEqual(stripped(output), stripped(shown))
 
     def test_stored_reports_are_what_ffosolve_prints(self):
         reports = sorted(ROOT.glob("examples/*.report"))
         self.assertTrue(reports)
         for report in reports:
             self.ends((0, report.read_bytes(), b""), built(), report.with_suffix(".obf"))
-
-
-def defines(sources, word):
-    """Returns whether one of `sources` declares `word` as a definition, field, function, constant, type or variant."""
-    kinds = "record|data|fn|const|struct|enum|trait|type"
-    words = r"(?:[\w()]+ )*"
-    forms = rf"{words}{word} *:|{words}(?:{kinds}) {word}\b|{word}[,({{]|pub use [^;]*\b{word}\b"
-    declared = re.compile(rf"^ *(?:{forms})", re.M)
-    return any(declared.search(source.read_text()) for source in sources)
 
 
 class Names(unittest.TestCase):
@@ -110,8 +89,8 @@ class Names(unittest.TestCase):
             self.assertEqual([to for to in lost if not re.search(r"/out(/|$)|^share/doc/", to)], [], name)
 
     def test_qualified_names_are_declared(self):
-        """`Rules.flips` has to be defined in a specification Rules.antt, and `laws::books_are_one` in a source file
-        that is named laws.rt or has a type `laws`."""
+        """A name such as `Rules.flips` has to be declared in a specification Rules.antt, and one such as
+        `laws::books_are_one` in a source file that is called laws.rt, or that has an enum or an impl of `laws`."""
         qualified = re.compile(r"`([A-Z]\w*(?=\.)|\w+(?=::))(\.(?!antt|md)|::)(\w+)`")
         sources = {path: path.read_text() for path in ROOT.glob("crates/*/src/**/*.rt")}
         for name in ("definitions.md", "guarantees.md", "architecture.md"):
@@ -119,10 +98,11 @@ class Names(unittest.TestCase):
                 of_type = re.compile(rf"\b(?:impl(?:<.*>)?|enum) {owner}\b")
                 files = [path for path, text in sources.items() if path.stem == owner or of_type.search(text)]
                 files = files if mark == "::" else ROOT.glob(f"crates/*/specs/{owner}.antt")
-                self.assertTrue(defines(files, word), f"{name}: {owner}{mark}{word}")
+                declares = re.compile(DECLARES.replace("NAME", word))
+                self.assertTrue(any(declares.search(it.read_text()) for it in files), f"{name}: {owner}{mark}{word}")
 
     def test_other_names_of_definitions_occur_in_sources(self):
-        """The names are those in definitions.md without an owner, such as `AreRanked` and `lists_text`."""
+        """These are the names in definitions.md without `.` or `::`, such as `AreRanked` and `lists_text`."""
         sources = [*ROOT.glob("crates/*/specs/*.antt"), *ROOT.glob("crates/*/src/**/*.rt")]
         words = set(re.findall(r"\w+", "\n".join(source.read_text() for source in sources)))
         named = re.findall(r"`([A-Z]\w*[a-z][A-Z]\w*|[a-z]+_\w+)`", TEXTS["docs/definitions.md"])

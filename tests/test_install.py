@@ -24,7 +24,8 @@ def setUpModule():
 
 
 def times(paths):
-    """Returns {path: time of the last change in nanoseconds} for files, but not for *.sum, the checksums of sources."""
+    """Returns {path: modification time in nanoseconds} for the files among `paths`. Leaves out *.sum, the checksums of
+    sources, since each run of make may change their times."""
     return {path: path.lstat().st_mtime_ns for path in paths if not path.is_dir() and path.suffix != ".sum"}
 
 
@@ -46,7 +47,8 @@ class Case(InFolder):
         return ran
 
     def refused(self, ran, words):
-        """Asserts that a target failed with an error line that contains `words`; a line from make itself may follow."""
+        """Asserts that make failed without output, and that the first line on standard error contains `words`. At most
+        one line, from make itself, may follow."""
         self.assertEqual((ran.returncode, ran.stdout), (2, ""), ran)
         self.assertIn(words, ran.stderr.splitlines()[0])
         self.assertLessEqual(ran.stderr.count("\n"), 2, ran.stderr)
@@ -175,8 +177,7 @@ class Install(Case):
         self.assertEqual(files_below(self.root), {"bin"})
 
     def test_without_programs_and_rt_nothing_is_installed(self):
-        checkout = self.folder / "checkout"
-        shutil.copytree(CHECKOUT, checkout, ignore=shutil.ignore_patterns("out"))
+        checkout = shutil.copytree(CHECKOUT, self.folder / "checkout", ignore=shutil.ignore_patterns("out"))
         os.environ["PATH"] = path_without("rt", self.folder)
         error = "ffosolve: not built: rt (rattle-kit-13b or rattle-kit-13f) is not on the path"
         self.refused(self.make("install", "-C", checkout), error)
@@ -266,7 +267,7 @@ class Install(Case):
                 self.assertEqual(Path(name).read_text(), wanted, name)
 
 
-# The arguments of these scripts are the words of a command. They print the completions of the last word.
+# These scripts for bash and fish get the words of a command as arguments, and print the completions of the last word.
 BASH = r"""
 . /usr/share/bash-completion/bash_completion
 . "$SHARE/bash-completion/completions/${0##*/}"
@@ -330,8 +331,8 @@ class Texts(Case):
         self.assertRegex(page.split('.SH "STATUS"')[1], r"with compare: a(.|\n)*REPORT does not belong to it")
 
     def offered(self, *words):
-        """Runs `words`: a shell, a script for it, and the words of a command. Returns a sorted list of the completions
-        that the shell offers for the last word, without their descriptions."""
+        """Runs a shell with one of the scripts above and the words of a command, all in `words`. Returns a sorted list
+        of the completions that the script prints, without their descriptions."""
         need(words[0])
         ran = run(*words, cwd="examples", text=True)
         self.assertEqual((ran.returncode, ran.stderr), (0, ""))
@@ -360,7 +361,7 @@ class Texts(Case):
         self.assertEqual(self.offered(*shell, "ffosolve", "--scoring=d"), ["--scoring=discs"])
 
     def test_zsh_completes_options_values_and_files(self):
-        """Runs zsh on a terminal, where its own line editor completes each line."""
+        """Runs zsh on a terminal, since only its line editor completes words."""
         need("zsh")
         lines = {"ffosolve --sco": "ffosolve --scoring", "ffosolve --scoring=d": "ffosolve --scoring=discs",
                  "ffoscores --scoring w": "ffoscores --scoring winner", "bin/ffosolve --sco": "bin/ffosolve --scoring",

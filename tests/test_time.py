@@ -23,7 +23,7 @@ def spent():
 
 
 def seconds(call):
-    """Makes a call three times, and returns the least processor time that it took, in seconds."""
+    """Makes a call three times, and returns the least processor time that one took, in seconds."""
     return min(timeit.repeat(call, timer=spent, repeat=3, number=1))
 
 
