@@ -43,18 +43,18 @@ def copied_checkout(folder):
 
 def files_below(folder):
     """Returns the set of the relative paths of all files and symbolic links in a folder and its subfolders."""
-    paths = Path(folder).rglob("*")
-    return {str(path.relative_to(folder)) for path in paths if path.is_symlink() or not path.is_dir()}
+    return {str(path.relative_to(folder)) for path in Path(folder).rglob("*") if path.is_symlink() or not path.is_dir()}
 
 
 def path_without(tool, folder):
-    """Makes a folder in `folder` with links to all commands on PATH except `tool`. Returns its path as a string."""
-    links = Path(folder, f"without-{tool}")
-    links.mkdir()
-    commands = {path.name: path for place in reversed(os.get_exec_path()) for path in Path(place).glob("*")}
-    for name in commands.keys() - {tool}:
-        (links / name).symlink_to(commands[name])
-    return str(links)
+    """Returns a value for PATH without the command `tool`: for each folder on PATH, a new folder in `folder` that links
+    to all other commands. They stay apart, since a user who can't run the first of a name runs the next."""
+    places = {Path(folder, f"without-{tool}-{at}"): place for at, place in enumerate(os.get_exec_path())}
+    for links, place in places.items():
+        links.mkdir()
+        for command in set(Path(place).glob("*")) - {Path(place, tool)}:
+            (links / command.name).symlink_to(command)
+    return ":".join(map(str, places))
 
 
 class Prefix:
