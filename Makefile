@@ -37,7 +37,7 @@ objects := $(foreach level,$(levels),$(programs:%=out/$(level)/%.o))
 $(objects) $(levels:%=out/%/libffosolve_c.a): $$(call changed,$$@)
 	exec scripts/prove $@ $(tell)
 
-# What is linked from that. It gets another name at first, since another make may be running.
+# What is linked from these. Each file is written under another name first, since another make may be running.
 kit = $$(dirname "$$(rt doc)")
 new = $@.$$$$
 
@@ -77,7 +77,7 @@ entries = $(call constant,MOST_ENTRIES,crates/bound_table/src/bound_table.rt)
 fill = sed -e 's/@VERSION@/$(version)/g; s/@NUMBER@/$(number)/g; s/@MAJOR@/$(major)/g; s/@ENTRIES@/$(subst _,,$(entries))/g' \
     -e "s|@BINDIR@|$(BINDIR)|g; s|@INCLUDE@|$$(realpath -ms --relative-to='$(LIBDIR)' '$(INCLUDEDIR)')|g" $1 | install -D -m 644 /dev/stdin $2
 
-# A new VERSION or largest table makes libffosolve.so newer, too.
+# After a change of the version or of the largest table, libffosolve.so is newer than the header.
 out/library/ffosolve.h: include/ffosolve.h.in out/$(CPU)/libffosolve.so
 	$(call fill,$<,$(new))
 	mv -f $(new) $@
@@ -117,8 +117,8 @@ look: ## solves three positions in about a minute, with nothing proved; LIST=FIL
 check: levels ## tests everything; the last line counts what passed
 	$(MAKE) -f tests/check.mk
 
-# Sets shell variables for install and uninstall. The command `install` makes a new file in place of an old one, so a
-# running program keeps its own.
+# The first lines of install and uninstall. The command `install` makes a new file in place of an old one, so a running
+# program keeps its own.
 places = case "$(PREFIX)" in /*) ;; *) echo "PREFIX is $(PREFIX), but has to begin with a slash" >&2; exit 1 ;; esac; \
     bin="$(DESTDIR)$(BINDIR)" lib="$(DESTDIR)$(LIBDIR)" include="$(DESTDIR)$(INCLUDEDIR)" man="$(DESTDIR)$(MANDIR)" \
     share="$(DESTDIR)$(PREFIX)/share"

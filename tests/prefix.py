@@ -47,8 +47,8 @@ def files_below(folder):
 
 
 def path_without(tool, folder):
-    """Returns a value for PATH without the command `tool`: for each folder on PATH, a new folder in `folder` that links
-    to all other commands. They stay apart, since a user who can't run the first of a name runs the next."""
+    """Returns a value for PATH without the command `tool`: for each folder on PATH, a new folder in `folder` with links
+    to all other commands. One folder would not do, since a user who may not run a command runs the next of its name."""
     places = {Path(folder, f"without-{tool}-{at}"): place for at, place in enumerate(os.get_exec_path())}
     for links, place in places.items():
         links.mkdir()

@@ -79,9 +79,8 @@ class Build(InFolder):
         return self.starts.read_text().count("start")
 
     def ran(self, ran, text, words="<w>", builds=None):
-        """Asserts that the run `ran` ended with a program that was built from a source with the text `text`, and that
-        printed its arguments as `words`. If `builds` is given, asserts that this was the number of builds up to now.
-        Returns the run's standard error."""
+        """Asserts that the run `ran` started a program built from the source `text`, which printed its arguments as
+        `words`; and, if given, that there were `builds` builds up to now. Returns the run's standard error."""
         self.assertEqual((ran.returncode, ran.stdout), (3, f"made of {text}\n{words}/\nread\n"), ran.stderr)
         self.assertEqual(self.builds(), builds or self.builds())
         return ran.stderr

@@ -24,8 +24,7 @@ def setUpModule():
 
 
 def times(paths):
-    """Returns {path: modification time in nanoseconds} for the files among `paths`. Leaves out *.sum, the checksums of
-    sources, since each run of make may change their times."""
+    """Returns {path: modification time in nanoseconds} for files without *.sum, whose times any run of make may set."""
     return {path: path.lstat().st_mtime_ns for path in paths if not path.is_dir() and path.suffix != ".sum"}
 
 
@@ -47,8 +46,7 @@ class Case(InFolder):
         return ran
 
     def refused(self, ran, words):
-        """Asserts that make failed without output, and that the first line on standard error contains `words`. At most
-        one line, from make itself, may follow."""
+        """Asserts that make failed without output, and that the first of at most two lines of errors has `words`."""
         self.assertEqual((ran.returncode, ran.stdout), (2, ""), ran)
         self.assertIn(words, ran.stderr.splitlines()[0])
         self.assertLessEqual(ran.stderr.count("\n"), 2, ran.stderr)
